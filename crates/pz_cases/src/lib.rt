@@ -1,0 +1,7 @@
+//! Tests that go through several crates: the worked cases of the language and of sessions, each from outside.
+#![tactic(auto)]
+
+#[cfg(test)]
+mod levels;
+#[cfg(test)]
+mod reading;

@@ -1,0 +1,12 @@
+use Rattle.std.proofs.Common.{◌≡◌, take}
+use Rattle.std.specs.Prelude.{fold}
+use Rattle.std.specs.List.{zip}
+use Rattle.pz_grid.specs.Grid.{SameSize}
+use Rattle.pz_grid.specs.Rewriting.{in_rewrite, rewritten_row}
+use Rattle.pz_grid.proofs.Level.rewrite_all.Given as goal
+
+abbrev pub invariant-loop-index : goal.invariant-loop-index
+invariant-loop-index l = record {
+  so_far : in_rewrite l.self.grid l.changed ≡ fold (rewritten_row l.instance.scan) (in_rewrite l.initial.self.grid l.initial.changed) (take l.index (zip l.places (zip l.left l.right)));
+  size : SameSize l.initial.self.grid l.self.grid;
+}

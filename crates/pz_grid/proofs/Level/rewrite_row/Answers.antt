@@ -1,0 +1,31 @@
+use Rattle.std.proofs.Common.{ℕ, ◌≤◌, List, length, arith, ap, sym, ◌∙◌, min}
+use Rattle.std.specs.Prelude.{fold, Option}
+use Rattle.std.specs.List.{enumerate_from, zip}
+use Rattle.pz_rules.specs.declared.pattern.Item.{Item}
+use Rattle.pz_grid.specs.Rewriting.{Rewriting, in_rewrite, rewritten_along}
+use Rattle.pz_grid.proofs.MovementLemmas.{same_size_on}
+use Rattle.pz_grid.proofs.FoldLemmas.{fold_numbered_more, fold_numbered_all}
+use Rattle.pz_grid.proofs.Level.rewrite_row.Goals as goal
+
+pub loop-index-preserved : goal.loop-index-preserved
+loop-index-preserved c =
+    let f = rewritten_along c.args.dir c.gap_at-gap_at.result c.args.place in
+    let start = in_rewrite c.args.self.now.grid c.args.changed_before in
+    let i = c.loop-index.index in
+    let left = c.index-left-index.result in
+    let right = c.index-right-index.result in
+    record {
+      so_far = c.rewrite_along-changed.ensures.rewritten ∙ ap (λ (r : Rewriting). f r (i, (left, right))) c.loop-index.invariant.so_far ∙ sym (fold_numbered_more f start c.cells-left.result.now c.cells-right.result.now i left right (omega arith) (omega arith) c.index-left-index.is c.index-right-index.is);
+      size = same_size_on _ _ _ c.loop-index.invariant.size c.rewrite_along-changed.ensures.size;
+    }
+
+pub returns-clause-rewritten : goal.returns-clause-rewritten
+returns-clause-rewritten c =
+    let start = in_rewrite c.args.self.now.grid c.args.changed_before in
+    let past : min (length c.cells-left.result.now) (length c.cells-right.result.now) ≤ c.loop-index.index = omega arith in
+    let run : Option ℕ → List (List Item) → List (List Item) → Rewriting = λ g l r. fold (rewritten_along c.args.dir g c.args.place) start (enumerate_from 0 (zip l r)) in
+    c.loop-index.invariant.so_far
+    ∙ fold_numbered_all (rewritten_along c.args.dir c.gap_at-gap_at.result c.args.place) start c.cells-left.result.now c.cells-right.result.now c.loop-index.index past
+    ∙ ap (λ g. run g c.cells-left.result.now c.cells-right.result.now) c.gap_at-gap_at.ensures
+    ∙ ap (λ l. run c.args.left.now.gap_at l c.cells-right.result.now) c.cells-left.ensures.cells
+    ∙ ap (run c.args.left.now.gap_at c.args.left.now.cells) c.cells-right.ensures.cells

@@ -1,0 +1,10 @@
+use Rattle.std.proofs.Common.{◌≡◌}
+use Rattle.std.proofs.lemmas.Bool.Decides.{same_from_decides}
+use Rattle.pz_grid.proofs.SameLemmas.{same_grid_decides}
+use Rattle.pz_grid.proofs.Level.same.Goals as goal
+
+pub returns-clause-same : goal.returns-clause-same
+returns-clause-same c =
+    let a = c.args.self.now.grid in
+    let b = c.args.other.now.grid in
+    same_from_decides {P = a ≡ b} _ _ c.equals.ensures (same_grid_decides a b)

@@ -1,0 +1,15 @@
+pub mod CellLemmas
+pub mod StandingLemmas
+pub mod SameLemmas
+pub mod GatherLemmas
+pub mod MovementLemmas
+pub mod SizeLemmas
+pub mod SettleLemmas
+pub mod LawfulLemmas
+pub mod LoadingLemmas
+pub mod Rows
+pub mod FoldLemmas
+pub mod FoundLemmas
+pub mod RewritingLemmas
+pub mod PlaceLemmas
+pub mod WorkedPlaces

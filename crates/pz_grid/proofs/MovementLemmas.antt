@@ -1,0 +1,44 @@
+-- The movement is folded over spots, and keeps the size of a level.
+use Rattle.std.proofs.Common.{◌≡◌, ℕ, ◌+◌, ◌<◌, List, [], ◌∷◌, ◌++◌, Option, Some, None, length, get_or, set, map, take, drop, arith, ap, ◌∙◌, refl}
+use Rattle.std.specs.Prelude.{fold}
+use Rattle.std.specs.List.{range_with_len}
+use Rattle.std.proofs.lemmas.List.FromFn.{map-range_with_len_more}
+use Rattle.std.proofs.lemmas.List.Sums.{fold-append}
+use Rattle.std.proofs.lemmas.List.{length-append, length-map, length-take, length-drop, get_or_default}
+use Rattle.std.proofs.lemmas.List.Edits.{map_over_more}
+use Rattle.pz_grid.specs.declared.cell.Piece.{Piece}
+use Rattle.pz_grid.specs.Grid.{Grid, SameSize, place_at}
+use Rattle.pz_grid.specs.Movement.{Pass, Spot, move_at, move_place, moved_to, heading_goal}
+use Rattle.pz_grid.proofs.GatherLemmas.{gather, gather_more}
+
+-- one more of a fold over numbered items
+pub fold_map_more : {A B : Type 0} (f : B → A → B) (start : B) (h : ℕ → A) (n : ℕ) → fold f start (map h (range_with_len 0 (n + 1))) ≡ f (fold f start (map h (range_with_len 0 n))) (h n)
+fold_map_more {A} f start h n = ap (fold f start) (map-range_with_len_more h 0 n n (omega arith)) ∙ fold-append f start (map h (range_with_len 0 n)) (h n ∷ [])
+
+-- one more of a fold over pieces
+pub fold_gather_more : {A B : Type 0} (f : B → A → B) (start : B) (h : ℕ → List A) (n : ℕ) → fold f start (gather h (n + 1)) ≡ fold f (fold f start (gather h n)) (h n)
+fold_gather_more f start h n = ap (fold f start) (gather_more h n) ∙ fold-append f start (gather h n) (h n)
+
+abbrev same_size : (grid : Grid) → SameSize grid grid
+same_size grid = record { width = refl; height = refl; depth = refl; layers = refl }
+
+pub size-moved_to : (pass : Pass) (at : Spot) (piece : Piece) (goal : Option (ℕ × ℕ)) → SameSize pass.grid (moved_to pass at piece goal).grid
+size-moved_to pass at piece None = same_size pass.grid
+size-moved_to pass at piece (Some (x, y)) = record { width = refl; height = refl; depth = refl; layers = refl }
+
+pub size-move_place : (pass : Pass) (at : Spot) (place : Option Piece) → SameSize pass.grid (move_place pass at place).grid
+size-move_place pass at None = same_size pass.grid
+size-move_place pass at (Some piece) = size-moved_to pass at piece (heading_goal pass.grid at piece.heading)
+
+-- a move keeps the size
+pub size-move_at : (pass : Pass) (at : Spot) → SameSize pass.grid (move_at pass at).grid
+size-move_at pass at = size-move_place pass at (place_at pass.grid at.x at.y at.layer)
+
+pub same_size_on : (a b d : Grid) → SameSize a b → SameSize b d → SameSize a d
+same_size_on a b d p q = record { width = q.width ∙ p.width; height = q.height ∙ p.height; depth = q.depth ∙ p.depth; layers = q.layers ∙ p.layers }
+
+-- a loop that writes f of each element over it
+pub map_over_read : {X : Type 0} (f : X → X) (xs ys : List X) (i : ℕ) (d : X) → i < length xs → ys ≡ map f (take i xs) ++ drop i xs → set ys i (f (get_or ys i d)) ≡ map f (take (i + 1) xs) ++ drop (i + 1) xs
+map_over_read f xs ys i d within e =
+    let long : length ys ≡ length xs = ap length e ∙ length-append (map f (take i xs)) (drop i xs) ∙ omega (arith, length-map (take i xs) f, length-take i xs, length-drop i xs) in
+    map_over_more f xs ys i (get_or ys i d) within e (get_or_default ys i d (get_or ys i d) (omega arith))

@@ -1,0 +1,105 @@
+-- The test of two cells decides whether they are the same.
+use Rattle.std.proofs.Common.{◌≡◌, ℕ, List, [], ◌∷◌, Option, Some, None, true, ap, sym, ◌∙◌, refl}
+use Rattle.std.specs.Prelude.{nat_eq, IsTrue, ◌↔◌}
+use Rattle.pz_grid.specs.Grid.{Grid}
+use Rattle.std.proofs.lemmas.Bool.{and_parts, and_from, eqb-true, eq-eqb}
+use Rattle.pz_source.specs.declared.direction.Dir.{Dir}
+use Rattle.pz_source.specs.declared.direction.Dir.TheVariants.{Up, Down, Left, Right, Action}
+use Rattle.pz_grid.specs.declared.cell.Piece.{Piece}
+use Rattle.pz_grid.specs.Sameness.{same_dir, same_heading, same_place, same_cell, same_cells, same_layers, same_size, same_grid}
+
+same_dir_is : (a b : Dir) → same_dir a b ≡ true → a ≡ b
+same_dir_is Up Up h = refl
+same_dir_is Down Down h = refl
+same_dir_is Left Left h = refl
+same_dir_is Right Right h = refl
+same_dir_is Action Action h = refl
+same_dir_is _ _ h = cc
+
+same_dir_self : (a : Dir) → same_dir a a ≡ true
+same_dir_self Up = refl
+same_dir_self Down = refl
+same_dir_self Left = refl
+same_dir_self Right = refl
+same_dir_self Action = refl
+
+same_heading_is : (a b : Option Dir) → same_heading a b ≡ true → a ≡ b
+same_heading_is None None h = refl
+same_heading_is (Some a) (Some b) h = ap Some (same_dir_is a b h)
+same_heading_is None (Some b) h = cc
+same_heading_is (Some a) None h = cc
+
+same_heading_self : (a : Option Dir) → same_heading a a ≡ true
+same_heading_self None = refl
+same_heading_self (Some a) = same_dir_self a
+
+same_place_is : (a b : Option Piece) → same_place a b ≡ true → a ≡ b
+same_place_is None None h = refl
+same_place_is (Some a) (Some b) h =
+    let both = and_parts (nat_eq a.object b.object) (same_heading a.heading b.heading) h in
+    let one : a.object ≡ b.object = eqb-true _ _ both.0 in
+    let heading : a.heading ≡ b.heading = same_heading_is a.heading b.heading both.1 in
+    ap Some (λ i. record { object = one i; heading = heading i })
+same_place_is None (Some b) h = cc
+same_place_is (Some a) None h = cc
+
+same_place_self : (a : Option Piece) → same_place a a ≡ true
+same_place_self None = refl
+same_place_self (Some a) = and_from (nat_eq a.object a.object) (same_heading a.heading a.heading) (eq-eqb a.object a.object refl) (same_heading_self a.heading)
+
+pub same_cell_is : (a b : List (Option Piece)) → same_cell a b ≡ true → a ≡ b
+same_cell_is [] [] h = refl
+same_cell_is (a ∷ more) (b ∷ others) h =
+    let both = and_parts (same_place a b) (same_cell more others) h in
+    ap (λ (x : Option Piece). x ∷ more) (same_place_is a b both.0) ∙ ap (λ (xs : List (Option Piece)). b ∷ xs) (same_cell_is more others both.1)
+same_cell_is [] (b ∷ others) h = cc
+same_cell_is (a ∷ more) [] h = cc
+
+pub same_cell_self : (a : List (Option Piece)) → same_cell a a ≡ true
+same_cell_self [] = refl
+same_cell_self (a ∷ more) = and_from (same_place a a) (same_cell more more) (same_place_self a) (same_cell_self more)
+
+pub same_cells_is : (a b : List (List (Option Piece))) → same_cells a b ≡ true → a ≡ b
+same_cells_is [] [] h = refl
+same_cells_is (a ∷ more) (b ∷ others) h =
+    let both = and_parts (same_cell a b) (same_cells more others) h in
+    ap (λ (x : List (Option Piece)). x ∷ more) (same_cell_is a b both.0) ∙ ap (λ (xs : List (List (Option Piece))). b ∷ xs) (same_cells_is more others both.1)
+same_cells_is [] (b ∷ others) h = cc
+same_cells_is (a ∷ more) [] h = cc
+
+pub same_cells_self : (a : List (List (Option Piece))) → same_cells a a ≡ true
+same_cells_self [] = refl
+same_cells_self (a ∷ more) = and_from (same_cell a a) (same_cells more more) (same_cell_self a) (same_cells_self more)
+
+same_layers_is : (a b : List ℕ) → same_layers a b ≡ true → a ≡ b
+same_layers_is [] [] h = refl
+same_layers_is (a ∷ more) (b ∷ others) h =
+    let both = and_parts (nat_eq a b) (same_layers more others) h in
+    ap (λ (x : ℕ). x ∷ more) (eqb-true _ _ both.0) ∙ ap (λ (xs : List ℕ). b ∷ xs) (same_layers_is more others both.1)
+same_layers_is [] (b ∷ others) h = cc
+same_layers_is (a ∷ more) [] h = cc
+
+same_layers_self : (a : List ℕ) → same_layers a a ≡ true
+same_layers_self [] = refl
+same_layers_self (a ∷ more) = and_from (nat_eq a a) (same_layers more more) (eq-eqb a a refl) (same_layers_self more)
+
+-- the test of two levels finds equal ones alone
+pub same_grid_is : (a b : Grid) → same_grid a b ≡ true → a ≡ b
+same_grid_is a b h =
+    let parts = and_parts (same_size a b) (same_cells a.cells b.cells) h in
+    let w = and_parts (nat_eq a.width b.width) _ parts.0 in
+    let t = and_parts (nat_eq a.height b.height) _ w.1 in
+    let d = and_parts (nat_eq a.depth b.depth) (same_layers a.layers b.layers) t.1 in
+    let width : a.width ≡ b.width = eqb-true _ _ w.0 in
+    let height : a.height ≡ b.height = eqb-true _ _ t.0 in
+    let depth : a.depth ≡ b.depth = eqb-true _ _ d.0 in
+    let layers : a.layers ≡ b.layers = same_layers_is _ _ d.1 in
+    let cells : a.cells ≡ b.cells = same_cells_is _ _ parts.1 in
+    λ i. record { width = width i; height = height i; depth = depth i; layers = layers i; cells = cells i }
+
+pub same_grid_self : (a : Grid) → same_grid a a ≡ true
+same_grid_self a =
+    and_from _ _ (and_from _ _ (eq-eqb a.width a.width refl) (and_from _ _ (eq-eqb a.height a.height refl) (and_from _ _ (eq-eqb a.depth a.depth refl) (same_layers_self a.layers)))) (same_cells_self a.cells)
+
+pub same_grid_decides : (a b : Grid) → IsTrue (same_grid a b) ↔ (a ≡ b)
+same_grid_decides a b = (same_grid_is a b, λ e. ap (λ x. same_grid a x) (sym e) ∙ same_grid_self a)

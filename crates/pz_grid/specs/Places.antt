@@ -1,0 +1,96 @@
+-- The places of a row of a rule: all pairs of a start cell and a gap whose cells are on the map and hold. Left and right go by
+-- rows from the top, and in a row from the left; up and down by columns from the left, and in a column from the top. For one
+-- start cell the gaps ascend; a row without `...` has the gap 0 alone.
+use Rattle.std.specs.Prelude.{ℕ, ◌+◌, ◌-◌, List, map, filter, length, Bool, false, Option, Some, None, Result, Ok, Err, nat_lt, nat_le, nat_eq, ◌&&◌, ◌||◌, if◌then◌else◌, is_some}
+use Rattle.std.specs.List.{list_all, enumerate_from, flat_map, range_with_len, zip}
+use Rattle.pz_source.specs.declared.direction.Dir.{Dir}
+use Rattle.pz_source.specs.declared.direction.Dir.TheVariants.{Up, Down, Left, Right, Action}
+use Rattle.pz_rules.specs.declared.instance.Instance.{Instance}
+use Rattle.pz_rules.specs.declared.pattern.Item.{Item}
+use Rattle.pz_rules.specs.Pattern.{RuleRow}
+use Rattle.pz_grid.specs.declared.places.GridFault.{GridFault}
+use Rattle.pz_grid.specs.declared.places.GridFault.TheVariants.{MatchLimit}
+use Rattle.pz_grid.specs.declared.places.Place.{Place}
+use Rattle.pz_grid.specs.declared.places.TheConstants.{MATCH_LIMIT}
+use Rattle.pz_grid.specs.Grid.{Grid, cell_at}
+use Rattle.pz_grid.specs.Pattern.{pattern_holds}
+
+-- a position, if it is on the map
+abbrev pub on_map : Grid → ℕ → ℕ → Option (ℕ × ℕ)
+on_map grid x y = if nat_lt x grid.width && nat_lt y grid.height then Some (x, y) else None
+
+-- the position some cells on from another, if it is on the map; the action leads nowhere
+abbrev pub along : Grid → Dir → ℕ → ℕ → ℕ → Option (ℕ × ℕ)
+along grid Right x y steps = on_map grid (x + steps) y
+along grid Left x y steps = if nat_le steps x then on_map grid (x - steps) y else None
+along grid Down x y steps = on_map grid x (y + steps)
+along grid Up x y steps = if nat_le steps y then on_map grid x (y - steps) else None
+along grid Action x y steps = None
+
+-- how far a row's cell is from its start: the cells after the gap are as much farther as it spans
+abbrev pub distance : Option ℕ → ℕ → ℕ → ℕ
+distance None gap index = index
+distance (Some at) gap index = if nat_le at index then index + gap else index
+
+-- where the cell of a number of a row stands, if that is on the map
+abbrev pub position_of : Grid → Dir → Option ℕ → Place → ℕ → Option (ℕ × ℕ)
+position_of grid dir gap_at place index = along grid dir place.x place.y (distance gap_at place.gap index)
+
+-- a rule's cell holds at a position; off the map nothing does
+abbrev pub holds_at : Grid → List Item → Option (ℕ × ℕ) → Bool
+holds_at grid pattern None = false
+holds_at grid pattern (Some (x, y)) = pattern_holds (cell_at grid x y) pattern
+
+abbrev pub cell_holds : Grid → RuleRow → Dir → Place → ℕ × List Item → Bool
+cell_holds grid row dir place (index, pattern) = holds_at grid pattern (position_of grid dir row.gap_at place index)
+
+-- all cells of a row are on the map and hold
+abbrev pub row_holds : Grid → RuleRow → Dir → Place → Bool
+row_holds grid row dir place = list_all (cell_holds grid row dir place) (enumerate_from 0 row.cells)
+
+-- the lines that are scanned: columns for up and down, else rows
+abbrev pub line_count : Grid → Dir → ℕ
+line_count grid Up = grid.width
+line_count grid Down = grid.width
+line_count grid _ = grid.height
+
+abbrev pub line_length : Grid → Dir → ℕ
+line_length grid Up = grid.height
+line_length grid Down = grid.height
+line_length grid _ = grid.width
+
+abbrev pub place_in : Dir → ℕ → ℕ → ℕ → Place
+place_in Up line start gap = record { x = line; y = start; gap = gap }
+place_in Down line start gap = record { x = line; y = start; gap = gap }
+place_in _ line start gap = record { x = start; y = line; gap = gap }
+
+-- how many gaps are tried: a greater one leads off the map
+abbrev pub gap_count : Grid → RuleRow → Dir → ℕ
+gap_count grid row dir = if is_some row.gap_at then line_length grid dir else 1
+
+-- all pairs of a start cell and a gap, in the order of the scan
+abbrev pub pairs_at : Grid → RuleRow → Dir → ℕ → ℕ → List Place
+pairs_at grid row dir line start = map (place_in dir line start) (range_with_len 0 (gap_count grid row dir))
+
+abbrev pub pairs_in : Grid → RuleRow → Dir → ℕ → List Place
+pairs_in grid row dir line = flat_map (pairs_at grid row dir line) (range_with_len 0 (line_length grid dir))
+
+abbrev pub pairs : Grid → RuleRow → Dir → List Place
+pairs grid row dir = flat_map (pairs_in grid row dir) (range_with_len 0 (line_count grid dir))
+
+-- the places of a row
+abbrev pub places : Grid → RuleRow → Dir → List Place
+places grid row dir = filter (row_holds grid row dir) (pairs grid row dir)
+
+-- the places of a row, unless there are more than the limit
+unfoldable pub searched : Grid → RuleRow → Dir → Result (List Place) GridFault
+searched grid row dir = if nat_lt MATCH_LIMIT (length (places grid row dir)) then Err MatchLimit else Ok (places grid row dir)
+
+-- a row holds at a place, whose gap is 0 where the row has none
+abbrev pub still_holds : Grid → Dir → RuleRow × Place → Bool
+still_holds grid dir (row, place) = (is_some row.gap_at || nat_eq place.gap 0) && row_holds grid row dir place
+
+-- there is a place for each row of an instance, and each row holds at its place
+abbrev pub still_matches : Grid → Instance → List Place → Bool
+still_matches grid instance places =
+    nat_eq (length places) (length instance.left) && list_all (still_holds grid instance.scan) (zip instance.left places)

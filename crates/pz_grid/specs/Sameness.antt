@@ -1,0 +1,45 @@
+-- Two levels are the same if they agree in their size, their layers and each place of each cell.
+use Rattle.std.specs.Prelude.{ℕ, List, [], ◌∷◌, Option, Some, None, Bool, true, false, nat_eq, ◌&&◌}
+use Rattle.pz_source.specs.declared.direction.Dir.{Dir}
+use Rattle.pz_source.specs.declared.direction.Dir.TheVariants.{Up, Down, Left, Right, Action}
+use Rattle.pz_grid.specs.declared.cell.Piece.{Piece}
+use Rattle.pz_grid.specs.Grid.{Grid}
+
+abbrev pub same_dir : Dir → Dir → Bool
+same_dir Up Up = true
+same_dir Down Down = true
+same_dir Left Left = true
+same_dir Right Right = true
+same_dir Action Action = true
+same_dir _ _ = false
+
+abbrev pub same_heading : Option Dir → Option Dir → Bool
+same_heading None None = true
+same_heading (Some a) (Some b) = same_dir a b
+same_heading _ _ = false
+
+abbrev pub same_place : Option Piece → Option Piece → Bool
+same_place None None = true
+same_place (Some a) (Some b) = nat_eq a.object b.object && same_heading a.heading b.heading
+same_place _ _ = false
+
+abbrev pub same_cell : List (Option Piece) → List (Option Piece) → Bool
+same_cell [] [] = true
+same_cell (a ∷ more) (b ∷ others) = same_place a b && same_cell more others
+same_cell _ _ = false
+
+abbrev pub same_cells : List (List (Option Piece)) → List (List (Option Piece)) → Bool
+same_cells [] [] = true
+same_cells (a ∷ more) (b ∷ others) = same_cell a b && same_cells more others
+same_cells _ _ = false
+
+abbrev pub same_layers : List ℕ → List ℕ → Bool
+same_layers [] [] = true
+same_layers (a ∷ more) (b ∷ others) = nat_eq a b && same_layers more others
+same_layers _ _ = false
+
+abbrev pub same_size : Grid → Grid → Bool
+same_size a b = nat_eq a.width b.width && (nat_eq a.height b.height && (nat_eq a.depth b.depth && same_layers a.layers b.layers))
+
+abbrev pub same_grid : Grid → Grid → Bool
+same_grid a b = same_size a b && same_cells a.cells b.cells

@@ -1,0 +1,190 @@
+// The movement of pieces that head somewhere.
+
+ghost use Rattle.std.specs.Prelude.{◌≡◌, ◌<◌, IfSome, fold, map};
+ghost use Rattle.pz_grid.specs.Cell.{IsOnLayer, still_place};
+ghost use Rattle.pz_grid.specs.Grid.{IsLawful, IsOfGame, SameSize, place_at, with_place};
+ghost use Rattle.pz_grid.specs.Movement.{neighbour, heading_goal, spot, in_pass, move_at, spots_at, spots_in, pass_of, moving, settle, resolved, stilled};
+
+use crate::Level;
+use crate::cell::{Cell, Piece};
+use pz_source::direction::Dir;
+use pz_source::game::Game;
+
+/// Moves every piece that heads somewhere as far as the passes of a step's movement take it, and stills all.
+pub fn resolve(game: &Game, level: &mut Level)
+    requires { IsOfGame game.now level.old.grid }
+    ensures resolved { level.new.grid ≡ resolved level.old.grid }
+    ensures size { SameSize level.old.grid level.new.grid }
+    ensures lawful { IsLawful level.new.grid }
+{
+    let _ = game;
+    level.settle();
+    level.still_all();
+}
+
+impl Level {
+    /// What stands on a layer of a position of the map.
+    pub(crate) fn place(&self, x: u32, y: u32, layer: usize) -> Option<Piece>
+        requires x_in { x < self.now.grid.width }
+        requires y_in { y < self.now.grid.height }
+        requires layer_in { layer < self.now.grid.depth }
+        ensures place { result ≡ place_at self.now.grid x y layer }
+        ensures on_layer { IsOnLayer self.now.grid.layers layer result }
+    {
+        self.cells[y as usize * self.width as usize + x as usize].place(layer)
+    }
+
+    /// Puts a piece, or nothing, on a layer of a position of the map.
+    fn put(&mut self, x: u32, y: u32, layer: usize, place: Option<Piece>)
+        requires x_in { x < self.old.grid.width }
+        requires y_in { y < self.old.grid.height }
+        requires layer_in { layer < self.old.grid.depth }
+        requires on_layer { IsOnLayer self.old.grid.layers layer place }
+        ensures { self.new.grid ≡ with_place self.old.grid x y layer place }
+    {
+        self.cells[y as usize * self.width as usize + x as usize].put(layer, place);
+    }
+
+    /// The next position in a direction, on the map.
+    fn neighbour(&self, dir: Dir, x: u32, y: u32) -> Option<(u32, u32)>
+        requires x_in { x < self.now.grid.width }
+        requires y_in { y < self.now.grid.height }
+        ensures next { result ≡ neighbour self.now.grid dir x y }
+        ensures on_map { IfSome result (λ next. (next.0 < self.now.grid.width) × (next.1 < self.now.grid.height)) }
+    {
+        match dir {
+            Dir::Up if y > 0 => Some((x, y - 1)),
+            Dir::Down if y + 1 < self.height => Some((x, y + 1)),
+            Dir::Left if x > 0 => Some((x - 1, y)),
+            Dir::Right if x + 1 < self.width => Some((x + 1, y)),
+            _ => None,
+        }
+    }
+
+    /// Where a piece that heads there goes, if that is free on its layer.
+    fn goal(&self, x: u32, y: u32, layer: usize, heading: Option<Dir>) -> Option<(u32, u32)>
+        requires x_in { x < self.now.grid.width }
+        requires y_in { y < self.now.grid.height }
+        requires layer_in { layer < self.now.grid.depth }
+        ensures goal { result ≡ heading_goal self.now.grid (spot x y layer) heading }
+        ensures on_map { IfSome result (λ next. (next.0 < self.now.grid.width) × (next.1 < self.now.grid.height)) }
+    {
+        match heading {
+            None => None,
+            Some(dir) => match self.neighbour(dir, x, y) {
+                None => None,
+                Some((next_x, next_y)) => match self.place(next_x, next_y, layer) {
+                    None => Some((next_x, next_y)),
+                    Some(_) => None,
+                },
+            },
+        }
+    }
+
+    /// Moves what stands at a spot, if it can, and says whether something moved so far.
+    fn move_at(&mut self, x: u32, y: u32, layer: usize, moved: bool) -> bool
+        requires x_in { x < self.old.grid.width }
+        requires y_in { y < self.old.grid.height }
+        requires layer_in { layer < self.old.grid.depth }
+        ensures pass { in_pass self.new.grid result ≡ move_at (in_pass self.old.grid moved) (spot x y layer) }
+        ensures size { SameSize self.old.grid self.new.grid }
+    {
+        match self.place(x, y, layer) {
+            None => moved,
+            Some(piece) => match self.goal(x, y, layer, piece.heading) {
+                None => moved,
+                Some((next_x, next_y)) => {
+                    self.put(x, y, layer, None);
+                    self.put(next_x, next_y, layer, Some(Piece::still(piece.object)));
+                    true
+                }
+            },
+        }
+    }
+
+    fn pass_at(&mut self, x: u32, y: u32, moved_before: bool) -> bool
+        requires x_in { x < self.old.grid.width }
+        requires y_in { y < self.old.grid.height }
+        ensures pass { in_pass self.new.grid result ≡ fold move_at (in_pass self.old.grid moved_before) (spots_at self.old.grid.depth x y) }
+        ensures size { SameSize self.old.grid self.new.grid }
+    {
+        let mut moved = moved_before;
+        for layer in 0..self.depth {
+            moved = self.move_at(x, y, layer, moved);
+        }
+        moved
+    }
+
+    fn pass_in(&mut self, x: u32, moved_before: bool) -> bool
+        requires x_in { x < self.old.grid.width }
+        ensures pass { in_pass self.new.grid result ≡ fold move_at (in_pass self.old.grid moved_before) (spots_in self.old.grid.depth self.old.grid.height x) }
+        ensures size { SameSize self.old.grid self.new.grid }
+    {
+        let mut moved = moved_before;
+        for y in 0..self.height() {
+            moved = self.pass_at(x, y, moved);
+        }
+        moved
+    }
+
+    /// Moves each piece that can, column by column, and says whether one did.
+    fn pass(&mut self) -> bool
+        ensures pass { in_pass self.new.grid result ≡ pass_of self.old.grid }
+        ensures size { SameSize self.old.grid self.new.grid }
+    {
+        let mut moved = false;
+        for x in 0..self.width() {
+            moved = self.pass_in(x, moved);
+        }
+        moved
+    }
+
+    /// Passes up to the first that moves nothing.
+    fn settle(&mut self)
+        ensures settled { self.new.grid ≡ settle (moving self.old.grid) self.old.grid }
+        ensures size { SameSize self.old.grid self.new.grid }
+    {
+        loop {
+            if !self.pass() {
+                break;
+            }
+        }
+    }
+
+    /// Stills every piece.
+    fn still_all(&mut self)
+        ensures stilled { self.new.grid ≡ stilled self.old.grid }
+        ensures lawful { IsLawful self.new.grid }
+    {
+        still_cells(&mut self.cells);
+    }
+}
+
+/// Stills every piece of the cells.
+fn still_cells(cells: &mut Vec<Cell>)
+    ensures { cells.new.items ≡ map (map still_place) cells.old.items }
+{
+    for cell in cells.iter_mut() {
+        still_cell(cell);
+    }
+}
+
+/// Stills every piece of a cell.
+fn still_cell(cell: &mut Cell)
+    ensures { cell.new ≡ map still_place cell.old }
+{
+    for layer in 0..cell.depth() {
+        let place = still(cell.place(layer));
+        cell.put(layer, place);
+    }
+}
+
+/// What stands there, still.
+fn still(place: Option<Piece>) -> Option<Piece>
+    ensures { result ≡ still_place place }
+{
+    match place {
+        None => None,
+        Some(piece) => Some(Piece::still(piece.object)),
+    }
+}

@@ -1,0 +1,268 @@
+//! The places of a row of a rule: where it holds.
+
+ghost use Rattle.std.specs.Prelude.{◌≡◌, ◌≢◌, ℕ, ◌+◌, ◌<◌, ◌≤◌, [], ◌∷◌, ◌++◌, ◌^◌, filter, length, OnOk, IfOk, IfErr, IfSome, Ok, Err};
+ghost use Rattle.pz_grid.specs.Places.{on_map, along, holds_at, position_of, distance, row_holds, line_count, line_length, place_in, gap_count, pairs_at, pairs_in, places, searched, still_holds, still_matches};
+
+use crate::Level;
+use crate::pattern::pattern_holds;
+use pz_rules::instance::Instance;
+use pz_rules::pattern::{Pattern, Row};
+use pz_source::direction::Dir;
+use std::alloc::Global;
+
+/// The greatest number of places that a search gives.
+pub const MATCH_LIMIT: usize = 1_048_576;
+
+/// Where a row starts, and how many cells its gap spans: 0, if it has none.
+#[derive(Clone, Copy, PartialEq, Eq, Debug)]
+pub struct Place {
+    pub x: u32,
+    pub y: u32,
+    pub gap: u32,
+}
+
+/// Why a search has no answer: memory was refused, or the row has more places than `MATCH_LIMIT`.
+#[derive(Clone, Copy, PartialEq, Eq, Debug)]
+pub enum GridFault {
+    Memory,
+    MatchLimit,
+}
+
+impl Level {
+    fn on_map(&self, x: usize, y: usize) -> Option<(u32, u32)>
+        ensures position { result ≡ on_map self.now.grid x y }
+        ensures inside { IfSome result (λ at. (at.0 < self.now.grid.width) × (at.1 < self.now.grid.height)) }
+    {
+        if x < self.width as usize && y < self.height as usize {
+            Some((x as u32, y as u32))
+        } else {
+            None
+        }
+    }
+
+    fn along(&self, dir: Dir, x: u32, y: u32, steps: usize) -> Option<(u32, u32)>
+        requires near { steps < 2 ^ 33 }
+        ensures position { result ≡ along self.now.grid dir x y steps }
+        ensures inside { IfSome result (λ at. (at.0 < self.now.grid.width) × (at.1 < self.now.grid.height)) }
+    {
+        let x = x as usize;
+        let y = y as usize;
+        match dir {
+            Dir::Right => self.on_map(x + steps, y),
+            Dir::Left => if steps <= x {
+                self.on_map(x - steps, y)
+            } else {
+                None
+            },
+            Dir::Down => self.on_map(x, y + steps),
+            Dir::Up => if steps <= y {
+                self.on_map(x, y - steps)
+            } else {
+                None
+            },
+            Dir::Action => None,
+        }
+    }
+
+    /// Where the cell of a number of a row stands that starts at a place, if that is on the map.
+    pub fn position_of(
+        &self,
+        dir: Dir,
+        gap_at: Option<u32>,
+        place: Place,
+        index: usize,
+    ) -> Option<(u32, u32)>
+        requires near { index < 2 ^ 32 }
+        ensures position { result ≡ position_of self.now.grid dir gap_at place index }
+        ensures inside { IfSome result (λ at. (at.0 < self.now.grid.width) × (at.1 < self.now.grid.height)) }
+    {
+        self.along(dir, place.x, place.y, distance(gap_at, place.gap, index))
+    }
+
+    fn holds_at(&self, pattern: &Pattern, position: Option<(u32, u32)>) -> bool
+        requires inside { IfSome position (λ at. (at.0 < self.now.grid.width) × (at.1 < self.now.grid.height)) }
+        ensures { result ≡ holds_at self.now.grid pattern.now position }
+    {
+        match position {
+            None => false,
+            Some((x, y)) => {
+                let cell = &self.cells[y as usize * self.width as usize + x as usize];
+                pattern_holds(cell, self.depth, &self.layers, pattern)
+            }
+        }
+    }
+}
+
+/// How far a row's cell is from its start.
+fn distance(gap_at: Option<u32>, gap: u32, index: usize) -> usize
+    requires { index < 2 ^ 32 }
+    ensures value { result ≡ distance gap_at gap index }
+    ensures near { result < 2 ^ 33 }
+{
+    match gap_at {
+        Some(at) if at as usize <= index => index + gap as usize,
+        _ => index,
+    }
+}
+
+/// Whether all cells of a row are on the map and hold, where it starts at a place.
+fn row_holds(level: &Level, row: &Row, dir: Dir, place: Place) -> bool
+    ensures { result ≡ row_holds level.now.grid row.now dir place }
+{
+    for (index, pattern) in row.cells().iter().enumerate() {
+        let position = level.position_of(dir, row.gap_at(), place, index);
+        if !level.holds_at(pattern, position) {
+            return false;
+        }
+    }
+    true
+}
+
+fn line_count(level: &Level, dir: Dir) -> u32
+    ensures value { result ≡ line_count level.now.grid dir }
+    ensures small { result ≤ 255 }
+{
+    match dir {
+        Dir::Up | Dir::Down => level.width,
+        Dir::Left | Dir::Right | Dir::Action => level.height,
+    }
+}
+
+fn line_length(level: &Level, dir: Dir) -> u32
+    ensures value { result ≡ line_length level.now.grid dir }
+    ensures small { result ≤ 255 }
+{
+    match dir {
+        Dir::Up | Dir::Down => level.height,
+        Dir::Left | Dir::Right | Dir::Action => level.width,
+    }
+}
+
+fn place_in(dir: Dir, line: u32, start: u32, gap: u32) -> Place
+    ensures { result ≡ place_in dir line start gap }
+{
+    match dir {
+        Dir::Up | Dir::Down => Place {
+            x: line,
+            y: start,
+            gap,
+        },
+        Dir::Left | Dir::Right | Dir::Action => Place {
+            x: start,
+            y: line,
+            gap,
+        },
+    }
+}
+
+/// How many gaps a row may span.
+fn gap_count(level: &Level, row: &Row, dir: Dir) -> u32
+    ensures value { result ≡ gap_count level.now.grid row.now dir }
+    ensures small { result ≤ 255 }
+{
+    if row.gap_at().is_some() {
+        line_length(level, dir)
+    } else {
+        1
+    }
+}
+
+/// Adds the place if the row holds there.
+fn add_place(
+    level: &Level,
+    row: &Row,
+    dir: Dir,
+    place: Place,
+    found: &mut Vec<Place>,
+) -> Result<(), GridFault>
+    requires room { length found.old.items ≤ MATCH_LIMIT }
+    ensures added { OnOk result (found.new.items ≡ found.old.items ++ filter (row_holds level.now.grid row.now dir) (place ∷ [])) }
+    ensures room { OnOk result (length found.new.items ≤ MATCH_LIMIT) }
+    ensures limit { result ≡ Err GridFault.MatchLimit → MATCH_LIMIT < length (found.old.items ++ filter (row_holds level.now.grid row.now dir) (place ∷ [])) }
+{
+    if row_holds(level, row, dir, place) {
+        if found.len() == MATCH_LIMIT {
+            return Err(GridFault::MatchLimit);
+        }
+        if found.push(place).is_err() {
+            return Err(GridFault::Memory);
+        }
+    }
+    Ok(())
+}
+
+/// Adds the places that start in a cell.
+fn add_places_at(
+    level: &Level,
+    row: &Row,
+    dir: Dir,
+    line: u32,
+    start: u32,
+    found: &mut Vec<Place>,
+) -> Result<(), GridFault>
+    requires room { length found.old.items ≤ MATCH_LIMIT }
+    ensures added { OnOk result (found.new.items ≡ found.old.items ++ filter (row_holds level.now.grid row.now dir) (pairs_at level.now.grid row.now dir line start)) }
+    ensures room { OnOk result (length found.new.items ≤ MATCH_LIMIT) }
+    ensures limit { result ≡ Err GridFault.MatchLimit → MATCH_LIMIT < length (found.old.items ++ filter (row_holds level.now.grid row.now dir) (pairs_at level.now.grid row.now dir line start)) }
+{
+    for gap in 0..gap_count(level, row, dir) {
+        add_place(level, row, dir, place_in(dir, line, start, gap), found)?;
+    }
+    Ok(())
+}
+
+/// Adds the places that start in a line.
+fn add_places_in(
+    level: &Level,
+    row: &Row,
+    dir: Dir,
+    line: u32,
+    found: &mut Vec<Place>,
+) -> Result<(), GridFault>
+    requires room { length found.old.items ≤ MATCH_LIMIT }
+    ensures added { OnOk result (found.new.items ≡ found.old.items ++ filter (row_holds level.now.grid row.now dir) (pairs_in level.now.grid row.now dir line)) }
+    ensures room { OnOk result (length found.new.items ≤ MATCH_LIMIT) }
+    ensures limit { result ≡ Err GridFault.MatchLimit → MATCH_LIMIT < length (found.old.items ++ filter (row_holds level.now.grid row.now dir) (pairs_in level.now.grid row.now dir line)) }
+{
+    for start in 0..line_length(level, dir) {
+        add_places_at(level, row, dir, line, start, found)?;
+    }
+    Ok(())
+}
+
+/// The places of a row in a level, in the order of the scan: by rows from the top for left and right, by columns from the left for
+/// up and down, for one start with ascending gaps. MatchLimit: there are more than `MATCH_LIMIT`.
+pub fn places(alloc: Global, level: &Level, row: &Row, dir: Dir) -> Result<Vec<Place>, GridFault>
+    ensures found { IfOk result (λ found. searched level.now.grid row.now dir ≡ Ok found.items) }
+    ensures fault { IfErr result (λ fault. fault ≢ GridFault.Memory → searched level.now.grid row.now dir ≡ Err fault) }
+{
+    let mut found = Vec::new(alloc);
+    for line in 0..line_count(level, dir) {
+        add_places_in(level, row, dir, line, &mut found)?;
+    }
+    Ok(found)
+}
+
+/// Whether a row still holds at a place, whose gap is 0 where the row has none.
+fn still_holds(level: &Level, dir: Dir, row: &Row, place: Place) -> bool
+    ensures { result ≡ still_holds level.now.grid dir (row.now, place) }
+{
+    (row.gap_at().is_some() || place.gap == 0) && row_holds(level, row, dir, place)
+}
+
+/// Whether the rows of an instance's left all hold at these places, one for each: false for another number of places, for a cell
+/// off the map, and for a gap above 0 where the row has none.
+pub fn still_matches(level: &Level, instance: &Instance, places: &[Place]) -> bool
+    ensures { result ≡ still_matches level.now.grid instance.now places.now }
+{
+    let rows = instance.left.items();
+    if places.len() != rows.len() {
+        return false;
+    }
+    for index in 0..rows.len() {
+        if !still_holds(level, instance.scan, &rows[index], places[index]) {
+            return false;
+        }
+    }
+    true
+}

@@ -1,0 +1,41 @@
+// Which objects are in a cell.
+
+ghost use Rattle.std.specs.Prelude.{◌≡◌, ◌<◌, length};
+ghost use Rattle.pz_grid.specs.Presence.{is_in, holds_one, holds_each, cell_of};
+
+use crate::Level;
+
+impl Level {
+    /// The number of cells.
+    pub fn cell_count(&self) -> usize
+        ensures { result ≡ length self.now.grid.cells }
+    {
+        self.cells.len()
+    }
+
+    fn is_in(&self, index: usize, object: usize) -> bool
+        requires { index < length self.now.grid.cells }
+        ensures { result ≡ is_in (cell_of self.now.grid index) object }
+    {
+        match self.cells[index].piece_of(self.depth, &self.layers, object) {
+            Some(_) => true,
+            None => false,
+        }
+    }
+
+    /// Whether one of the objects, by their places among the game's objects, is in the cell of a number, counted row by row.
+    pub fn holds_one(&self, index: usize, objects: &[usize]) -> bool
+        requires { index < length self.now.grid.cells }
+        ensures { result ≡ holds_one objects.now (cell_of self.now.grid index) }
+    {
+        objects.iter().any(|object| self.is_in(index, *object))
+    }
+
+    /// Whether each of the objects is in the cell of a number.
+    pub fn holds_each(&self, index: usize, objects: &[usize]) -> bool
+        requires { index < length self.now.grid.cells }
+        ensures { result ≡ holds_each objects.now (cell_of self.now.grid index) }
+    {
+        objects.iter().all(|object| self.is_in(index, *object))
+    }
+}

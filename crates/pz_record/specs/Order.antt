@@ -1,0 +1,22 @@
+-- The cells of a level in an order.
+use Rattle.std.specs.Prelude.{ℕ, ◌*◌, ◌/◌, ◌%◌, List, map}
+use Rattle.std.specs.List.{range_with_len}
+use Rattle.pz_grid.specs.Grid.{Grid}
+use Rattle.pz_record.specs.declared.order.Order.{Order}
+use Rattle.pz_record.specs.declared.order.Order.TheVariants.{Rows, Columns}
+
+-- row by row from the top, or column by column from the left
+abbrev pub column_of : Order → Grid → ℕ → ℕ
+column_of Rows grid k = k % grid.width
+column_of Columns grid k = k / grid.height
+
+abbrev pub row_of : Order → Grid → ℕ → ℕ
+row_of Rows grid k = k / grid.width
+row_of Columns grid k = k % grid.height
+
+-- the column and the row of the cell of a number
+abbrev pub position_of : Order → Grid → ℕ → ℕ × ℕ
+position_of order grid k = (column_of order grid k, row_of order grid k)
+
+abbrev pub cells_in : Order → Grid → List (ℕ × ℕ)
+cells_in order grid = map (position_of order grid) (range_with_len 0 (grid.width * grid.height))

@@ -1,0 +1,49 @@
+//! The level of a recorded session.
+
+ghost use Rattle.std.specs.Prelude.{◌≡◌, ◌<◌, [], length, slice_index_or, map, All};
+
+use crate::cell_names::CellNames;
+use std::marker::Model;
+
+/// The level at the end of a recorded session: contracts see the names of each cell, in the order of the cells.
+/// Cells with the same names share them, so that a level takes no more room than its text.
+#[derive(Drop, Debug)]
+pub struct Recorded {
+    sets: Vec<CellNames>,
+    cells: Vec<usize>,
+}
+
+impl Model for Recorded {
+    ghost use Rattle.std.specs.Prelude.{List, ℕ, [], map, ◌<◌, length, slice_index_or, All};
+
+    ghost Value = { List (List (List ℕ)) };
+
+    ghost view = { λ r. map (λ set. slice_index_or r.sets.items set []) r.cells.items };
+
+    ghost invariant = { λ r. All (λ set. set < length r.sets.items) r.cells.items };
+}
+
+impl Recorded {
+    /// The level whose cells have the sets of these numbers.
+    pub(crate) fn new(sets: Vec<CellNames>, cells: Vec<usize>) -> Recorded
+        requires { All (λ set. set < length sets.items) cells.items }
+        ensures { result ≡ map (λ set. slice_index_or sets.items set []) cells.items }
+    {
+        Recorded { sets, cells }
+    }
+
+    /// The number of cells.
+    pub(crate) fn len(&self) -> usize
+        ensures { result ≡ length self.now }
+    {
+        self.cells.len()
+    }
+
+    /// The names of the cell of a number.
+    pub(crate) fn names(&self, number: usize) -> &CellNames
+        requires { number < length self.now }
+        ensures { result.now ≡ slice_index_or self.now number [] }
+    {
+        &self.sets[self.cells[number]]
+    }
+}

@@ -1,0 +1,4 @@
+pub mod Lines
+pub mod Naming
+pub mod Recording
+pub mod Writing

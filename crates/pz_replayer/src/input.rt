@@ -1,0 +1,44 @@
+//! The reading of a file.
+
+ghost use Rattle.std.specs.Prelude.{◌≡◌, ◌≤◌, IfOk, IfErr, IfSome, length};
+
+use std::alloc::Global;
+use std::io::Read;
+
+/// Why the input was not read.
+#[derive(Clone, Copy, Debug, PartialEq, Eq)]
+pub enum InputFault {
+    Memory,
+    Device,
+    TooLong,
+}
+
+/// One byte more than an input may have.
+const MOST: usize = 16_777_217;
+
+/// Reads to the end, or to one byte past the longest input. A read that answers an error ends it at once, and each other read
+/// takes a byte, so that the reader is called at most 16,777,217 times.
+pub(crate) fn read_input<R: Read>(alloc: Global, input: &mut R) -> Result<Vec<u8>, InputFault>
+    ensures whole { IfOk result (λ bytes. IfSome (R.remaining input.old) (λ all. bytes.items ≡ all)) }
+    ensures size { IfOk result (λ bytes. length bytes.items ≤ 16777216) }
+    ensures long { IfErr result (λ fault. fault ≡ InputFault.TooLong → IfSome (R.remaining input.old) (λ all. 16777217 ≤ length all)) }
+{
+    let mut bytes = Vec::new(alloc);
+    let mut buffer = [0u8; 4096];
+    for _turn in 0..MOST {
+        let room = (MOST - bytes.len()).min(4096);
+        let Ok(count) = input.read(&mut buffer[..room]) else {
+            return Err(InputFault::Device);
+        };
+        if count == 0 {
+            return Ok(bytes);
+        }
+        if bytes.extend_from_slice(&buffer[..count]).is_err() {
+            return Err(InputFault::Memory);
+        }
+        if bytes.len() == MOST {
+            return Err(InputFault::TooLong);
+        }
+    }
+    Err(InputFault::TooLong)
+}

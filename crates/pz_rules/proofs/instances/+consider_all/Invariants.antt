@@ -1,0 +1,13 @@
+use Rattle.std.proofs.Common.{length, ◌≡◌, ◌++◌, map, fold, take}
+use Rattle.pz_rules.specs.Instances.{considered}
+use Rattle.pz_rules.proofs.Products.{headed}
+use Rattle.pz_rules.proofs.instances.+consider_all.Given as goal
+
+abbrev pub decreases-consider_all : goal.decreases-consider_all
+decreases-consider_all l = length l.options.now
+
+-- every list of picks that goes on with one of the first options has been considered
+abbrev pub invariant-options : goal.invariant-options
+invariant-options l =
+    (l.kept.items ≡ fold (considered l.layers l.plan l.direction) l.fn.kept.items (map (λ rest. l.fn.picks.items ++ rest) (headed l.others (take l.pick-index l.pick-items))))
+    × (l.picks.items ≡ l.fn.picks.items)

@@ -1,0 +1,133 @@
+-- The program of a game, line by line.
+use Rattle.std.specs.Prelude.{ℕ, Bool, true, not, ◌&&◌, List, [], ◌∷◌, ◌++◌, Option, Some, None, Result, Ok, Err, is_some, if◌then◌else◌}
+use Rattle.pz_text.specs.declared.fault.SourceFault.{SourceFault}
+use Rattle.pz_source.specs.Game.{GameView}
+use Rattle.pz_source.specs.declared.rules.RuleLine.{RuleLine}
+use Rattle.pz_rules.specs.declared.draft.Draft.{Draft}
+use Rattle.pz_rules.specs.declared.draft.OpenGroup.{OpenGroup}
+use Rattle.pz_rules.specs.declared.expansion.Expansion.{Expansion}
+use Rattle.pz_rules.specs.declared.fault.RuleFault.{RuleFault}
+use Rattle.pz_rules.specs.declared.fault.RuleFault.TheVariants as fault
+use Rattle.pz_rules.specs.declared.instance.Block.{Block}
+use Rattle.pz_rules.specs.declared.instance.Block.TheVariants.{One, Loop}
+use Rattle.pz_rules.specs.declared.instance.Instance.{Instance}
+use Rattle.pz_rules.specs.declared.instance.Program.{Program}
+use Rattle.pz_rules.specs.declared.loops.LoopWord.{LoopWord}
+use Rattle.pz_rules.specs.declared.loops.LoopWord.TheVariants as loop_words
+use Rattle.pz_rules.specs.declared.rule.Rule.{Rule}
+use Rattle.pz_rules.specs.declared.sides.Sides.{Sides}
+use Rattle.pz_rules.specs.Expansion.{expanded}
+use Rattle.pz_rules.specs.Fault.{code_of}
+use Rattle.pz_rules.specs.Loop.{loop_word, next_loop, is_end}
+use Rattle.pz_rules.specs.Parsed.{parsed}
+use Rattle.pz_rules.specs.Prefix.{is_late_rule}
+use Rattle.pz_rules.specs.Sides.{side_added}
+use Rattle.pz_rules.specs.Words.{tokens_of}
+
+-- a group takes its place: in the loop that is open, else as a block of its own
+unfoldable pub placed : Draft → OpenGroup → Draft
+placed draft group =
+    elim draft.repeated [
+      | None ↦ record { done = side_added draft.done group.is_late (One group.instances); repeated = None; group = None; pairs = draft.pairs }
+      | Some groups ↦ record { done = draft.done; repeated = Some (side_added groups group.is_late group.instances); group = None; pairs = draft.pairs }
+    ]
+
+-- no rule can join the last group any more
+unfoldable pub settled : Draft → Draft
+settled draft = elim draft.group [ None ↦ draft | Some group ↦ placed draft group ]
+
+-- a loop begins
+unfoldable pub opened : Draft → Draft
+opened draft = let d = settled draft in record { done = d.done; repeated = Some (record { early = []; late = [] }); group = None; pairs = d.pairs }
+
+-- the block of a part of a loop, where it has groups
+abbrev pub loop_of : List (List Instance) → List Block
+loop_of [] = []
+loop_of (group ∷ groups) = Loop (group ∷ groups) ∷ []
+
+abbrev pub with_loop : Sides Block → Sides (List Instance) → Sides Block
+with_loop done groups = record { early = done.early ++ loop_of groups.early; late = done.late ++ loop_of groups.late }
+
+-- the loop that is open ends
+unfoldable pub closed : Draft → Draft
+closed draft =
+    let d = settled draft in
+    elim d.repeated [
+      | None ↦ d
+      | Some groups ↦ record { done = with_loop d.done groups; repeated = None; group = None; pairs = d.pairs }
+    ]
+
+-- a `+` rule without a rule right above it, or with `late` where its group isn't
+unfoldable pub is_misplaced : Draft → Rule → Bool
+is_misplaced draft rule =
+    rule.is_joined && elim draft.group [ None ↦ true | Some group ↦ is_late_rule rule && not group.is_late ]
+
+-- a `+` rule is late if its group is
+unfoldable pub lateness : Draft → Rule → Bool
+lateness draft rule = if rule.is_joined then elim draft.group [ None ↦ is_late_rule rule | Some group ↦ group.is_late ] else is_late_rule rule
+
+-- the instances that stand in the group of a rule before its own
+unfoldable pub joins : Draft → Rule → List Instance
+joins draft rule = if rule.is_joined then elim draft.group [ None ↦ [] | Some group ↦ group.instances ] else []
+
+-- the draft that the rule's group stands after
+unfoldable pub before : Draft → Rule → Draft
+before draft rule = if rule.is_joined then draft else settled draft
+
+-- a rule with its instances
+unfoldable pub extended : Draft → Rule → Expansion → Draft
+extended draft rule more =
+    let d = before draft rule in
+    record {
+      done = d.done;
+      repeated = d.repeated;
+      group = Some (record { is_late = lateness draft rule; instances = joins draft rule ++ more.instances });
+      pairs = more.pairs;
+    }
+
+abbrev pub extended_by : Draft → Rule → Result Expansion RuleFault → Result Draft RuleFault
+extended_by draft rule (Ok more) = Ok (extended draft rule more)
+extended_by draft rule (Err fault) = Err fault
+
+-- the draft with a rule, or the first fault of the rule
+unfoldable pub rule_added : GameView → Draft → Rule → Result Draft RuleFault
+rule_added game draft rule =
+    if is_misplaced draft rule then Err fault.BadRule
+    else extended_by draft rule (expanded game.values game.layers draft.pairs (lateness draft rule) rule)
+
+abbrev pub parsed_added : GameView → Draft → Option Rule → Result Draft RuleFault
+parsed_added game draft None = Err fault.BadRule
+parsed_added game draft (Some rule) = rule_added game draft rule
+
+-- a loop line: the next loop line below one that begins a loop ends it; above one that ends it a loop has begun
+unfoldable pub loop_added : Draft → List RuleLine → LoopWord → Result Draft RuleFault
+loop_added draft below loop_words.Start = if is_end (next_loop below) then Ok (opened draft) else Err fault.BadRule
+loop_added draft below loop_words.End = if is_some draft.repeated then Ok (closed draft) else Err fault.BadRule
+
+-- the draft with one more line, which stands above others
+unfoldable pub line_added : GameView → Draft → List RuleLine → List (List ℕ) → Result Draft RuleFault
+line_added game draft below words =
+    elim (loop_word words) [
+      | None ↦ parsed_added game draft (parsed (tokens_of game.names words))
+      | Some word ↦ loop_added draft below word
+    ]
+
+abbrev pub going_on : ℕ → (Draft → Result Program SourceFault) → Result Draft RuleFault → Result Program SourceFault
+going_on number later (Ok draft) = later draft
+going_on number later (Err fault) = Err (record { code = code_of fault; line = number })
+
+-- the program of what is done where no line is left
+unfoldable pub finished : Draft → Program
+finished draft = let done = (settled draft).done in record { early = done.early; late = done.late }
+
+-- the program of lines, of which a draft stands above; or the first fault of the first line that has one
+unfoldable pub program_from : GameView → Draft → List RuleLine → Result Program SourceFault
+program_from game draft [] = Ok (finished draft)
+program_from game draft (line ∷ lines) = going_on line.number (λ d. program_from game d lines) (line_added game draft lines line.words)
+
+unfoldable pub nothing : Draft
+nothing = record { done = record { early = []; late = [] }; repeated = None; group = None; pairs = 0 }
+
+-- the program of a game
+unfoldable pub program_of : GameView → Result Program SourceFault
+program_of game = program_from game nothing game.rules

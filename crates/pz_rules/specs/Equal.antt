@@ -1,0 +1,48 @@
+-- Equal instances of a rule: cells are compared as sets of items. (The commands and the gaps of one rule's instances are the same.)
+use Rattle.std.specs.Prelude.{Bool, true, false, ◌&&◌, ◌==◌, List, length}
+use Rattle.std.specs.List.{list_all, list_any, zip}
+use Rattle.pz_rules.specs.declared.pattern.Word.{Word}
+use Rattle.pz_rules.specs.declared.pattern.Word.TheVariants.{Present, Still, Toward, Absent}
+use Rattle.pz_rules.specs.declared.pattern.Item.{Item}
+use Rattle.pz_rules.specs.declared.instance.Instance.{Instance}
+use Rattle.pz_rules.specs.Pattern.{RuleRow}
+use Rattle.pz_rules.specs.Same.{same_dir}
+
+-- two words of one meaning
+abbrev pub same_meaning : Word → Word → Bool
+same_meaning Present Present = true
+same_meaning Still Still = true
+same_meaning (Toward a) (Toward b) = same_dir a b
+same_meaning Absent Absent = true
+same_meaning _ _ = false
+
+unfoldable pub same_item : Item → Item → Bool
+same_item a b = (a.object == b.object) && ((a.layer == b.layer) && same_meaning a.word b.word)
+
+unfoldable pub has_item : List Item → Item → Bool
+has_item cell item = list_any (λ x. same_item x item) cell
+
+-- each item of a stands in b
+unfoldable pub within_cell : List Item → List Item → Bool
+within_cell a b = list_all (λ x. has_item b x) a
+
+-- cells as sets of items
+unfoldable pub same_cell : List Item → List Item → Bool
+same_cell a b = within_cell a b && within_cell b a
+
+-- the cells of two rows are the same, as far as both rows go
+unfoldable pub cells_agree : List (List Item) → List (List Item) → Bool
+cells_agree a b = list_all (λ p. same_cell p.0 p.1) (zip a b)
+
+unfoldable pub same_row : RuleRow → RuleRow → Bool
+same_row a b = (length a.cells == length b.cells) && cells_agree a.cells b.cells
+
+-- rows are the same, as far as both sides go
+unfoldable pub rows_agree : List RuleRow → List RuleRow → Bool
+rows_agree a b = list_all (λ p. same_row p.0 p.1) (zip a b)
+
+unfoldable pub same_rows : List RuleRow → List RuleRow → Bool
+same_rows a b = (length a == length b) && rows_agree a b
+
+unfoldable pub same_instance : Instance → Instance → Bool
+same_instance a b = same_dir a.scan b.scan && (same_rows a.left b.left && same_rows a.right b.right)

@@ -1,0 +1,32 @@
+-- The instances of a rule, or its first fault.
+use Rattle.std.specs.Prelude.{ℕ, ◌+◌, Bool, nat_lt, List, Result, Ok, Err, if◌then◌else◌}
+use Rattle.std.specs.List.{list_any}
+use Rattle.pz_source.specs.declared.denotation.Denotation.{Denotation}
+use Rattle.pz_rules.specs.declared.expansion.Expansion.{Expansion}
+use Rattle.pz_rules.specs.declared.fault.RuleFault.{RuleFault}
+use Rattle.pz_rules.specs.declared.fault.RuleFault.TheVariants as fault
+use Rattle.pz_rules.specs.declared.instance.Instance.{Instance}
+use Rattle.pz_rules.specs.declared.plan.Plan.{Plan}
+use Rattle.pz_rules.specs.declared.rule.Rule.{Rule}
+use Rattle.pz_rules.specs.Clash.{has_clash}
+use Rattle.pz_rules.specs.Counting.{pair_count}
+use Rattle.pz_rules.specs.Instances.{instances_of}
+use Rattle.pz_rules.specs.Planning.{plan_of}
+
+-- the instances that are kept, where the right of none has a clash
+unfoldable pub unless_clash : ℕ → List Instance → Result Expansion RuleFault
+unless_clash total instances =
+    if list_any has_clash instances then Err fault.RightClash else Ok (record { instances = instances; pairs = total })
+
+-- the instances of a plan, where all rules up to it have no more than 65,536 pairs
+unfoldable pub expansion_within : List Denotation → List ℕ → ℕ → Plan → Result Expansion RuleFault
+expansion_within table layers total plan =
+    if nat_lt 65_536 total then Err fault.TooManyRules else unless_clash total (instances_of table layers plan)
+
+abbrev pub expanded_plan : List Denotation → List ℕ → ℕ → Result Plan RuleFault → Result Expansion RuleFault
+expanded_plan table layers pairs (Err fault) = Err fault
+expanded_plan table layers pairs (Ok plan) = expansion_within table layers (pairs + pair_count table plan) plan
+
+-- the instances of a rule, late or not, where the rules above it have so many pairs
+unfoldable pub expanded : List Denotation → List ℕ → ℕ → Bool → Rule → Result Expansion RuleFault
+expanded table layers pairs is_late rule = expanded_plan table layers pairs (plan_of table is_late rule)

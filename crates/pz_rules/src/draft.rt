@@ -1,0 +1,291 @@
+//! A program while its lines are read.
+
+ghost use Rattle.std.specs.Prelude.{◌≡◌, ◌≢◌, ◌++◌, true, Ok, Err, IfOk, IfErr};
+ghost use Rattle.pz_rules.specs.declared.fault.RuleFault.TheVariants.{Memory};
+ghost use Rattle.pz_rules.specs.Drafts.{placed, settled, opened, loop_of, closed, is_misplaced, lateness, extended, rule_added, loop_added, line_added};
+ghost use Rattle.pz_rules.specs.Written.{is_whole};
+
+use crate::expansion::{Expansion, expanded};
+use crate::fault::RuleFault;
+use crate::grammar::parse;
+use crate::instance::{Block, Blocks, Group, Groups};
+use crate::listing::{joined, pushed};
+use crate::loops::{LoopWord, loop_word, next_loop};
+use crate::prefix::is_late_rule;
+use crate::rule::Rule;
+use crate::sides::{Sides, no_sides, side_added};
+use crate::words::tokens_of;
+use pz_source::game::Game;
+use pz_source::rules::RuleLine;
+use pz_text::name::Name;
+use std::alloc::{AllocError, Global};
+
+/// The last group, which a rule may join.
+#[derive(Drop)]
+pub struct OpenGroup {
+    pub is_late: bool,
+    pub instances: Group,
+}
+
+/// The blocks that are done, the groups of the loop that is open, and the last group.
+#[derive(Drop)]
+pub struct Draft {
+    pub done: Sides<Block>,
+    pub repeated: Option<Sides<Group>>,
+    pub group: Option<OpenGroup>,
+    pub pairs: u64,
+}
+
+#[tactic(auto, unfolding(crate::specs::Drafts::placed))]
+fn placed(draft: Draft, group: OpenGroup) -> Result<Draft, AllocError>
+    ensures { IfOk result (λ out. out ≡ placed draft group) }
+{
+    let Draft {
+        done,
+        repeated,
+        group: _,
+        pairs,
+    } = draft;
+    let OpenGroup { is_late, instances } = group;
+    match repeated {
+        None => Ok(Draft {
+            done: side_added(done, is_late, Block::One(instances))?,
+            repeated: None,
+            group: None,
+            pairs,
+        }),
+        Some(groups) => Ok(Draft {
+            done,
+            repeated: Some(side_added(groups, is_late, instances)?),
+            group: None,
+            pairs,
+        }),
+    }
+}
+
+/// The draft where no rule can join the last group any more.
+#[tactic(auto, unfolding(crate::specs::Drafts::settled, crate::specs::Drafts::placed))]
+pub fn settled(draft: Draft) -> Result<Draft, AllocError>
+    ensures { IfOk result (λ out. out ≡ settled draft) }
+{
+    let Draft {
+        done,
+        repeated,
+        group,
+        pairs,
+    } = draft;
+    match group {
+        None => Ok(Draft {
+            done,
+            repeated,
+            group: None,
+            pairs,
+        }),
+        Some(group) => placed(
+            Draft {
+                done,
+                repeated,
+                group: None,
+                pairs,
+            },
+            group,
+        ),
+    }
+}
+
+/// The draft where a loop begins.
+#[tactic(auto, unfolding(crate::specs::Drafts::opened))]
+fn opened(alloc: Global, draft: Draft) -> Result<Draft, AllocError>
+    ensures { IfOk result (λ out. out ≡ opened draft) }
+{
+    let Draft {
+        done,
+        repeated: _,
+        group: _,
+        pairs,
+    } = settled(draft)?;
+    Ok(Draft {
+        done,
+        repeated: Some(no_sides(alloc)),
+        group: None,
+        pairs,
+    })
+}
+
+/// The blocks with that of a part of a loop, where it has groups.
+fn with_part(blocks: Blocks, groups: Groups) -> Result<Blocks, AllocError>
+    ensures { IfOk result (λ out. out ≡ blocks ++ loop_of groups) }
+{
+    if groups.items().is_empty() {
+        return Ok(blocks);
+    }
+    pushed(blocks, Block::Loop(groups))
+}
+
+/// The draft where the loop that is open ends.
+#[tactic(auto, unfolding(crate::specs::Drafts::closed))]
+fn closed(draft: Draft) -> Result<Draft, AllocError>
+    ensures { IfOk result (λ out. out ≡ closed draft) }
+{
+    let Draft {
+        done,
+        repeated,
+        group,
+        pairs,
+    } = settled(draft)?;
+    match repeated {
+        None => Ok(Draft {
+            done,
+            repeated: None,
+            group,
+            pairs,
+        }),
+        Some(groups) => {
+            let early = with_part(done.early, groups.early)?;
+            let late = with_part(done.late, groups.late)?;
+            Ok(Draft {
+                done: Sides { early, late },
+                repeated: None,
+                group: None,
+                pairs,
+            })
+        }
+    }
+}
+
+/// Whether a rule joins a group that it can't join.
+#[tactic(auto, unfolding(crate::specs::Drafts::is_misplaced))]
+fn is_misplaced(draft: &Draft, rule: &Rule) -> bool
+    ensures { result ≡ is_misplaced draft.now rule.now }
+{
+    rule.is_joined
+        && match &draft.group {
+            None => true,
+            Some(group) => is_late_rule(rule) && !group.is_late,
+        }
+}
+
+/// Whether a rule is late: one that joins a group is as its group.
+#[tactic(auto, unfolding(crate::specs::Drafts::lateness))]
+fn lateness(draft: &Draft, rule: &Rule) -> bool
+    ensures { result ≡ lateness draft.now rule.now }
+{
+    match &draft.group {
+        Some(group) if rule.is_joined => group.is_late,
+        _ => is_late_rule(rule),
+    }
+}
+
+/// The draft with the instances of a rule.
+#[tactic(auto, unfolding(crate::specs::Drafts::extended, crate::specs::Drafts::before, crate::specs::Drafts::joins, crate::specs::Drafts::lateness))]
+fn extended(draft: Draft, rule: &Rule, more: Expansion) -> Result<Draft, AllocError>
+    ensures { IfOk result (λ out. out ≡ extended draft rule.now more) }
+{
+    if rule.is_joined {
+        let Draft {
+            done,
+            repeated,
+            group,
+            pairs: _,
+        } = draft;
+        let group = match group {
+            None => OpenGroup {
+                is_late: is_late_rule(rule),
+                instances: more.instances,
+            },
+            Some(OpenGroup { is_late, instances }) => OpenGroup {
+                is_late,
+                instances: joined(instances, more.instances)?,
+            },
+        };
+        Ok(Draft {
+            done,
+            repeated,
+            group: Some(group),
+            pairs: more.pairs,
+        })
+    } else {
+        let Draft {
+            done,
+            repeated,
+            group: _,
+            pairs: _,
+        } = settled(draft)?;
+        let group = OpenGroup {
+            is_late: is_late_rule(rule),
+            instances: more.instances,
+        };
+        Ok(Draft {
+            done,
+            repeated,
+            group: Some(group),
+            pairs: more.pairs,
+        })
+    }
+}
+
+/// The draft with a rule, or the first fault of the rule.
+#[tactic(auto, unfolding(crate::specs::Drafts::rule_added))]
+fn rule_added(alloc: Global, game: &Game, draft: Draft, rule: &Rule) -> Result<Draft, RuleFault>
+    requires whole { is_whole rule.now ≡ true }
+    ensures draft { IfOk result (λ out. rule_added game.now draft rule.now ≡ Ok out) }
+    ensures fault { IfErr result (λ fault. fault ≢ Memory → rule_added game.now draft rule.now ≡ Err fault) }
+{
+    if is_misplaced(&draft, rule) {
+        return Err(RuleFault::BadRule);
+    }
+    let more = expanded(
+        alloc,
+        game.values(),
+        game.layers(),
+        draft.pairs,
+        lateness(&draft, rule),
+        rule,
+    )?;
+    Ok(extended(draft, rule, more)?)
+}
+
+/// The draft with a loop line, or its fault.
+#[tactic(auto, unfolding(crate::specs::Drafts::loop_added))]
+fn loop_added(
+    alloc: Global,
+    draft: Draft,
+    below: &[RuleLine],
+    word: LoopWord,
+) -> Result<Draft, RuleFault>
+    ensures draft { IfOk result (λ out. loop_added draft below.now word ≡ Ok out) }
+    ensures fault { IfErr result (λ fault. fault ≢ Memory → loop_added draft below.now word ≡ Err fault) }
+{
+    match word {
+        LoopWord::Start => match next_loop(below) {
+            Some(LoopWord::End) => Ok(opened(alloc, draft)?),
+            _ => Err(RuleFault::BadRule),
+        },
+        LoopWord::End => match &draft.repeated {
+            Some(_) => Ok(closed(draft)?),
+            None => Err(RuleFault::BadRule),
+        },
+    }
+}
+
+/// The draft with a line, or the first fault of the line.
+#[tactic(auto, unfolding(crate::specs::Drafts::line_added))]
+pub fn line_added(
+    alloc: Global,
+    game: &Game,
+    draft: Draft,
+    below: &[RuleLine],
+    words: &[Name],
+) -> Result<Draft, RuleFault>
+    ensures draft { IfOk result (λ out. line_added game.now draft below.now words.now ≡ Ok out) }
+    ensures fault { IfErr result (λ fault. fault ≢ Memory → line_added game.now draft below.now words.now ≡ Err fault) }
+{
+    if let Some(word) = loop_word(words) {
+        return loop_added(alloc, draft, below, word);
+    }
+    let tokens = tokens_of(alloc, game, words)?;
+    match parse(alloc, &tokens)? {
+        Some(rule) => rule_added(alloc, game, draft, &rule),
+        None => Err(RuleFault::BadRule),
+    }
+}

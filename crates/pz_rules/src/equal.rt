@@ -1,0 +1,92 @@
+//! Equal instances of a rule.
+
+ghost use Rattle.std.specs.Prelude.{◌≡◌};
+ghost use Rattle.std.specs.List.{list_any};
+ghost use Rattle.pz_rules.specs.Equal.{same_meaning, same_item, has_item, within_cell, same_cell, cells_agree, same_row, rows_agree, same_rows, same_instance};
+
+use crate::instance::Instance;
+use crate::pattern::{Item, Pattern, Row, Word};
+
+/// Whether two words say the same of their object.
+pub fn same_meaning(a: Word, b: Word) -> bool
+    ensures { result ≡ same_meaning a b }
+{
+    a == b
+}
+
+/// Whether two items are the same.
+#[tactic(auto, unfolding(crate::specs::Equal::same_item))]
+fn same_item(a: &Item, b: &Item) -> bool
+    ensures { result ≡ same_item a.now b.now }
+{
+    a == b
+}
+
+/// Whether a cell has an item.
+#[tactic(auto, unfolding(crate::specs::Equal::has_item))]
+fn has_item(cell: &Pattern, item: &Item) -> bool
+    ensures { result ≡ has_item cell.now item.now }
+{
+    cell.items().iter().any(|x| same_item(x, item))
+}
+
+/// Whether a cell has each item of another.
+#[tactic(auto, unfolding(crate::specs::Equal::within_cell))]
+fn within_cell(a: &Pattern, b: &Pattern) -> bool
+    ensures { result ≡ within_cell a.now b.now }
+{
+    a.items().iter().all(|x| has_item(b, x))
+}
+
+/// Whether two cells have the same set of items.
+#[tactic(auto, unfolding(crate::specs::Equal::same_cell))]
+fn same_cell(a: &Pattern, b: &Pattern) -> bool
+    ensures { result ≡ same_cell a.now b.now }
+{
+    within_cell(a, b) && within_cell(b, a)
+}
+
+/// Whether the cells of two rows agree, as far as both go.
+#[tactic(auto, unfolding(crate::specs::Equal::cells_agree))]
+fn cells_agree(a: &Row, b: &Row) -> bool
+    ensures { result ≡ cells_agree a.now.cells b.now.cells }
+{
+    a.cells()
+        .iter()
+        .zip(b.cells())
+        .all(|(x, y)| same_cell(x, y))
+}
+
+/// Whether two rows have the same cells.
+#[tactic(auto, unfolding(crate::specs::Equal::same_row))]
+fn same_row(a: &Row, b: &Row) -> bool
+    ensures { result ≡ same_row a.now b.now }
+{
+    a.cells().len() == b.cells().len() && cells_agree(a, b)
+}
+
+/// Whether the rows of two sides agree, as far as both go.
+#[tactic(auto, unfolding(crate::specs::Equal::rows_agree))]
+fn rows_agree(a: &[Row], b: &[Row]) -> bool
+    ensures { result ≡ rows_agree a.now b.now }
+{
+    a.iter().zip(b).all(|(x, y)| same_row(x, y))
+}
+
+/// Whether two sides have the same rows.
+#[tactic(auto, unfolding(crate::specs::Equal::same_rows))]
+fn same_rows(a: &[Row], b: &[Row]) -> bool
+    ensures { result ≡ same_rows a.now b.now }
+{
+    a.len() == b.len() && rows_agree(a, b)
+}
+
+/// Whether two instances of one rule are equal.
+#[tactic(auto, unfolding(crate::specs::Equal::same_instance))]
+pub fn same_instance(a: &Instance, b: &Instance) -> bool
+    ensures { result ≡ same_instance a.now b.now }
+{
+    a.scan == b.scan
+        && same_rows(a.left.items(), b.left.items())
+        && same_rows(a.right.items(), b.right.items())
+}

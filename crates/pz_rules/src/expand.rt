@@ -1,0 +1,92 @@
+//! The program of a game.
+
+ghost use Rattle.std.specs.Prelude.{◌≡◌, ◌≢◌, Ok, Err, IfOk, IfErr, map, Contains};
+ghost use Rattle.pz_text.specs.declared.fault.Code.TheVariants.{Memory};
+ghost use Rattle.pz_rules.specs.declared.fault.RuleFault.TheVariants as rule_faults;
+ghost use Rattle.pz_rules.specs.Drafts.{nothing, finished, program_of};
+ghost use Rattle.pz_rules.specs.Fault.{code_of};
+ghost use Rattle.pz_rules.specs.Instance.{IsProgramOf};
+
+use crate::draft::{Draft, line_added, settled};
+use crate::fault::RuleFault;
+use crate::instance::Program;
+use crate::sides::no_sides;
+use pz_source::game::Game;
+use pz_text::fault::{Code, SourceFault};
+use std::alloc::{AllocError, Global};
+
+/// The refusal of a source one of whose rule lines has a fault. Want of memory is no line's.
+fn refusal(fault: RuleFault, line: u32) -> SourceFault
+    ensures named { result.code ≢ Memory → fault ≢ rule_faults.Memory }
+    ensures at { result.code ≢ Memory → result ≡ record { code = code_of fault; line = line } }
+    ensures whole { result.code ≡ Memory → result.line ≡ 0 }
+{
+    match fault {
+        RuleFault::Memory => SourceFault {
+            code: Code::Memory,
+            line: 0,
+        },
+        other => SourceFault {
+            code: other.code(),
+            line,
+        },
+    }
+}
+
+/// The draft before the first line.
+#[tactic(auto, unfolding(crate::specs::Drafts::nothing))]
+fn nothing(alloc: Global) -> Draft
+    ensures { result ≡ nothing }
+{
+    Draft {
+        done: no_sides(alloc),
+        repeated: None,
+        group: None,
+        pairs: 0,
+    }
+}
+
+/// The program of what is done where no line is left.
+#[tactic(auto, unfolding(crate::specs::Drafts::finished))]
+fn finished(draft: Draft) -> Result<Program, AllocError>
+    ensures { IfOk result (λ program. program ≡ finished draft) }
+{
+    let last = settled(draft)?;
+    Ok(Program {
+        early: last.done.early,
+        late: last.done.late,
+    })
+}
+
+/// The program of the lines of a game, or the first fault of one.
+#[tactic(auto, unfolding(crate::specs::Drafts::program_of, crate::specs::Drafts::program_from))]
+fn read_program(alloc: Global, game: &Game) -> Result<Program, SourceFault>
+    ensures program { IfOk result (λ program. program_of game.now ≡ Ok program) }
+    ensures refused { IfErr result (λ fault. fault.code ≢ Memory → program_of game.now ≡ Err fault) }
+    ensures whole { IfErr result (λ fault. fault.code ≡ Memory → fault.line ≡ 0) }
+{
+    let mut draft = nothing(alloc);
+    let mut rest = game.rules();
+    while let Some((line, below)) = rest.split_first() {
+        draft = match line_added(alloc, game, draft, below, line.words.items()) {
+            Ok(next) => next,
+            Err(fault) => return Err(refusal(fault, line.number)),
+        };
+        rest = below;
+    }
+    Ok(finished(draft)?)
+}
+
+/// The program of a game, or its first fault: the first check that names a rule line, of the first line that it names. Memory,
+/// with line 0, may come in place of either.
+#[tactic(auto, using(crate::proofs::Ownership::owning))]
+pub fn expand(alloc: Global, game: &Game) -> Result<Program, SourceFault>
+    ensures program { IfOk result (λ program. program_of game.now ≡ Ok program) }
+    ensures owned { IfOk result (λ program. IsProgramOf game.now.layers program) }
+    ensures refused { IfErr result (λ fault. fault.code ≢ Memory → program_of game.now ≡ Err fault) }
+    ensures whole { IfErr result (λ fault. fault.code ≡ Memory → fault.line ≡ 0) }
+    ensures lined { IfErr result (λ fault. fault.code ≢ Memory → Contains (map (λ line. line.number) game.now.rules) fault.line) }
+{
+    let _layers = game.layers();
+    read_program(alloc, game)
+}

@@ -1,0 +1,92 @@
+//! The instances of a rule, or its first fault.
+
+ghost use Rattle.std.specs.Prelude.{◌≡◌, ◌≢◌, ◌≤◌, ◌+◌, true, Ok, Err, IfOk, IfErr};
+ghost use Rattle.std.specs.Option.{SomeIff};
+ghost use Rattle.pz_rules.specs.declared.fault.RuleFault.TheVariants.{Memory};
+ghost use Rattle.pz_rules.specs.Counting.{pair_count};
+ghost use Rattle.pz_rules.specs.Expansion.{unless_clash, expansion_within, expanded};
+ghost use Rattle.pz_rules.specs.Shape.{AreShaped};
+ghost use Rattle.pz_rules.specs.Written.{is_whole};
+
+use crate::clash::have_clash;
+use crate::counting::count_within;
+use crate::fault::RuleFault;
+use crate::instance::{Group, Instance};
+use crate::instances::instances_of;
+use crate::plan::Plan;
+use crate::planning::plan_of;
+use crate::rule::Rule;
+use pz_source::denotation::Denotation;
+use pz_text::listed::Listed;
+use std::alloc::Global;
+
+/// How many pairs of a direction and a list of picks all rules of a game may have together.
+const PAIRS: u64 = 65_536;
+
+/// The instances of a rule, and how many pairs all rules up to it have.
+#[derive(Drop)]
+pub struct Expansion {
+    pub instances: Group,
+    pub pairs: u64,
+}
+
+/// How many pairs there are with those of a plan, if no more than are allowed.
+fn total_within(table: &[Denotation], pairs: u64, plan: &Plan) -> Option<u64>
+    ensures { SomeIff result (pairs + pair_count table.now plan.now ≤ 65_536) (pairs + pair_count table.now plan.now) }
+{
+    let count = count_within(table, plan, PAIRS)?;
+    let total = pairs.checked_add(count)?;
+    if total > PAIRS { None } else { Some(total) }
+}
+
+/// The instances that are kept, where the right of none has a clash.
+#[tactic(auto, unfolding(crate::specs::Expansion::unless_clash))]
+fn unless_clash(total: u64, instances: Vec<Instance>) -> Result<Expansion, RuleFault>
+    ensures { result ≡ unless_clash total instances.items }
+{
+    if have_clash(&instances) {
+        return Err(RuleFault::RightClash);
+    }
+    Ok(Expansion {
+        instances: Listed::new(instances),
+        pairs: total,
+    })
+}
+
+/// The instances of a plan, where all rules up to it have no more pairs than are allowed.
+#[tactic(auto, unfolding(crate::specs::Expansion::expansion_within))]
+fn expansion_within(
+    alloc: Global,
+    table: &[Denotation],
+    layers: &[usize],
+    pairs: u64,
+    plan: &Plan,
+) -> Result<Expansion, RuleFault>
+    requires left { AreShaped plan.now.left }
+    requires right { AreShaped plan.now.right }
+    ensures more { IfOk result (λ more. expansion_within table.now layers.now (pairs + pair_count table.now plan.now) plan.now ≡ Ok more) }
+    ensures fault { IfErr result (λ fault. fault ≢ Memory → expansion_within table.now layers.now (pairs + pair_count table.now plan.now) plan.now ≡ Err fault) }
+{
+    let Some(total) = total_within(table, pairs, plan) else {
+        return Err(RuleFault::TooManyRules);
+    };
+    unless_clash(total, instances_of(alloc, table, layers, plan)?)
+}
+
+/// The instances of a rule, late or not, where the rules above it have so many pairs; or its first fault.
+#[tactic(auto, unfolding(crate::specs::Expansion::expanded))]
+pub fn expanded(
+    alloc: Global,
+    table: &[Denotation],
+    layers: &[usize],
+    pairs: u64,
+    is_late: bool,
+    rule: &Rule,
+) -> Result<Expansion, RuleFault>
+    requires whole { is_whole rule.now ≡ true }
+    ensures more { IfOk result (λ more. expanded table.now layers.now pairs is_late rule.now ≡ Ok more) }
+    ensures fault { IfErr result (λ fault. fault ≢ Memory → expanded table.now layers.now pairs is_late rule.now ≡ Err fault) }
+{
+    let plan = plan_of(alloc, table, is_late, rule)?;
+    expansion_within(alloc, table, layers, pairs, &plan)
+}

@@ -1,0 +1,429 @@
+//! The instances of a plan.
+
+ghost use Rattle.std.specs.Prelude.{◌≡◌, ◌++◌, IfOk, OnOk, map, fold, slice_get};
+ghost use Rattle.std.specs.List.{list_any, list_all};
+ghost use Rattle.pz_rules.specs.Equal.{same_instance};
+ghost use Rattle.pz_rules.specs.Lists.{product, added};
+ghost use Rattle.pz_rules.specs.Shape.{IsShaped, AreShaped};
+ghost use Rattle.pz_rules.specs.Instances.{members_at, options_of, object_of, meaning_of, layer_of, item_of, cell_of, row_of, rows_of, is_one_cell, scan_of, instance_of, is_absent, is_present, contradict, excludes, excludes_some, is_impossible, has_impossible, is_possible, instances_of, considered};
+
+use crate::equal::{same_instance, same_meaning};
+use crate::instance::Instance;
+use crate::pattern::{Item, Pattern, Row, Rows, Word};
+use crate::plan::{Asked, Choice, Plan, PlanRow, Term, TermName, TermWord};
+use crate::turning::{class_directions, turned};
+use pz_source::denotation::Denotation;
+use pz_source::direction::Dir;
+use pz_text::listed::Listed;
+use std::alloc::{AllocError, Global};
+
+/// What a choice gives.
+#[derive(Clone, Copy, PartialEq, Eq, Debug)]
+pub enum Pick {
+    Object(usize),
+    Toward(Dir),
+}
+
+/// The members of the name of this number.
+fn members_at(table: &[Denotation], property: usize) -> &[usize]
+    ensures { result.now ≡ members_at table.now property }
+{
+    match table.get(property) {
+        Some(denotation) => denotation.members.items(),
+        None => &[],
+    }
+}
+
+fn member_picks(alloc: Global, objects: &[usize]) -> Result<Vec<Pick>, AllocError>
+    ensures { IfOk result (λ picks. picks.items ≡ map (λ object. Pick.Object object) objects.now) }
+{
+    objects
+        .iter()
+        .map(|object| Pick::Object(*object))
+        .collect(alloc)
+}
+
+fn direction_picks(alloc: Global, directions: &[Dir]) -> Result<Vec<Pick>, AllocError>
+    ensures { IfOk result (λ picks. picks.items ≡ map (λ toward. Pick.Toward toward) directions.now) }
+{
+    directions
+        .iter()
+        .map(|toward| Pick::Toward(*toward))
+        .collect(alloc)
+}
+
+/// What may be picked at a choice.
+#[tactic(auto, unfolding(crate::specs::Instances::options_of))]
+fn options_of(
+    alloc: Global,
+    table: &[Denotation],
+    direction: Dir,
+    choice: &Choice,
+) -> Result<Listed<Pick>, AllocError>
+    ensures { IfOk result (λ options. options ≡ options_of table.now direction choice.now) }
+{
+    let picks = match choice.asked {
+        Asked::Member(property) => member_picks(alloc, members_at(table, property))?,
+        Asked::Direction(class, _) => direction_picks(alloc, class_directions(direction, class))?,
+    };
+    Ok(Listed::new(picks))
+}
+
+fn object_of(picks: &[Pick], name: TermName) -> usize
+    ensures { result ≡ object_of picks.now name }
+{
+    match name {
+        TermName::Object(object) => object,
+        TermName::Chosen(k) => match picks.get(k) {
+            Some(Pick::Object(object)) => *object,
+            _ => 0,
+        },
+    }
+}
+
+/// What a word says of its object in a rule of this direction.
+fn meaning_of(direction: Dir, picks: &[Pick], word: TermWord) -> Word
+    ensures { result ≡ meaning_of direction picks.now word }
+{
+    match word {
+        TermWord::Bare => Word::Present,
+        TermWord::No => Word::Absent,
+        TermWord::Stationary => Word::Still,
+        TermWord::Toward(toward) => Word::Toward(toward),
+        TermWord::Turned(turn) => Word::Toward(turned(direction, turn)),
+        TermWord::Chosen(k) => match picks.get(k) {
+            Some(Pick::Toward(toward)) => Word::Toward(*toward),
+            _ => Word::Present,
+        },
+    }
+}
+
+fn layer_of(layers: &[usize], object: usize) -> usize
+    ensures { result ≡ layer_of layers.now object }
+{
+    layers.get(object).copied().unwrap_or(0)
+}
+
+#[tactic(auto, unfolding(crate::specs::Instances::item_of))]
+fn item_of(layers: &[usize], direction: Dir, picks: &[Pick], term: &Term) -> Item
+    ensures { result ≡ item_of layers.now direction picks.now term.now }
+{
+    let object = object_of(picks, term.name);
+    Item {
+        object,
+        layer: layer_of(layers, object),
+        word: meaning_of(direction, picks, term.word),
+    }
+}
+
+fn items_of(
+    alloc: Global,
+    layers: &[usize],
+    direction: Dir,
+    picks: &[Pick],
+    terms: &[Term],
+) -> Result<Vec<Item>, AllocError>
+    ensures { IfOk result (λ items. items.items ≡ map (item_of layers.now direction picks.now) terms.now) }
+{
+    terms
+        .iter()
+        .map(|term| item_of(layers, direction, picks, term))
+        .collect(alloc)
+}
+
+#[tactic(auto, unfolding(crate::specs::Instances::cell_of))]
+fn cell_of(
+    alloc: Global,
+    layers: &[usize],
+    direction: Dir,
+    picks: &[Pick],
+    terms: &Listed<Term>,
+) -> Result<Pattern, AllocError>
+    ensures { IfOk result (λ cell. cell ≡ cell_of layers.now direction picks.now terms.now) }
+{
+    Ok(Pattern::new(items_of(alloc, layers, direction, picks, terms.items())?))
+}
+
+fn cells_of(
+    alloc: Global,
+    layers: &[usize],
+    direction: Dir,
+    picks: &[Pick],
+    cells: &[Listed<Term>],
+) -> Result<Vec<Pattern>, AllocError>
+    ensures { IfOk result (λ out. out.items ≡ map (cell_of layers.now direction picks.now) cells.now) }
+{
+    let mut out = Vec::new(alloc);
+    for terms in cells {
+        out.push(cell_of(alloc, layers, direction, picks, terms)?)?;
+    }
+    Ok(out)
+}
+
+/// The number of the cell before which the gap of a row stands.
+fn gap_at(row: &PlanRow<Term>) -> Option<u32>
+    requires { IsShaped row.now }
+    ensures { result ≡ row.now.gap }
+{
+    match row.gap {
+        Some(at) => Some(at as u32),
+        None => None,
+    }
+}
+
+#[tactic(auto, unfolding(crate::specs::Instances::row_of))]
+fn row_of(
+    alloc: Global,
+    layers: &[usize],
+    direction: Dir,
+    picks: &[Pick],
+    row: &PlanRow<Term>,
+) -> Result<Row, AllocError>
+    requires { IsShaped row.now }
+    ensures { IfOk result (λ out. out ≡ row_of layers.now direction picks.now row.now) }
+{
+    let cells = cells_of(alloc, layers, direction, picks, row.cells.items())?;
+    Ok(Row::new(cells, gap_at(row)))
+}
+
+#[tactic(auto, unfolding(crate::specs::Instances::rows_of))]
+fn rows_of(
+    alloc: Global,
+    layers: &[usize],
+    direction: Dir,
+    picks: &[Pick],
+    rows: &[PlanRow<Term>],
+) -> Result<Rows, AllocError>
+    requires { AreShaped rows.now }
+    ensures { IfOk result (λ out. out ≡ rows_of layers.now direction picks.now rows.now) }
+{
+    let mut out = Vec::new(alloc);
+    for row in rows {
+        out.push(row_of(alloc, layers, direction, picks, row)?)?;
+    }
+    Ok(Listed::new(out))
+}
+
+fn is_one_cell(row: &PlanRow<Term>) -> bool
+    ensures { result ≡ is_one_cell row.now }
+{
+    row.cells.items().len() == 1
+}
+
+fn all_one_cell(rows: &[PlanRow<Term>]) -> bool
+    ensures { result ≡ list_all is_one_cell rows.now }
+{
+    rows.iter().all(|row| is_one_cell(row))
+}
+
+/// The direction in which an instance is looked for: a rule whose rows all have one cell is scanned upwards.
+#[tactic(auto, unfolding(crate::specs::Instances::scan_of))]
+fn scan_of(plan: &Plan, direction: Dir) -> Dir
+    ensures { result ≡ scan_of plan.now direction }
+{
+    if all_one_cell(plan.left.items()) {
+        Dir::Up
+    } else {
+        direction
+    }
+}
+
+/// The instance of a plan for a direction and a list of picks.
+#[tactic(auto, unfolding(crate::specs::Instances::instance_of))]
+fn instance_of(
+    alloc: Global,
+    layers: &[usize],
+    plan: &Plan,
+    direction: Dir,
+    picks: &[Pick],
+) -> Result<Instance, AllocError>
+    requires left { AreShaped plan.now.left }
+    requires right { AreShaped plan.now.right }
+    ensures { IfOk result (λ instance. instance ≡ instance_of layers.now plan.now direction picks.now) }
+{
+    let left = rows_of(alloc, layers, direction, picks, plan.left.items())?;
+    let right = rows_of(alloc, layers, direction, picks, plan.right.items())?;
+    Ok(Instance {
+        scan: scan_of(plan, direction),
+        left,
+        right,
+        commands: plan.commands,
+    })
+}
+
+pub fn is_absent(word: Word) -> bool
+    ensures { result ≡ is_absent word }
+{
+    matches!(word, Word::Absent)
+}
+
+fn is_present(word: Word) -> bool
+    ensures { result ≡ is_present word }
+{
+    matches!(word, Word::Present)
+}
+
+/// Whether one object can't be both.
+fn contradict(a: Word, b: Word) -> bool
+    ensures { result ≡ contradict a b }
+{
+    if is_absent(a) || is_absent(b) {
+        !(is_absent(a) && is_absent(b))
+    } else {
+        !(is_present(a) || is_present(b) || same_meaning(a, b))
+    }
+}
+
+/// Whether no cell can be as both items say.
+#[tactic(auto, unfolding(crate::specs::Instances::excludes))]
+fn excludes(a: &Item, b: &Item) -> bool
+    ensures { result ≡ excludes a.now b.now }
+{
+    if a.object == b.object {
+        contradict(a.word, b.word)
+    } else {
+        !(is_absent(a.word) || is_absent(b.word)) && a.layer == b.layer
+    }
+}
+
+#[tactic(auto, unfolding(crate::specs::Instances::excludes_some))]
+fn excludes_some(cell: &[Item], a: &Item) -> bool
+    ensures { result ≡ excludes_some cell.now a.now }
+{
+    cell.iter().any(|b| excludes(a, b))
+}
+
+/// Whether nothing can be as a cell says.
+#[tactic(auto, unfolding(crate::specs::Instances::is_impossible))]
+fn is_impossible(cell: &[Item]) -> bool
+    ensures { result ≡ is_impossible cell.now }
+{
+    cell.iter().any(|a| excludes_some(cell, a))
+}
+
+/// Whether a row has a cell that nothing can be.
+#[tactic(auto, unfolding(crate::specs::Instances::has_impossible))]
+fn has_impossible(row: &Row) -> bool
+    ensures { result ≡ has_impossible row.now }
+{
+    row.cells().iter().any(|cell| is_impossible(cell.items()))
+}
+
+fn have_impossible(rows: &[Row]) -> bool
+    ensures { result ≡ list_any has_impossible rows.now }
+{
+    rows.iter().any(|row| has_impossible(row))
+}
+
+/// Whether some level can be as the left of an instance says.
+#[tactic(auto, unfolding(crate::specs::Instances::is_possible))]
+fn is_possible(instance: &Instance) -> bool
+    ensures { result ≡ is_possible instance.now }
+{
+    !have_impossible(instance.left.items())
+}
+
+/// Whether an instance equal to this one is among those kept.
+fn is_kept(kept: &[Instance], instance: &Instance) -> bool
+    ensures { result ≡ list_any (λ other. same_instance other instance.now) kept.now }
+{
+    kept.iter().any(|other| same_instance(other, instance))
+}
+
+/// Adds an instance, unless it is there already.
+fn add_instance(kept: &mut Vec<Instance>, instance: Instance) -> Result<(), AllocError>
+    ensures { OnOk result (kept.new.items ≡ added same_instance kept.old.items instance) }
+{
+    if !is_kept(kept, &instance) {
+        kept.push(instance)?;
+    }
+    Ok(())
+}
+
+/// Adds the instance of these picks, unless it is impossible or there already.
+#[tactic(auto, unfolding(crate::specs::Instances::considered))]
+fn consider(
+    alloc: Global,
+    layers: &[usize],
+    plan: &Plan,
+    direction: Dir,
+    picks: &[Pick],
+    kept: &mut Vec<Instance>,
+) -> Result<(), AllocError>
+    requires left { AreShaped plan.now.left }
+    requires right { AreShaped plan.now.right }
+    ensures { OnOk result (kept.new.items ≡ considered layers.now plan.now direction kept.old.items picks.now) }
+{
+    let instance = instance_of(alloc, layers, plan, direction, picks)?;
+    if is_possible(&instance) {
+        add_instance(kept, instance)?;
+    }
+    Ok(())
+}
+
+/// Considers every list of picks that begins with these.
+fn consider_all(
+    alloc: Global,
+    layers: &[usize],
+    plan: &Plan,
+    direction: Dir,
+    options: &[Listed<Pick>],
+    picks: &mut Vec<Pick>,
+    kept: &mut Vec<Instance>,
+) -> Result<(), AllocError>
+    requires left { AreShaped plan.now.left }
+    requires right { AreShaped plan.now.right }
+    ensures kept { OnOk result
+        (kept.new.items ≡ fold (considered layers.now plan.now direction) kept.old.items
+        (map (λ rest. picks.old.items ++ rest) (product options.now))) }
+    ensures picks { OnOk result (picks.new.items ≡ picks.old.items) }
+{
+    let Some((first, others)) = options.split_first() else {
+        return consider(alloc, layers, plan, direction, picks, kept);
+    };
+    'options: for pick in first.items() {
+        picks.push(*pick)?;
+        consider_all(alloc, layers, plan, direction, others, picks, kept)?;
+        let _ = picks.pop();
+    }
+    Ok(())
+}
+
+/// What may be picked at each choice of a plan.
+fn all_options(
+    alloc: Global,
+    table: &[Denotation],
+    direction: Dir,
+    choices: &[Choice],
+) -> Result<Vec<Listed<Pick>>, AllocError>
+    ensures { IfOk result (λ options. options.items ≡ map (options_of table.now direction) choices.now) }
+{
+    let mut options = Vec::new(alloc);
+    for choice in choices {
+        options.push(options_of(alloc, table, direction, choice)?)?;
+    }
+    Ok(options)
+}
+
+/// The instances of a plan: the possible ones in order, and of equal ones the first.
+#[tactic(auto, unfolding(crate::specs::Instances::instances_of))]
+pub fn instances_of(
+    alloc: Global,
+    table: &[Denotation],
+    layers: &[usize],
+    plan: &Plan,
+) -> Result<Vec<Instance>, AllocError>
+    requires left { AreShaped plan.now.left }
+    requires right { AreShaped plan.now.right }
+    ensures { IfOk result (λ instances. instances.items ≡ instances_of table.now layers.now plan.now) }
+{
+    let mut kept = Vec::new(alloc);
+    for direction in plan.directions.items() {
+        let options = all_options(alloc, table, *direction, plan.choices.items())?;
+        let mut picks = Vec::new(alloc);
+        consider_all(
+            alloc, layers, plan, *direction, &options, &mut picks, &mut kept,
+        )?;
+    }
+    Ok(kept)
+}

@@ -1,0 +1,62 @@
+//! The words of a rule line.
+
+use pz_source::direction::Dir;
+
+/// A direction that turns with the rule: as if the rule looked to the right, up, down, back and ahead.
+#[derive(Clone, Copy, PartialEq, Eq, Debug)]
+pub enum Turn {
+    Up,
+    Down,
+    Back,
+    Ahead,
+}
+
+/// A word for several directions.
+#[derive(Clone, Copy, PartialEq, Eq, Debug)]
+pub enum Class {
+    Moving,
+    Orthogonal,
+    Horizontal,
+    Vertical,
+    Parallel,
+    Perpendicular,
+}
+
+/// A word that may stand before a name: `no`, or a movement word.
+#[derive(Clone, Copy, PartialEq, Eq, Debug)]
+pub enum Lead {
+    No,
+    Stationary,
+    Toward(Dir),
+    Turned(Turn),
+    Class(Class),
+}
+
+/// A command, as a rule line gives it. Sounds and messages have no effect.
+#[derive(Clone, Copy, PartialEq, Eq, Debug)]
+pub enum Command {
+    Again,
+    Cancel,
+    Checkpoint,
+    Restart,
+    Win,
+    Sound(u8),
+    Message,
+}
+
+/// A word of a rule line. A name is given by its number; None: nothing has that name.
+#[derive(Clone, Copy, PartialEq, Eq, Debug)]
+pub enum Token {
+    Open,
+    Close,
+    Bar,
+    Arrow,
+    Plus,
+    Gap,
+    Late,
+    StartLoop,
+    EndLoop,
+    Lead(Lead),
+    Command(Command),
+    Name(Option<usize>),
+}

@@ -1,0 +1,153 @@
+-- How many items a session has at most.
+use Rattle.std.proofs.Common.{◌≡◌, ℕ, zero, suc, ◌+◌, ◌*◌, ◌<◌, ◌≤◌, ◌^◌, Bool, true, false, ◌||◌, List, [], ◌∷◌, length, map, Option, Some, None, option_to_list, Result, Ok, Err, IfOk, if◌then◌else◌, refl, ap, ◌∙◌, arith}
+use Rattle.std.proofs.lemmas.List.{length-map, length-append}
+use Rattle.pz_rules.specs.declared.commands.Commands.{Commands}
+use Rattle.pz_rules.specs.declared.token.Command.TheVariants as command
+use Rattle.pz_grid.specs.Grid.{Grid}
+use Rattle.pz_turn.specs.declared.outcome.StepFault.{StepFault}
+use Rattle.pz_turn.specs.Outcome.{Outcome}
+use Rattle.pz_turn.specs.Step.{step_of}
+use Rattle.pz_turn.specs.Win.{has_won}
+use Rattle.pz_record.specs.declared.input.Input.{Input}
+use Rattle.pz_record.specs.declared.input.Input.TheVariants as input
+use Rattle.pz_session.specs.declared.item.Stop.{Stop}
+use Rattle.pz_session.specs.declared.item.Frame.{Frame}
+use Rattle.pz_session.specs.declared.item.FrameKind.{FrameKind}
+use Rattle.pz_session.specs.declared.item.FrameKind.TheVariants.{Move, Tick}
+use Rattle.pz_session.specs.declared.item.Item.TheVariants as item
+use Rattle.pz_session.specs.Chain.{Link, Chain, follow, ticks, preceded}
+use Rattle.pz_session.specs.Session.{Links, Played, played, going_on, showing, after_chain, ticks_after, numbered, items_from}
+use Rattle.pz_session.specs.FirstLevel.{level_from}
+use Rattle.pz_session.specs.Turn.{gives, is_idle}
+use Rattle.pz_session.specs.Board.{State, at_level, keeping, frame_of, restarted, won_link, kept_link, reached_link, effect, pressed_to, ticked_to, tick_link, press_link, undo_link, input_link, begun, start_link, board_links}
+use Rattle.pz_session.specs.Plan.{PlanState}
+use Rattle.pz_session.specs.Case.{state_of, played_items}
+
+-- a link shows two frames at most
+abbrev pub IsShort : {S : Type 0} → Result (Link S) Stop → Type 0
+IsShort r = IfOk r (λ link. length link.shown ≤ 2)
+
+pub record AreShort {S : Type 0} (r : Links S) : Type 0 where
+  pub begun : (i : Input) (s : S) → IsShort (r.begun i s)
+  pub ticked : (s : S) → IsShort (r.ticked s)
+
+follow_short : {S : Type 0} (later : S → Chain S) (m : ℕ) (r : Result (Link S) Stop) → ((s : S) → length (later s).shown ≤ m) → IsShort r → length (follow later r).shown ≤ 2 + m
+follow_short later m (Err stop) bound short = omega arith
+follow_short {S} later m (Ok link) bound short =
+    let whole : Bool → Chain S = λ b. if b then preceded link.shown (later link.after) else record { shown = link.shown; after = Ok link.after } in
+    let both : (b : Bool) → length (whole b).shown ≤ 2 + m = λ b. elim b as (λ v. length (whole v).shown ≤ 2 + m) [
+      | true ↦ let h = bound link.after in omega (arith, length-append link.shown (later link.after).shown)
+      | false ↦ omega arith
+    ] in
+    both link.goes_on
+
+pub ticks_short : {S : Type 0} (ticked : S → Result (Link S) Stop) (n : ℕ) (s : S) → ((t : S) → IsShort (ticked t)) → length (ticks ticked n s).shown ≤ n * 2
+ticks_short ticked zero s short = omega arith
+ticks_short ticked (suc n) s short = let h = follow_short (ticks ticked n) (n * 2) (ticked s) (λ t. ticks_short ticked n t short) (short s) in omega arith
+
+few_ticks : (i : Input) → ticks_after i ≤ 500
+few_ticks (input.Press dir) = omega arith
+few_ticks input.Undo = omega arith
+few_ticks input.Restart = omega arith
+few_ticks input.Tick = omega arith
+
+showing_length : (at : ℕ) (frames : List Frame) (later : Played) → length (showing at frames later).shown ≡ length frames + length later.shown
+showing_length at frames later = length-append (map (λ frame. (at, frame)) frames) later.shown ∙ ap (λ n. n + length later.shown) (length-map frames (λ frame. (at, frame)))
+
+after_short : {S : Type 0} (r : Links S) (later : S → Played) (m : ℕ) (end : Result S Stop) → ((s : S) → length (later s).shown ≤ m) → length (after_chain r later end).shown ≤ m
+after_short r later m (Err stop) bound = omega arith
+after_short r later m (Ok s) bound = bound (r.settled s)
+
+going_short : {S : Type 0} (r : Links S) (at : ℕ) (later : S → Played) (m k : ℕ) (chain : Chain S) → ((s : S) → length (later s).shown ≤ m) → length chain.shown ≤ k → length (going_on r at later chain).shown ≤ k + m
+going_short r at later m k chain bound h =
+    let rest = after_short r later m chain.after bound in
+    omega (arith, showing_length at chain.shown (after_chain r later chain.after))
+
+pub played_short : {S : Type 0} (r : Links S) (taken : ℕ) (inputs : List Input) (s : S) → AreShort r → length (played r taken inputs s).shown ≤ length inputs * 1002
+unfolding played
+played_short r taken [] s short = omega arith
+played_short r taken (i ∷ inputs) s short =
+    let chain = follow (ticks r.ticked (ticks_after i)) (r.begun i s) in
+    let one : length chain.shown ≤ 2 + ticks_after i * 2 = follow_short (ticks r.ticked (ticks_after i)) (ticks_after i * 2) (r.begun i s) (λ t. ticks_short r.ticked (ticks_after i) t short.ticked) (short.begun i s) in
+    let few = few_ticks i in
+    let h = going_short r (taken + 1) (played r (taken + 1) inputs) (length inputs * 1002) 1002 chain (λ t. played_short r (taken + 1) inputs t short) (omega arith) in
+    omega arith
+
+numbered_length : (n : ℕ) (frames : List (ℕ × Frame)) → length (numbered n frames) ≡ length frames
+unfolding numbered
+numbered_length n [] = refl
+numbered_length n (f ∷ fs) = ap suc (numbered_length (n + 1) fs)
+
+one_close : {X Y : Type 0} (f : X → Y) (o : Option X) → length (map f (option_to_list o)) ≤ 1
+one_close f None = omega arith
+one_close f (Some x) = omega arith
+
+items_length : (n : ℕ) (p : Played) → length (items_from n p) ≤ length p.shown + 1
+unfolding items_from
+items_length n p =
+    let close = one_close item.Close p.close in
+    omega (arith, length-append (numbered n p.shown) (map item.Close (option_to_list p.close)), numbered_length n p.shown)
+
+either_short : {X : Type 0} (P : X → Type 0) (b : Bool) (x y : X) → P x → P y → P (if b then x else y)
+either_short P true x y p q = p
+either_short P false x y p q = q
+
+won_short : (won : Frame) (s : State) (next : Option ℕ) → length (won_link won s next).shown ≤ 2
+unfolding won_link
+won_short won s None = omega arith
+won_short won s (Some next) = omega arith
+
+reached_short : (kind : FrameKind) (commands : Commands) (changed : Bool) (s : State) → length (reached_link kind commands changed s).shown ≤ 2
+unfolding reached_link kept_link
+reached_short kind commands changed s =
+    either_short (λ (link : Link State). length link.shown ≤ 2) (gives commands command.Win || has_won s.game s.level) _ _ (won_short (frame_of s kind) s (level_from s.game (s.entry + 1))) (omega arith)
+
+restart_short : (s : State) → length (restarted s).shown ≤ 2
+unfolding restarted
+restart_short s = omega arith
+
+effect_short : (kind : FrameKind) (s : State) (end : Outcome Grid) → length (effect kind s end).shown ≤ 2
+unfolding effect
+effect_short kind s end =
+    let P : Link State → Type 0 = λ link. length link.shown ≤ 2 in
+    either_short P (gives end.commands command.Cancel) _ _ (omega arith)
+    (either_short P (gives end.commands command.Restart) _ _ (restart_short s) (reached_short kind end.commands end.changed (at_level end.level s)))
+
+ticked_short : (s : State) (r : Result (Outcome Grid) StepFault) → IsShort (ticked_to s r)
+ticked_short s (Err fault) = tt
+ticked_short s (Ok end) = either_short (λ (link : Link State). length link.shown ≤ 2) (is_idle end) _ _ (omega arith) (effect_short Tick s end)
+
+tick_short : (s : State) → IsShort (tick_link s)
+unfolding tick_link
+tick_short s = ticked_short s (step_of s.game s.program s.level None)
+
+pressed_short : (s : State) (r : Result (Outcome Grid) StepFault) → IsShort (pressed_to s r)
+pressed_short s (Err fault) = tt
+pressed_short s (Ok end) = effect_short Move (keeping s) end
+
+input_short : (i : Input) (s : State) → IsShort (input_link i s)
+unfolding press_link undo_link
+input_short (input.Press dir) s = pressed_short s (step_of s.game s.program s.level (Some dir))
+input_short input.Undo s = omega arith
+input_short input.Restart s = restart_short (keeping s)
+input_short input.Tick s = tick_short s
+
+begun_short : (i : Input) (s : State) → IsShort (begun i s)
+unfolding begun
+begun_short i s = either_short (λ (r : Result (Link State) Stop). IsShort r) s.is_over _ _ (omega arith) (input_short i s)
+
+start_short : (s : State) → IsShort {S = State} (Ok (start_link s))
+unfolding start_link
+start_short s = omega arith
+
+-- the items of a session can be numbered
+pub items_bound : (plan : PlanState) → length plan.inputs ≤ 65536 → length (played_items plan) < 2 ^ 63
+unfolding played_items
+items_bound plan few =
+    let short : AreShort board_links = record { begun = begun_short; ticked = tick_short } in
+    let link = Ok (start_link (state_of plan)) in
+    let chain = follow (ticks board_links.ticked 500) link in
+    let one : length chain.shown ≤ 2 + 500 * 2 = follow_short (ticks board_links.ticked 500) (500 * 2) link (λ t. ticks_short board_links.ticked 500 t short.ticked) (start_short (state_of plan)) in
+    let all = going_short board_links 0 (played board_links 0 plan.inputs) (length plan.inputs * 1002) 1002 chain (λ t. played_short board_links 0 plan.inputs t short) one in
+    let items = items_length 0 (going_on board_links 0 (played board_links 0 plan.inputs) chain) in
+    omega arith

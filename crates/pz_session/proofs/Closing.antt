@@ -1,0 +1,51 @@
+-- A session that is played closes once, behind its frames.
+use Rattle.std.proofs.Common.{◌≡◌, ℕ, ◌+◌, List, [], ◌∷◌, ◌++◌, map, Option, Some, option_to_list, Result, Ok, Err, refl, ap}
+use Rattle.pz_record.specs.declared.input.Input.{Input}
+use Rattle.pz_session.specs.declared.item.Frame.{Frame}
+use Rattle.pz_session.specs.declared.item.Item.{Item}
+use Rattle.pz_session.specs.declared.item.Item.TheVariants as item
+use Rattle.pz_session.specs.declared.item.Refusal.{Refusal}
+use Rattle.pz_session.specs.declared.item.Stop.{Stop}
+use Rattle.pz_session.specs.declared.item.Verdict.{Verdict}
+use Rattle.pz_session.specs.declared.item.Verdict.TheVariants.{Stopped, Refused}
+use Rattle.pz_session.specs.Chain.{follow, ticks}
+use Rattle.pz_session.specs.Session.{Links, Played, played, going_on, after_chain, ticks_after, numbered, items_from}
+use Rattle.pz_session.specs.Board.{board_links, start_link}
+use Rattle.pz_session.specs.Plan.{PlanState}
+use Rattle.pz_session.specs.Case.{state_of, played_items, items_of_plan}
+use Rattle.pz_session.specs.Laws.{CloseOnce}
+
+abbrev Closes : Played → Type 0
+Closes later = (end : Verdict) × (later.close ≡ Some end)
+
+chain_closes : {S : Type 0} (links : Links S) (later : S → Played) (end : Result S Stop) → ((state : S) → Closes (later state)) → Closes (after_chain links later end)
+chain_closes links later (Err stop) h = (Stopped stop, refl)
+chain_closes links later (Ok state) h = h (links.settled state)
+
+played_closes : {S : Type 0} (links : Links S) (taken : ℕ) (inputs : List Input) (state : S) → Closes (played links taken inputs state)
+unfolding played
+played_closes links taken [] state = (links.verdict state, refl)
+played_closes links taken (input ∷ inputs) state =
+    chain_closes links (played links (taken + 1) inputs) (follow (ticks links.ticked (ticks_after input)) (links.begun input state)).after (played_closes links (taken + 1) inputs)
+
+abbrev ClosesOnce : List Item → Type 0
+ClosesOnce items = (frames : List (ℕ × Frame)) × ((end : Verdict) × (items ≡ numbered 0 frames ++ item.Close end ∷ []))
+
+items_close : (later : Played) → Closes later → ClosesOnce (items_from 0 later)
+unfolding items_from
+items_close later h = (later.shown, (h.0, ap (λ (o : Option Verdict). numbered 0 later.shown ++ map item.Close (option_to_list o)) h.1))
+
+session_closes : (plan : PlanState) → ClosesOnce (played_items plan)
+unfolding played_items
+session_closes plan =
+    let chain = follow (ticks board_links.ticked 500) (Ok (start_link (state_of plan))) in
+    let later = played board_links 0 plan.inputs in
+    items_close (going_on board_links 0 later chain) (chain_closes board_links later chain.after (played_closes board_links 0 plan.inputs))
+
+plan_closes : (plan : Result PlanState Refusal) → ClosesOnce (items_of_plan plan)
+unfolding items_of_plan numbered
+plan_closes (Err refusal) = ([], (Refused refusal, refl))
+plan_closes (Ok plan) = session_closes plan
+
+pub cases_close : CloseOnce
+cases_close case = plan_closes case.plan

@@ -1,0 +1,9 @@
+pub mod Leaving
+pub mod Advancing
+pub mod Running
+pub mod Bounds
+pub mod Starting
+pub mod BoardLemmas
+pub mod FirstLevel
+pub mod Closing
+pub mod Rows

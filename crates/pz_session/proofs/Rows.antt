@@ -1,0 +1,212 @@
+-- Worked sessions, computed.
+use Rattle.std.proofs.Common.{◌≡◌, ℕ, List, [], ◌∷◌, Option, Some, None, Err, false, if◌then◌else◌, refl}
+use Rattle.std.specs.Prelude.{codes}
+use Rattle.pz_source.specs.declared.denotation.Denotation.{Denotation}
+use Rattle.pz_source.specs.declared.denotation.Kind.TheVariants.{Object}
+use Rattle.pz_source.specs.declared.direction.Dir.TheVariants.{Left, Right}
+use Rattle.pz_source.specs.declared.level.LevelEntry.{LevelEntry}
+use Rattle.pz_source.specs.declared.level.LevelEntry.TheVariants.{Message, Level}
+use Rattle.pz_source.specs.declared.wins.Quantifier.TheVariants.{No}
+use Rattle.pz_source.specs.declared.wins.WinLine.{WinLine}
+use Rattle.pz_source.specs.Game.{GameView}
+use Rattle.pz_rules.specs.declared.instance.Block.TheVariants.{One}
+use Rattle.pz_rules.specs.declared.instance.Program.{Program}
+use Rattle.pz_rules.specs.declared.pattern.Word.TheVariants.{Toward}
+use Rattle.pz_rules.specs.Pattern.{RuleRow}
+use Rattle.pz_grid.specs.declared.cell.Piece.{Piece}
+use Rattle.pz_grid.specs.Grid.{Grid}
+use Rattle.pz_grid.specs.Places.{searched}
+use Rattle.pz_turn.specs.Instance.{applied}
+use Rattle.pz_turn.specs.Rest.{rest_of}
+use Rattle.pz_turn.specs.Step.{step_of, rules_run, blocks_run, block_runs}
+use Rattle.pz_turn.specs.Win.{has_won}
+use Rattle.pz_record.specs.declared.input.Input.{Input}
+use Rattle.pz_record.specs.declared.input.Input.TheVariants.{Press, Undo, Restart, Tick}
+use Rattle.pz_record.specs.declared.order.Order.TheVariants.{Rows}
+use Rattle.pz_record.specs.Equality.{equals_recorded}
+use Rattle.pz_record.specs.LevelText.{text_of_level}
+use Rattle.pz_session.specs.declared.item.FrameKind.{FrameKind}
+use Rattle.pz_session.specs.declared.item.FrameKind.TheVariants as kind
+use Rattle.pz_session.specs.declared.item.Item.{Item}
+use Rattle.pz_session.specs.declared.item.Item.TheVariants.{Frame, Close}
+use Rattle.pz_session.specs.declared.item.Refusal.TheVariants.{NoLevel}
+use Rattle.pz_session.specs.declared.item.Verdict.TheVariants.{Passed, Differs, Refused}
+use Rattle.pz_session.specs.Session.{played, numbered, items_from}
+use Rattle.pz_session.specs.FirstLevel.{level_from}
+use Rattle.pz_session.specs.Board.{frame_of, start_link, press_link, tick_link, undo_link, restarted, won_link, kept_link, reached_link, effect, begun, settled}
+use Rattle.pz_session.specs.Plan.{PlanState}
+use Rattle.pz_session.specs.Case.{played_items, items_of_plan}
+
+abbrev named : ℕ → Denotation
+named object = record { kind = Object; members = object ∷ []; number = object }
+
+-- a row of cells, by the numbers of their glyphs
+abbrev row : ℕ → List ℕ → LevelEntry
+row width glyphs = Level (record { width = width; height = 1; cells = glyphs })
+
+-- background, wall and player; the wall and the player share a layer; glyphs 3 ".", 4 "#" and 5 "p"
+abbrev game_with : List WinLine → List LevelEntry → GameView
+game_with wins levels = record {
+  objects = codes "background" ∷ codes "wall" ∷ codes "player" ∷ [];
+  names = codes "background" ∷ codes "wall" ∷ codes "player" ∷ codes "." ∷ codes "#" ∷ codes "p" ∷ [];
+  values = named 0 ∷ named 1 ∷ named 2 ∷ named 0 ∷ named 1 ∷ named 2 ∷ [];
+  layers = 0 ∷ 1 ∷ 1 ∷ [];
+  depth = 2;
+  rules = [];
+  wins = wins;
+  levels = levels;
+  options = record { run_rules_on_level_start = false; require_player_movement = false };
+}
+
+abbrev game : List LevelEntry → GameView
+game levels = game_with [] levels
+
+abbrev no_rules : Program
+no_rules = record { early = []; late = [] }
+
+abbrev still : ℕ → Option Piece
+still object = Some (record { object = object; heading = None })
+
+abbrev floor : List (Option Piece)
+floor = still 0 ∷ None ∷ []
+
+abbrev wall : List (Option Piece)
+wall = still 0 ∷ still 1 ∷ []
+
+abbrev player : List (Option Piece)
+player = still 0 ∷ still 2 ∷ []
+
+abbrev level : ℕ → List (List (Option Piece)) → Grid
+level width cells = record { width = width; height = 1; depth = 2; layers = 0 ∷ 1 ∷ 1 ∷ []; cells = cells }
+
+abbrev recorded : List (List (List ℕ))
+recorded = []
+
+abbrev playing : GameView → Program → List Input → PlanState
+playing game program inputs = record { game = game; program = program; first = 0; inputs = inputs; recorded = recorded; order = Rows }
+
+abbrev shown : GameView → ℕ → ℕ → FrameKind → Grid → Item
+shown game number at kind grid = Frame number at (record { kind = kind; level_text = text_of_level game Rows grid })
+
+abbrev closed : GameView → Grid → Item
+closed game grid = Close (if equals_recorded game Rows grid recorded then Passed else Differs)
+
+abbrev session : LevelEntry → List Input → PlanState
+session entry inputs = playing (game (entry ∷ [])) no_rules inputs
+
+abbrev shows : LevelEntry → ℕ → ℕ → FrameKind → Grid → Item
+shows entry number at kind grid = shown (game (entry ∷ [])) number at kind grid
+
+abbrev closes : LevelEntry → Grid → Item
+closes entry grid = closed (game (entry ∷ [])) grid
+
+-- #p.#, and twice to the right: the second press shows the same level
+abbrev walled : LevelEntry
+walled = row 4 (4 ∷ 5 ∷ 3 ∷ 4 ∷ [])
+
+pub walk : played_items (session walled (Press Right ∷ Press Right ∷ []))
+    ≡ shows walled 0 0 kind.Start (level 4 (wall ∷ player ∷ floor ∷ wall ∷ [])) ∷ shows walled 1 1 kind.Move (level 4 (wall ∷ floor ∷ player ∷ wall ∷ []))
+    ∷ shows walled 2 2 kind.Move (level 4 (wall ∷ floor ∷ player ∷ wall ∷ [])) ∷ closes walled (level 4 (wall ∷ floor ∷ player ∷ wall ∷ [])) ∷ []
+unfolding played_items played numbered items_from frame_of start_link press_link tick_link undo_link restarted won_link kept_link reached_link effect begun settled level_from step_of rules_run blocks_run block_runs has_won
+walk = refl
+
+-- p..: an undo takes back what there is, and shows the level where there is nothing
+abbrev free : LevelEntry
+free = row 3 (5 ∷ 3 ∷ 3 ∷ [])
+
+abbrev at_start : Grid
+at_start = level 3 (player ∷ floor ∷ floor ∷ [])
+
+abbrev one_on : Grid
+one_on = level 3 (floor ∷ player ∷ floor ∷ [])
+
+pub undoes : played_items (session free (Undo ∷ Press Right ∷ Undo ∷ []))
+    ≡ shows free 0 0 kind.Start at_start ∷ shows free 1 1 kind.Undo at_start ∷ shows free 2 2 kind.Move one_on ∷ shows free 3 3 kind.Undo at_start ∷ closes free at_start ∷ []
+unfolding played_items played numbered items_from frame_of start_link press_link tick_link undo_link restarted won_link kept_link reached_link effect begun settled level_from step_of rules_run blocks_run block_runs has_won
+undoes = refl
+
+-- a restart can be undone; one that changes nothing shows the level, and leaves the past
+pub restarts : played_items (session free (Press Right ∷ Restart ∷ Restart ∷ Undo ∷ []))
+    ≡ shows free 0 0 kind.Start at_start ∷ shows free 1 1 kind.Move one_on ∷ shows free 2 2 kind.Restart at_start ∷ shows free 3 3 kind.Restart at_start
+    ∷ shows free 4 4 kind.Undo one_on ∷ closes free one_on ∷ []
+unfolding played_items played numbered items_from frame_of start_link press_link tick_link undo_link restarted won_link kept_link reached_link effect begun settled level_from step_of rules_run blocks_run block_runs has_won
+restarts = refl
+
+-- a press that moves nothing shows the level, and leaves the past; an idle tick shows nothing, and counts as an input
+pub stays : played_items (session free (Press Left ∷ Tick ∷ Undo ∷ []))
+    ≡ shows free 0 0 kind.Start at_start ∷ shows free 1 1 kind.Move at_start ∷ shows free 2 3 kind.Undo at_start ∷ closes free at_start ∷ []
+unfolding played_items played numbered items_from frame_of start_link press_link tick_link undo_link restarted won_link kept_link reached_link effect begun settled level_from step_of rules_run blocks_run block_runs has_won
+stays = refl
+
+-- right [ > Player ] -> [ > Player ], which gives commands
+abbrev moving : RuleRow
+moving = record { cells = (record { object = 2; layer = 1; word = Toward Right } ∷ []) ∷ []; gap_at = None }
+
+abbrev giving : ℕ → Program
+giving commands = record {
+  early = One (record { scan = Right; left = moving ∷ []; right = moving ∷ []; commands = record { 0 = commands } } ∷ []) ∷ [];
+  late = [];
+}
+
+-- a checkpoint is the end of its step, and an undo doesn't take it back
+pub keeps_checkpoint : played_items (playing (game (free ∷ [])) (giving 4) (Press Right ∷ Undo ∷ Restart ∷ []))
+    ≡ shows free 0 0 kind.Start at_start ∷ shows free 1 1 kind.Move one_on ∷ shows free 2 2 kind.Undo at_start ∷ shows free 3 3 kind.Restart one_on ∷ closes free one_on ∷ []
+unfolding played_items played numbered items_from frame_of start_link press_link tick_link undo_link restarted won_link kept_link reached_link effect begun settled level_from step_of rules_run blocks_run block_runs rest_of applied searched has_won
+keeps_checkpoint = refl
+
+-- a step that restarts shows the target in its place
+pub restarts_by_rule : played_items (playing (game (free ∷ [])) (giving 8) (Press Left ∷ Press Right ∷ []))
+    ≡ shows free 0 0 kind.Start at_start ∷ shows free 1 1 kind.Move at_start ∷ shows free 2 2 kind.Restart at_start ∷ closes free at_start ∷ []
+unfolding played_items played numbered items_from frame_of start_link press_link tick_link undo_link restarted won_link kept_link reached_link effect begun settled level_from step_of rules_run blocks_run block_runs rest_of applied searched has_won
+restarts_by_rule = refl
+
+-- AGAIN, where the step changed the level, asks for a tick; one that is idle is not shown
+pub runs_again : played_items (playing (game (free ∷ [])) (giving 1) (Press Right ∷ []))
+    ≡ shows free 0 0 kind.Start at_start ∷ shows free 1 1 kind.Move one_on ∷ closes free one_on ∷ []
+unfolding played_items played numbered items_from frame_of start_link press_link tick_link undo_link restarted won_link kept_link reached_link effect begun settled level_from step_of rules_run blocks_run block_runs rest_of applied searched has_won
+runs_again = refl
+
+-- a cancelled press shows the level that stays
+pub is_cancelled : played_items (playing (game (free ∷ [])) (giving 10) (Press Right ∷ []))
+    ≡ shows free 0 0 kind.Start at_start ∷ shows free 1 1 kind.Move at_start ∷ closes free at_start ∷ []
+unfolding played_items played numbered items_from frame_of start_link press_link tick_link undo_link restarted won_link kept_link reached_link effect begun settled level_from step_of rules_run blocks_run block_runs rest_of applied searched has_won
+is_cancelled = refl
+
+-- no Wall: each press wins; a load shows the next level, which has no past, and after the last one each input shows it
+abbrev no_wall : WinLine
+no_wall = record { quantifier = No; subject = 1; on = None }
+
+abbrev two_levels : GameView
+two_levels = game_with (no_wall ∷ []) (free ∷ Message ∷ row 2 (5 ∷ 3 ∷ []) ∷ Message ∷ [])
+
+pub wins : played_items (playing two_levels no_rules (Press Right ∷ Undo ∷ Press Right ∷ Undo ∷ []))
+    ≡ shown two_levels 0 0 kind.Start at_start ∷ shown two_levels 1 1 kind.Move one_on ∷ shown two_levels 2 1 kind.Load (level 2 (player ∷ floor ∷ []))
+    ∷ shown two_levels 3 2 kind.Undo (level 2 (player ∷ floor ∷ [])) ∷ shown two_levels 4 3 kind.Move (level 2 (floor ∷ player ∷ []))
+    ∷ shown two_levels 5 4 kind.Over (level 2 (floor ∷ player ∷ [])) ∷ closed two_levels (level 2 (floor ∷ player ∷ [])) ∷ []
+unfolding played_items played numbered items_from frame_of start_link press_link tick_link undo_link restarted won_link kept_link reached_link effect begun settled level_from step_of rules_run blocks_run block_runs has_won
+wins = refl
+
+-- a session that is refused has its close alone
+pub refused : items_of_plan (Err NoLevel) ≡ Close (Refused NoLevel) ∷ []
+unfolding items_of_plan
+refused = refl
+
+-- a message is passed over; behind the last level there is none
+abbrev entries : List LevelEntry
+entries = free ∷ Message ∷ Message ∷ walled ∷ Message ∷ []
+
+pub starts_at_level : level_from (game entries) 0 ≡ Some 0
+unfolding level_from
+starts_at_level = refl
+
+pub passes_messages : level_from (game entries) 1 ≡ Some 3
+unfolding level_from
+passes_messages = refl
+
+pub no_level_left : level_from (game entries) 4 ≡ None
+unfolding level_from
+no_level_left = refl
+
+pub index_behind_all : level_from (game entries) 18446744073709551615 ≡ None
+unfolding level_from
+index_behind_all = refl

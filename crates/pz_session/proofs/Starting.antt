@@ -1,0 +1,24 @@
+-- The items of a session that begins.
+use Rattle.std.proofs.Common.{◌≡◌, ℕ, List, Ok, ap, ap₂, ◌∙◌}
+use Rattle.pz_source.specs.Game.{GameView}
+use Rattle.pz_rules.specs.declared.instance.Program.{Program}
+use Rattle.pz_record.specs.declared.order.Order.{Order}
+use Rattle.pz_record.specs.declared.input.Input.{Input}
+use Rattle.pz_session.specs.declared.item.Item.{Item}
+use Rattle.pz_session.specs.Player.{left_with}
+use Rattle.pz_session.specs.Board.{State, board_links, start_link, loaded_at}
+use Rattle.pz_session.specs.Plan.{PlanState}
+use Rattle.pz_session.specs.Case.{state_of, played_items}
+
+pub starts : (plan : PlanState) (state : State) (game : GameView) (program : Program) (order : Order) (recorded : List (List (List ℕ))) (first : ℕ)
+    → state ≡ loaded_at game program order recorded first
+    → game ≡ plan.game → program ≡ plan.program → order ≡ plan.order → recorded ≡ plan.recorded → first ≡ plan.first → state ≡ state_of plan
+starts plan state game program order recorded first is e p f g h =
+    is ∙ ap (λ x. loaded_at x program order recorded first) e ∙ ap (λ x. loaded_at plan.game x order recorded first) p
+    ∙ ap (λ x. loaded_at plan.game plan.program x recorded first) f
+    ∙ ap (λ x. loaded_at plan.game plan.program plan.order x first) g ∙ ap (loaded_at plan.game plan.program plan.order plan.recorded) h
+
+pub begins : (plan : PlanState) (state : State) (inputs : List Input) (items : List Item) → state ≡ state_of plan → inputs ≡ plan.inputs
+    → items ≡ left_with board_links 500 0 0 inputs (Ok (start_link state)) → items ≡ played_items plan
+unfolding played_items
+begins plan state inputs items e f g = g ∙ ap₂ (λ i s. left_with board_links 500 0 0 i (Ok (start_link s))) f e

@@ -1,0 +1,11 @@
+use Rattle.std.proofs.Common.{◌≡◌}
+use Rattle.pz_session.specs.Player.{left, work}
+use Rattle.pz_session.proofs.player.Player.next.Given as goal
+
+abbrev pub decreases-links : goal.decreases-links
+decreases-links g l = work l.self
+
+-- what is left stays as it is
+abbrev pub invariant-links : goal.invariant-links
+invariant-links g l =
+    (left g.M.Machine.links l.self ≡ left g.M.Machine.links l.fn.self) × (l.self.number ≡ l.fn.self.number)

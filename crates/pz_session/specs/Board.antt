@@ -1,0 +1,194 @@
+-- The links of a session: a press, a tick, an undo, a restart, and what the commands of a step make of it.
+use Rattle.std.specs.Prelude.{ℕ, ◌+◌, ◌<◌, Bool, true, false, ◌&&◌, ◌||◌, List, [], ◌∷◌, length, Option, Some, None, Result, Ok, Err, All, IfSome, if◌then◌else◌}
+use Rattle.pz_source.specs.Game.{GameView}
+use Rattle.pz_source.specs.declared.direction.Dir.{Dir}
+use Rattle.pz_rules.specs.declared.commands.Commands.{Commands}
+use Rattle.pz_rules.specs.declared.instance.Program.{Program}
+use Rattle.pz_rules.specs.declared.token.Command.TheVariants as command
+use Rattle.pz_rules.specs.Instance.{IsProgramOf}
+use Rattle.pz_grid.specs.Grid.{Grid, IsOfGame}
+use Rattle.pz_grid.specs.Loading.{loaded}
+use Rattle.pz_grid.specs.Sameness.{same_grid}
+use Rattle.pz_turn.specs.declared.outcome.StepFault.{StepFault}
+use Rattle.pz_turn.specs.Outcome.{Outcome}
+use Rattle.pz_turn.specs.Step.{step_of}
+use Rattle.pz_turn.specs.Win.{has_won}
+use Rattle.pz_record.specs.declared.input.Input.{Input}
+use Rattle.pz_record.specs.declared.input.Input.TheVariants as input
+use Rattle.pz_record.specs.declared.order.Order.{Order}
+use Rattle.pz_record.specs.Equality.{equals_recorded}
+use Rattle.pz_record.specs.LevelText.{text_of_level}
+use Rattle.pz_session.specs.declared.item.FrameKind.{FrameKind}
+use Rattle.pz_session.specs.declared.item.FrameKind.TheVariants.{Start, Move, Tick, Undo, Restart, Load, Over}
+use Rattle.pz_session.specs.declared.item.Frame.{Frame}
+use Rattle.pz_session.specs.declared.item.Stop.{Stop}
+use Rattle.pz_session.specs.declared.item.Verdict.{Verdict}
+use Rattle.pz_session.specs.declared.item.Verdict.TheVariants.{Passed, Differs}
+use Rattle.pz_session.specs.Chain.{Link}
+use Rattle.pz_session.specs.FirstLevel.{level_from}
+use Rattle.pz_session.specs.Session.{Links}
+use Rattle.pz_session.specs.Turn.{stop_of, gives, is_idle}
+
+-- a session between two links
+pub record State : Type 0 where
+  pub game : GameView
+  pub program : Program
+  pub order : Order
+  pub recorded : List (List (List ℕ))
+  -- the number of the entry of LEVELS that is played
+  pub entry : ℕ
+  pub level : Grid
+  -- the level that a restart gives
+  pub target : Grid
+  -- the levels that an undo takes back, the newest first
+  pub past : List Grid
+  -- the level before an input, until its chain is over
+  pub before : Option Grid
+  -- whether the last level was won
+  pub is_over : Bool
+
+-- all levels of a session are its game's, and so are its rules
+pub record IsOneGame (state : State) : Type 0 where
+  pub program : IsProgramOf state.game.layers state.program
+  pub entry : state.entry < length state.game.levels
+  pub level : IsOfGame state.game state.level
+  pub target : IsOfGame state.game state.target
+  pub past : All (IsOfGame state.game) state.past
+  pub before : IfSome state.before (IsOfGame state.game)
+
+-- the level of an entry, as it is loaded: it is the target, and there is no past
+abbrev pub loaded_at : GameView → Program → Order → List (List (List ℕ)) → ℕ → State
+loaded_at game program order recorded entry = record {
+  game = game;
+  program = program;
+  order = order;
+  recorded = recorded;
+  entry = entry;
+  level = loaded game entry;
+  target = loaded game entry;
+  past = [];
+  before = None;
+  is_over = false;
+}
+
+abbrev pub at_level : Grid → State → State
+at_level level state = record state { level = level }
+
+unfoldable pub frame_of : State → FrameKind → Frame
+frame_of state kind = record { kind = kind; level_text = text_of_level state.game state.order state.level }
+
+-- a link that shows where it leads to, and whether one more tick follows it
+abbrev pub showing : FrameKind → State → Bool → Link State
+showing kind state goes_on = record { shown = frame_of state kind ∷ []; after = state; goes_on = goes_on }
+
+-- a link that shows where it leads to, and with which the chain ends
+abbrev pub showing_end : FrameKind → State → Link State
+showing_end kind state = showing kind state false
+
+-- a link that shows nothing and takes no effect
+abbrev pub idle : State → Link State
+idle state = record { shown = []; after = state; goes_on = false }
+
+-- in a game with `run_rules_on_level_start` a tick follows each load and each restart
+abbrev pub ticks_at_start : State → Bool
+ticks_at_start state = state.game.options.run_rules_on_level_start
+
+-- the start shows the level
+unfoldable pub start_link : State → Link State
+start_link state = showing Start state (ticks_at_start state)
+
+-- the level is the target again
+unfoldable pub restarted : State → Link State
+restarted state = showing Restart (at_level state.target state) (ticks_at_start state)
+
+-- a load shows its level behind the frame of the step that wins
+abbrev pub loading : Frame → State → Link State
+loading won state = record { shown = won ∷ frame_of state Load ∷ []; after = state; goes_on = ticks_at_start state }
+
+-- behind the last level play is over
+abbrev pub ending : Frame → State → Link State
+ending won state = record { shown = won ∷ []; after = record state { is_over = true }; goes_on = false }
+
+-- a win: the next level is loaded, or play is over
+unfoldable pub won_link : Frame → State → Option ℕ → Link State
+won_link won state None = ending won state
+won_link won state (Some next) = loading won (loaded_at state.game state.program state.order state.recorded next)
+
+-- no win: a checkpoint makes the level the target, and AGAIN, if the step changed the level, asks for one more tick
+unfoldable pub kept_link : FrameKind → Commands → Bool → State → Link State
+kept_link kind commands changed state = record {
+  shown = frame_of state kind ∷ [];
+  after = record state { target = if gives commands command.Checkpoint then state.level else state.target };
+  goes_on = gives commands command.Again && changed;
+}
+
+-- the level where a step ends that is neither cancelled nor a restart: it is won by WIN or by the win lines
+unfoldable pub reached_link : FrameKind → Commands → Bool → State → Link State
+reached_link kind commands changed state =
+    if gives commands command.Win || has_won state.game state.level
+    then won_link (frame_of state kind) state (level_from state.game (state.entry + 1))
+    else kept_link kind commands changed state
+
+-- the effect of a step: cancel, restart and win, in this force, exclude what comes after them. A cancelled step leaves the level; a
+-- restart is shown in place of the step.
+unfoldable pub effect : FrameKind → State → Outcome Grid → Link State
+effect kind state end =
+    if gives end.commands command.Cancel then showing_end kind state
+    else (if gives end.commands command.Restart then restarted state
+    else reached_link kind end.commands end.changed (at_level end.level state))
+
+-- the level is kept for the past until the chain is over
+abbrev pub keeping : State → State
+keeping state = record state { before = Some state.level }
+
+abbrev pub pressed_to : State → Result (Outcome Grid) StepFault → Result (Link State) Stop
+pressed_to state (Err fault) = Err (stop_of fault)
+pressed_to state (Ok end) = Ok (effect Move (keeping state) end)
+
+-- a press is a step with its direction
+unfoldable pub press_link : Dir → State → Result (Link State) Stop
+press_link dir state = pressed_to state (step_of state.game state.program state.level (Some dir))
+
+-- an idle tick shows nothing, takes no effect and ends the chain
+abbrev pub ticked_to : State → Result (Outcome Grid) StepFault → Result (Link State) Stop
+ticked_to state (Err fault) = Err (stop_of fault)
+ticked_to state (Ok end) = Ok (if is_idle end then idle state else effect Tick state end)
+
+-- a tick is a step without a direction
+unfoldable pub tick_link : State → Result (Link State) Stop
+tick_link state = ticked_to state (step_of state.game state.program state.level None)
+
+-- the last of the past is taken, if there is one; the target stays
+abbrev pub undone : State → List Grid → State
+undone state [] = state
+undone state (last ∷ past) = record state { level = last; past = past }
+
+-- no tick follows an undo
+unfoldable pub undo_link : State → Link State
+undo_link state = showing_end Undo (undone state state.past)
+
+-- the first link of an input while a level is played
+abbrev pub input_link : Input → State → Result (Link State) Stop
+input_link (input.Press dir) state = press_link dir state
+input_link input.Undo state = Ok (undo_link state)
+input_link input.Restart state = Ok (restarted (keeping state))
+input_link input.Tick state = tick_link state
+
+-- the first link of an input; after play is over it shows the won level
+unfoldable pub begun : Input → State → Result (Link State) Stop
+begun input state = if state.is_over then Ok (showing_end Over state) else input_link input state
+
+abbrev pub past_with : State → Option Grid → List Grid
+past_with state None = state.past
+past_with state (Some before) = if same_grid before state.level then state.past else before ∷ state.past
+
+-- once the chain of a press or a restart is over, the level before it is put on the past if the level differs
+unfoldable pub settled : State → State
+settled state = record state { past = past_with state state.before; before = None }
+
+-- a session whose inputs were all played passes if its last level is the recorded one
+abbrev pub verdict_of : State → Verdict
+verdict_of state = if equals_recorded state.game state.order state.level state.recorded then Passed else Differs
+
+abbrev pub board_links : Links State
+board_links = record { begun = begun; ticked = tick_link; settled = settled; verdict = verdict_of }

@@ -1,0 +1,12 @@
+-- A law of sessions.
+use Rattle.std.specs.Prelude.{◌≡◌, ℕ, List, [], ◌∷◌, ◌++◌}
+use Rattle.pz_session.specs.declared.case.Case.{Case}
+use Rattle.pz_session.specs.declared.item.Frame.{Frame}
+use Rattle.pz_session.specs.declared.item.Item.TheVariants as item
+use Rattle.pz_session.specs.declared.item.Verdict.{Verdict}
+use Rattle.pz_session.specs.Session.{numbered}
+use Rattle.pz_session.specs.Case.{items_of}
+
+-- the items of a case are frames, numbered from 0, and then one close, with which they end
+abbrev pub CloseOnce : Type 0
+CloseOnce = (case : Case) → (frames : List (ℕ × Frame)) × ((end : Verdict) × (items_of case ≡ numbered 0 frames ++ item.Close end ∷ []))

@@ -1,0 +1,11 @@
+pub mod Chain
+pub mod Session
+pub mod Player
+pub mod FirstLevel
+pub mod Turn
+pub mod Board
+pub mod Plan
+pub mod Case
+pub mod Run
+pub mod Job
+pub mod Laws

@@ -1,0 +1,26 @@
+-- What is needed to play a session.
+use Rattle.std.specs.Prelude.{◌≡◌, ℕ, ◌<◌, ◌≤◌, List, true, length}
+use Rattle.pz_source.specs.Game.{GameView}
+use Rattle.pz_source.specs.Level.{is_playable}
+use Rattle.pz_rules.specs.declared.instance.Program.{Program}
+use Rattle.pz_rules.specs.Instance.{IsProgramOf}
+use Rattle.pz_grid.specs.Loading.{entry_at}
+use Rattle.pz_record.specs.declared.input.Input.{Input}
+use Rattle.pz_record.specs.declared.order.Order.{Order}
+
+-- a session's game with its rules, the number of the entry of LEVELS at which it starts, its inputs, and its recorded level with
+-- the order of that level's cells
+pub record PlanState : Type 0 where
+  pub game : GameView
+  pub program : Program
+  pub first : ℕ
+  pub inputs : List Input
+  pub recorded : List (List (List ℕ))
+  pub order : Order
+
+-- a session plays its game's rules and starts at a level, and has few enough inputs for its items to be numbered
+pub record IsPlan (plan : PlanState) : Type 0 where
+  pub program : IsProgramOf plan.game.layers plan.program
+  pub playable : is_playable (entry_at plan.game plan.first) ≡ true
+  pub within : plan.first < length plan.game.levels
+  pub few : length plan.inputs ≤ 65536

@@ -1,0 +1,67 @@
+-- What is left of a session in play.
+use Rattle.std.specs.Prelude.{◌≡◌, ℕ, ◌+◌, ◌*◌, ◌-◌, List, [], ◌∷◌, ◌++◌, drop, length, Option, Some, None, option_to_list, Result, Bool, true, false, nat_lt, is_none, ◌&&◌, if◌then◌else◌}
+use Rattle.pz_session.specs.declared.item.Verdict.TheVariants.{Stopped}
+use Rattle.pz_session.specs.declared.item.Item.{Item}
+use Rattle.pz_record.specs.declared.input.Input.{Input}
+use Rattle.pz_session.specs.declared.item.Frame.{Frame}
+use Rattle.pz_session.specs.declared.player.Phase.{Phase}
+use Rattle.pz_session.specs.declared.player.Phase.TheVariants as phase
+use Rattle.pz_session.specs.declared.player.Player.{Player}
+use Rattle.pz_session.specs.declared.item.Stop.{Stop}
+use Rattle.pz_session.specs.Chain.{Link, ticks, follow}
+use Rattle.pz_session.specs.Session.{Links, Played, played, closing, going_on, showing, items_from}
+
+-- what is still to come in a phase
+unfoldable pub to_come : {S : Type 0} → Links S → Phase → ℕ → List Input → S → Played
+to_come links phase.Between taken inputs state = played links taken inputs state
+to_come links (phase.Ticking n) taken inputs state = going_on links taken (played links taken inputs) (ticks links.ticked n state)
+to_come links (phase.Stopped stop) taken inputs state = closing (Stopped stop)
+to_come links phase.Closed taken inputs state = record { shown = []; close = None }
+
+-- the items that are left: the pending frames and what is to come; nothing after the close
+unfoldable pub left_in : {S : Type 0} → Links S → Phase → ℕ → List Frame → ℕ → List Input → S → List Item
+left_in links phase number frames taken inputs state = items_from number (showing taken frames (to_come links phase taken inputs state))
+
+abbrev pub pending : {S : Type 0} → Player S → List Frame
+pending player = option_to_list player.first ++ option_to_list player.second
+
+abbrev pub left : {S : Type 0} → Links S → Player S → List Item
+left links player = left_in links player.phase player.number (pending player) player.taken (drop player.taken player.inputs) player.machine
+
+-- an answer is the first of the items that were left
+abbrev pub Yields : List Item → Option Item → List Item → Type 0
+Yields before None after = (before ≡ []) × (after ≡ [])
+Yields before (Some item) after = before ≡ item ∷ after
+
+-- a bound on the links that are left
+abbrev pub rank : Phase → ℕ
+rank (phase.Ticking n) = n + 1
+rank _ = 0
+
+abbrev pub work : {S : Type 0} → Player S → ℕ
+work player = (length player.inputs - player.taken) * 502 + rank player.phase
+
+-- no link is needed before the next item
+abbrev pub is_waiting_in : Phase → ℕ → List Input → Bool
+is_waiting_in phase.Between taken inputs = nat_lt taken (length inputs)
+is_waiting_in (phase.Ticking n) taken inputs = true
+is_waiting_in _ taken inputs = false
+
+abbrev pub is_waiting : {S : Type 0} → Player S → Bool
+is_waiting player = is_none player.first && is_none player.second && is_waiting_in player.phase player.taken player.inputs
+
+-- what comes after a link's frames
+abbrev pub to_follow : {S : Type 0} → Links S → Bool → ℕ → ℕ → List Input → S → Played
+to_follow links goes_on n taken inputs state =
+    if goes_on then going_on links taken (played links taken inputs) (ticks links.ticked n state)
+    else played links taken inputs (links.settled state)
+
+-- what is left once a link was begun, at most n ticks allowed after it
+abbrev pub left_with : {S : Type 0} → Links S → ℕ → ℕ → ℕ → List Input → Result (Link S) Stop → List Item
+left_with links n number taken inputs link =
+    items_from number (going_on links taken (played links taken inputs) (follow (ticks links.ticked n) link))
+
+-- a session in play: the items that are left, and whether memory was refused
+pub record Remaining : Type 0 where
+  pub items : List Item
+  pub has_failed : Bool

@@ -1,0 +1,58 @@
+-- The items of a session.
+use Rattle.std.specs.Prelude.{ℕ, ◌+◌, List, [], ◌∷◌, ◌++◌, map, Result, Ok, Err, Option, Some, option_to_list}
+use Rattle.pz_record.specs.declared.input.Input.{Input}
+use Rattle.pz_record.specs.declared.input.Input.TheVariants.{Tick}
+use Rattle.pz_session.specs.declared.item.Stop.{Stop}
+use Rattle.pz_session.specs.declared.item.Verdict.{Verdict}
+use Rattle.pz_session.specs.declared.item.Verdict.TheVariants.{Stopped}
+use Rattle.pz_session.specs.declared.item.Frame.{Frame}
+use Rattle.pz_session.specs.declared.item.Item.{Item}
+use Rattle.pz_session.specs.declared.item.Item.TheVariants as item
+use Rattle.pz_session.specs.Chain.{Link, Chain, follow, ticks}
+
+-- how links are played
+pub record Links (S : Type 0) : Type 0 where
+  pub begun : Input → S → Result (Link S) Stop
+  pub ticked : S → Result (Link S) Stop
+  pub settled : S → S
+  pub verdict : S → Verdict
+
+-- the frames that are shown, each with the number of inputs taken, and the close, unless it was shown before
+pub record Played : Type 0 where
+  pub shown : List (ℕ × Frame)
+  pub close : Option Verdict
+
+abbrev pub closing : Verdict → Played
+closing verdict = record { shown = []; close = Some verdict }
+
+abbrev pub showing : ℕ → List Frame → Played → Played
+showing at frames later = record { shown = map (λ frame. (at, frame)) frames ++ later.shown; close = later.close }
+
+-- how many ticks may follow an input's first link, which may be a tick itself
+abbrev pub ticks_after : Input → ℕ
+ticks_after Tick = 499
+ticks_after _ = 500
+
+-- what follows a chain
+abbrev pub after_chain : {S : Type 0} → Links S → (S → Played) → Result S Stop → Played
+after_chain links later (Err stop) = closing (Stopped stop)
+after_chain links later (Ok state) = later (links.settled state)
+
+-- a chain and what follows it
+abbrev pub going_on : {S : Type 0} → Links S → ℕ → (S → Played) → Chain S → Played
+going_on links at later chain = showing at chain.shown (after_chain links later chain.after)
+
+-- the inputs that are left, where `taken` were taken
+unfoldable pub played : {S : Type 0} → Links S → ℕ → List Input → S → Played
+played links taken [] state = closing (links.verdict state)
+played links taken (input ∷ inputs) state =
+    going_on links (taken + 1) (played links (taken + 1) inputs) (follow (ticks links.ticked (ticks_after input)) (links.begun input state))
+
+-- the frames as items, numbered from n
+unfoldable pub numbered : ℕ → List (ℕ × Frame) → List Item
+numbered n [] = []
+numbered n (f ∷ fs) = item.Frame n f.0 f.1 ∷ numbered (n + 1) fs
+
+-- the frames from number n on, and the close
+unfoldable pub items_from : ℕ → Played → List Item
+items_from n played = numbered n played.shown ++ map item.Close (option_to_list played.close)

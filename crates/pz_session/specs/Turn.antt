@@ -1,0 +1,31 @@
+-- What a session makes of the end of a step.
+use Rattle.std.specs.Prelude.{Bool, not, ◌||◌}
+use Rattle.pz_rules.specs.declared.commands.Commands.{Commands}
+use Rattle.pz_rules.specs.declared.token.Command.{Command}
+use Rattle.pz_rules.specs.declared.token.Command.TheVariants.{Cancel, Restart, Win}
+use Rattle.pz_rules.specs.Commands.{has, flag_of}
+use Rattle.pz_grid.specs.Grid.{Grid}
+use Rattle.pz_turn.specs.declared.outcome.StepFault.{StepFault}
+use Rattle.pz_turn.specs.declared.outcome.StepFault.TheVariants as step
+use Rattle.pz_turn.specs.Outcome.{Outcome}
+use Rattle.pz_session.specs.declared.item.Stop.{Stop}
+use Rattle.pz_session.specs.declared.item.Stop.TheVariants as stop
+use Rattle.pz_session.specs.declared.chain.PlayFault.{PlayFault}
+use Rattle.pz_session.specs.declared.chain.PlayFault.TheVariants.{Memory, Stopped}
+
+-- a step that stops is the stop of its session; want of memory is none, and no step of a game ends with it
+abbrev pub stop_of : StepFault → Stop
+stop_of step.MatchLimit = stop.MatchLimit
+stop_of _ = stop.LoopLimit
+
+abbrev pub fault_of : StepFault → PlayFault
+fault_of step.Memory = Memory
+fault_of step.LoopLimit = Stopped stop.LoopLimit
+fault_of step.MatchLimit = Stopped stop.MatchLimit
+
+abbrev pub gives : Commands → Command → Bool
+gives commands command = has commands (flag_of command)
+
+-- a tick is idle if it is cancelled, or if it changes nothing and gives neither RESTART nor WIN; win lines don't count
+abbrev pub is_idle : Outcome Grid → Bool
+is_idle end = gives end.commands Cancel || not (end.changed || (gives end.commands Restart || gives end.commands Win))

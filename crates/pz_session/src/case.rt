@@ -1,0 +1,12 @@
+//! A case of a job.
+
+use crate::item::Refusal;
+use crate::plan::Plan;
+use pz_text::text::Text;
+
+/// A session of a job: its name, and what is needed to play it, or why it is refused.
+#[derive(Drop)]
+pub struct Case {
+    pub name: Text,
+    pub plan: Result<Plan, Refusal>,
+}

@@ -1,0 +1,18 @@
+//! A recorded session, played. The entries of a file make a job, with a case for each: what is needed to play its session, or why
+//! it is refused. The run of a case gives its items one by one: the frames that the session shows, and its close.
+#![tactic(auto)]
+
+mod board;
+pub mod case;
+mod chain;
+mod first_level;
+pub mod item;
+pub mod job;
+pub mod laws;
+pub mod plan;
+mod player;
+pub mod run;
+mod session;
+mod stage;
+mod tape;
+mod turn;

@@ -1,0 +1,95 @@
+//! The items of a case, one by one.
+
+ghost use Rattle.std.specs.Prelude.{◌≡◌, true, false, MatchResult, IsErr, IfOk};
+ghost use Rattle.pz_session.specs.Case.{items_of, played_items};
+
+use crate::board::Board;
+use crate::case::Case;
+use crate::item::{Item, Verdict};
+use crate::plan::Plan;
+use crate::player::Player;
+use crate::session::Session;
+use crate::stage::Stage;
+use crate::tape::Tape;
+use std::alloc::{AllocError, Global};
+use std::marker::Model;
+
+/// The run of a case, which contracts see as the items that are still to come, and whether memory was refused.
+#[derive(Drop)]
+pub struct Run<'a> {
+    stage: Stage<'a>,
+}
+
+impl<'a> Model for Run<'a> {
+    ghost use Rattle.pz_session.specs.Player.{Remaining};
+    ghost use Rattle.pz_session.specs.Run.{remaining_in};
+
+    ghost Value = { Remaining };
+
+    ghost view = { λ r. remaining_in r.stage };
+}
+
+/// A session at its start.
+fn play(alloc: Global, plan: &Plan) -> Result<Session<'_, Board<'_>>, AllocError>
+    ensures items { IfOk result (λ session. session.items ≡ played_items plan.now) }
+    ensures healthy { IfOk result (λ session. session.has_failed ≡ false) }
+{
+    let board = Board::load(
+        alloc,
+        plan.game(),
+        plan.program(),
+        plan.order(),
+        plan.recorded(),
+        plan.first(),
+    )?;
+    let shown = board.start()?;
+    let player = Player::start(board, Tape::new(plan.inputs().items()), shown)?;
+    Ok(Session::new(player))
+}
+
+impl<'a> Run<'a> {
+    ghost use Rattle.pz_session.specs.Player.{Yields};
+
+    /// The run of a case, before its first item.
+    #[tactic(auto, unfolding(crate::specs::Case::items_of_plan))]
+    pub fn new(alloc: Global, case: &'a Case) -> Result<Run<'a>, AllocError>
+        ensures items { IfOk result (λ run. run.items ≡ items_of case.now) }
+        ensures healthy { IfOk result (λ run. run.has_failed ≡ false) }
+    {
+        let stage = match &case.plan {
+            Err(refusal) => Stage::Refused(*refusal),
+            Ok(plan) => Stage::Playing(play(alloc, plan)?),
+        };
+        Ok(Run { stage })
+    }
+
+    /// The next item; none after the close. Once memory was refused it is refused for good.
+    pub fn next(&mut self) -> Result<Option<Item>, AllocError>
+        ensures item { MatchResult result
+            (λ answer. (self.old.has_failed ≡ false) × (self.new.has_failed ≡ false) × Yields self.old.items answer self.new.items)
+            (λ _. self.new.has_failed ≡ true) }
+        ensures failed { self.old.has_failed ≡ true → IsErr result }
+    {
+        match &mut self.stage {
+            Stage::Playing(session) => session.next(),
+            Stage::Closed => Ok(None),
+            Stage::Refused(refusal) => {
+                let close = Item::Close(Verdict::Refused(*refusal));
+                self.stage = Stage::Closed;
+                Ok(Some(close))
+            }
+        }
+    }
+}
+
+/// All items of a case: the frames of a session that is played and its close, or the close of one that is refused.
+pub fn frames(alloc: Global, case: &Case) -> Result<Vec<Item>, AllocError>
+    ensures { IfOk result (λ items. items.items ≡ items_of case.now) }
+{
+    let mut run = Run::new(alloc, case)?;
+    let mut items = Vec::new(alloc);
+    'items: while let Some(item) = run.next()? {
+        items.push(item)?;
+    }
+    Ok(items)
+}

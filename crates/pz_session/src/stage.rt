@@ -1,0 +1,16 @@
+//! Where the run of a case stands.
+
+use crate::board::Board;
+use crate::item::Refusal;
+use crate::session::Session;
+
+/// What is still to come in the run of a case.
+#[derive(Drop)]
+pub enum Stage<'a> {
+    /// The close of a session that is refused.
+    Refused(Refusal),
+    /// Nothing: that close was handed out.
+    Closed,
+    /// The items of a session in play.
+    Playing(Session<'a, Board<'a>>),
+}

@@ -1,0 +1,345 @@
+-- The fault of a source names a line of its text, or 0.
+use Rattle.std.proofs.Common.{◌≡◌, ◌≢◌, ◌⊎◌, inl, inr, ℕ, ◌≤◌, zero, suc, Bool, true, false, ◌&&◌, ◌==◌, map, List, [], ◌∷◌, ◌++◌, length, drop, take, Option, Some, None, IfSome, Result, Ok, Err, refl, subst, arith}
+use Rattle.std.specs.Prelude.{option_and_then, option_map, if◌then◌else◌, nat_lt, IfOk, IfErr, codes}
+use Rattle.std.specs.Option.{option_map_or}
+use Rattle.std.specs.List.{All, list_any}
+use Rattle.std.specs.Str.{chars}
+use Rattle.std.proofs.lemmas.List.Elements.{All-nil, All-cons, All-head, All-tail, All-append, All-push, All-drop, All-map}
+use Rattle.pz_text.specs.Check.{number_of, too_long, misplaces, misplaced_heading, has_section, missing_section, lines_of}
+use Rattle.pz_text.specs.Cutting.{cut}
+use Rattle.pz_text.specs.Fault.{first_fault, or_else, unless, and_then}
+use Rattle.pz_text.specs.Section.{lines_in}
+use Rattle.pz_text.specs.Words.{names_of}
+use Rattle.pz_text.specs.declared.line.Line.{Line}
+use Rattle.pz_text.specs.declared.line.Section.TheVariants as section
+use Rattle.pz_text.specs.declared.fault.Code.{Code}
+use Rattle.pz_text.specs.declared.fault.Code.TheVariants as code
+use Rattle.pz_text.specs.declared.fault.SourceFault.{SourceFault}
+use Rattle.pz_source.specs.Cycles.{reaches_itself}
+use Rattle.pz_source.specs.Denotation.{values_of}
+use Rattle.pz_source.specs.Game.{GameView}
+use Rattle.pz_source.specs.Kinds.{kind_in, mixes}
+use Rattle.pz_source.specs.Layers.{layer_names, layer_lines, name_line_at, layer_of, holds, lies_nowhere, layers_of, fault_of_layers}
+use Rattle.pz_source.specs.Layers as layers
+use Rattle.pz_source.specs.Legend.{sides, said_by, defined_by, definition_of, definitions_of, line_number, line_at, speaks_of_unknown}
+use Rattle.pz_source.specs.Legend as legend
+use Rattle.pz_source.specs.Level.{is_playable}
+use Rattle.pz_source.specs.Levels.{is_message, closed, entries_of, glyph_of, glyphs_of, filled, rows_of, is_too_large, entry_of, read_entries, levels_of}
+use Rattle.pz_source.specs.Meaning.{meanings_of}
+use Rattle.pz_source.specs.Missing.{names_single, fault_of_needs}
+use Rattle.pz_source.specs.Objects.{object_names, is_blank, sprite_rows, block_of, behind_block, blocks_within, blocks_of, name_line_of, block_at, misnames, objects_of}
+use Rattle.pz_source.specs.Profile.{leaves_profile, outside_profile, options_of}
+use Rattle.pz_source.specs.Reading.{line_count, first_names, game_over, game_of_objects, game_of_lines, source_of}
+use Rattle.pz_source.specs.Rules.{rule_lines}
+use Rattle.pz_source.specs.Values.{names_of_source, meanings_of_source, fault_of_definitions, fault_of_legend}
+use Rattle.pz_source.specs.Wins.{at_line, win_of, wins_from, wins_of}
+use Rattle.pz_source.specs.declared.denotation.Denotation.{Denotation}
+use Rattle.pz_source.specs.declared.legend.Definition.{Definition}
+use Rattle.pz_source.specs.declared.legend.Said.{Said}
+use Rattle.pz_source.specs.declared.level.LevelEntry.{LevelEntry}
+use Rattle.pz_source.specs.declared.level.LevelEntry.TheVariants.{Message, Level}
+use Rattle.pz_source.specs.declared.name_line.NameLine.{NameLine}
+use Rattle.pz_source.specs.declared.wins.WinLine.{WinLine}
+use Rattle.pz_source.proofs.LineLemmas.{IsWithin, Names, All-filter_map, lines_in-all, first_fault-within, or_else-within, unless-within, unless-ok, any-ok, and_then-within, cut-within}
+
+module _ (n : ℕ) where
+  -- OBJECTS
+
+  behind_block-within : (lines : List Line) → All (IsWithin n) lines → All (IsWithin n) (behind_block lines)
+  behind_block-within [] all = All-nil (IsWithin n)
+  behind_block-within (colours ∷ lines) all = by (is_blank colours)
+    where
+      by : (b : Bool) → All (IsWithin n) (if b then colours ∷ lines else drop (length (sprite_rows 5 lines)) lines)
+      by true = all
+      by false = All-drop (IsWithin n) (length (sprite_rows 5 lines)) lines (All-tail (IsWithin n) colours lines all)
+
+  blocks-within : (most : ℕ) (lines : List Line) → All (IsWithin n) lines → All (λ block. block_at block ≤ n) (blocks_within most lines)
+  blocks-within zero lines all = All-nil (λ block. block_at block ≤ n)
+  blocks-within (suc most) [] all = All-nil (λ block. block_at block ≤ n)
+  blocks-within (suc most) (line ∷ lines) all =
+      by (is_blank line) (blocks-within most lines (All-tail (IsWithin n) line lines all))
+      (blocks-within most (behind_block lines) (behind_block-within lines (All-tail (IsWithin n) line lines all)))
+    where
+      by : (b : Bool) → All (λ block. block_at block ≤ n) (blocks_within most lines) → All (λ block. block_at block ≤ n) (blocks_within most (behind_block lines))
+          → All (λ block. block_at block ≤ n) (if b then blocks_within most lines else block_of line lines ∷ blocks_within most (behind_block lines))
+      by true skipped behind = skipped
+      by false skipped behind = All-cons (λ block. block_at block ≤ n) (block_of line lines) (blocks_within most (behind_block lines)) (All-head (IsWithin n) line lines all) behind
+
+  objects-fault : (lines : List Line) → All (IsWithin n) lines → IfErr (objects_of lines) (Names n)
+  objects-fault lines all =
+      unless-within n (first_fault block_at misnames [] (blocks_of lines)) (Ok (map-of lines))
+      (first_fault-within n block_at misnames [] (blocks_of lines) (blocks-within (length lines) lines all)) tt
+    where
+      map-of : List Line → List NameLine
+      map-of ls = map name_line_of (blocks_of ls)
+
+  objects-within : (lines : List Line) → All (IsWithin n) lines → IfOk (objects_of lines) (All (λ line. name_line_at line ≤ n))
+  objects-within lines all =
+      unless-ok (All (λ line. name_line_at line ≤ n)) (first_fault block_at misnames [] (blocks_of lines)) (Ok (map name_line_of (blocks_of lines)))
+      (All-map (λ line. name_line_at line ≤ n) name_line_of (blocks_of lines) (blocks-within (length lines) lines all))
+
+  -- LEGEND
+
+  definition-within : (line : Line) → IsWithin n line → IfSome (definition_of line) (λ d. line_at d ≤ n)
+  definition-within line low = by (sides line.text)
+    where
+      said : (name : List ℕ) (o : Option Said) → IfSome (option_map (λ said. let d : Definition = record { number = line.number; name = name; said = said } in d) o) (λ d. line_at d ≤ n)
+      said name None = tt
+      said name (Some s) = low
+
+      defined : (left right : List (List ℕ)) → IfSome (defined_by line.number left right) (λ d. line_at d ≤ n)
+      defined [] right = tt
+      defined (name ∷ []) right = said name (said_by right)
+      defined (name ∷ other ∷ more) right = tt
+
+      by : (o : Option (List ℕ × List ℕ)) → IfSome (option_and_then (λ both. defined_by line.number (names_of both.0) (names_of both.1)) o) (λ d. line_at d ≤ n)
+      by None = tt
+      by (Some both) = defined (names_of both.0) (names_of both.1)
+
+  definitions-within : (lines : List Line) → All (IsWithin n) lines → All (λ d. line_at d ≤ n) (definitions_of lines)
+  definitions-within lines all = All-filter_map (IsWithin n) (λ d. line_at d ≤ n) definition_of definition-within lines all
+
+  legend-fault : (objects : List NameLine) (lines : List Line) → All (IsWithin n) lines → IfSome (fault_of_legend objects lines) (Names n)
+  legend-fault objects lines all =
+      let definitions = definitions_of lines in
+      let names = names_of_source objects definitions in
+      let meanings = meanings_of objects names definitions in
+      let unknown = first_fault line_at (speaks_of_unknown names) [] definitions in
+      let cycles = first_fault line_at (reaches_itself (length (object_names objects)) meanings) [] definitions in
+      let mixed = first_fault line_at (mixes (kind_in names (values_of meanings))) [] definitions in
+      let low = definitions-within lines all in
+      or_else-within n (first_fault line_number (legend.misnames (object_names objects)) [] lines) (fault_of_definitions objects definitions)
+      (first_fault-within n line_number (legend.misnames (object_names objects)) [] lines all)
+      (or_else-within n unknown (or_else cycles mixed) (first_fault-within n line_at (speaks_of_unknown names) [] definitions low)
+      (or_else-within n cycles mixed (first_fault-within n line_at (reaches_itself (length (object_names objects)) meanings) [] definitions low)
+      (first_fault-within n line_at (mixes (kind_in names (values_of meanings))) [] definitions low)))
+
+  -- the names that each game needs
+
+  needs-fault : (names : List (List ℕ)) (values : List Denotation) → IfSome (fault_of_needs names values) (Names n)
+  needs-fault names values = by (names_single names values (codes "background") && names_single names values (codes "player"))
+    where
+      by : (b : Bool) → IfSome (if b then None else (let fault : SourceFault = record { code = code.Missing; line = 0 } in Some fault)) (Names n)
+      by true = tt
+      by false = omega arith
+
+  -- COLLISIONLAYERS
+
+  layer_lines-within : (lines : List Line) → All (IsWithin n) lines → All (λ line. name_line_at line ≤ n) (layer_lines lines)
+  layer_lines-within [] all = All-nil (λ line. name_line_at line ≤ n)
+  layer_lines-within (line ∷ lines) all = by (length (layer_names line.text) == 0) (layer_lines lines) (layer_lines-within lines (All-tail (IsWithin n) line lines all))
+    where
+      by : (b : Bool) (rest : List NameLine) → All (λ line. name_line_at line ≤ n) rest
+          → All (λ line. name_line_at line ≤ n) (if b then rest else record { number = line.number; names = layer_names line.text } ∷ rest)
+      by true rest low = low
+      by false rest low = All-cons (λ line. name_line_at line ≤ n) (record { number = line.number; names = layer_names line.text }) rest (All-head (IsWithin n) line lines all) low
+
+  layers-fault : (objects : List NameLine) (names : List (List ℕ)) (values : List Denotation) (lines : List Line) → All (λ line. name_line_at line ≤ n) objects → All (IsWithin n) lines
+      → IfSome (fault_of_layers objects names values lines) (Names n)
+  layers-fault objects names values lines there all =
+      or_else-within n (first_fault name_line_at (layers.misplaces names values) [] (layer_lines lines))
+      (first_fault name_line_at (lies_nowhere (layer_of (holds names values) (layer_lines lines))) [] objects)
+      (first_fault-within n name_line_at (layers.misplaces names values) [] (layer_lines lines) (layer_lines-within lines all))
+      (first_fault-within n name_line_at (lies_nowhere (layer_of (holds names values) (layer_lines lines))) [] objects there)
+
+  -- WINCONDITIONS
+
+  at_line-within : {A : Type 0} (number : ℕ) (r : Result A Code) → number ≤ n → IfErr (at_line number r) (Names n)
+  at_line-within number (Ok x) low = tt
+  at_line-within number (Err code) low = low
+
+  wins_from-fault : (names : List (List ℕ)) (wins : List WinLine) (lines : List Line) → All (IsWithin n) lines → IfErr (wins_from names wins lines) (Names n)
+  wins_from-fault names wins [] all = tt
+  wins_from-fault names wins (line ∷ lines) all =
+      by (is_blank line) (wins_from-fault names wins lines (All-tail (IsWithin n) line lines all))
+      (λ win. wins_from-fault names (wins ++ win ∷ []) lines (All-tail (IsWithin n) line lines all))
+    where
+      by : (b : Bool) → IfErr (wins_from names wins lines) (Names n) → ((win : WinLine) → IfErr (wins_from names (wins ++ win ∷ []) lines) (Names n))
+          → IfErr (if b then wins_from names wins lines else and_then (λ win. wins_from names (wins ++ win ∷ []) lines) (at_line line.number (win_of names (names_of line.text)))) (Names n)
+      by true skipped each = skipped
+      by false skipped each =
+          and_then-within n (λ _. Unit {0}) (λ win. wins_from names (wins ++ win ∷ []) lines) (at_line line.number (win_of names (names_of line.text)))
+          (at_line-within line.number (win_of names (names_of line.text)) (All-head (IsWithin n) line lines all)) (any-ok (at_line line.number (win_of names (names_of line.text))))
+          (λ win read. each win)
+
+  -- LEVELS
+
+  closed-within : (rows : List Line) → All (IsWithin n) rows → All (All (IsWithin n)) (closed rows)
+  closed-within [] all = All-nil (All (IsWithin n))
+  closed-within (row ∷ rows) all = All-cons (All (IsWithin n)) (row ∷ rows) [] all (All-nil (All (IsWithin n)))
+
+  entries-within : (rows lines : List Line) → All (IsWithin n) rows → All (IsWithin n) lines → All (All (IsWithin n)) (entries_of rows lines)
+  entries-within rows [] above all = closed-within rows above
+  entries-within rows (line ∷ lines) above all =
+      by (is_blank line) (is_message line) (entries-within [] lines (All-nil (IsWithin n)) (All-tail (IsWithin n) line lines all))
+      (entries-within (rows ++ line ∷ []) lines (All-push (IsWithin n) rows line above (All-head (IsWithin n) line lines all)) (All-tail (IsWithin n) line lines all))
+    where
+      by : (blank message : Bool) → All (All (IsWithin n)) (entries_of [] lines) → All (All (IsWithin n)) (entries_of (rows ++ line ∷ []) lines)
+          → All (All (IsWithin n)) (if blank then closed rows ++ entries_of [] lines
+          else (if message then closed rows ++ (line ∷ []) ∷ entries_of [] lines else entries_of (rows ++ line ∷ []) lines))
+      by true message new longer = All-append (All (IsWithin n)) (closed rows) (entries_of [] lines) (closed-within rows above) new
+      by false true new longer =
+          All-append (All (IsWithin n)) (closed rows) ((line ∷ []) ∷ entries_of [] lines) (closed-within rows above)
+          (All-cons (All (IsWithin n)) (line ∷ []) (entries_of [] lines) (All-cons (IsWithin n) line [] (All-head (IsWithin n) line lines all) (All-nil (IsWithin n))) new)
+      by false false new longer = longer
+
+  rows-fault : (glyph : ℕ → Option ℕ) (width : ℕ) (cells : List ℕ) (lines : List Line) → All (IsWithin n) lines → IfErr (rows_of glyph width cells lines) (Names n)
+  rows-fault glyph width cells [] all = tt
+  rows-fault glyph width cells (line ∷ lines) all =
+      by (glyphs_of glyph [] (take width line.text)) (λ row. rows-fault glyph width (cells ++ filled width 0 row) lines (All-tail (IsWithin n) line lines all))
+    where
+      by : (o : Option (List ℕ)) → ((row : List ℕ) → IfErr (rows_of glyph width (cells ++ filled width 0 row) lines) (Names n))
+          → IfErr (option_map_or (λ row. rows_of glyph width (cells ++ filled width 0 row) lines) o (Err (record { code = code.BadGlyph; line = line.number }))) (Names n)
+      by None each = All-head (IsWithin n) line lines all
+      by (Some row) each = each row
+
+  entry-fault : (glyph : ℕ → Option ℕ) (above : ℕ) (lines : List Line) → All (IsWithin n) lines → IfErr (entry_of glyph above lines) (Names n)
+  entry-fault glyph above [] all = tt
+  entry-fault glyph above (first ∷ rest) all = by (nat_lt 1_023 above) (is_message first) (is_too_large width height)
+    where
+      width : ℕ
+      width = length first.text
+
+      height : ℕ
+      height = length (first ∷ rest)
+
+      drawn : List ℕ → Result LevelEntry SourceFault
+      drawn cells = Ok (Level (record { width = width; height = height; cells = cells }))
+
+      by : (many message large : Bool) → IfErr (if many then Err (record { code = code.TooLarge; line = first.number })
+          else (if message then Ok Message
+          else (if large then Err (record { code = code.TooLarge; line = first.number })
+          else and_then drawn (rows_of glyph width [] (first ∷ rest))))) (Names n)
+      by true message large = All-head (IsWithin n) first rest all
+      by false true large = tt
+      by false false true = All-head (IsWithin n) first rest all
+      by false false false =
+          and_then-within n (λ _. Unit {0}) drawn (rows_of glyph width [] (first ∷ rest)) (rows-fault glyph width [] (first ∷ rest) all) (any-ok (rows_of glyph width [] (first ∷ rest)))
+          (λ cells read. tt)
+
+  read_entries-fault : (glyph : ℕ → Option ℕ) (read : List LevelEntry) (entries : List (List Line)) → All (All (IsWithin n)) entries → IfErr (read_entries glyph read entries) (Names n)
+  read_entries-fault glyph read [] all = tt
+  read_entries-fault glyph read (lines ∷ more) all =
+      and_then-within n (λ _. Unit {0}) (λ entry. read_entries glyph (read ++ entry ∷ []) more) (entry_of glyph (length read) lines)
+      (entry-fault glyph (length read) lines (All-head (All (IsWithin n)) lines more all)) (any-ok (entry_of glyph (length read) lines))
+      (λ entry done. read_entries-fault glyph (read ++ entry ∷ []) more (All-tail (All (IsWithin n)) lines more all))
+
+  levels-fault : (glyph : ℕ → Option ℕ) (lines : List Line) → All (IsWithin n) lines → IfErr (levels_of glyph lines) (Names n)
+  levels-fault glyph lines all =
+      and_then-within n (λ _. Unit {0}) chosen (read_entries glyph [] (entries_of [] lines))
+      (read_entries-fault glyph [] (entries_of [] lines) (entries-within [] lines (All-nil (IsWithin n)) all)) (any-ok (read_entries glyph [] (entries_of [] lines)))
+      (λ entries read. by entries (list_any is_playable entries))
+    where
+      chosen : List LevelEntry → Result (List LevelEntry) SourceFault
+      chosen entries = if list_any is_playable entries then Ok entries else Err (record { code = code.NoLevel; line = 0 })
+
+      by : (entries : List LevelEntry) (b : Bool) → IfErr (let r : Result (List LevelEntry) SourceFault = if b then Ok entries else Err (record { code = code.NoLevel; line = 0 }) in r) (Names n)
+      by entries true = tt
+      by entries false = omega arith
+
+  -- the game
+
+  game_over-fault : (lines : List Line) (objects : List NameLine) (names : List (List ℕ)) (values : List Denotation) → All (IsWithin n) lines → All (λ line. name_line_at line ≤ n) objects
+      → IfErr (game_over lines objects names values) (Names n)
+  game_over-fault lines objects names values all there =
+      unless-within n (fault_of_needs names values) placed (needs-fault names values)
+      (unless-within n (fault_of_layers objects names values (lines_in section.Layers lines)) won
+      (layers-fault objects names values (lines_in section.Layers lines) there (lines_in-all (IsWithin n) section.Layers lines all))
+      (and_then-within n (λ _. Unit {0}) levelled (wins_of names (lines_in section.Wins lines))
+      (wins_from-fault names [] (lines_in section.Wins lines) (lines_in-all (IsWithin n) section.Wins lines all)) (any-ok (wins_of names (lines_in section.Wins lines)))
+      (λ wins read. and_then-within n (λ _. Unit {0}) (made wins) (levels_of (glyph_of names values) (lines_in section.Levels lines))
+      (levels-fault (glyph_of names values) (lines_in section.Levels lines) (lines_in-all (IsWithin n) section.Levels lines all)) (any-ok (levels_of (glyph_of names values) (lines_in section.Levels lines)))
+      (λ entries done. tt))))
+    where
+      made : List WinLine → List LevelEntry → Result GameView SourceFault
+      made wins entries = Ok (record {
+        objects = first_names objects;
+        names = names;
+        values = values;
+        layers = layers_of objects names values (lines_in section.Layers lines);
+        depth = length (layer_lines (lines_in section.Layers lines));
+        rules = rule_lines (lines_in section.Rules lines);
+        wins = wins;
+        levels = entries;
+        options = options_of (lines_in section.Prelude lines);
+      })
+
+      levelled : List WinLine → Result GameView SourceFault
+      levelled wins = and_then (made wins) (levels_of (glyph_of names values) (lines_in section.Levels lines))
+
+      won : Result GameView SourceFault
+      won = and_then levelled (wins_of names (lines_in section.Wins lines))
+
+      placed : Result GameView SourceFault
+      placed = unless (fault_of_layers objects names values (lines_in section.Layers lines)) won
+
+  game_of_objects-fault : (lines : List Line) (objects : List NameLine) → All (IsWithin n) lines → All (λ line. name_line_at line ≤ n) objects → IfErr (game_of_objects lines objects) (Names n)
+  game_of_objects-fault lines objects all there =
+      let definitions = definitions_of (lines_in section.Legend lines) in
+      let names = names_of_source objects definitions in
+      let values = values_of (meanings_of_source objects definitions) in
+      unless-within n (fault_of_legend objects (lines_in section.Legend lines)) (game_over lines objects names values)
+      (legend-fault objects (lines_in section.Legend lines) (lines_in-all (IsWithin n) section.Legend lines all)) (game_over-fault lines objects names values all there)
+
+  game_of_lines-fault : (lines : List Line) → All (IsWithin n) lines → IfErr (game_of_lines lines) (Names n)
+  game_of_lines-fault lines all =
+      let part = lines_in section.Objects lines in
+      let low = lines_in-all (IsWithin n) section.Objects lines all in
+      unless-within n (outside_profile lines) (and_then (game_of_objects lines) (objects_of part)) (first_fault-within n number_of leaves_profile [] lines all)
+      (and_then-within n (All (λ line. name_line_at line ≤ n)) (game_of_objects lines) (objects_of part) (objects-fault part low) (objects-within part low)
+      (λ objects there. game_of_objects-fault lines objects all there))
+
+  -- the lines of a text
+
+  too_long-within : (text : List ℕ) → IfSome (too_long text) (Names n)
+  too_long-within text = by (nat_lt 1_048_576 (length text))
+    where
+      by : (b : Bool) → IfSome (if b then (let fault : SourceFault = record { code = code.TooLong; line = 0 } in Some fault) else None) (Names n)
+      by true = omega arith
+      by false = tt
+
+  missing_section-within : (lines : List Line) → IfSome (missing_section lines) (Names n)
+  missing_section-within lines = by (has_section section.Objects lines && has_section section.Legend lines && has_section section.Layers lines && has_section section.Levels lines)
+    where
+      by : (b : Bool) → IfSome (if b then None else (let fault : SourceFault = record { code = code.Section; line = 0 } in Some fault)) (Names n)
+      by true = tt
+      by false = omega arith
+
+  lines-fault : (text : List ℕ) → All (IsWithin n) (cut (chars text)) → IfErr (lines_of text) (Names n)
+  lines-fault text all =
+      let lines = cut (chars text) in
+      let whole : Result (List Line) SourceFault = unless (missing_section lines) (Ok lines) in
+      unless-within n (too_long text) (unless (misplaced_heading lines) whole) (too_long-within text)
+      (unless-within n (misplaced_heading lines) whole (first_fault-within n number_of misplaces [] lines all)
+      (unless-within n (missing_section lines) (Ok lines) (missing_section-within lines) tt))
+
+  lines-within : (text : List ℕ) → All (IsWithin n) (cut (chars text)) → IfOk (lines_of text) (All (IsWithin n))
+  lines-within text all =
+      let lines = cut (chars text) in
+      let whole : Result (List Line) SourceFault = unless (missing_section lines) (Ok lines) in
+      unless-ok (All (IsWithin n)) (too_long text) (unless (misplaced_heading lines) whole)
+      (unless-ok (All (IsWithin n)) (misplaced_heading lines) whole (unless-ok (All (IsWithin n)) (missing_section lines) (Ok lines) all))
+
+-- the fault of a text names a line of it, or 0
+pub source-fault : (text : List ℕ) → IfErr (source_of text) (Names (line_count text))
+unfolding source_of
+source-fault text =
+    let n = line_count text in
+    let all = cut-within (chars text) in
+    and_then-within n (All (IsWithin n)) game_of_lines (lines_of text) (lines-fault n text all) (lines-within n text all) (λ lines low. game_of_lines-fault n lines low)
+
+is_memory : (c : Code) → (c ≡ code.Memory) ⊎ (c ≢ code.Memory)
+is_memory code.Memory = inl refl
+is_memory c = inr (λ e. cc)
+
+-- and so does what stands for it where memory may fail
+pub line-within : (text : List ℕ) (fault : SourceFault) → (fault.code ≢ code.Memory → source_of text ≡ Err fault) → (fault.code ≡ code.Memory → fault.line ≡ 0) → fault.line ≤ line_count text
+line-within text fault refused whole = elim (is_memory fault.code) [
+  | inl memory ↦ (let none = whole memory in omega arith)
+  | inr other ↦ subst (λ r. IfErr r (Names (line_count text))) (refused other) (source-fault text)
+]
+
+pub result-within : {A : Type 0} (text : List ℕ) (r : Result A SourceFault) → IfErr r (λ fault. fault.code ≢ code.Memory → source_of text ≡ Err fault)
+    → IfErr r (λ fault. fault.code ≡ code.Memory → fault.line ≡ 0) → IfErr r (λ fault. fault.line ≤ line_count text)
+result-within text (Ok x) refused whole = tt
+result-within text (Err fault) refused whole = line-within text fault refused whole

@@ -1,0 +1,71 @@
+-- Steps through the lines of LEVELS.
+use Rattle.std.proofs.Common.{◌≡◌, ℕ, ◌<◌, ◌≤◌, ◌+◌, ◌-◌, zero, suc, true, false, List, [], ◌∷◌, ◌++◌, length, take, drop, get_or, refl, ap, sym, ◌∙◌, arith, length-drop, Bool, true≢false}
+use Rattle.std.specs.List.{slice_range, list_all}
+use Rattle.std.specs.Prelude.{if◌then◌else◌}
+use Rattle.std.proofs.lemmas.List.Folds.{list_all-append, list_all_at}
+use Rattle.std.proofs.lemmas.List.{get_or-drop}
+use Rattle.pz_source.specs.Levels.{entries_of, closed, is_message, is_drawn, filled}
+use Rattle.pz_source.specs.Objects.{is_blank}
+use Rattle.pz_text.proofs.ListLemmas.{take-next}
+use Rattle.pz_text.specs.declared.line.Line.{Line}
+
+drop-one : {A : Type 0} (i : ℕ) (xs : List A) → drop 1 (drop i xs) ≡ drop (i + 1) xs
+drop-one zero xs = refl
+drop-one {A = A} (suc i) [] = let none : List A = [] in ap (λ n. drop n none) (let e : suc (i + 1) ≡ suc i + 1 = omega arith in e)
+drop-one (suc i) (x ∷ xs) = drop-one i xs ∙ ap (λ n. drop n (x ∷ xs)) (let e : suc (i + 1) ≡ suc i + 1 = omega arith in e)
+
+-- one more cell of a row
+pub filled-step : (row : List ℕ) (width last i : ℕ) → i < width
+    → filled (width - i) last (drop i row) ≡ get_or row i last ∷ filled (width - (i + 1)) (get_or row i last) (drop (i + 1) row)
+filled-step row width last i lt =
+    let more : width - i ≡ suc (width - (i + 1)) = omega arith in
+    let here : get_or (drop i row) 0 last ≡ get_or row i last = get_or-drop i row 0 last ∙ ap (λ n. get_or row n last) (let e : i + 0 ≡ i = omega arith in e) in
+    ap (λ n. filled n last (drop i row)) more
+    ∙ (ap (λ x. x ∷ filled (width - (i + 1)) x (drop 1 (drop i row))) here ∙ ap (λ r. get_or row i last ∷ filled (width - (i + 1)) (get_or row i last) r) (drop-one i row))
+
+pub range-none : {A : Type 0} (xs : List A) (n : ℕ) → slice_range xs n n ≡ []
+range-none xs n = ap (λ k. take k (drop n xs)) (let e : n - n ≡ 0 = omega arith in e)
+
+pub range-next : {A : Type 0} (xs : List A) (start place : ℕ) (x : A) → start ≤ place → place < length xs → x ≡ get_or xs place x
+    → slice_range xs start (place + 1) ≡ slice_range xs start place ++ x ∷ []
+range-next xs start place x within below is =
+    let more : (place + 1) - start ≡ (place - start) + 1 = omega arith in
+    let long = length-drop start xs in
+    let low : place - start < length (drop start xs) = omega arith in
+    let at : start + (place - start) ≡ place = omega arith in
+    let here : x ≡ get_or (drop start xs) (place - start) x = is ∙ (ap (λ n. get_or xs n x) (sym at) ∙ sym (get_or-drop start xs (place - start) x)) in
+    ap (λ n. take n (drop start xs)) more ∙ take-next (drop start xs) (place - start) x low here
+
+pub entries-blank : (rows : List Line) (line : Line) (more : List Line) → is_blank line ≡ true → entries_of rows (line ∷ more) ≡ closed rows ++ entries_of [] more
+entries-blank rows line more e = rw e refl
+
+pub entries-message : (rows : List Line) (line : Line) (more : List Line) → is_blank line ≡ false → is_message line ≡ true
+    → entries_of rows (line ∷ more) ≡ closed rows ++ (line ∷ []) ∷ entries_of [] more
+entries-message rows line more e m = rw (e, m) refl
+
+pub entries-row : (rows : List Line) (line : Line) (more : List Line) → is_blank line ≡ false → is_message line ≡ false
+    → entries_of rows (line ∷ more) ≡ entries_of (rows ++ line ∷ []) more
+entries-row rows line more e m = rw (e, m) refl
+
+-- the first lines of the entries aren't blank
+entries-drawn : (rows lines : List Line) → list_all is_drawn (closed rows) ≡ true → list_all is_drawn (entries_of rows lines) ≡ true
+entries-drawn rows [] h = h
+entries-drawn rows (line ∷ lines) h = by (is_blank line) refl (is_message line) (entries-drawn [] lines refl) (λ k. entries-drawn (rows ++ line ∷ []) lines k)
+  where
+    longer : (rows : List Line) → list_all is_drawn (closed rows) ≡ true → is_blank line ≡ false → list_all is_drawn (closed (rows ++ line ∷ [])) ≡ true
+    longer [] h e = rw e refl
+    longer (row ∷ rows) h e = h
+
+    by : (b : Bool) → is_blank line ≡ b → (m : Bool) → list_all is_drawn (entries_of [] lines) ≡ true
+        → (list_all is_drawn (closed (rows ++ line ∷ [])) ≡ true → list_all is_drawn (entries_of (rows ++ line ∷ []) lines) ≡ true)
+        → list_all is_drawn (if b then closed rows ++ entries_of [] lines else (if m then closed rows ++ (line ∷ []) ∷ entries_of [] lines else entries_of (rows ++ line ∷ []) lines)) ≡ true
+    by true e m next more = list_all-append is_drawn (closed rows) (entries_of [] lines) ∙ rw (h, next) refl
+    by false e true next more = list_all-append is_drawn (closed rows) ((line ∷ []) ∷ entries_of [] lines) ∙ rw (h, e, next) refl
+    by false e false next more = more (longer rows h e)
+
+pub entry-drawn : (lines : List Line) (k : ℕ) (x : List Line) → k < length (entries_of [] lines) → x ≡ get_or (entries_of [] lines) k x → is_drawn x ≡ true
+entry-drawn lines k x lt is = by (is_drawn x) refl
+  where
+    by : (b : Bool) → is_drawn x ≡ b → is_drawn x ≡ true
+    by true e = e
+    by false e = absurd (true≢false (sym (entries-drawn [] lines refl) ∙ list_all_at is_drawn (entries_of [] lines) k x lt (ap is_drawn (sym is) ∙ e)))

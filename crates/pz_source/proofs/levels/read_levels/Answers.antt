@@ -1,0 +1,23 @@
+use Rattle.std.proofs.Common.{◌≡◌, ◌<◌, [], List, Bor, length, map, get_or, sym, ◌∙◌, ap, subst, arith}
+use Rattle.std.proofs.lemmas.List.{length-map, get_or-map}
+use Rattle.pz_source.specs.Levels.{entries_of}
+use Rattle.pz_text.specs.declared.line.Line.{Line}
+use Rattle.pz_source.proofs.LevelLemmas.{entry-drawn}
+use Rattle.pz_source.proofs.levels.read_levels.Goals as goal
+
+pub read_entry-requires : goal.read_entry-requires
+read_entry-requires c =
+    let lines = c.args.lines.now in
+    let items = c.in_ok-blocks.blocks.items in
+    let i = c.loop-block.block-index in
+    let x = c.block-item.result in
+    let all : map (λ (entry : Bor (List Line)). entry.now) items ≡ entries_of [] lines = c.in_ok-blocks.ensures in
+    let now = λ (entry : Bor (List Line)). entry.now in
+    let same : c.deref-block-items.result.now ≡ items = c.deref-block-items.ensures.value in
+    let below : i < length items = subst (λ (es : List (Bor (List Line))). i < length es) same c.loop-block-test.true in
+    let is : x ≡ get_or items i x = c.block-item.is ∙ ap (λ (es : List (Bor (List Line))). get_or es i x) same in
+    let mapped : get_or (map now items) i x.now ≡ (get_or items i x).now = get_or-map now items i x x.now below in
+    let long : length (map now items) ≡ length items = length-map items now in
+    let inside : i < length (map now items) = omega arith in
+    entry-drawn lines i x.now (subst (λ (es : List (List Line)). i < length es) all inside)
+    (ap now is ∙ (sym mapped ∙ ap (λ (es : List (List Line)). get_or es i x.now) all))

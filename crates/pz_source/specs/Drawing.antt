@@ -1,0 +1,17 @@
+-- A level as its rows draw it.
+use Rattle.std.specs.Prelude.{◌≡◌, ℕ, ◌*◌, ◌<◌, ◌≤◌, List, length}
+
+-- its size, and for each cell, row by row, the number of the name that its glyph is
+pub record Drawing : Type 0 where
+  pub width : ℕ
+  pub height : ℕ
+  pub cells : List ℕ
+
+-- a level has a cell for each position, and is within the limits of its sides
+pub record IsDrawing (drawing : Drawing) : Type 0 where
+  pub covers : length drawing.cells ≡ drawing.width * drawing.height
+  pub some_width : 0 < drawing.width
+  pub some_height : 0 < drawing.height
+  pub narrow : drawing.width ≤ 255
+  pub low : drawing.height ≤ 255
+  pub small : drawing.width * drawing.height ≤ 16384

@@ -1,0 +1,74 @@
+-- What contracts see of a game.
+use Rattle.std.specs.Prelude.{◌≡◌, ◌≢◌, ℕ, ◌<◌, ◌≤◌, List, [], length, All, codes, get_or, Option, option_and_then, slice_get}
+use Rattle.std.specs.Option.{option_map_or}
+use Rattle.pz_text.specs.Name.{folded}
+use Rattle.pz_text.specs.NameSet.{number_in}
+use Rattle.pz_source.specs.declared.denotation.Denotation.{Denotation}
+use Rattle.pz_source.specs.declared.level.LevelEntry.{LevelEntry}
+use Rattle.pz_source.specs.declared.level.LevelEntry.TheVariants.{Message, Level}
+use Rattle.pz_source.specs.declared.rules.RuleLine.{RuleLine}
+use Rattle.pz_source.specs.declared.wins.WinLine.{WinLine}
+use Rattle.pz_source.specs.declared.options.Options.{Options}
+
+pub record GameView : Type 0 where
+  -- the name of each object
+  pub objects : List (List ℕ)
+  -- all names, in the order of first mention, and what each denotes
+  pub names : List (List ℕ)
+  pub values : List Denotation
+  -- the collision layer of each object, and the number of layers
+  pub layers : List ℕ
+  pub depth : ℕ
+  pub rules : List RuleLine
+  pub wins : List WinLine
+  pub levels : List LevelEntry
+  pub options : Options
+
+-- what a name denotes in a game
+abbrev pub denotation_in : GameView → List ℕ → Option Denotation
+denotation_in game name = option_and_then (slice_get game.values) (number_in game.names name)
+
+-- the objects of a name, none where there is no such name
+abbrev pub members_in : GameView → List ℕ → List ℕ
+members_in game name = option_map_or (λ d. d.members) (denotation_in game name) []
+
+-- the objects that are the player
+abbrev pub players_of : GameView → List ℕ
+players_of game = members_in game (codes "player")
+
+-- the first object of the background
+abbrev pub background_of : GameView → ℕ
+background_of game = get_or (members_in game (codes "background")) 0 0
+
+-- the objects that a glyph draws, by the number of the name that it is
+abbrev pub glyph_objects : GameView → ℕ → List ℕ
+glyph_objects game number = option_map_or (λ d. d.members) (slice_get game.values number) []
+
+-- a name denotes objects of the game, at least one
+pub record IsDenoted (objects : ℕ) (denotation : Denotation) : Type 0 where
+  pub some : 0 < length denotation.members
+  pub all : All (λ object. object < objects) denotation.members
+
+-- each cell of a level is drawn by a name
+abbrev pub IsDrawnBy : ℕ → LevelEntry → Type 0
+IsDrawnBy names Message = Unit {0}
+IsDrawnBy names (Level drawing) = All (λ number. number < names) drawing.cells
+
+-- a name is a word: it has a character, no space or line end, and no capital letter
+pub record IsWord (name : List ℕ) : Type 0 where
+  pub some : 0 < length name
+  pub solid : All (λ c. c ≢ 32 × c ≢ 10 × c ≢ 13) name
+  pub lower : folded name ≡ name
+
+-- what holds of every game
+pub record IsGame (game : GameView) : Type 0 where
+  pub few : length game.objects ≤ 128
+  pub shallow : game.depth ≤ 25
+  pub laid : length game.layers ≡ length game.objects
+  pub layered : All (λ layer. layer < game.depth) game.layers
+  pub denoted : length game.values ≡ length game.names
+  pub members : All (IsDenoted (length game.objects)) game.values
+  pub player : 0 < length (players_of game)
+  pub background : 0 < length (members_in game (codes "background"))
+  pub drawn : All (IsDrawnBy (length game.values)) game.levels
+  pub worded : All IsWord game.objects

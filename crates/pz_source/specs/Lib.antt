@@ -1,0 +1,17 @@
+pub mod Objects
+pub mod Legend
+pub mod Meaning
+pub mod Denotation
+pub mod Cycles
+pub mod Kinds
+pub mod Values
+pub mod Missing
+pub mod Layers
+pub mod Rules
+pub mod Wins
+pub mod Drawing
+pub mod Level
+pub mod Levels
+pub mod Profile
+pub mod Game
+pub mod Reading

@@ -1,0 +1,42 @@
+-- RULES: its lines, cut into words.
+use Rattle.std.specs.Prelude.{ℕ, ◌-◌, Bool, not, ◌==◌, if◌then◌else◌, List, [], ◌∷◌, ◌++◌, length, take, drop, map, filter, true, codes}
+use Rattle.std.specs.Char.{is_whitespace}
+use Rattle.pz_text.specs.Characters.{trimmed}
+use Rattle.pz_text.specs.Comment.{ends_arrow, ends_word, ends_message, is_first_after, word_after}
+use Rattle.pz_text.specs.Name.{name_of}
+use Rattle.pz_text.specs.declared.line.Line.{Line}
+use Rattle.pz_text.specs.declared.line.Section.TheVariants.{Rules}
+use Rattle.pz_source.specs.Objects.{is_blank}
+use Rattle.pz_source.specs.declared.rules.RuleLine.{RuleLine}
+
+-- a word that was read, if it has a character
+abbrev pub closed : List ℕ → List (List ℕ)
+closed word = if length word == 0 then [] else word ∷ []
+
+-- The words that end where a character ends the word before it: that word, and the character if it stands by itself, as a
+-- bracket, a bar, or a first plus sign. An arrow stands by itself too; its first character was taken for one of the word.
+abbrev pub ended : List ℕ → ℕ → List (List ℕ)
+ended word c =
+    if is_whitespace c then closed word
+    else (if ends_arrow word c then closed (take (length word - 1) word) ++ codes "->" ∷ []
+    else closed word ++ (c ∷ []) ∷ [])
+
+-- The words of a rule line from a character on, behind the characters of a word. The text behind the word `message` is one
+-- word, as it stands, without the white space at its ends.
+abbrev pub words_from : Bool → List ℕ → List ℕ → List (List ℕ)
+words_from is_first word [] = closed word
+words_from is_first word (c ∷ cs) =
+    if ends_message word c then take 7 word ∷ closed (trimmed (drop 7 word ++ c ∷ cs))
+    else (if ends_word Rules is_first word c then ended word c else [])
+    ++ words_from (is_first_after Rules is_first word c) (word_after Rules is_first word c) cs
+
+-- the words of a rule line, folded
+abbrev pub rule_words : List ℕ → List (List ℕ)
+rule_words text = map name_of (words_from true [] text)
+
+abbrev pub rule_line_of : Line → RuleLine
+rule_line_of line = record { number = line.number; words = rule_words line.text }
+
+-- the rule lines: the lines that aren't blank
+abbrev pub rule_lines : List Line → List RuleLine
+rule_lines lines = map rule_line_of (filter (λ line. not (is_blank line)) lines)

@@ -1,0 +1,53 @@
+-- WINCONDITIONS: its lines.
+use Rattle.std.specs.Prelude.{ℕ, ◌||◌, if◌then◌else◌, List, [], ◌∷◌, ◌++◌, Option, Some, None, option_map, Result, Ok, Err, codes}
+use Rattle.std.specs.Str.{bytes_eq}
+use Rattle.pz_text.specs.Fault.{and_then}
+use Rattle.pz_text.specs.NameSet.{number_in}
+use Rattle.pz_text.specs.Words.{names_of}
+use Rattle.pz_text.specs.declared.line.Line.{Line}
+use Rattle.pz_text.specs.declared.fault.Code.{Code}
+use Rattle.pz_text.specs.declared.fault.Code.TheVariants as code
+use Rattle.pz_text.specs.declared.fault.SourceFault.{SourceFault}
+use Rattle.pz_source.specs.Objects.{is_blank}
+use Rattle.pz_source.specs.declared.wins.Quantifier.{Quantifier}
+use Rattle.pz_source.specs.declared.wins.Quantifier.TheVariants as quantifier
+use Rattle.pz_source.specs.declared.wins.WinLine.{WinLine}
+
+-- the first word of a win line; `any` is `some`
+abbrev pub quantifier_of : List ℕ → Option Quantifier
+quantifier_of word =
+    if bytes_eq word (codes "all") then Some quantifier.All
+    else (if bytes_eq word (codes "some") || bytes_eq word (codes "any") then Some quantifier.Some
+    else (if bytes_eq word (codes "no") then Some quantifier.No
+    else None))
+
+-- What a win line says of a name, and of another that stands behind `on`, each by its number: BadWin goes before Unknown.
+abbrev pub win_about : Option Quantifier → Option ℕ → Option (Option ℕ) → Result WinLine Code
+win_about None subject on = Err code.BadWin
+win_about (Some quantifier) None on = Err code.Unknown
+win_about (Some quantifier) (Some subject) None = Err code.Unknown
+win_about (Some quantifier) (Some subject) (Some on) = Ok (record { quantifier = quantifier; subject = subject; on = on })
+
+-- A win line has a quantifier, a name and nothing more, or `on` and another name: `on` is a joint by its place alone.
+abbrev pub win_of : List (List ℕ) → List (List ℕ) → Result WinLine Code
+win_of names (word ∷ subject ∷ []) = win_about (quantifier_of word) (number_in names subject) (Some None)
+win_of names (word ∷ subject ∷ joint ∷ on ∷ []) =
+    if bytes_eq joint (codes "on") then win_about (quantifier_of word) (number_in names subject) (option_map Some (number_in names on))
+    else Err code.BadWin
+win_of names words = Err code.BadWin
+
+-- what is read at a line, or its fault there
+abbrev pub at_line : {A : Type 0} → ℕ → Result A Code → Result A SourceFault
+at_line number (Ok x) = Ok x
+at_line number (Err code) = Err (record { code = code; line = number })
+
+-- the win lines, behind those read; blank lines are none
+abbrev pub wins_from : List (List ℕ) → List WinLine → List Line → Result (List WinLine) SourceFault
+wins_from names wins [] = Ok wins
+wins_from names wins (line ∷ lines) =
+    if is_blank line then wins_from names wins lines
+    else and_then (λ win. wins_from names (wins ++ win ∷ []) lines) (at_line line.number (win_of names (names_of line.text)))
+
+-- the lines of WINCONDITIONS over these names, or their first fault
+abbrev pub wins_of : List (List ℕ) → List Line → Result (List WinLine) SourceFault
+wins_of names lines = wins_from names [] lines

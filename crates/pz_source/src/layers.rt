@@ -1,0 +1,212 @@
+//! The lines of COLLISIONLAYERS.
+
+ghost use Rattle.std.specs.Prelude.{◌≡◌, ◌≢◌, ◌==◌, ℕ, ◌<◌, [], IfOk, IfErr, IfSome, length, None, Some, map, if◌then◌else◌};
+ghost use Rattle.std.specs.List.{list_any, filter_map};
+ghost use Rattle.pz_text.specs.Fault.{first_fault};
+ghost use Rattle.pz_text.specs.declared.fault.Code.TheVariants as code;
+ghost use Rattle.pz_source.specs.Layers.{layer_words, layer_names, layer_lines, name_line_at, misplaced, misplaces, members_of, holds, entry_at, layer_of, lies_nowhere, fault_of_layers, layers_of};
+
+use crate::denotation::{Denotation, Kind};
+use crate::kinds::has_kind;
+use crate::legend::has_unknown;
+use crate::meaning::number_or_end;
+use crate::name_line::NameLine;
+use pz_text::fault::{Code, SourceFault};
+use pz_text::line::Line;
+use pz_text::listed::Listed;
+use pz_text::name::Name;
+use pz_text::name_set::NameSet;
+use std::alloc::{AllocError, Global};
+
+/// The most layers that a source may have.
+pub const MAX_LAYERS: usize = 25;
+
+/// The words of a line of COLLISIONLAYERS, parted by commas and white space.
+fn layer_words<'a>(alloc: Global, line: &'a [char]) -> Result<Vec<&'a [char]>, AllocError>
+    ensures { IfOk result (λ parts. map (λ part. part.now) parts.items ≡ layer_words line.entry.now) }
+{
+    line.split(|c| c.is_whitespace() || *c == ',')
+        .filter(|part| !part.is_empty())
+        .collect(alloc)
+}
+
+fn layer_names(alloc: Global, line: &[char]) -> Result<Vec<Name>, AllocError>
+    ensures { IfOk result (λ r. r.items ≡ layer_names line.now) }
+{
+    let words = layer_words(alloc, line)?;
+    let mut items = Vec::new(alloc);
+    for word in &words {
+        items.push(Name::of_word(alloc, word)?)?;
+    }
+    Ok(items)
+}
+
+/// The layers: the lines of COLLISIONLAYERS with a name.
+pub fn layer_lines(alloc: Global, lines: &[Line]) -> Result<Vec<NameLine>, AllocError>
+    ensures { IfOk result (λ r. r.items ≡ layer_lines lines.now) }
+{
+    let mut layers = Vec::new(alloc);
+    for line in lines {
+        let names = layer_names(alloc, line.text.items())?;
+        if names.is_empty() {
+            continue;
+        }
+        layers.push(NameLine {
+            number: line.number,
+            names: Listed::new(names),
+        })?;
+    }
+    Ok(layers)
+}
+
+/// What is wrong with a layer below so many others.
+fn misplaced(names: &NameSet, values: &[Denotation], above: usize, layer: &[Name]) -> Option<Code>
+    ensures first { result ≡ misplaced names.now values.now above layer.now }
+    ensures other { IfSome result (λ c. c ≢ code.Memory) }
+{
+    if has_unknown(names, layer) {
+        Some(Code::Unknown)
+    } else if has_kind(names, values, Kind::Aggregate, layer) {
+        Some(Code::Mixed)
+    } else if above >= MAX_LAYERS {
+        Some(Code::TooLarge)
+    } else {
+        None
+    }
+}
+
+/// The first layer that speaks of an unknown name or of an aggregate, or is one too many.
+pub fn misplacement(
+    names: &NameSet,
+    values: &[Denotation],
+    layers: &[NameLine],
+) -> Option<SourceFault>
+    ensures first { result ≡ first_fault name_line_at (misplaces names.now values.now) [] layers.now }
+    ensures other { IfSome result (λ fault. fault.code ≢ code.Memory) }
+{
+    for (place, layer) in layers.iter().enumerate() {
+        if let Some(code) = misplaced(names, values, place, layer.names.items()) {
+            return Some(SourceFault {
+                code,
+                line: layer.number,
+            });
+        }
+    }
+    None
+}
+
+/// The members of a name, by their places.
+fn members_of<'a>(names: &NameSet, values: &'a [Denotation], name: &Name) -> &'a [usize]
+    ensures { result.now ≡ members_of names.now values.entry.now name.now }
+{
+    match values.get(number_or_end(names, name)) {
+        Some(denotation) => denotation.members.items(),
+        None => &[],
+    }
+}
+
+fn put_object(table: &mut [Option<usize>], object: usize, layer: usize)
+    ensures { (k : ℕ) → k < length table.old → entry_at table.new k ≡ (if object == k then Some layer else entry_at table.old k) }
+{
+    if object < table.len() {
+        table[object] = Some(layer);
+    }
+}
+
+fn put_objects(table: &mut [Option<usize>], objects: &[usize], layer: usize)
+    ensures { (k : ℕ) → k < length table.old → entry_at table.new k ≡ (if list_any (λ object. object == k) objects.now then Some layer else entry_at table.old k) }
+{
+    for object in objects {
+        put_object(table, *object, layer);
+    }
+}
+
+/// Puts the objects of a layer's names on it.
+fn put_layer(
+    table: &mut [Option<usize>],
+    names: &NameSet,
+    values: &[Denotation],
+    parts: &[Name],
+    layer: usize,
+)
+    ensures { (k : ℕ) → k < length table.old → entry_at table.new k ≡ (if list_any (λ name. list_any (λ object. object == k) (members_of names.now values.now name)) parts.now then Some layer else entry_at table.old k) }
+{
+    for name in parts {
+        put_objects(table, members_of(names, values, name), layer);
+    }
+}
+
+/// The layer of each object: the last that holds it.
+fn layer_table(
+    alloc: Global,
+    count: usize,
+    names: &NameSet,
+    values: &[Denotation],
+    layers: &[NameLine],
+) -> Result<Vec<Option<usize>>, AllocError>
+    ensures count { IfOk result (λ table. length table.items ≡ count) }
+    ensures each { IfOk result (λ table. (k : ℕ) → k < count → entry_at table.items k ≡ layer_of (holds names.now values.now) layers.now k) }
+{
+    let mut table = vec![in alloc; None; count]?;
+    let entries = table.as_mut_slice();
+    for (number, layer) in layers.iter().enumerate() {
+        put_layer(entries, names, values, layer.names.items(), number);
+    }
+    Ok(table)
+}
+
+fn entry_at(table: &[Option<usize>], object: usize) -> Option<usize>
+    ensures { result ≡ entry_at table.now object }
+{
+    table.get(object).copied().unwrap_or(None)
+}
+
+/// The first object's line that is in no layer.
+fn missing_layer(table: &[Option<usize>], objects: &[NameLine]) -> Option<SourceFault>
+    ensures first { result ≡ first_fault name_line_at (lies_nowhere (entry_at table.now)) [] objects.now }
+    ensures code { IfSome result (λ fault. fault.code ≡ code.NoLayer) }
+{
+    for (place, line) in objects.iter().enumerate() {
+        if entry_at(table, place).is_none() {
+            return Some(SourceFault {
+                code: Code::NoLayer,
+                line: line.number,
+            });
+        }
+    }
+    None
+}
+
+fn known_layers(alloc: Global, table: Vec<Option<usize>>) -> Result<Vec<usize>, AllocError>
+    ensures { IfOk result (λ layers. layers.items ≡ filter_map (λ entry. entry) table.items) }
+{
+    table.into_iter().filter_map(|entry| entry).collect(alloc)
+}
+
+/// The layer of each object, and the number of layers; or the first fault of COLLISIONLAYERS: Unknown, Mixed (an aggregate) and
+/// TooLarge, line by line, then NoLayer at the name line of an object. Memory, with line 0, may come in place of either.
+pub fn read_layers(
+    alloc: Global,
+    objects: &[NameLine],
+    names: &NameSet,
+    values: &[Denotation],
+    lines: &[Line],
+) -> Result<(Vec<usize>, usize), SourceFault>
+    ensures sound { IfOk result (λ _. fault_of_layers objects.now names.now values.now lines.now ≡ None) }
+    ensures layers { IfOk result (λ r. r.0.items ≡ layers_of objects.now names.now values.now lines.now) }
+    ensures depth { IfOk result (λ r. r.1 ≡ length (layer_lines lines.now)) }
+    ensures refused { IfErr result (λ fault. fault.code ≢ code.Memory → fault_of_layers objects.now names.now values.now lines.now ≡ Some fault) }
+    ensures whole { IfErr result (λ fault. fault.code ≡ code.Memory → fault.line ≡ 0) }
+{
+    let layers = layer_lines(alloc, lines)?;
+    let layers = layers.as_slice();
+    if let Some(fault) = misplacement(names, values, layers) {
+        return Err(fault);
+    }
+    let table = layer_table(alloc, objects.len(), names, values, layers)?;
+    if let Some(fault) = missing_layer(table.as_slice(), objects) {
+        return Err(fault);
+    }
+    let placed = known_layers(alloc, table)?;
+    Ok((placed, layers.len()))
+}

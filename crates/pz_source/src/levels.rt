@@ -1,0 +1,255 @@
+//! The lines of LEVELS.
+
+ghost use Rattle.std.specs.Prelude.{◌≡◌, ◌≢◌, ◌≤◌, ◌<◌, ◌+◌, ◌*◌, length, drop, [], IfOk, IfErr, OnOk, Ok, Err, ◌++◌, map, take, option_map, get_or, true};
+ghost use Rattle.std.specs.List.{list_any, slice_range};
+ghost use Rattle.pz_text.specs.declared.fault.Code.TheVariants as code;
+ghost use Rattle.pz_source.specs.Level.{is_playable};
+ghost use Rattle.pz_source.specs.Levels.{is_message, closed, entries_of, is_drawn, glyph_of, glyphs_of, filled, is_too_large, rows_of, entry_of, levels_of};
+
+use crate::denotation::{Denotation, Kind};
+use crate::level::{DrawnLevel, LevelEntry};
+use crate::objects::is_blank;
+use pz_text::fault::{Code, SourceFault};
+use pz_text::heading::begins_with_word;
+use pz_text::line::Line;
+use pz_text::listed::Listed;
+use pz_text::name::Name;
+use pz_text::name_set::NameSet;
+use std::alloc::{AllocError, Global};
+
+/// The most columns and rows that a level may have.
+pub const MAX_SIDE: usize = 255;
+
+/// The most cells that a level may have.
+pub const MAX_CELLS: usize = 16_384;
+
+/// The most entries that a source may have.
+pub const MAX_ENTRIES: usize = 1_024;
+
+fn is_message(line: &Line) -> bool
+    ensures { result ≡ is_message line.now }
+{
+    begins_with_word(line.text.items(), b"message")
+}
+
+/// The entries of LEVELS, each with its lines: a message alone, or the rows of a level.
+fn entries<'a>(alloc: Global, lines: &'a [Line]) -> Result<Vec<&'a [Line]>, AllocError>
+    ensures { IfOk result (λ entries. map (λ entry. entry.now) entries.items ≡ entries_of [] lines.entry.now) }
+{
+    let mut entries = Vec::new(alloc);
+    let mut start = 0;
+    for place in 0..lines.len() {
+        start = pass(&mut entries, lines, start, place)?;
+    }
+    close(&mut entries, &lines[start..])?;
+    Ok(entries)
+}
+
+/// Goes past the line at a place, where the rows from `start` on stand before it, and answers where the rows before the next line
+/// start.
+fn pass<'a>(
+    entries: &mut Vec<&'a [Line]>,
+    lines: &'a [Line],
+    start: usize,
+    place: usize,
+) -> Result<usize, AllocError>
+    requires within { start ≤ place }
+    requires below { place < length lines.now }
+    ensures after { IfOk result (λ next. map (λ entry. entry.now) entries.new.items ++ entries_of (slice_range lines.entry.now next (place + 1)) (drop (place + 1) lines.entry.now) ≡ map (λ entry. entry.now) entries.old.items ++ entries_of (slice_range lines.entry.now start place) (drop place lines.entry.now)) }
+    ensures behind { IfOk result (λ next. next ≤ place + 1) }
+{
+    let line = &lines[place];
+    if is_blank(line) {
+        close(entries, &lines[start..place])?;
+        return Ok(place + 1);
+    }
+    if is_message(line) {
+        close(entries, &lines[start..place])?;
+        entries.push(&lines[place..place + 1])?;
+        return Ok(place + 1);
+    }
+    Ok(start)
+}
+
+fn close<'a>(entries: &mut Vec<&'a [Line]>, rows: &'a [Line]) -> Result<(), AllocError>
+    ensures { OnOk result (map (λ entry. entry.now) entries.new.items ≡ map (λ entry. entry.now) entries.old.items ++ closed rows.entry.now) }
+{
+    if !rows.is_empty() {
+        entries.push(rows)?;
+    }
+    Ok(())
+}
+
+/// The number of the name that a glyph is, if it draws something.
+fn glyph(
+    alloc: Global,
+    names: &NameSet,
+    values: &[Denotation],
+    character: char,
+) -> Result<Option<usize>, AllocError>
+    ensures { IfOk result (λ r. r ≡ glyph_of names.now values.now character) }
+{
+    let name = Name::of_word(alloc, &[character])?;
+    let Some(number) = names.number_of(name.as_str()) else {
+        return Ok(None);
+    };
+    match values.get(number) {
+        Some(
+            Denotation {
+                kind: Kind::Object | Kind::Aggregate,
+                ..
+            },
+        ) => Ok(Some(number)),
+        _ => Ok(None),
+    }
+}
+
+/// The numbers of the glyphs, if each draws something.
+fn glyphs(
+    alloc: Global,
+    names: &NameSet,
+    values: &[Denotation],
+    row: &[char],
+) -> Result<Option<Vec<usize>>, AllocError>
+    ensures { IfOk result (λ r. option_map (λ found. found.items) r ≡ glyphs_of (glyph_of names.now values.now) [] row.now) }
+{
+    let mut found = Vec::new(alloc);
+    for character in row {
+        let Some(number) = glyph(alloc, names, values, *character)? else {
+            return Ok(None);
+        };
+        found.push(number)?;
+    }
+    Ok(Some(found))
+}
+
+/// Puts a row behind the cells, of the width and filled with its own last glyph.
+fn add_row(cells: &mut Vec<usize>, width: usize, row: &[usize]) -> Result<(), AllocError>
+    ensures cells { OnOk result (cells.new.items ≡ cells.old.items ++ filled width 0 row.now) }
+    ensures count { OnOk result (length cells.new.items ≡ length cells.old.items + width) }
+{
+    let mut last = 0;
+    for column in 0..width {
+        last = next_glyph(row, column, last);
+        cells.push(last)?;
+    }
+    Ok(())
+}
+
+fn next_glyph(row: &[usize], column: usize, last: usize) -> usize
+    ensures { result ≡ get_or row.now column last }
+{
+    row.get(column).copied().unwrap_or(last)
+}
+
+/// The cells of the rows of a level, or the first row with a glyph that draws nothing.
+fn rows(
+    alloc: Global,
+    names: &NameSet,
+    values: &[Denotation],
+    width: usize,
+    lines: &[Line],
+) -> Result<Vec<usize>, SourceFault>
+    ensures read { IfOk result (λ cells. rows_of (glyph_of names.now values.now) width [] lines.now ≡ Ok cells.items) }
+    ensures count { IfOk result (λ cells. length cells.items ≡ width * length lines.now) }
+    ensures refused { IfErr result (λ fault. fault.code ≢ code.Memory → rows_of (glyph_of names.now values.now) width [] lines.now ≡ Err fault) }
+    ensures whole { IfErr result (λ fault. fault.code ≡ code.Memory → fault.line ≡ 0) }
+{
+    let mut cells = Vec::new(alloc);
+    for line in lines {
+        let text = line.text.items();
+        let Some(row) = glyphs(alloc, names, values, cut_to(text, width))? else {
+            return Err(SourceFault {
+                code: Code::BadGlyph,
+                line: line.number,
+            });
+        };
+        add_row(&mut cells, width, row.as_slice())?;
+    }
+    Ok(cells)
+}
+
+fn cut_to(text: &[char], width: usize) -> &[char]
+    ensures { result.now ≡ take width text.now }
+{
+    if width < text.len() {
+        &text[..width]
+    } else {
+        text
+    }
+}
+
+fn is_too_large(width: usize, height: usize) -> bool
+    ensures { result ≡ is_too_large width height }
+{
+    width > MAX_SIDE || height > MAX_SIDE || width * height > MAX_CELLS
+}
+
+/// An entry below so many others, or its first fault.
+fn read_entry(
+    alloc: Global,
+    names: &NameSet,
+    values: &[Denotation],
+    above: usize,
+    lines: &[Line],
+) -> Result<LevelEntry, SourceFault>
+    requires { is_drawn lines.now ≡ true }
+    ensures read { IfOk result (λ entry. entry_of (glyph_of names.now values.now) above lines.now ≡ Ok entry) }
+    ensures refused { IfErr result (λ fault. fault.code ≢ code.Memory → entry_of (glyph_of names.now values.now) above lines.now ≡ Err fault) }
+    ensures whole { IfErr result (λ fault. fault.code ≡ code.Memory → fault.line ≡ 0) }
+{
+    let Some((first, _)) = lines.split_first() else {
+        return Ok(LevelEntry::Message);
+    };
+    if above >= MAX_ENTRIES {
+        return Err(SourceFault {
+            code: Code::TooLarge,
+            line: first.number,
+        });
+    }
+    if is_message(first) {
+        return Ok(LevelEntry::Message);
+    }
+    let width = first.text.items().len();
+    let height = lines.len();
+    if is_too_large(width, height) {
+        return Err(SourceFault {
+            code: Code::TooLarge,
+            line: first.number,
+        });
+    }
+    let cells = rows(alloc, names, values, width, lines)?;
+    Ok(LevelEntry::Level(DrawnLevel::new(width as u32, height as u32, Listed::new(cells))))
+}
+
+/// The entries of LEVELS, or their first fault.
+pub fn read_levels(
+    alloc: Global,
+    names: &NameSet,
+    values: &[Denotation],
+    lines: &[Line],
+) -> Result<Vec<LevelEntry>, SourceFault>
+    ensures read { IfOk result (λ entries. levels_of (glyph_of names.now values.now) lines.now ≡ Ok entries.items) }
+    ensures refused { IfErr result (λ fault. fault.code ≢ code.Memory → levels_of (glyph_of names.now values.now) lines.now ≡ Err fault) }
+    ensures whole { IfErr result (λ fault. fault.code ≡ code.Memory → fault.line ≡ 0) }
+{
+    let blocks = entries(alloc, lines)?;
+    let mut read = Vec::new(alloc);
+    for block in &blocks {
+        let entry = read_entry(alloc, names, values, read.len(), block)?;
+        read.push(entry)?;
+    }
+    if !any_playable(read.as_slice()) {
+        return Err(SourceFault {
+            code: Code::NoLevel,
+            line: 0,
+        });
+    }
+    Ok(read)
+}
+
+fn any_playable(entries: &[LevelEntry]) -> bool
+    ensures { result ≡ list_any is_playable entries.now }
+{
+    entries.iter().any(|entry| entry.playable())
+}

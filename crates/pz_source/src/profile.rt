@@ -1,0 +1,82 @@
+//! The profile: the keywords of the prelude, and the words of RULES that are outside it.
+
+ghost use Rattle.std.specs.Prelude.{◌≡◌, ◌≢◌, None, Some, IfOk, IfErr};
+ghost use Rattle.pz_text.specs.declared.fault.Code.TheVariants as code;
+ghost use Rattle.pz_source.specs.Profile.{is_outside_word, has_outside_word, is_outside, outside_profile, has_keyword, options_of};
+
+use crate::options::Options;
+use crate::rules::rule_words;
+use pz_text::fault::{Code, SourceFault};
+use pz_text::heading::begins_with_word;
+use pz_text::line::{Line, Section};
+use pz_text::name::Name;
+use std::alloc::{AllocError, Global};
+
+fn is_outside_word(word: &Name) -> bool
+    ensures { result ≡ is_outside_word word.now }
+{
+    word.is("random") || word.is("randomdir") || word.is("rigid")
+}
+
+fn has_outside_word(words: &[Name]) -> bool
+    ensures { result ≡ has_outside_word words.now }
+{
+    for word in words {
+        if word.is("message") {
+            return false;
+        }
+        if is_outside_word(word) {
+            return true;
+        }
+    }
+    false
+}
+
+fn is_outside(alloc: Global, line: &Line) -> Result<bool, AllocError>
+    ensures { IfOk result (λ r. r ≡ is_outside line.now.section line.now.text) }
+{
+    match line.section {
+        Section::Prelude => Ok(begins_with_word(line.text.items(), b"realtime_interval")),
+        Section::Rules => {
+            let words = rule_words(alloc, line.text.items())?;
+            Ok(has_outside_word(words.items()))
+        }
+        _ => Ok(false),
+    }
+}
+
+/// OutsideProfile, at its line: the first line of the prelude with the keyword `realtime_interval`, or of RULES with a word
+/// `random`, `randomdir` or `rigid`. Memory, with line 0, may come in place of it.
+pub fn check_profile(alloc: Global, lines: &[Line]) -> Result<(), SourceFault>
+    ensures sound { IfOk result (λ _. outside_profile lines.now ≡ None) }
+    ensures refused { IfErr result (λ fault. fault.code ≢ code.Memory → outside_profile lines.now ≡ Some fault) }
+    ensures whole { IfErr result (λ fault. fault.code ≡ code.Memory → fault.line ≡ 0) }
+{
+    for line in lines {
+        if is_outside(alloc, line)? {
+            return Err(SourceFault {
+                code: Code::OutsideProfile,
+                line: line.number,
+            });
+        }
+    }
+    Ok(())
+}
+
+fn has_keyword(lines: &[Line], keyword: &[u8]) -> bool
+    ensures { result ≡ has_keyword keyword.now lines.now }
+{
+    lines
+        .iter()
+        .any(|line| begins_with_word(line.text.items(), keyword))
+}
+
+/// The options that the lines of the prelude set: each counts by its keyword, whatever its value.
+pub fn options_of(lines: &[Line]) -> Options
+    ensures { result ≡ options_of lines.now }
+{
+    Options {
+        run_rules_on_level_start: has_keyword(lines, b"run_rules_on_level_start"),
+        require_player_movement: has_keyword(lines, b"require_player_movement"),
+    }
+}

@@ -1,0 +1,135 @@
+//! A source, read.
+
+ghost use Rattle.std.specs.Prelude.{◌≡◌, ◌≢◌, ◌≤◌, ◌<◌, length, All, [], get_or, IfOk, IfErr, Ok, Err};
+ghost use Rattle.pz_text.specs.declared.fault.Code.TheVariants as code;
+ghost use Rattle.pz_source.specs.Objects.{IsNamed, object_names};
+ghost use Rattle.pz_source.specs.Game.{IsDenoted, IsWord};
+ghost use Rattle.pz_source.specs.Reading.{first_names, game_over, game_of_objects, game_of_lines, source_of, line_count};
+
+use crate::denotation::Denotation;
+use crate::game::Game;
+use crate::layers::read_layers;
+use crate::levels::read_levels;
+use crate::missing::missing_name;
+use crate::name_line::NameLine;
+use crate::objects::read_objects;
+use crate::profile::{check_profile, options_of};
+use crate::rules::rule_lines;
+use crate::values::read_legend;
+use crate::wins::read_wins;
+use pz_text::check::read_lines;
+use pz_text::fault::SourceFault;
+use pz_text::line::{Line, Section};
+use pz_text::listed::Listed;
+use pz_text::name::Name;
+use pz_text::name_set::NameSet;
+use pz_text::section::lines_in;
+use std::alloc::{AllocError, Global};
+
+/// The first name of a line; a line of OBJECTS always has one.
+fn first_name(alloc: Global, line: &NameLine) -> Result<Name, AllocError>
+    ensures { IfOk result (λ name. name ≡ get_or line.now.names 0 []) }
+{
+    match line.names.items().first() {
+        Some(name) => name.copy(alloc),
+        None => Name::of_word(alloc, &[]),
+    }
+}
+
+/// The first name of each object.
+fn first_names(alloc: Global, objects: &[NameLine]) -> Result<Listed<Name>, AllocError>
+    ensures { IfOk result (λ names. names ≡ first_names objects.now) }
+{
+    let mut firsts = Vec::new(alloc);
+    for line in objects {
+        firsts.push(first_name(alloc, line)?)?;
+    }
+    Ok(Listed::new(firsts))
+}
+
+/// The game over these objects and names, or its first fault: Missing, then those of the layers, of the win lines and of the levels.
+fn read_over(
+    alloc: Global,
+    lines: &[Line],
+    objects: &[NameLine],
+    names: NameSet,
+    values: Vec<Denotation>,
+) -> Result<Game, SourceFault>
+    requires few { length objects.now ≤ 128 }
+    requires named { All IsNamed objects.now }
+    requires all { length values.items ≡ length names }
+    requires denoted { All (IsDenoted (length objects.now)) values.items }
+    ensures read { IfOk result (λ game. game_over lines.now objects.now names values.items ≡ Ok game) }
+    ensures refused { IfErr result (λ fault. fault.code ≢ code.Memory → game_over lines.now objects.now names values.items ≡ Err fault) }
+    ensures whole { IfErr result (λ fault. fault.code ≡ code.Memory → fault.line ≡ 0) }
+{
+    let known = values.as_slice();
+    if let Some(fault) = missing_name(&names, known) {
+        return Err(fault);
+    }
+    let (layers, depth) = read_layers(
+        alloc,
+        objects,
+        &names,
+        known,
+        lines_in(Section::Layers, lines),
+    )?;
+    let wins = read_wins(alloc, &names, lines_in(Section::Wins, lines))?;
+    let levels = read_levels(alloc, &names, known, lines_in(Section::Levels, lines))?;
+    let rules = rule_lines(alloc, lines_in(Section::Rules, lines))?;
+    let options = options_of(lines_in(Section::Prelude, lines));
+    let firsts = first_names(alloc, objects)?;
+    Ok(Game {
+        objects: firsts,
+        names,
+        values: Listed::new(values),
+        layers: Listed::new(layers),
+        depth,
+        rules: Listed::new(rules),
+        wins: Listed::new(wins),
+        levels: Listed::new(levels),
+        options,
+    })
+}
+
+/// The game over these objects, or its first fault: those of the legend, then those of what follows.
+fn read_over_objects(
+    alloc: Global,
+    lines: &[Line],
+    objects: &[NameLine],
+    mut names: NameSet,
+) -> Result<Game, SourceFault>
+    requires few { length objects.now ≤ 128 }
+    requires named { All IsNamed objects.now }
+    requires names { names ≡ object_names objects.now }
+    ensures read { IfOk result (λ game. game_of_objects lines.now objects.now ≡ Ok game) }
+    ensures refused { IfErr result (λ fault. fault.code ≢ code.Memory → game_of_objects lines.now objects.now ≡ Err fault) }
+    ensures whole { IfErr result (λ fault. fault.code ≡ code.Memory → fault.line ≡ 0) }
+{
+    let values = read_legend(alloc, objects, &mut names, lines_in(Section::Legend, lines))?;
+    read_over(alloc, lines, objects, names, values)
+}
+
+/// The game of lines with all headings in order, or its first fault: OutsideProfile, then those of the objects, then those of what
+/// follows.
+fn read_game_of_lines(alloc: Global, lines: &[Line]) -> Result<Game, SourceFault>
+    ensures read { IfOk result (λ game. game_of_lines lines.now ≡ Ok game) }
+    ensures refused { IfErr result (λ fault. fault.code ≢ code.Memory → game_of_lines lines.now ≡ Err fault) }
+    ensures whole { IfErr result (λ fault. fault.code ≡ code.Memory → fault.line ≡ 0) }
+{
+    check_profile(alloc, lines)?;
+    let (objects, names) = read_objects(alloc, lines_in(Section::Objects, lines))?;
+    read_over_objects(alloc, lines, objects.as_slice(), names)
+}
+
+/// The game of a source, or its first fault: the first check that names a line, at the least line that it names. Memory, with
+/// line 0, may come in place of either.
+pub fn read_game(alloc: Global, text: &str) -> Result<Game, SourceFault>
+    ensures read { IfOk result (λ game. source_of text.now ≡ Ok game) }
+    ensures refused { IfErr result (λ fault. fault.code ≢ code.Memory → source_of text.now ≡ Err fault) }
+    ensures whole { IfErr result (λ fault. fault.code ≡ code.Memory → fault.line ≡ 0) }
+    ensures lined { IfErr result (λ fault. fault.line ≤ line_count text.now) }
+{
+    let lines = read_lines(alloc, text)?;
+    read_game_of_lines(alloc, lines.as_slice())
+}

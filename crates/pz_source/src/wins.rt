@@ -1,0 +1,110 @@
+//! The lines of WINCONDITIONS.
+
+ghost use Rattle.std.specs.Prelude.{◌≡◌, ◌≢◌, Ok, Err, IfOk, IfErr};
+ghost use Rattle.pz_text.specs.declared.fault.Code.TheVariants as code;
+ghost use Rattle.pz_source.specs.Wins.{quantifier_of, win_about, win_of, wins_of};
+
+use crate::objects::is_blank;
+use pz_text::fault::{Code, SourceFault};
+use pz_text::line::Line;
+use pz_text::name::Name;
+use pz_text::name_set::NameSet;
+use pz_text::words::names_of;
+use std::alloc::Global;
+
+/// How many cells a win line speaks of.
+#[derive(Clone, Copy, Debug, PartialEq, Eq)]
+pub enum Quantifier {
+    All,
+    Some,
+    No,
+}
+
+/// A line of WINCONDITIONS: what it is about and, where it has `on`, what that is to be on, as numbers of names.
+#[derive(Clone, Copy, Debug, PartialEq, Eq)]
+pub struct WinLine {
+    pub quantifier: Quantifier,
+    pub subject: usize,
+    pub on: Option<usize>,
+}
+
+fn quantifier_of(word: &Name) -> Option<Quantifier>
+    ensures { result ≡ quantifier_of word.now }
+{
+    if word.is("all") {
+        Some(Quantifier::All)
+    } else if word.is("some") || word.is("any") {
+        Some(Quantifier::Some)
+    } else if word.is("no") {
+        Some(Quantifier::No)
+    } else {
+        None
+    }
+}
+
+/// What a win line says of a name, and of another that stands behind `on`, each by its number.
+fn win_about(
+    quantifier: Option<Quantifier>,
+    subject: Option<usize>,
+    on: Option<Option<usize>>,
+) -> Result<WinLine, Code>
+    ensures { result ≡ win_about quantifier subject on }
+{
+    let quantifier = quantifier.ok_or(Code::BadWin)?;
+    let subject = subject.ok_or(Code::Unknown)?;
+    let on = on.ok_or(Code::Unknown)?;
+    Ok(WinLine {
+        quantifier,
+        subject,
+        on,
+    })
+}
+
+/// The win line that words give, over these names.
+fn win_of(names: &NameSet, words: &[Name]) -> Result<WinLine, Code>
+    ensures { result ≡ win_of names.now words.now }
+{
+    match words {
+        [word, subject] => win_about(
+            quantifier_of(word),
+            names.number_of(subject.as_str()),
+            Some(None),
+        ),
+        [word, subject, joint, on] if joint.is("on") => win_about(
+            quantifier_of(word),
+            names.number_of(subject.as_str()),
+            names.number_of(on.as_str()).map(Some),
+        ),
+        _ => Err(Code::BadWin),
+    }
+}
+
+/// The lines of WINCONDITIONS, or their first fault: BadWin, a line of another form, or Unknown, a name that is not there.
+/// Memory, with line 0, may come in place of either.
+pub fn read_wins(
+    alloc: Global,
+    names: &NameSet,
+    lines: &[Line],
+) -> Result<Vec<WinLine>, SourceFault>
+    ensures read { IfOk result (λ wins. wins_of names.now lines.now ≡ Ok wins.items) }
+    ensures refused { IfErr result (λ fault. fault.code ≢ code.Memory → wins_of names.now lines.now ≡ Err fault) }
+    ensures whole { IfErr result (λ fault. fault.code ≡ code.Memory → fault.line ≡ 0) }
+{
+    let mut wins = Vec::new(alloc);
+    for line in lines {
+        if is_blank(line) {
+            continue;
+        }
+        let words = names_of(alloc, line.text.items())?;
+        match win_of(names, words.items()) {
+            Ok(win) => wins.push(win)?,
+            Err(code) => {
+                return Err(SourceFault {
+                    code,
+                    line: line.number,
+                });
+            }
+        }
+    }
+    Ok(wins)
+}

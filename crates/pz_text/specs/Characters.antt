@@ -1,0 +1,17 @@
+-- Lists of characters.
+use Rattle.std.specs.Prelude.{ℕ, ◌-◌, Bool, false, ◌==◌, List, length, slice_get}
+use Rattle.std.specs.Option.{option_map_or}
+use Rattle.std.specs.Str.{bytes_eq, skip_leading_whitespace, drop_trailing_whitespace}
+use Rattle.pz_text.specs.Name.{folded}
+
+-- without the white space at both ends, by any that Unicode knows
+abbrev pub trimmed : List ℕ → List ℕ
+trimmed cs = drop_trailing_whitespace (skip_leading_whitespace cs)
+
+-- the characters spell a keyword, whose letters are small
+abbrev pub is_word : List ℕ → List ℕ → Bool
+is_word cs word = bytes_eq (folded cs) word
+
+-- the last character is this one
+abbrev pub ends_in : ℕ → List ℕ → Bool
+ends_in k cs = option_map_or (λ c. c == k) (slice_get cs (length cs - 1)) false

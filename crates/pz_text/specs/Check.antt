@@ -1,0 +1,50 @@
+-- The checks of a text: its length, and its headings.
+use Rattle.std.specs.Prelude.{ℕ, Bool, ◌&&◌, if◌then◌else◌, nat_lt, nat_le, List, [], length, Option, Some, None, Result, Ok}
+use Rattle.std.specs.List.{list_any}
+use Rattle.std.specs.Str.{chars}
+use Rattle.pz_text.specs.Fault.{first_fault, unless}
+use Rattle.pz_text.specs.Section.{place_of, is_heading_of}
+use Rattle.pz_text.specs.Cutting.{cut}
+use Rattle.pz_text.specs.declared.line.Section.{Section}
+use Rattle.pz_text.specs.declared.line.Section.TheVariants.{Objects, Legend, Layers, Levels}
+use Rattle.pz_text.specs.declared.line.Line.{Line}
+use Rattle.pz_text.specs.declared.fault.Code.{Code}
+use Rattle.pz_text.specs.declared.fault.Code.TheVariants as code
+use Rattle.pz_text.specs.declared.fault.SourceFault.{SourceFault}
+
+-- the text has more bytes than a source may have
+abbrev pub too_long : List ℕ → Option SourceFault
+too_long bytes = if nat_lt 1_048_576 (length bytes) then Some (record { code = code.TooLong; line = 0 }) else None
+
+abbrev pub number_of : Line → ℕ
+number_of line = line.number
+
+-- the line is the heading of the section at this place of the order, or of a later one
+abbrev pub reaches_place : ℕ → Line → Bool
+reaches_place place line = line.is_heading && nat_le place (place_of line.section)
+
+-- a heading is named if a heading above it stands at the same place of the order, or at a later one
+abbrev pub misplaces : List Line → Line → Option Code
+misplaces before line =
+    if line.is_heading && list_any (reaches_place (place_of line.section)) before then Some code.Section else None
+
+-- the first heading out of order, or repeated
+abbrev pub misplaced_heading : List Line → Option SourceFault
+misplaced_heading lines = first_fault number_of misplaces [] lines
+
+abbrev pub has_section : Section → List Line → Bool
+has_section section lines = list_any (is_heading_of section) lines
+
+-- a section is missing that each source has
+abbrev pub missing_section : List Line → Option SourceFault
+missing_section lines =
+    if has_section Objects lines && has_section Legend lines && has_section Layers lines && has_section Levels lines then None
+    else Some (record { code = code.Section; line = 0 })
+
+-- the lines of a text with all its headings in order, or its first fault
+abbrev pub lines_of : List ℕ → Result (List Line) SourceFault
+lines_of bytes =
+    unless (too_long bytes)
+    (unless (misplaced_heading (cut (chars bytes)))
+    (unless (missing_section (cut (chars bytes)))
+    (Ok (cut (chars bytes)))))

@@ -1,0 +1,39 @@
+-- The lines of a source.
+use Rattle.std.specs.Prelude.{ℕ, ◌+◌, Bool, true, ◌&&◌, ◌||◌, ◌==◌, if◌then◌else◌, nat_lt, List, [], ◌∷◌, ◌++◌, length, is_some, unwrap_or}
+use Rattle.std.specs.List.{slice_split}
+use Rattle.pz_text.specs.Characters.{trimmed}
+use Rattle.pz_text.specs.Comment.{outside, depth_after}
+use Rattle.pz_text.specs.Heading.{heading_in}
+use Rattle.pz_text.specs.declared.line.Section.{Section}
+use Rattle.pz_text.specs.declared.line.Section.TheVariants.{Prelude}
+use Rattle.pz_text.specs.declared.line.Line.{Line}
+
+-- the line holds no character but this one
+abbrev pub holds_only : ℕ → List ℕ → Bool
+holds_only k [] = true
+holds_only k (c ∷ cs) = c == k && holds_only k cs
+
+-- A line that is left out everywhere: it is void, white space alone that begins inside a comment or holds part of one, or it
+-- is `=` alone, once or more. `line` is the line, `left` it without comments, `text` that without white space at its ends,
+-- and `depth` brackets are open before the line.
+abbrev pub is_left_out : ℕ → List ℕ → List ℕ → List ℕ → Bool
+is_left_out depth line left text =
+    if length text == 0 then nat_lt 0 depth || nat_lt (length left) (length line) else holds_only 61 text
+
+-- The lines of a text from line `number` on, which begins in a section with so many brackets open. A heading ends the section
+-- before it, by whose rules of comments it is read.
+abbrev pub lines_from : Section → ℕ → ℕ → List (List ℕ) → List Line
+lines_from section depth number [] = []
+lines_from section depth number (raw ∷ more) =
+    let line = trimmed raw in
+    let left = outside section true [] depth line in
+    let text = trimmed left in
+    let heading = heading_in section text in
+    let after = unwrap_or heading section in
+    (if is_left_out depth line left text then []
+    else record { number = number; section = after; is_heading = is_some heading; text = text } ∷ [])
+    ++ lines_from after (depth_after section true [] depth line) (number + 1) more
+
+-- the lines of a text, which line feeds end
+abbrev pub cut : List ℕ → List Line
+cut text = lines_from Prelude 0 1 (slice_split (λ c. c == 10) text)

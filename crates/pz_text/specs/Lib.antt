@@ -1,0 +1,10 @@
+pub mod Characters
+pub mod Check
+pub mod Comment
+pub mod Cutting
+pub mod Fault
+pub mod Heading
+pub mod Name
+pub mod NameSet
+pub mod Section
+pub mod Words

@@ -1,0 +1,11 @@
+-- Names, as bytes.
+use Rattle.std.specs.Prelude.{ℕ, List, map, encode_utf8_all}
+use Rattle.std.specs.Char.{to_ascii_lowercase}
+
+-- ASCII letters in lower case, the one folding there is
+abbrev pub folded : List ℕ → List ℕ
+folded cs = map to_ascii_lowercase cs
+
+-- the name that a word spells: names and keywords ignore case
+abbrev pub name_of : List ℕ → List ℕ
+name_of word = encode_utf8_all (folded word)

@@ -1,0 +1,94 @@
+//! The checks of a text: its length, and its headings.
+
+ghost use Rattle.std.specs.Prelude.{◌≡◌, ◌≢◌, IfOk, IfErr, IfSome, Ok, Err};
+ghost use Rattle.pz_text.specs.Check.{too_long, misplaced_heading, has_section, missing_section, lines_of};
+ghost use Rattle.pz_text.specs.declared.fault.Code.TheVariants as code;
+
+use crate::characters::characters;
+use crate::cutting::cut;
+use crate::fault::{Code, SourceFault};
+use crate::line::{Line, Section};
+use crate::section::{is_heading_of, place_of};
+use std::alloc::Global;
+
+/// The most bytes that a source may have.
+pub const MAX_BYTES: usize = 1_048_576;
+
+/// TooLong, line 0: the text has more bytes than a source may have.
+pub fn too_long(text: &str) -> Option<SourceFault>
+    ensures { result ≡ too_long text.now }
+{
+    if text.len() > MAX_BYTES {
+        Some(SourceFault {
+            code: Code::TooLong,
+            line: 0,
+        })
+    } else {
+        None
+    }
+}
+
+/// Section, at its line: the first heading that stands out of the order of the sections, or is repeated.
+pub fn misplaced_heading(lines: &[Line]) -> Option<SourceFault>
+    ensures first { result ≡ misplaced_heading lines.now }
+    ensures code { IfSome result (λ fault. fault.code ≡ code.Section) }
+{
+    let mut least = 0;
+    for line in lines {
+        if line.is_heading {
+            let place = place_of(line.section);
+            if place < least {
+                return Some(SourceFault {
+                    code: Code::Section,
+                    line: line.number,
+                });
+            }
+            least = place + 1;
+        }
+    }
+    None
+}
+
+fn has_section(section: Section, lines: &[Line]) -> bool
+    ensures { result ≡ has_section section lines.now }
+{
+    lines.iter().any(|line| is_heading_of(section, line))
+}
+
+/// Section, line 0: OBJECTS, LEGEND, COLLISIONLAYERS or LEVELS is missing.
+pub fn missing_section(lines: &[Line]) -> Option<SourceFault>
+    ensures { result ≡ missing_section lines.now }
+{
+    if has_section(Section::Objects, lines)
+        && has_section(Section::Legend, lines)
+        && has_section(Section::Layers, lines)
+        && has_section(Section::Levels, lines)
+    {
+        None
+    } else {
+        Some(SourceFault {
+            code: Code::Section,
+            line: 0,
+        })
+    }
+}
+
+/// The lines of a text, or its first fault: TooLong, then Section. Memory, with line 0, may come in place of either.
+pub fn read_lines(alloc: Global, text: &str) -> Result<Vec<Line>, SourceFault>
+    ensures read { IfOk result (λ lines. lines_of text.now ≡ Ok lines.items) }
+    ensures refused { IfErr result (λ fault. fault.code ≢ code.Memory → lines_of text.now ≡ Err fault) }
+    ensures whole { IfErr result (λ fault. fault.code ≡ code.Memory → fault.line ≡ 0) }
+{
+    if let Some(fault) = too_long(text) {
+        return Err(fault);
+    }
+    let characters = characters(alloc, text)?;
+    let lines = cut(alloc, characters.as_slice())?;
+    if let Some(fault) = misplaced_heading(lines.as_slice()) {
+        return Err(fault);
+    }
+    if let Some(fault) = missing_section(lines.as_slice()) {
+        return Err(fault);
+    }
+    Ok(lines)
+}

@@ -1,0 +1,46 @@
+-- An instance applied at all its combinations.
+use Rattle.std.proofs.Common.{◌≡◌, ◌<◌, ◌≤◌, List, [], ◌∷◌, ◌++◌, map, fold, length, refl, ap, sym, ◌∙◌, arith, Result, Ok, Err}
+use Rattle.std.specs.Prelude.{Bool, false, if◌then◌else◌}
+use Rattle.std.proofs.lemmas.List.{append-nil}
+use Rattle.pz_rules.specs.declared.commands.Commands.{Commands}
+use Rattle.pz_rules.specs.declared.instance.Instance.{Instance}
+use Rattle.pz_grid.specs.declared.places.Place.{Place}
+use Rattle.pz_grid.specs.Grid.{Grid}
+use Rattle.pz_grid.specs.Rewriting.{Rewriting, in_rewrite}
+use Rattle.pz_turn.specs.declared.outcome.StepFault.{StepFault}
+use Rattle.pz_turn.specs.declared.outcome.StepFault.TheVariants.{MatchLimit}
+use Rattle.pz_turn.specs.Combinations.{combinations}
+use Rattle.pz_rules.specs.Commands.{no_commands}
+use Rattle.pz_turn.specs.Outcome.{Outcome}
+use Rattle.pz_turn.specs.Instance.{taken, applied_at, given, outcome_of, applied_with, applied}
+use Rattle.pz_turn.proofs.Limits.{within_limit, over_limit}
+
+pub given_none : (all : List (List Place)) (commands : Commands) → length all ≡ 0 → given all commands ≡ no_commands
+given_none [] commands none = refl
+given_none (places ∷ all) commands none = absurd (omega arith)
+
+pub given_some : (all : List (List Place)) (commands : Commands) → 0 < length all → given all commands ≡ commands
+given_some [] commands some = absurd (omega arith)
+given_some (places ∷ all) commands some = refl
+
+map-nothing_behind : (all : List (List Place)) (behind : List Place) → behind ≡ [] → map (λ places. places ++ behind) all ≡ all
+map-nothing_behind [] behind none = refl
+map-nothing_behind (places ∷ all) behind none = rw (map-nothing_behind all behind none) (ap (λ (ps : List Place). ps ∷ all) (ap (λ b. places ++ b) none ∙ append-nil places))
+
+pub applied_stops : (instance : Instance) (grid : Grid) (fault : StepFault) → taken grid instance.scan instance.left ≡ Err fault → applied instance grid ≡ Err fault
+unfolding applied
+applied_stops instance grid fault stops = ap (applied_with instance grid) stops
+
+pub applied_too_often : (instance : Instance) (grid : Grid) (lists : List (List Place)) → taken grid instance.scan instance.left ≡ Ok lists → 1048576 < length (combinations lists) → applied instance grid ≡ Err MatchLimit
+unfolding applied
+applied_too_often instance grid lists found over =
+    let gives : Bool → Result (Outcome Grid) StepFault = λ b. if b then Err MatchLimit else Ok (outcome_of (fold (applied_at instance) (in_rewrite grid false) (combinations lists)) (given (combinations lists) instance.commands)) in
+    ap (applied_with instance grid) found ∙ ap gives (over_limit (length (combinations lists)) over)
+
+pub applied_ends : (instance : Instance) (grid : Grid) (lists : List (List Place)) (behind : List Place) (end : Rewriting) (commands : Commands) → taken grid instance.scan instance.left ≡ Ok lists → length (combinations lists) ≤ 1048576 → behind ≡ [] → end ≡ fold (applied_at instance) (in_rewrite grid false) (map (λ places. places ++ behind) (combinations lists)) → commands ≡ given (combinations lists) instance.commands → applied instance grid ≡ Ok (outcome_of end commands)
+unfolding applied
+applied_ends instance grid lists behind end commands found within none ends gave =
+    let all = combinations lists in
+    let run : List (List Place) → Rewriting = fold (applied_at instance) (in_rewrite grid false) in
+    let gives : Bool → Result (Outcome Grid) StepFault = λ b. if b then Err MatchLimit else Ok (outcome_of (run all) (given all instance.commands)) in
+    ap (applied_with instance grid) found ∙ ap gives (within_limit (length all) within) ∙ ap (λ (r : Rewriting). Ok (outcome_of r (given all instance.commands))) (sym (ends ∙ ap run (map-nothing_behind all behind none))) ∙ ap (λ (g : Commands). Ok (outcome_of end g)) (sym gave)

@@ -1,0 +1,82 @@
+-- Going through all combinations in order.
+use Rattle.std.proofs.Common.{◌≡◌, ℕ, suc, ◌+◌, ◌*◌, ◌<◌, List, [], ◌∷◌, ◌++◌, map, take, drop, length, get_or, set, fold, refl, ap, sym, ◌∙◌, append_assoc, arith}
+use Rattle.std.specs.List.{flat_map}
+use Rattle.std.proofs.lemmas.List.{take_more, append-nil, map-append, length-append, length-map, drop-drop}
+use Rattle.std.proofs.lemmas.List.Concat.{flat_map-append}
+use Rattle.std.proofs.lemmas.Grind.{fold-append, drop-set_at}
+use Rattle.pz_turn.specs.Combinations.{combinations}
+use Rattle.pz_turn.specs.Laws.{product_of}
+
+-- a last element put behind each of these
+abbrev pub behind : {X : Type 0} → X → List (List X) → List (List X)
+behind x cs = map (λ c. c ++ x ∷ []) cs
+
+-- the combinations that end with one of these elements
+abbrev pub ending : {X : Type 0} → List (List X) → List X → List (List X)
+ending lists xs = flat_map (λ x. behind x (combinations lists)) xs
+
+-- each rest, with each of these elements before it
+abbrev pub headed : {X : Type 0} → List X → List (List X) → List (List X)
+headed xs rests = flat_map (λ rest. map (λ x. x ∷ rest) xs) rests
+
+map-behind : {X : Type 0} (y : X) (xs : List X) (rest : List X) → map (λ x. x ∷ (rest ++ y ∷ [])) xs ≡ behind y (map (λ x. x ∷ rest) xs)
+map-behind y [] rest = refl
+map-behind y (x ∷ xs) rest = ap (λ cs. (x ∷ (rest ++ y ∷ [])) ∷ cs) (map-behind y xs rest)
+
+headed-behind : {X : Type 0} (xs : List X) (y : X) (rests : List (List X)) → headed xs (behind y rests) ≡ behind y (headed xs rests)
+headed-behind xs y [] = refl
+headed-behind xs y (rest ∷ rests) =
+    ap (λ cs. cs ++ headed xs (behind y rests)) (map-behind y xs rest) ∙ ap (λ cs. behind y (map (λ x. x ∷ rest) xs) ++ cs) (headed-behind xs y rests) ∙ sym (map-append (λ c. c ++ y ∷ []) (map (λ x. x ∷ rest) xs) (headed xs rests))
+
+headed-ending : {X : Type 0} (xs : List X) (lists : List (List X)) (last : List X) → headed xs (ending lists last) ≡ ending (xs ∷ lists) last
+headed-ending xs lists [] = refl
+headed-ending xs lists (y ∷ last) =
+    flat_map-append (λ rest. map (λ x. x ∷ rest) xs) (behind y (combinations lists)) (ending lists last) ∙ ap (λ cs. cs ++ headed xs (ending lists last)) (headed-behind xs y (combinations lists)) ∙ ap (λ cs. behind y (combinations (xs ∷ lists)) ++ cs) (headed-ending xs lists last)
+
+only_last : {X : Type 0} (last : List X) → combinations (last ∷ []) ≡ ending [] last
+only_last [] = refl
+only_last (y ∷ last) = ap (λ cs. (y ∷ []) ∷ cs) (only_last last)
+
+-- the last list varies slowest
+pub combinations-last : {X : Type 0} (lists : List (List X)) (last : List X) → combinations (lists ++ last ∷ []) ≡ ending lists last
+combinations-last [] last = only_last last
+combinations-last (xs ∷ lists) last = ap (headed xs) (combinations-last lists last) ∙ headed-ending xs lists last
+
+length-ending : {X : Type 0} (lists : List (List X)) (last : List X) → length (ending lists last) ≡ length (combinations lists) * length last
+length-ending lists [] = omega arith
+length-ending lists (y ∷ last) =
+    let n = length (combinations lists) in
+    let more : n * suc (length last) ≡ n + n * length last = omega arith in
+    length-append (behind y (combinations lists)) (ending lists last) ∙ omega (arith, more, length-ending lists last, length-map (combinations lists) (λ c. c ++ y ∷ []))
+
+pub length-combinations-last : {X : Type 0} (lists : List (List X)) (last : List X) → length (combinations (lists ++ last ∷ [])) ≡ length (combinations lists) * length last
+length-combinations-last lists last = ap length (combinations-last lists last) ∙ length-ending lists last
+
+map-behind_before : {X : Type 0} (tail : List X) (y : X) (cs : List (List X)) → map (λ c. c ++ tail) (behind y cs) ≡ map (λ c. c ++ y ∷ tail) cs
+map-behind_before tail y [] = refl
+map-behind_before tail y (c ∷ cs) = rw (map-behind_before tail y cs, append_assoc c (y ∷ []) tail) refl
+
+-- one more last element
+pub fold-ending_more : {X K : Type 0} (f : K → List X → K) (start k : K) (tail : List X) (lists : List (List X)) (xs : List X) (i : ℕ) (x : X) → i < length xs → get_or xs i x ≡ x → k ≡ fold f start (map (λ c. c ++ tail) (ending lists (take i xs))) → fold f start (map (λ c. c ++ tail) (ending lists (take (i + 1) xs))) ≡ fold f k (map (λ c. c ++ x ∷ tail) (combinations lists))
+fold-ending_more {X} {K} f start k tail lists xs i x in_range at so_far =
+    let before : List X → List X = λ c. c ++ tail in
+    let here = behind x (combinations lists) in
+    let more : take (i + 1) xs ≡ take i xs ++ x ∷ [] = take_more xs i x in_range ∙ ap (λ y. take i xs ++ y ∷ []) at in
+    let split : ending lists (take (i + 1) xs) ≡ ending lists (take i xs) ++ here =
+    ap (ending lists) more ∙ flat_map-append _ (take i xs) (x ∷ []) ∙ ap (λ l. ending lists (take i xs) ++ l) (append-nil here) in
+    ap (λ l. fold f start (map before l)) split ∙ ap (fold f start) (map-append before (ending lists (take i xs)) here) ∙ fold-append f start (map before (ending lists (take i xs))) (map before here) ∙ ap (λ j. fold f j (map before here)) (sym so_far) ∙ ap (fold f k) (map-behind_before tail x (combinations lists))
+
+-- the places after a place that is written
+pub drop_after : {X : Type 0} (xs ys : List X) (n : ℕ) (x : X) → n < length xs → drop n ys ≡ drop n (set xs n x) → drop (n + 1) ys ≡ drop (n + 1) xs
+drop_after xs ys n x within e =
+    sym (drop-drop 1 n ys) ∙ ap (drop 1) (e ∙ drop-set_at xs n n x refl within)
+
+-- as many as the product of the lengths
+pub length-combinations : {X : Type 0} (lists : List (List X)) → length (combinations lists) ≡ product_of (map length lists)
+length-combinations [] = refl
+length-combinations (xs ∷ lists) = length-headed xs (combinations lists) ∙ ap (λ n. length xs * n) (length-combinations lists) where
+  length-headed : {X : Type 0} (xs : List X) (rests : List (List X)) → length (headed xs rests) ≡ length xs * length rests
+  length-headed xs [] = omega arith
+  length-headed xs (rest ∷ rests) =
+      let more : length xs * suc (length rests) ≡ length xs + length xs * length rests = omega arith in
+      length-append (map (λ x. x ∷ rest) xs) (headed xs rests) ∙ omega (arith, more, length-headed xs rests, length-map xs (λ x. x ∷ rest))

@@ -1,0 +1,10 @@
+pub mod Belonging
+pub mod Applying
+pub mod Combining
+pub mod Limits
+pub mod Passes
+pub mod Resting
+pub mod Taking
+pub mod Unchanged
+pub mod Stepping
+pub mod WorkedTurns

@@ -1,0 +1,56 @@
+-- When a loop of passes ends.
+use Rattle.std.proofs.Common.{◌≡◌, ℕ, ◌+◌, ◌<◌, ◌≤◌, Bool, true, false, not, ◌||◌, Ok, Err, Some, None, length, get_or, refl, ap, ◌∙◌, arith, add-one, below_more}
+use Rattle.std.specs.List.{find, range_with_len}
+use Rattle.std.proofs.lemmas.List.FromFn.{length-range_with_len, get_or-range_with_len}
+use Rattle.std.proofs.lemmas.List.Recursion.{found_at, found_nowhere}
+use Rattle.pz_turn.specs.declared.outcome.StepFault.TheVariants.{LoopLimit}
+use Rattle.pz_turn.specs.Outcome.{Outcome, followed_by, joined}
+use Rattle.pz_turn.specs.Rest.{Runs, passes, ends, ends_after, is_last, up_to, rest_of}
+
+-- the first number that passes a test
+pub find_first : (p : ℕ → Bool) (limit n : ℕ) → n < limit → ((k : ℕ) → k < n → p k ≡ false) → p n ≡ true → find p (range_with_len 0 limit) ≡ Some n
+find_first p limit n in_range before here =
+    let numbers = range_with_len 0 limit in
+    let at : (k : ℕ) → k < limit → get_or numbers k 0 ≡ k = λ k below. get_or-range_with_len 0 limit k 0 below ∙ (omega arith) in
+    let same_length : length numbers ≡ limit = length-range_with_len 0 limit in
+    let inside : n < length numbers = omega arith in
+    let earlier : (k : ℕ) → k < n → p (get_or numbers k 0) ≡ false = λ k below. ap p (at k (omega arith)) ∙ before k below in
+    found_at (find p) p Some None refl (λ _ _. refl) numbers n 0 inside earlier (ap p (at n in_range) ∙ here) ∙ ap Some (at n in_range)
+
+pub find_none : (p : ℕ → Bool) (limit : ℕ) → ((k : ℕ) → k < limit → p k ≡ false) → find p (range_with_len 0 limit) ≡ None
+find_none p limit nowhere =
+    let numbers = range_with_len 0 limit in
+    let same_length : length numbers ≡ limit = length-range_with_len 0 limit in
+    let each : (k : ℕ) → k < length numbers → p (get_or numbers k 0) ≡ false = λ k below. ap p (get_or-range_with_len 0 limit k 0 (omega arith) ∙ (omega arith)) ∙ nowhere k (omega arith) in
+    found_nowhere (find p) p Some None refl (λ _ _. refl) numbers 0 each
+
+-- n passes were made, and each changed something
+pub record Running {L : Type 0} (pass : Runs L) (start : L) (n : ℕ) (outcome : Outcome L) : Type 0 where
+  pub so_far : passes pass n start ≡ Ok outcome
+  pub went_on : (k : ℕ) → k < n → is_last pass start k ≡ false
+
+-- the next pass stops or changes nothing
+pub rest_ends : {L : Type 0} (limit : ℕ) (pass : Runs L) (start : L) (n : ℕ) (o : Outcome L) → Running pass start n o → n < limit → ends (pass o.level) ≡ true → rest_of limit pass start ≡ joined o (pass o.level)
+unfolding rest_of
+rest_ends {L} limit pass start n o running in_range here =
+    let last : is_last pass start n ≡ true = ap (ends_after pass) running.so_far ∙ here in
+    ap (up_to pass start) (find_first (is_last pass start) limit n in_range running.went_on last) ∙ ap (λ r. followed_by r pass) running.so_far
+
+-- no pass was the last
+pub rest_never_ends : {L : Type 0} (limit : ℕ) (pass : Runs L) (start : L) (n : ℕ) (o : Outcome L) → Running pass start n o → limit ≤ n → rest_of limit pass start ≡ Err LoopLimit
+unfolding rest_of
+rest_never_ends limit pass start n o running past =
+    ap (up_to pass start) (find_none (is_last pass start) limit (λ k below. running.went_on k (omega arith)))
+
+-- one more pass, which changed something
+pub running_more : {L : Type 0} (pass : Runs L) (start : L) (n : ℕ) (o p q : Outcome L) → Running pass start n o → pass o.level ≡ Ok p → p.changed ≡ true → joined o (Ok p) ≡ Ok q → Running pass start (n + 1) q
+running_more pass start n o p q running gives changes both =
+    record {
+      so_far = rw add-one (ap (λ r. followed_by r pass) running.so_far ∙ ap (joined o) gives ∙ both);
+      went_on = λ k below. below_more (λ k. is_last pass start k ≡ false) n running.went_on (ap (ends_after pass) running.so_far ∙ ap ends gives ∙ ap not changes) k below;
+    }
+
+pub or_not : (a b : Bool) → not b ≡ true → (a || b) ≡ a
+or_not true b h = refl
+or_not false true h = cc
+or_not false false h = refl

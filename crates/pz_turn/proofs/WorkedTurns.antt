@@ -1,0 +1,189 @@
+-- Worked cases of instances, groups, steps and wins.
+use Rattle.std.proofs.Common.{◌≡◌, ℕ, List, [], ◌∷◌, Option, Some, None, Bool, true, false, Ok, Err, length, refl}
+use Rattle.std.specs.Prelude.{codes}
+use Rattle.pz_source.specs.declared.denotation.Denotation.{Denotation}
+use Rattle.pz_source.specs.declared.denotation.Kind.{Kind}
+use Rattle.pz_source.specs.declared.denotation.Kind.TheVariants.{Object, Property, Aggregate}
+use Rattle.pz_source.specs.declared.direction.Dir.TheVariants.{Right}
+use Rattle.pz_source.specs.declared.wins.Quantifier.{Quantifier}
+use Rattle.pz_source.specs.declared.wins.Quantifier.TheVariants as quantifier
+use Rattle.pz_source.specs.declared.wins.WinLine.{WinLine}
+use Rattle.pz_source.specs.Game.{GameView}
+use Rattle.pz_rules.specs.declared.commands.Commands.{Commands}
+use Rattle.pz_rules.specs.declared.pattern.Item.{Item}
+use Rattle.pz_rules.specs.declared.pattern.Word.{Word}
+use Rattle.pz_rules.specs.declared.pattern.Word.TheVariants.{Present, Toward, Absent}
+use Rattle.pz_rules.specs.declared.instance.Instance.{Instance}
+use Rattle.pz_rules.specs.declared.instance.Block.TheVariants.{One}
+use Rattle.pz_rules.specs.declared.instance.Program.{Program}
+use Rattle.pz_rules.specs.Pattern.{RuleRow}
+use Rattle.pz_grid.specs.declared.cell.Piece.{Piece}
+use Rattle.pz_grid.specs.Grid.{Grid}
+use Rattle.pz_grid.specs.Places.{searched}
+use Rattle.pz_turn.specs.declared.outcome.StepFault.TheVariants.{LoopLimit}
+use Rattle.pz_turn.specs.declared.rest.TheConstants.{PASSES}
+use Rattle.pz_turn.specs.Combinations.{combinations}
+use Rattle.pz_rules.specs.Commands.{no_commands}
+use Rattle.pz_turn.specs.Instance.{applied}
+use Rattle.pz_turn.specs.Rest.{pass_of, rest_of, group_runs}
+use Rattle.pz_turn.specs.Step.{block_runs, blocks_run, rules_run, step_of, cancel}
+use Rattle.pz_turn.specs.Win.{has_won}
+
+-- the first list varies fastest
+in_order : combinations {X = ℕ} ((1 ∷ 2 ∷ []) ∷ (3 ∷ 4 ∷ []) ∷ []) ≡ ((1 ∷ 3 ∷ []) ∷ (2 ∷ 3 ∷ []) ∷ (1 ∷ 4 ∷ []) ∷ (2 ∷ 4 ∷ []) ∷ [])
+in_order = refl
+
+abbrev denotes : Kind → List ℕ → ℕ → Denotation
+denotes kind members number = record { kind = kind; members = members; number = number }
+
+abbrev line : Quantifier → ℕ → Option ℕ → WinLine
+line quantity subject on = record { quantifier = quantity; subject = subject; on = on }
+
+-- object 0 is the background on layer 0; 1 the player, 2 a crate and 3 a wall, on layer 1; the name 4 is a property of crate and
+-- wall, the name 5 an aggregate of background and crate
+abbrev game_with : Bool → List WinLine → GameView
+game_with must_move wins = record {
+  objects = codes "background" ∷ codes "player" ∷ codes "crate" ∷ codes "wall" ∷ [];
+  names = codes "background" ∷ codes "player" ∷ codes "crate" ∷ codes "wall" ∷ codes "solid" ∷ codes "@" ∷ [];
+  values = denotes Object (0 ∷ []) 0 ∷ denotes Object (1 ∷ []) 1 ∷ denotes Object (2 ∷ []) 2 ∷ denotes Object (3 ∷ []) 3 ∷ denotes Property (2 ∷ 3 ∷ []) 4 ∷ denotes Aggregate (0 ∷ 2 ∷ []) 5 ∷ [];
+  layers = 0 ∷ 1 ∷ 1 ∷ 1 ∷ [];
+  depth = 2;
+  rules = [];
+  wins = wins;
+  levels = [];
+  options = record { run_rules_on_level_start = false; require_player_movement = must_move };
+}
+
+abbrev game : GameView
+game = game_with true []
+
+abbrev item : ℕ → Word → Item
+item object word = record { object = object; layer = 1; word = word }
+
+abbrev ground : Option Piece
+ground = Some (record { object = 0; heading = None })
+
+abbrev one : ℕ → List (Option Piece)
+one object = ground ∷ Some (record { object = object; heading = None }) ∷ []
+
+abbrev bare : List (Option Piece)
+bare = ground ∷ None ∷ []
+
+-- a level of one row
+abbrev strip : List (List (Option Piece)) → Grid
+strip cells = record { width = length cells; height = 1; depth = 2; layers = 0 ∷ 1 ∷ 1 ∷ 1 ∷ []; cells = cells }
+
+abbrev row : List (List Item) → RuleRow
+row cells = record { cells = cells; gap_at = None }
+
+abbrev rule : List RuleRow → List RuleRow → Commands → Instance
+rule left right commands = record { scan = Right; left = left; right = right; commands = commands }
+
+-- right [ > Player | Crate ] -> [ > Player | > Crate ]
+abbrev push : Instance
+push = rule (row ((item 1 (Toward Right) ∷ []) ∷ (item 2 Present ∷ []) ∷ []) ∷ []) (row ((item 1 (Toward Right) ∷ []) ∷ (item 2 (Toward Right) ∷ []) ∷ []) ∷ []) no_commands
+
+abbrev pushing : Program
+pushing = record { early = One (push ∷ []) ∷ []; late = [] }
+
+-- the player pushes a crate to the right
+pushes : step_of game pushing (strip (one 1 ∷ one 2 ∷ bare ∷ [])) (Some Right) ≡ Ok (record { level = strip (bare ∷ one 1 ∷ one 2 ∷ []); commands = no_commands; changed = true })
+unfolding step_of rules_run blocks_run block_runs rest_of applied searched
+pushes = refl
+
+-- a crate against a wall doesn't move; since the player has to, the step is cancelled and gives the level handed in
+pushes_against_a_wall : step_of game pushing (strip (one 1 ∷ one 2 ∷ one 3 ∷ [])) (Some Right) ≡ Ok (record { level = strip (one 1 ∷ one 2 ∷ one 3 ∷ []); commands = cancel; changed = false })
+unfolding step_of rules_run blocks_run block_runs rest_of applied searched
+pushes_against_a_wall = refl
+
+-- where the player needn't move, nothing has changed and nothing is cancelled
+needs_no_movement : step_of (game_with false []) pushing (strip (one 1 ∷ one 2 ∷ one 3 ∷ [])) (Some Right) ≡ Ok (record { level = strip (one 1 ∷ one 2 ∷ one 3 ∷ []); commands = no_commands; changed = false })
+unfolding step_of rules_run blocks_run block_runs rest_of applied searched
+needs_no_movement = refl
+
+-- a step without an input isn't cancelled
+ticks : step_of game pushing (strip (one 1 ∷ one 2 ∷ one 3 ∷ [])) None ≡ Ok (record { level = strip (one 1 ∷ one 2 ∷ one 3 ∷ []); commands = no_commands; changed = false })
+unfolding step_of rules_run blocks_run block_runs rest_of applied searched
+ticks = refl
+
+-- late [ Player | Crate ] -> [ Player | ] cancel: the rewritten level isn't kept
+abbrev taking : Program
+taking = record {
+  early = [];
+  late = One (rule (row ((item 1 Present ∷ []) ∷ (item 2 Present ∷ []) ∷ []) ∷ []) (row ((item 1 Present ∷ []) ∷ [] ∷ []) ∷ []) cancel ∷ []) ∷ [];
+}
+
+is_cancelled : step_of game taking (strip (one 1 ∷ bare ∷ one 2 ∷ [])) (Some Right) ≡ Ok (record { level = strip (one 1 ∷ bare ∷ one 2 ∷ []); commands = cancel; changed = false })
+unfolding step_of rules_run blocks_run block_runs rest_of applied searched
+is_cancelled = refl
+
+-- [ Crate ] [ Player ] -> [ ] [ Player ]: both places of the first row, each with the player's, tested again
+abbrev eat : Instance
+eat = rule (row ((item 2 Present ∷ []) ∷ []) ∷ row ((item 1 Present ∷ []) ∷ []) ∷ []) (row ([] ∷ []) ∷ row ((item 1 Present ∷ []) ∷ []) ∷ []) cancel
+
+eats : applied eat (strip (one 2 ∷ one 1 ∷ one 2 ∷ [])) ≡ Ok (record { level = strip (bare ∷ one 1 ∷ bare ∷ []); commands = cancel; changed = true })
+unfolding applied searched
+eats = refl
+
+-- without a crate there is no combination, and no command
+eats_nothing : applied eat (strip (bare ∷ one 1 ∷ [])) ≡ Ok (record { level = strip (bare ∷ one 1 ∷ []); commands = no_commands; changed = false })
+unfolding applied searched
+eats_nothing = refl
+
+-- [ Player ] [ Player ] -> [ Crate ] [ Player ]: the combinations are (0, 0), (1, 0), (0, 1), (1, 1); at (0, 0) the cell becomes
+-- a crate and then the player again, at (1, 0) the other cell a crate, and the last two no longer hold
+abbrev turn_one : Instance
+turn_one = rule (row ((item 1 Present ∷ []) ∷ []) ∷ row ((item 1 Present ∷ []) ∷ []) ∷ []) (row ((item 2 Present ∷ []) ∷ []) ∷ row ((item 1 Present ∷ []) ∷ []) ∷ []) no_commands
+
+turns : applied turn_one (strip (one 1 ∷ one 1 ∷ bare ∷ [])) ≡ Ok (record { level = strip (one 1 ∷ one 2 ∷ bare ∷ []); commands = no_commands; changed = true })
+unfolding applied searched
+turns = refl
+
+-- [ Player ] -> [ Player ] cancel: the command is given though nothing changes
+says_only : applied (rule (row ((item 1 Present ∷ []) ∷ []) ∷ []) (row ((item 1 Present ∷ []) ∷ []) ∷ []) cancel) (strip (one 1 ∷ [])) ≡ Ok (record { level = strip (one 1 ∷ []); commands = cancel; changed = false })
+unfolding applied searched
+says_only = refl
+
+-- [ Player ] -> [ Crate ] and + [ Crate ] -> [ Player ]: each pass gives the level before it, and yet the group is not at rest
+abbrev to_and_fro : List Instance
+to_and_fro = rule (row ((item 1 Present ∷ []) ∷ []) ∷ []) (row ((item 2 Present ∷ []) ∷ []) ∷ []) no_commands ∷ rule (row ((item 2 Present ∷ []) ∷ []) ∷ []) (row ((item 1 Present ∷ []) ∷ []) ∷ []) no_commands ∷ []
+
+never_rests : rest_of 4 (pass_of applied to_and_fro) (strip (one 1 ∷ [])) ≡ Err LoopLimit
+unfolding rest_of applied searched
+never_rests = refl
+
+-- [ Player | no Player no Crate no Wall ] -> [ Player | Crate ], and in a group of its own [ Crate ] -> [ Player ]
+abbrev spread : List (List Instance)
+spread = (rule (row ((item 1 Present ∷ []) ∷ (item 1 Absent ∷ item 2 Absent ∷ item 3 Absent ∷ []) ∷ []) ∷ []) (row ((item 1 Present ∷ []) ∷ (item 2 Present ∷ []) ∷ []) ∷ []) no_commands ∷ []) ∷ (rule (row ((item 2 Present ∷ []) ∷ []) ∷ []) (row ((item 1 Present ∷ []) ∷ []) ∷ []) no_commands ∷ []) ∷ []
+
+-- one after another the groups spread once
+spreads_once : pass_of (group_runs PASSES applied) spread (strip (one 1 ∷ bare ∷ bare ∷ bare ∷ [])) ≡ Ok (record { level = strip (one 1 ∷ one 1 ∷ bare ∷ bare ∷ []); commands = no_commands; changed = true })
+unfolding rest_of applied searched
+spreads_once = refl
+
+-- as a loop they spread over the level
+spreads_over_the_level : rest_of PASSES (pass_of (group_runs PASSES applied) spread) (strip (one 1 ∷ bare ∷ bare ∷ bare ∷ [])) ≡ Ok (record { level = strip (one 1 ∷ one 1 ∷ one 1 ∷ one 1 ∷ []); commands = no_commands; changed = true })
+unfolding rest_of applied searched
+spreads_over_the_level = refl
+
+abbrev crates : Grid
+crates = strip (one 1 ∷ one 2 ∷ one 3 ∷ [])
+
+won_without_lines : has_won game crates ≡ false
+unfolding has_won
+won_without_lines = refl
+
+-- All Crate on Solid; Some Solid on Crate; No Player on Solid; All Wall; Some @; No @ on Wall
+won_by_all : has_won (game_with false (line quantifier.All 2 (Some 4) ∷ line quantifier.Some 4 (Some 2) ∷ line quantifier.No 1 (Some 4) ∷ line quantifier.All 3 None ∷ line quantifier.Some 5 None ∷ line quantifier.No 5 (Some 3) ∷ [])) crates ≡ true
+unfolding has_won
+won_by_all = refl
+
+-- All Solid on Crate: one solid on a crate is not enough
+all_means_each : has_won (game_with false (line quantifier.All 4 (Some 2) ∷ [])) crates ≡ false
+unfolding has_won
+all_means_each = refl
+
+-- Some @ where no cell holds both the background and a crate
+whole_means_each : has_won (game_with false (line quantifier.Some 5 None ∷ [])) (strip (one 1 ∷ one 3 ∷ [])) ≡ false
+unfolding has_won
+whole_means_each = refl

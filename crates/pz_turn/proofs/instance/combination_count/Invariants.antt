@@ -1,0 +1,6 @@
+use Rattle.std.proofs.Common.{◌≡◌, take, length, min}
+use Rattle.pz_turn.specs.Combinations.{combinations}
+use Rattle.pz_turn.proofs.instance.combination_count.Given as goal
+
+abbrev pub invariant-loop-list : goal.invariant-loop-list
+invariant-loop-list l = l.count ≡ min (length (combinations (take l.list-index l.lists))) 1048577

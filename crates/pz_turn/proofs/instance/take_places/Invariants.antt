@@ -1,0 +1,8 @@
+use Rattle.std.proofs.Common.{◌≡◌, drop}
+use Rattle.pz_turn.specs.Instance.{taken}
+use Rattle.pz_turn.proofs.Taking.{following}
+use Rattle.pz_turn.proofs.instance.take_places.Given as goal
+
+abbrev pub invariant-loop-row : goal.invariant-loop-row
+invariant-loop-row l =
+    following l.lists.items (taken l.level.grid l.instance.scan (drop l.row-index l.row-items)) ≡ taken l.level.grid l.instance.scan l.instance.left

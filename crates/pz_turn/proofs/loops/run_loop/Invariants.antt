@@ -1,0 +1,12 @@
+use Rattle.pz_grid.specs.Grid.{SameSize}
+use Rattle.pz_turn.specs.Instance.{applied}
+use Rattle.pz_turn.specs.Rest.{pass_of, group_runs}
+use Rattle.pz_turn.specs.declared.rest.TheConstants.{PASSES}
+use Rattle.pz_turn.proofs.Resting.{Running}
+use Rattle.pz_turn.proofs.loops.run_loop.Given as goal
+
+abbrev pub invariant-passes : goal.invariant-passes
+invariant-passes l = record {
+  running : Running (pass_of (group_runs PASSES applied) l.groups) l.initial.level.grid l.counter (record { level = l.level.grid; commands = l.commands; changed = l.changed });
+  size : SameSize l.initial.level.grid l.level.grid;
+}

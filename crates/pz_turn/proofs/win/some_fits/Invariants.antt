@@ -1,0 +1,7 @@
+use Rattle.std.proofs.Common.{◌≡◌, take, false}
+use Rattle.std.specs.List.{list_any}
+use Rattle.pz_turn.specs.Win.{fits_both}
+use Rattle.pz_turn.proofs.win.some_fits.Given as goal
+
+abbrev pub invariant-loop-index : goal.invariant-loop-index
+invariant-loop-index l = list_any (fits_both l.game l.line) (take l.index l.level.grid.cells) ≡ false

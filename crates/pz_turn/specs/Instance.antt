@@ -1,0 +1,72 @@
+-- An instance, applied to a level: at all combinations of the places that its rows have in the level before it, the first row
+-- varying fastest; each is tested again in the level so far before it is rewritten. Its commands are given if there is a
+-- combination, even if nothing changes. It stops if, among the rows before the first one without a place, one has too many
+-- places, or if there are too many combinations.
+use Rattle.std.specs.Prelude.{List, [], ◌∷◌, fold, length, false, Result, Ok, Err, nat_lt, if◌then◌else◌}
+use Rattle.pz_source.specs.declared.direction.Dir.{Dir}
+use Rattle.pz_rules.specs.declared.commands.Commands.{Commands}
+use Rattle.pz_rules.specs.declared.instance.Instance.{Instance}
+use Rattle.pz_rules.specs.Pattern.{RuleRow}
+use Rattle.pz_grid.specs.declared.places.GridFault.{GridFault}
+use Rattle.pz_grid.specs.declared.places.GridFault.TheVariants as grid
+use Rattle.pz_grid.specs.declared.places.Place.{Place}
+use Rattle.pz_grid.specs.Grid.{Grid}
+use Rattle.pz_grid.specs.Places.{searched, still_matches}
+use Rattle.pz_grid.specs.Rewriting.{Rewriting, in_rewrite, rewritten}
+use Rattle.pz_turn.specs.declared.outcome.StepFault.{StepFault}
+use Rattle.pz_turn.specs.declared.outcome.StepFault.TheVariants.{Memory, MatchLimit}
+use Rattle.pz_turn.specs.declared.instance.TheConstants.{COMBINATION_LIMIT}
+use Rattle.pz_turn.specs.Combinations.{combinations}
+use Rattle.pz_rules.specs.Commands.{no_commands}
+use Rattle.pz_turn.specs.Outcome.{Outcome}
+
+-- the stop of a search is a stop of the step
+abbrev pub stop_of : GridFault → StepFault
+stop_of grid.Memory = Memory
+stop_of grid.MatchLimit = MatchLimit
+
+abbrev pub found_or_stop : Result (List Place) GridFault → Result (List Place) StepFault
+found_or_stop (Err fault) = Err (stop_of fault)
+found_or_stop (Ok found) = Ok found
+
+abbrev pub preceded_by : List Place → Result (List (List Place)) StepFault → Result (List (List Place)) StepFault
+preceded_by found (Err fault) = Err fault
+preceded_by found (Ok lists) = Ok (found ∷ lists)
+
+-- after a row without a place no other row is looked at
+abbrev pub after_row : Result (List Place) StepFault → Result (List (List Place)) StepFault → Result (List (List Place)) StepFault
+after_row (Err fault) rest = Err fault
+after_row (Ok []) rest = Ok ([] ∷ [])
+after_row (Ok (place ∷ found)) rest = preceded_by (place ∷ found) rest
+
+-- the places of each row, up to the first row without one
+abbrev pub taken : Grid → Dir → List RuleRow → Result (List (List Place)) StepFault
+taken grid dir [] = Ok []
+taken grid dir (row ∷ rows) = after_row (found_or_stop (searched grid row dir)) (taken grid dir rows)
+
+-- an instance at a combination of places, if all its rows hold there in the level so far
+abbrev pub applied_at : Instance → Rewriting → List Place → Rewriting
+applied_at instance so_far places =
+    if still_matches so_far.grid instance places then rewritten instance places so_far else so_far
+
+-- the commands are given if there is a combination
+abbrev pub given : List (List Place) → Commands → Commands
+given [] commands = no_commands
+given (places ∷ more) commands = commands
+
+abbrev pub outcome_of : Rewriting → Commands → Outcome Grid
+outcome_of end commands = record { level = end.grid; commands = commands; changed = end.changed }
+
+abbrev pub applied_to : Instance → Grid → List (List Place) → Result (Outcome Grid) StepFault
+applied_to instance grid all =
+    if nat_lt COMBINATION_LIMIT (length all)
+    then Err MatchLimit
+    else Ok (outcome_of (fold (applied_at instance) (in_rewrite grid false) all) (given all instance.commands))
+
+abbrev pub applied_with : Instance → Grid → Result (List (List Place)) StepFault → Result (Outcome Grid) StepFault
+applied_with instance grid (Err fault) = Err fault
+applied_with instance grid (Ok lists) = applied_to instance grid (combinations lists)
+
+-- an instance, applied to a level
+unfoldable pub applied : Instance → Grid → Result (Outcome Grid) StepFault
+applied instance grid = applied_with instance grid (taken grid instance.scan instance.left)

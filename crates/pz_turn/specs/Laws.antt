@@ -1,0 +1,26 @@
+-- Laws of instances and groups.
+use Rattle.std.specs.Prelude.{◌≡◌, ◌*◌, ℕ, List, [], ◌∷◌, length, map, true, false, Ok}
+use Rattle.pz_rules.specs.declared.instance.Instance.{Instance}
+use Rattle.pz_grid.specs.declared.places.Place.{Place}
+use Rattle.pz_grid.specs.Grid.{Grid}
+use Rattle.pz_turn.specs.declared.rest.TheConstants.{PASSES}
+use Rattle.pz_turn.specs.Combinations.{combinations}
+use Rattle.pz_turn.specs.Instance.{applied}
+use Rattle.pz_turn.specs.Outcome.{Outcome}
+use Rattle.pz_turn.specs.Rest.{pass_of, rest_of, rests}
+
+abbrev pub product_of : List ℕ → ℕ
+product_of [] = 1
+product_of (n ∷ ns) = n * product_of ns
+
+-- there are as many combinations as the product of the numbers of places says
+abbrev pub IsCounted : Type 0
+IsCounted = (lists : List (List Place)) → length (combinations lists) ≡ product_of (map length lists)
+
+-- a pass that changes nothing leaves the level
+abbrev pub QuietPassLeaves : Type 0
+QuietPassLeaves = (group : List Instance) (grid : Grid) (end : Outcome Grid) → pass_of applied group grid ≡ Ok end → end.changed ≡ false → end.level ≡ grid
+
+-- one more pass over a group that has come to rest changes nothing and doesn't stop
+abbrev pub RestLasts : Type 0
+RestLasts = (group : List Instance) (grid : Grid) (end : Outcome Grid) → rest_of PASSES (pass_of applied group) grid ≡ Ok end → rests (pass_of applied group end.level) ≡ true

@@ -1,0 +1,8 @@
+pub mod Belonging
+pub mod Outcome
+pub mod Combinations
+pub mod Instance
+pub mod Rest
+pub mod Win
+pub mod Step
+pub mod Laws

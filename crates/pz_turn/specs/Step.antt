@@ -1,0 +1,88 @@
+-- A step: the input is given to each object that is the player, then the early blocks run, the movement, and the late blocks.
+-- In a game with `require_player_movement` a step with an input is cancelled if some cell held a player and each cell that did
+-- holds one at the end. A cancelled step leaves the level and has changed nothing; a stop in a block is the step's stop, whatever
+-- was given before it.
+use Rattle.std.specs.Prelude.{ℕ, Bool, true, false, not, ◌&&◌, ◌||◌, List, Option, Some, None, Result, Ok, Err, is_some, if◌then◌else◌}
+use Rattle.std.specs.List.{list_any, list_all, zip}
+use Rattle.pz_source.specs.declared.direction.Dir.{Dir}
+use Rattle.pz_source.specs.Game.{GameView, players_of}
+use Rattle.pz_rules.specs.declared.commands.Commands.{Commands}
+use Rattle.pz_rules.specs.declared.instance.Block.{Block}
+use Rattle.pz_rules.specs.declared.instance.Block.TheVariants.{One, Loop}
+use Rattle.pz_rules.specs.declared.instance.Program.{Program}
+use Rattle.pz_rules.specs.Commands.{has}
+use Rattle.pz_grid.specs.declared.cell.Piece.{Piece}
+use Rattle.pz_grid.specs.Grid.{Grid}
+use Rattle.pz_grid.specs.Movement.{resolved}
+use Rattle.pz_grid.specs.Presence.{holds_one}
+use Rattle.pz_grid.specs.Pushing.{pushed}
+use Rattle.pz_grid.specs.Sameness.{same_grid}
+use Rattle.pz_turn.specs.declared.outcome.StepFault.{StepFault}
+use Rattle.pz_turn.specs.declared.rest.TheConstants.{PASSES}
+use Rattle.pz_turn.specs.Instance.{applied}
+use Rattle.pz_rules.specs.Commands.{either}
+use Rattle.pz_turn.specs.Outcome.{Outcome, followed_by}
+use Rattle.pz_turn.specs.Rest.{Runs, pass_of, rest_of, group_runs}
+
+-- a group or a loop of groups, run to rest
+unfoldable pub block_runs : Block → Runs Grid
+block_runs (One group) = rest_of PASSES (pass_of applied group)
+block_runs (Loop groups) = rest_of PASSES (pass_of (group_runs PASSES applied) groups)
+
+-- blocks, one after another
+unfoldable pub blocks_run : List Block → Runs Grid
+blocks_run blocks = pass_of block_runs blocks
+
+abbrev pub moved : Outcome Grid → Outcome Grid
+moved end = record { level = resolved end.level; commands = end.commands; changed = end.changed }
+
+abbrev pub then_moved : Result (Outcome Grid) StepFault → Result (Outcome Grid) StepFault
+then_moved (Err fault) = Err fault
+then_moved (Ok end) = Ok (moved end)
+
+-- the rules of a step: early blocks, movement, late blocks
+unfoldable pub rules_run : Program → Runs Grid
+rules_run program grid = followed_by (then_moved (blocks_run program.early grid)) (blocks_run program.late)
+
+-- the input is given to the player
+abbrev pub given_input : List ℕ → Option Dir → Grid → Grid
+given_input players None grid = grid
+given_input players (Some dir) grid = pushed players dir grid
+
+-- a cell that held a player holds one
+abbrev pub keeps_player : List ℕ → List (Option Piece) × List (Option Piece) → Bool
+keeps_player players (before, after) = not (holds_one players before) || holds_one players after
+
+-- some cell held a player, and each cell that did holds one
+abbrev pub has_stayed : List ℕ → Grid → Grid → Bool
+has_stayed players before after =
+    list_any (holds_one players) before.cells && list_all (keeps_player players) (zip before.cells after.cells)
+
+-- a step with an input that must move the player, and hasn't, is cancelled
+abbrev pub must_cancel : GameView → Option Dir → Grid → Grid → Bool
+must_cancel game input before after =
+    game.options.require_player_movement && (is_some input && has_stayed (players_of game) before after)
+
+abbrev pub cancel : Commands
+cancel = record { 0 = 2 }
+
+abbrev pub with_cancel : Bool → Commands → Commands
+with_cancel true commands = either commands cancel
+with_cancel false commands = commands
+
+-- a cancelled step leaves the level; another has changed it if the levels are not the same
+abbrev pub ended : Grid → Grid → Commands → Outcome Grid
+ended before after commands =
+    if has commands cancel
+    then record { level = before; commands = commands; changed = false }
+    else record { level = after; commands = commands; changed = not (same_grid after before) }
+
+abbrev pub step_ended : GameView → Option Dir → Grid → Result (Outcome Grid) StepFault → Result (Outcome Grid) StepFault
+step_ended game input before (Err fault) = Err fault
+step_ended game input before (Ok end) =
+    Ok (ended before end.level (with_cancel (must_cancel game input before end.level) end.commands))
+
+-- a step from a level, with an input or none
+unfoldable pub step_of : GameView → Program → Grid → Option Dir → Result (Outcome Grid) StepFault
+step_of game program grid input =
+    step_ended game input grid (rules_run program (given_input (players_of game) input grid))

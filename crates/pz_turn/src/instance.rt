@@ -1,0 +1,155 @@
+//! An instance of a rule, applied at all combinations of the places of its rows.
+
+ghost use Rattle.std.specs.Prelude.{◌≡◌, ◌≢◌, ◌≤◌, ◌<◌, ◌+◌, ◌++◌, IfOk, IfErr, Ok, Err, length, drop, map, fold, min};
+ghost use Rattle.pz_grid.specs.Grid.{SameSize};
+ghost use Rattle.pz_grid.specs.Places.{searched};
+ghost use Rattle.pz_grid.specs.Rewriting.{in_rewrite};
+ghost use Rattle.pz_turn.specs.Belonging.{PlacesObjectsOf};
+ghost use Rattle.pz_turn.specs.Combinations.{combinations};
+ghost use Rattle.pz_turn.specs.Instance.{found_or_stop, taken, applied_at, applied, given};
+ghost use Rattle.pz_turn.specs.Outcome.{GivesOutcome};
+ghost use Rattle.pz_turn.specs.declared.outcome.StepFault.TheVariants.{Memory};
+
+use crate::outcome::{Given, StepFault};
+use bitflags::Flags;
+use pz_grid::Level;
+use pz_grid::places::{GridFault, Place, places, still_matches};
+use pz_rules::commands::Commands;
+use pz_rules::instance::Instance;
+use pz_rules::pattern::Row;
+use pz_source::direction::Dir;
+use pz_text::listed::Listed;
+use std::alloc::Global;
+
+/// The greatest number of combinations of places of an instance.
+pub const COMBINATION_LIMIT: u64 = 1_048_576;
+
+/// The places of a row, unless there are too many.
+fn search(alloc: Global, level: &Level, row: &Row, dir: Dir) -> Result<Listed<Place>, StepFault>
+    ensures found { IfOk result (λ found. found_or_stop (searched level.now.grid row.now dir) ≡ Ok found) }
+    ensures fault { IfErr result (λ fault. fault ≢ Memory → found_or_stop (searched level.now.grid row.now dir) ≡ Err fault) }
+{
+    match places(alloc, level, row, dir) {
+        Ok(found) => Ok(Listed::new(found)),
+        Err(GridFault::Memory) => Err(StepFault::Memory),
+        Err(GridFault::MatchLimit) => Err(StepFault::MatchLimit),
+    }
+}
+
+/// The places of each row, up to the first row without one.
+fn take_places(
+    alloc: Global,
+    level: &Level,
+    instance: &Instance,
+) -> Result<Vec<Listed<Place>>, StepFault>
+    ensures taken { IfOk result (λ lists. taken level.now.grid instance.now.scan instance.now.left ≡ Ok lists.items) }
+    ensures fault { IfErr result (λ fault. fault ≢ Memory → taken level.now.grid instance.now.scan instance.now.left ≡ Err fault) }
+{
+    let mut lists = Vec::new(alloc);
+    for row in instance.left.items() {
+        let found = search(alloc, level, row, instance.scan)?;
+        let is_last = found.items().is_empty();
+        if lists.push(found).is_err() {
+            return Err(StepFault::Memory);
+        }
+        if is_last {
+            return Ok(lists);
+        }
+    }
+    Ok(lists)
+}
+
+/// How many combinations there are, counted up to one more than the limit.
+fn combination_count(lists: &[Listed<Place>]) -> u64
+    ensures { result ≡ min (length (combinations lists.now)) (COMBINATION_LIMIT + 1) }
+{
+    let mut count: u64 = 1;
+    for list in lists {
+        count = count
+            .saturating_mul(list.items().len() as u64)
+            .min(COMBINATION_LIMIT + 1);
+    }
+    count
+}
+
+/// Rewrites an instance at places, if all its rows still hold there.
+fn apply_at(level: &mut Level, instance: &Instance, places: &[Place], changed: bool) -> bool
+    requires places_of { PlacesObjectsOf level.old.grid.layers instance.now }
+    ensures applied { in_rewrite level.new.grid result ≡ applied_at instance.now (in_rewrite level.old.grid changed) places.now }
+    ensures size { SameSize level.old.grid level.new.grid }
+{
+    if still_matches(level, instance, places) {
+        level.rewrite_all(instance, places, changed)
+    } else {
+        changed
+    }
+}
+
+/// Applies an instance at each combination of places of these rows with those chosen for the rows after them.
+fn apply_all(
+    level: &mut Level,
+    instance: &Instance,
+    lists: &[Listed<Place>],
+    chosen: &mut [Place],
+    changed_before: bool,
+) -> bool
+    requires room { length lists.now ≤ length chosen.old }
+    requires places_of { PlacesObjectsOf level.old.grid.layers instance.now }
+    ensures applied { in_rewrite level.new.grid result ≡ fold (applied_at instance.now) (in_rewrite level.old.grid changed_before) (map (λ places. places ++ drop (length lists.now) chosen.old) (combinations lists.now)) }
+    ensures size { SameSize level.old.grid level.new.grid }
+    ensures chosen { drop (length lists.now) chosen.new ≡ drop (length lists.now) chosen.old }
+    ensures room { length chosen.new ≡ length chosen.old }
+{
+    let Some((last, others)) = lists.split_last() else {
+        return apply_at(level, instance, chosen, changed_before);
+    };
+    let mut changed = changed_before;
+    'places: for place in last.items() {
+        chosen[others.len()] = *place;
+        changed = apply_all(level, instance, others, chosen, changed);
+    }
+    changed
+}
+
+/// Room for a place of each row.
+fn room_for(alloc: Global, rows: usize) -> Result<Vec<Place>, StepFault>
+    ensures length { IfOk result (λ places. length places.items ≡ rows) }
+    ensures fault { IfErr result (λ fault. fault ≡ Memory) }
+{
+    let mut places = Vec::new(alloc);
+    for _ in 0..rows {
+        let place = Place { x: 0, y: 0, gap: 0 };
+        if places.push(place).is_err() {
+            return Err(StepFault::Memory);
+        }
+    }
+    Ok(places)
+}
+
+/// The commands of an instance, if it has a combination.
+fn given(lists: &[Listed<Place>], commands: Commands) -> Commands
+    ensures { result ≡ given (combinations lists.now) commands }
+{
+    if combination_count(lists) == 0 {
+        Commands::empty()
+    } else {
+        commands
+    }
+}
+
+/// Applies an instance to a level. MatchLimit: a row before the first one without a place has too many places, or there are more
+/// than `COMBINATION_LIMIT` combinations.
+pub fn apply(alloc: Global, level: &mut Level, instance: &Instance) -> Result<Given, StepFault>
+    requires places_of { PlacesObjectsOf level.old.grid.layers instance.now }
+    ensures outcome { GivesOutcome (applied instance.now level.old.grid) level.new.grid result }
+    ensures size { SameSize level.old.grid level.new.grid }
+{
+    let lists = take_places(alloc, level, instance)?;
+    if combination_count(&lists) > COMBINATION_LIMIT {
+        return Err(StepFault::MatchLimit);
+    }
+    let mut chosen = room_for(alloc, lists.len())?;
+    let changed = apply_all(level, instance, &lists, &mut chosen, false);
+    let commands = given(&lists, instance.commands);
+    Ok(Given { commands, changed })
+}

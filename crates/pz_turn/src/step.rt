@@ -1,0 +1,230 @@
+//! A step: the input, the early blocks, the movement, the late blocks.
+
+ghost use Rattle.std.specs.Prelude.{◌≡◌, ◌≢◌, ◌<◌, not, All, IfOk, IfErr, Ok, Err, length};
+ghost use Rattle.std.specs.List.{list_any, list_all, zip};
+ghost use Rattle.pz_source.specs.Game.{players_of};
+ghost use Rattle.pz_rules.specs.Instance.{IsProgramOf};
+ghost use Rattle.pz_grid.specs.Grid.{IsLawful, IsOfGame, SameSize};
+ghost use Rattle.pz_grid.specs.Presence.{holds_one, cell_of};
+ghost use Rattle.pz_turn.specs.Belonging.{BlockPlacesObjectsOf};
+ghost use Rattle.pz_turn.specs.Outcome.{GivesOutcome};
+ghost use Rattle.pz_turn.specs.Step.{block_runs, blocks_run, rules_run, given_input, keeps_player, has_stayed, must_cancel, with_cancel, ended, step_of};
+ghost use Rattle.pz_turn.specs.declared.outcome.StepFault.TheVariants.{Memory};
+
+use crate::loops::run_loop;
+use crate::outcome::{Given, StepFault};
+use crate::rest::run_group;
+use bitflags::Flags;
+use pz_grid::{Level, push_players, resolve};
+use pz_rules::commands::Commands;
+use pz_rules::instance::{Block, Program};
+use pz_source::direction::Dir;
+use pz_source::game::Game;
+use std::alloc::Global;
+
+/// How a step ends: with the level after it, the commands that were given, and whether that level is another than the one before.
+#[derive(Drop)]
+pub struct StepEnd {
+    pub level: Level,
+    pub commands: Commands,
+    pub changed: bool,
+}
+
+/// Runs a group or a loop of groups to rest.
+#[tactic(auto, unfolding(crate::specs::Step::block_runs))]
+fn run_block(alloc: Global, level: &mut Level, block: &Block) -> Result<Given, StepFault>
+    requires places_of { BlockPlacesObjectsOf level.old.grid.layers block.now }
+    ensures outcome { GivesOutcome (block_runs block.now level.old.grid) level.new.grid result }
+    ensures size { SameSize level.old.grid level.new.grid }
+{
+    match block {
+        Block::One(group) => run_group(alloc, level, group),
+        Block::Loop(groups) => run_loop(alloc, level, groups),
+    }
+}
+
+/// Runs blocks, one after another.
+#[tactic(auto, unfolding(crate::specs::Step::blocks_run))]
+fn run_blocks(alloc: Global, level: &mut Level, blocks: &[Block]) -> Result<Given, StepFault>
+    requires places_of { All (BlockPlacesObjectsOf level.old.grid.layers) blocks.now }
+    ensures outcome { GivesOutcome (blocks_run blocks.now level.old.grid) level.new.grid result }
+    ensures size { SameSize level.old.grid level.new.grid }
+{
+    let mut commands = Commands::empty();
+    let mut changed = false;
+    for block in blocks {
+        let given = run_block(alloc, level, block)?;
+        commands.insert(given.commands);
+        changed |= given.changed;
+    }
+    Ok(Given { commands, changed })
+}
+
+/// Runs the early blocks, the movement and the late blocks.
+#[tactic(auto, unfolding(crate::specs::Step::rules_run))]
+fn run_rules(
+    alloc: Global,
+    game: &Game,
+    level: &mut Level,
+    program: &Program,
+) -> Result<Given, StepFault>
+    requires level_of { IsOfGame game.now level.old.grid }
+    requires early { All (BlockPlacesObjectsOf level.old.grid.layers) program.now.early }
+    requires late { All (BlockPlacesObjectsOf level.old.grid.layers) program.now.late }
+    ensures outcome { GivesOutcome (rules_run program.now level.old.grid) level.new.grid result }
+    ensures size { SameSize level.old.grid level.new.grid }
+{
+    let early = run_blocks(alloc, level, program.early())?;
+    resolve(game, level);
+    let late = run_blocks(alloc, level, program.late())?;
+    let mut commands = early.commands;
+    commands.insert(late.commands);
+    let changed = early.changed || late.changed;
+    Ok(Given { commands, changed })
+}
+
+fn copy_of(level: &Level) -> Result<Level, StepFault>
+    ensures copied { IfOk result (λ copy. copy.grid ≡ level.now.grid) }
+    ensures fault { IfErr result (λ fault. fault ≡ Memory) }
+{
+    match level.copy() {
+        Ok(copy) => Ok(copy),
+        Err(_) => Err(StepFault::Memory),
+    }
+}
+
+/// A copy of the level, with the input given to the player.
+fn with_input(game: &Game, level: &Level, input: Option<Dir>) -> Result<Level, StepFault>
+    requires level_of { IsOfGame game.now level.now.grid }
+    ensures given { IfOk result (λ copy. copy.grid ≡ given_input (players_of game.now) input level.now.grid) }
+    ensures size { IfOk result (λ copy. SameSize level.now.grid copy.grid) }
+    ensures fault { IfErr result (λ fault. fault ≡ Memory) }
+{
+    match copy_of(level) {
+        Ok(mut copy) => {
+            match input {
+                Some(dir) => push_players(game, &mut copy, dir),
+                None => {}
+            }
+            Ok(copy)
+        }
+        Err(fault) => Err(fault),
+    }
+}
+
+/// The objects that are the player.
+fn players(game: &Game) -> &[usize]
+    ensures { result.now ≡ players_of game.now }
+{
+    match game.members("player") {
+        Some(members) => members,
+        None => &[],
+    }
+}
+
+fn some_player(players: &[usize], level: &Level) -> bool
+    ensures { result ≡ list_any (holds_one players.now) level.now.grid.cells }
+{
+    for index in 0..level.cell_count() {
+        if level.holds_one(index, players) {
+            return true;
+        }
+    }
+    false
+}
+
+fn keeps_player(players: &[usize], before: &Level, after: &Level, index: usize) -> bool
+    requires before_in { index < length before.now.grid.cells }
+    requires after_in { index < length after.now.grid.cells }
+    ensures { result ≡ keeps_player players.now (cell_of before.now.grid index, cell_of after.now.grid index) }
+{
+    !before.holds_one(index, players) || after.holds_one(index, players)
+}
+
+fn all_keep_players(players: &[usize], before: &Level, after: &Level) -> bool
+    ensures { result ≡ list_all (keeps_player players.now) (zip before.now.grid.cells after.now.grid.cells) }
+{
+    for index in 0..before.cell_count().min(after.cell_count()) {
+        if !keeps_player(players, before, after, index) {
+            return false;
+        }
+    }
+    true
+}
+
+fn has_stayed(players: &[usize], before: &Level, after: &Level) -> bool
+    ensures { result ≡ has_stayed players.now before.now.grid after.now.grid }
+{
+    some_player(players, before) && all_keep_players(players, before, after)
+}
+
+/// Whether a step is cancelled since the player had to move and hasn't.
+fn must_cancel(game: &Game, input: Option<Dir>, before: &Level, after: &Level) -> bool
+    ensures { result ≡ must_cancel game.now input before.now.grid after.now.grid }
+{
+    game.options().require_player_movement
+        && (input.is_some() && has_stayed(players(game), before, after))
+}
+
+fn with_cancel(cancelled: bool, commands: Commands) -> Commands
+    ensures { result ≡ with_cancel cancelled commands }
+{
+    if cancelled {
+        let mut all = commands;
+        all.insert(Commands::CANCEL);
+        all
+    } else {
+        commands
+    }
+}
+
+/// How a step ends that leads from one level to another: where it is cancelled, it leaves the level.
+fn end_of(before: &Level, after: Level, commands: Commands) -> Result<StepEnd, StepFault>
+    requires size { SameSize before.now.grid after.grid }
+    ensures end { IfOk result (λ end. ended before.now.grid after.grid commands ≡ record { level = end.level.grid; commands = end.commands; changed = end.changed }) }
+    ensures size { IfOk result (λ end. SameSize before.now.grid end.level.grid) }
+    ensures lawful { IfOk result (λ end. IsLawful end.level.grid) }
+    ensures fault { IfErr result (λ fault. fault ≡ Memory) }
+{
+    let _ = (before.width(), after.width());
+    if commands.contains(Commands::CANCEL) {
+        match copy_of(before) {
+            Ok(level) => Ok(StepEnd {
+                level,
+                commands,
+                changed: false,
+            }),
+            Err(fault) => Err(fault),
+        }
+    } else {
+        let changed = !after.same(before);
+        Ok(StepEnd {
+            level: after,
+            commands,
+            changed,
+        })
+    }
+}
+
+/// A step of a game from a level, with an input or none. Where a rule gives CANCEL, or the player had to move and hasn't, the end
+/// level is the one handed in and nothing has changed. LoopLimit and MatchLimit: a block stopped with it, whatever was given
+/// before. The level handed in is never changed.
+pub fn step(
+    alloc: Global,
+    game: &Game,
+    program: &Program,
+    level: &Level,
+    input: Option<Dir>,
+) -> Result<StepEnd, StepFault>
+    requires level_of { IsOfGame game.now level.now.grid }
+    requires program_of { IsProgramOf game.now.layers program.now }
+    ensures end { IfOk result (λ end. step_of game.now program.now level.now.grid input ≡ Ok (record { level = end.level.grid; commands = end.commands; changed = end.changed })) }
+    ensures size { IfOk result (λ end. SameSize level.now.grid end.level.grid) }
+    ensures lawful { IfOk result (λ end. IsLawful end.level.grid) }
+    ensures fault { IfErr result (λ fault. fault ≢ Memory → step_of game.now program.now level.now.grid input ≡ Err fault) }
+{
+    let mut work = with_input(game, level, input)?;
+    let given = run_rules(alloc, game, &mut work, program)?;
+    let cancelled = must_cancel(game, input, level, &work);
+    end_of(level, work, with_cancel(cancelled, given.commands))
+}

@@ -1,0 +1,104 @@
+//! When a level is won.
+
+ghost use Rattle.std.specs.Prelude.{◌≡◌, ◌<◌, length};
+ghost use Rattle.std.specs.List.{list_any, list_all};
+ghost use Rattle.pz_grid.specs.Presence.{cell_of};
+ghost use Rattle.pz_turn.specs.Win.{fits_kind, fits, fits_on, fits_both, fits_if, line_holds, has_won};
+
+use pz_grid::Level;
+use pz_source::denotation::{Denotation, Kind};
+use pz_source::game::Game;
+use pz_source::wins::{Quantifier, WinLine};
+
+/// Whether the cell of a number fits what a name denotes.
+fn fits_kind(level: &Level, index: usize, denotation: &Denotation) -> bool
+    requires { index < length level.now.grid.cells }
+    ensures { result ≡ fits_kind denotation.now.kind denotation.now.members (cell_of level.now.grid index) }
+{
+    let members = denotation.members.items();
+    match denotation.kind {
+        Kind::Aggregate => level.holds_each(index, members),
+        Kind::Object | Kind::Property => level.holds_one(index, members),
+    }
+}
+
+fn fits(game: &Game, level: &Level, index: usize, number: usize) -> bool
+    requires { index < length level.now.grid.cells }
+    ensures { result ≡ fits game.now number (cell_of level.now.grid index) }
+{
+    match game.values().get(number) {
+        None => false,
+        Some(denotation) => fits_kind(level, index, denotation),
+    }
+}
+
+fn fits_on(game: &Game, level: &Level, index: usize, on: Option<usize>) -> bool
+    requires { index < length level.now.grid.cells }
+    ensures { result ≡ fits_on game.now on (cell_of level.now.grid index) }
+{
+    match on {
+        None => true,
+        Some(number) => fits(game, level, index, number),
+    }
+}
+
+fn fits_both(game: &Game, level: &Level, index: usize, line: WinLine) -> bool
+    requires { index < length level.now.grid.cells }
+    ensures { result ≡ fits_both game.now line (cell_of level.now.grid index) }
+{
+    fits(game, level, index, line.subject) && fits_on(game, level, index, line.on)
+}
+
+fn fits_if(game: &Game, level: &Level, index: usize, line: WinLine) -> bool
+    requires { index < length level.now.grid.cells }
+    ensures { result ≡ fits_if game.now line (cell_of level.now.grid index) }
+{
+    !fits(game, level, index, line.subject) || fits_on(game, level, index, line.on)
+}
+
+fn all_fit(game: &Game, level: &Level, line: WinLine) -> bool
+    ensures { result ≡ list_all (fits_if game.now line) level.now.grid.cells }
+{
+    for index in 0..level.cell_count() {
+        if !fits_if(game, level, index, line) {
+            return false;
+        }
+    }
+    true
+}
+
+fn some_fits(game: &Game, level: &Level, line: WinLine) -> bool
+    ensures { result ≡ list_any (fits_both game.now line) level.now.grid.cells }
+{
+    for index in 0..level.cell_count() {
+        if fits_both(game, level, index, line) {
+            return true;
+        }
+    }
+    false
+}
+
+fn line_holds(game: &Game, level: &Level, line: WinLine) -> bool
+    ensures { result ≡ line_holds game.now level.now.grid line }
+{
+    match line.quantifier {
+        Quantifier::All => all_fit(game, level, line),
+        Quantifier::Some => some_fits(game, level, line),
+        Quantifier::No => !some_fits(game, level, line),
+    }
+}
+
+fn all_hold(game: &Game, level: &Level, lines: &[WinLine]) -> bool
+    ensures { result ≡ list_all (line_holds game.now level.now.grid) lines.now }
+{
+    lines.iter().all(|line| line_holds(game, level, *line))
+}
+
+/// Whether the level is won: the game has win lines, and all of them hold.
+#[tactic(auto, unfolding(crate::specs::Win::has_won))]
+pub fn won(game: &Game, level: &Level) -> bool
+    ensures { result ≡ has_won game.now level.now.grid }
+{
+    let wins = game.wins();
+    !wins.is_empty() && all_hold(game, level, wins)
+}
