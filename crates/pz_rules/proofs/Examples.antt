@@ -1,5 +1,5 @@
 -- Worked programs.
-use Rattle.std.proofs.Common.{◌≡◌, ℕ, false, List, [], ◌∷◌, ◌++◌, map, length, codes, Result, Ok, Err, refl}
+use Rattle.std.proofs.Common.{◌≡◌, ℕ, false, List, [], ◌∷◌, map, length, codes, Result, Ok, Err, refl}
 use Rattle.std.specs.List.{flat_map}
 use Rattle.pz_text.specs.declared.fault.Code.TheVariants as code
 use Rattle.pz_text.specs.declared.fault.SourceFault.{SourceFault}

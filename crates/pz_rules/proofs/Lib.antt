@@ -2,6 +2,7 @@ mod Stepping
 mod Sound
 mod Complete
 mod Firsts
+mod Unions
 mod Products
 mod Directions
 mod Mentions
@@ -9,6 +10,8 @@ mod Joining
 mod Only
 mod CountingLemmas
 mod EqualLemmas
+mod MarkLemmas
+mod KeptLemmas
 mod Expanding
 mod Shaping
 mod EachOf

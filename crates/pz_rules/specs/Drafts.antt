@@ -74,6 +74,11 @@ joins draft rule = if rule.is_joined then elim draft.group [ None ↦ [] | Some 
 unfoldable pub before : Draft → Rule → Draft
 before draft rule = if rule.is_joined then draft else settled draft
 
+-- the last group, with the instances of a rule that joins it
+abbrev pub with_instances : Option OpenGroup → Rule → List Instance → OpenGroup
+with_instances None rule more = record { is_late = is_late_rule rule; instances = more }
+with_instances (Some group) rule more = record { is_late = group.is_late; instances = group.instances ++ more }
+
 -- a rule with its instances
 unfoldable pub extended : Draft → Rule → Expansion → Draft
 extended draft rule more =

@@ -1,5 +1,6 @@
 pub mod Lists
 pub mod Commands
+pub mod Laws
 pub mod Pattern
 pub mod Instance
 pub mod Words
@@ -17,6 +18,8 @@ pub mod Checks
 pub mod Planning
 pub mod Turning
 pub mod Equal
+pub mod Marks
+pub mod Kept
 pub mod Shape
 pub mod Instances
 pub mod Clash

@@ -2,7 +2,7 @@
 
 ghost use Rattle.std.specs.Prelude.{◌≡◌, ◌≢◌, ◌++◌, true, Ok, Err, IfOk, IfErr};
 ghost use Rattle.pz_rules.specs.declared.fault.RuleFault.TheVariants.{Memory};
-ghost use Rattle.pz_rules.specs.Drafts.{placed, settled, opened, loop_of, closed, is_misplaced, lateness, extended, rule_added, loop_added, line_added};
+ghost use Rattle.pz_rules.specs.Drafts.{placed, settled, opened, loop_of, closed, is_misplaced, lateness, with_instances, extended, rule_added, loop_added, line_added};
 ghost use Rattle.pz_rules.specs.Written.{is_whole};
 
 use crate::expansion::{Expansion, expanded};
@@ -176,6 +176,26 @@ fn lateness(draft: &Draft, rule: &Rule) -> bool
     }
 }
 
+/// The last group, with the instances of a rule that joins it.
+fn with_instances(
+    group: Option<OpenGroup>,
+    rule: &Rule,
+    more: Group,
+) -> Result<OpenGroup, AllocError>
+    ensures { IfOk result (λ out. out ≡ with_instances group rule.now more) }
+{
+    match group {
+        None => Ok(OpenGroup {
+            is_late: is_late_rule(rule),
+            instances: more,
+        }),
+        Some(OpenGroup { is_late, instances }) => Ok(OpenGroup {
+            is_late,
+            instances: joined(instances, more)?,
+        }),
+    }
+}
+
 /// The draft with the instances of a rule.
 #[tactic(auto, unfolding(crate::specs::Drafts::extended, crate::specs::Drafts::before, crate::specs::Drafts::joins, crate::specs::Drafts::lateness))]
 fn extended(draft: Draft, rule: &Rule, more: Expansion) -> Result<Draft, AllocError>
@@ -188,16 +208,7 @@ fn extended(draft: Draft, rule: &Rule, more: Expansion) -> Result<Draft, AllocEr
             group,
             pairs: _,
         } = draft;
-        let group = match group {
-            None => OpenGroup {
-                is_late: is_late_rule(rule),
-                instances: more.instances,
-            },
-            Some(OpenGroup { is_late, instances }) => OpenGroup {
-                is_late,
-                instances: joined(instances, more.instances)?,
-            },
-        };
+        let group = with_instances(group, rule, more.instances)?;
         Ok(Draft {
             done,
             repeated,
@@ -211,10 +222,7 @@ fn extended(draft: Draft, rule: &Rule, more: Expansion) -> Result<Draft, AllocEr
             group: _,
             pairs: _,
         } = settled(draft)?;
-        let group = OpenGroup {
-            is_late: is_late_rule(rule),
-            instances: more.instances,
-        };
+        let group = with_instances(None, rule, more.instances)?;
         Ok(Draft {
             done,
             repeated,

@@ -22,12 +22,12 @@ fn same_item(a: &Item, b: &Item) -> bool
     a == b
 }
 
-/// Whether a cell has an item.
+/// Whether an item is among those of a cell.
 #[tactic(auto, unfolding(crate::specs::Equal::has_item))]
-fn has_item(cell: &Pattern, item: &Item) -> bool
-    ensures { result ≡ has_item cell.now item.now }
+pub fn has_item(items: &[Item], item: &Item) -> bool
+    ensures { result ≡ has_item items.now item.now }
 {
-    cell.items().iter().any(|x| same_item(x, item))
+    items.iter().any(|x| same_item(x, item))
 }
 
 /// Whether a cell has each item of another.
@@ -35,7 +35,7 @@ fn has_item(cell: &Pattern, item: &Item) -> bool
 fn within_cell(a: &Pattern, b: &Pattern) -> bool
     ensures { result ≡ within_cell a.now b.now }
 {
-    a.items().iter().all(|x| has_item(b, x))
+    a.items().iter().all(|x| has_item(b.items(), x))
 }
 
 /// Whether two cells have the same set of items.

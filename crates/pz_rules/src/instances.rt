@@ -2,13 +2,13 @@
 
 ghost use Rattle.std.specs.Prelude.{◌≡◌, ◌++◌, IfOk, OnOk, map, fold, slice_get};
 ghost use Rattle.std.specs.List.{list_any, list_all};
-ghost use Rattle.pz_rules.specs.Equal.{same_instance};
-ghost use Rattle.pz_rules.specs.Lists.{product, added};
+ghost use Rattle.pz_rules.specs.Lists.{product};
 ghost use Rattle.pz_rules.specs.Shape.{IsShaped, AreShaped};
 ghost use Rattle.pz_rules.specs.Instances.{members_at, options_of, object_of, meaning_of, layer_of, item_of, cell_of, row_of, rows_of, is_one_cell, scan_of, instance_of, is_absent, is_present, contradict, excludes, excludes_some, is_impossible, has_impossible, is_possible, instances_of, considered};
 
-use crate::equal::{same_instance, same_meaning};
+use crate::equal::same_meaning;
 use crate::instance::Instance;
+use crate::kept::Kept;
 use crate::pattern::{Item, Pattern, Row, Rows, Word};
 use crate::plan::{Asked, Choice, Plan, PlanRow, Term, TermName, TermWord};
 use crate::turning::{class_directions, turned};
@@ -323,23 +323,6 @@ fn is_possible(instance: &Instance) -> bool
     !have_impossible(instance.left.items())
 }
 
-/// Whether an instance equal to this one is among those kept.
-fn is_kept(kept: &[Instance], instance: &Instance) -> bool
-    ensures { result ≡ list_any (λ other. same_instance other instance.now) kept.now }
-{
-    kept.iter().any(|other| same_instance(other, instance))
-}
-
-/// Adds an instance, unless it is there already.
-fn add_instance(kept: &mut Vec<Instance>, instance: Instance) -> Result<(), AllocError>
-    ensures { OnOk result (kept.new.items ≡ added same_instance kept.old.items instance) }
-{
-    if !is_kept(kept, &instance) {
-        kept.push(instance)?;
-    }
-    Ok(())
-}
-
 /// Adds the instance of these picks, unless it is impossible or there already.
 #[tactic(auto, unfolding(crate::specs::Instances::considered))]
 fn consider(
@@ -348,15 +331,15 @@ fn consider(
     plan: &Plan,
     direction: Dir,
     picks: &[Pick],
-    kept: &mut Vec<Instance>,
+    kept: &mut Kept,
 ) -> Result<(), AllocError>
     requires left { AreShaped plan.now.left }
     requires right { AreShaped plan.now.right }
-    ensures { OnOk result (kept.new.items ≡ considered layers.now plan.now direction kept.old.items picks.now) }
+    ensures { OnOk result (kept.new ≡ considered layers.now plan.now direction kept.old picks.now) }
 {
     let instance = instance_of(alloc, layers, plan, direction, picks)?;
     if is_possible(&instance) {
-        add_instance(kept, instance)?;
+        kept.add(instance)?;
     }
     Ok(())
 }
@@ -369,12 +352,12 @@ fn consider_all(
     direction: Dir,
     options: &[Listed<Pick>],
     picks: &mut Vec<Pick>,
-    kept: &mut Vec<Instance>,
+    kept: &mut Kept,
 ) -> Result<(), AllocError>
     requires left { AreShaped plan.now.left }
     requires right { AreShaped plan.now.right }
     ensures kept { OnOk result
-        (kept.new.items ≡ fold (considered layers.now plan.now direction) kept.old.items
+        (kept.new ≡ fold (considered layers.now plan.now direction) kept.old
         (map (λ rest. picks.old.items ++ rest) (product options.now))) }
     ensures picks { OnOk result (picks.new.items ≡ picks.old.items) }
 {
@@ -417,7 +400,7 @@ pub fn instances_of(
     requires right { AreShaped plan.now.right }
     ensures { IfOk result (λ instances. instances.items ≡ instances_of table.now layers.now plan.now) }
 {
-    let mut kept = Vec::new(alloc);
+    let mut kept = Kept::new(alloc)?;
     for direction in plan.directions.items() {
         let options = all_options(alloc, table, *direction, plan.choices.items())?;
         let mut picks = Vec::new(alloc);
@@ -425,5 +408,5 @@ pub fn instances_of(
             alloc, layers, plan, *direction, &options, &mut picks, &mut kept,
         )?;
     }
-    Ok(kept)
+    Ok(kept.into_instances())
 }

@@ -17,10 +17,10 @@ options-preserved t c =
     let others = c.in-Some.others.now in
     let step = considered c.args.layers.now c.args.plan.now c.args.direction in
     let in_range : i < length xs = omega arith in
-    let after : List Pick → List Instance = λ p. fold step c.options.kept.items (map (λ rest. p ++ rest) (product others)) in
+    let after : List Pick → List Instance = λ p. fold step c.options.kept (map (λ rest. p ++ rest) (product others)) in
     let picked : c.push.new.self.items ≡ c.args.picks.now.items ++ x ∷ [] =
     c.in_ok-push.ensures.items ∙ ap (λ p. p ++ x ∷ []) c.options.invariant.1 in
-    let more = fold-headed_more step c.args.kept.now.items c.options.kept.items c.args.picks.now.items others xs i x in_range (get_or_default xs i (Object 0) x in_range) c.options.invariant.0 in
+    let more = fold-headed_more step c.args.kept.now c.options.kept c.args.picks.now.items others xs i x in_range (get_or_default xs i (Object 0) x in_range) c.options.invariant.0 in
     let all_picked : c.consider_all.new.picks.items ≡ c.args.picks.now.items ++ x ∷ [] = c.in_ok-consider_all.ensures.picks ∙ picked in (
       c.in_ok-consider_all.ensures.kept ∙ ap after picked ∙ sym more,
       grind (arith, common_steps, all_picked, c.pop.ensures.rest),

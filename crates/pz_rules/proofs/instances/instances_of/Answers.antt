@@ -20,8 +20,8 @@ loop-direction-preserved c =
     let d : Dir = get_or c.items-direction-items.result.now i Up in
     let in_range : i < length ds = omega (arith, ap length same_directions) in
     let at : d ≡ get_or ds i d = ap (λ l. get_or l i Up) same_directions ∙ get_or_default ds i Up d in_range in
-    let run : List Pick → List (List Pick) → List Instance = λ picks options. fold (considered layers plan d) c.loop-direction.kept.items (map (λ rest. picks ++ rest) (product options)) in
+    let run : List Pick → List (List Pick) → List Instance = λ picks options. fold (considered layers plan d) c.loop-direction.kept (map (λ rest. picks ++ rest) (product options)) in
     let options : c.deref.result.now ≡ map (options_of table d) plan.choices =
     c.deref.ensures.value ∙ c.in_ok-options.ensures ∙ ap (map (options_of table d)) c.items.ensures in
     c.in_ok-consider_all.ensures.kept ∙ ap (λ p. run p c.deref.result.now) c.new-picks.ensures.items ∙ ap (run []) options
-    ∙ firsts-possible_more table layers plan ds i d c.loop-direction.kept.items in_range at c.loop-direction.invariant
+    ∙ firsts-possible_more table layers plan ds i d c.loop-direction.kept in_range at c.loop-direction.invariant

@@ -1,0 +1,176 @@
+-- Equal instances have the same mark.
+use Rattle.std.proofs.Common.{◌≡◌, ℕ, true, false, not, ◌&&◌, ◌||◌, ◌==◌, List, [], ◌∷◌, length, filter, fold, refl, ap, sym, ◌∙◌, subst, ⊎_elim}
+use Rattle.std.proofs.lemmas.Bool.{and_parts, and_from, or_cases, or_parts, cases_Bool, not_from_true, not_from_false, cond-true, cond-false, false≢true, false_from_ne_true, eqb-true}
+use Rattle.std.proofs.lemmas.Nat.{xor_comm}
+use Rattle.std.specs.Int.Bits.{bit_xor, xor_assoc}
+use Rattle.std.specs.List.{list_any, list_all, zip}
+use Rattle.pz_rules.specs.declared.pattern.Item.{Item}
+use Rattle.pz_rules.specs.declared.instance.Instance.{Instance}
+use Rattle.pz_rules.specs.Equal.{same_item, has_item, within_cell, same_cell, cells_agree, same_row, rows_agree, same_rows, same_instance}
+use Rattle.pz_rules.specs.Marks.{direction_number, item_mark, cell_mark, with_cell, with_row, with_rows, mark_of, spread_once}
+use Rattle.pz_rules.specs.Pattern.{RuleRow}
+use Rattle.pz_rules.specs.Same.{same_dir}
+use Rattle.pz_rules.proofs.Directions.{same_dir_is}
+use Rattle.pz_rules.proofs.EqualLemmas.{same_item_is}
+
+xor_swap : (a b c : ℕ) → bit_xor a (bit_xor b c) ≡ bit_xor b (bit_xor a c)
+xor_swap a b c = sym (xor_assoc a b c) ∙ ap (λ n. bit_xor n c) (xor_comm a b) ∙ xor_assoc b a c
+
+same_item-back : (x y : Item) → same_item x y ≡ true → same_item y x ≡ true
+same_item-back x y h = let e : x ≡ y = same_item_is x y h in cc
+
+-- the items of a cell that aren't this one
+abbrev without : Item → List Item → List Item
+without x items = filter (λ y. not (same_item y x)) items
+
+without-kept : (x y : Item) (ys : List Item) → same_item y x ≡ false → without x (y ∷ ys) ≡ y ∷ without x ys
+without-kept x y ys e = cond-true (not (same_item y x)) (y ∷ without x ys) (without x ys) (not_from_false (same_item y x) e)
+
+without-dropped : (x y : Item) (ys : List Item) → same_item y x ≡ true → without x (y ∷ ys) ≡ without x ys
+without-dropped x y ys e = cond-false (not (same_item y x)) (y ∷ without x ys) (without x ys) (not_from_true (same_item y x) e)
+
+without-none : (x : Item) (ys : List Item) → has_item ys x ≡ false → without x ys ≡ ys
+unfolding has_item
+without-none x [] h = refl
+without-none x (y ∷ ys) h =
+    let r = or_parts (same_item y x) (list_any (λ z. same_item z x) ys) h in
+    without-kept x y ys r.0 ∙ ap (λ l. y ∷ l) (without-none x ys r.1)
+
+-- another item is found as before
+has_item-without : (x y : Item) (zs : List Item) → same_item y x ≡ false → has_item (without x zs) y ≡ has_item zs y
+unfolding has_item
+has_item-without x y [] n = refl
+has_item-without x y (z ∷ zs) n =
+    let more = has_item-without x y zs n in
+    ⊎_elim
+    (λ e.
+    let apart : same_item z y ≡ false = false_from_ne_true (same_item z y) (λ h. false≢true (sym n ∙ subst (λ w. same_item w x ≡ true) (same_item_is z y h) e)) in
+    ap (λ l. has_item l y) (without-dropped x z zs e) ∙ more ∙ sym (ap (λ b. b || has_item zs y) apart))
+    (λ e. ap (λ l. has_item l y) (without-kept x z zs e) ∙ ap (λ b. same_item z y || b) more)
+    (cases_Bool (same_item z x))
+
+-- the mark of a cell is that of one item and that of the others
+cell_mark-taken : (x : Item) (ys : List Item) → has_item ys x ≡ true → cell_mark ys ≡ bit_xor (item_mark x) (cell_mark (without x ys))
+unfolding has_item
+cell_mark-taken x [] h = absurd (false≢true h)
+cell_mark-taken x (y ∷ ys) h =
+    let others = without x ys in
+    ⊎_elim
+    (λ e.
+    let is : y ≡ x = same_item_is y x e in
+    let dropped = without-dropped x y ys e in
+    ⊎_elim
+    (λ again.
+    cond-true (has_item ys y) (cell_mark ys) (bit_xor (item_mark y) (cell_mark ys)) (subst (λ w. has_item ys w ≡ true) (sym is) again)
+    ∙ cell_mark-taken x ys again ∙ ap (λ l. bit_xor (item_mark x) (cell_mark l)) (sym dropped))
+    (λ never.
+    cond-false (has_item ys y) (cell_mark ys) (bit_xor (item_mark y) (cell_mark ys)) (subst (λ w. has_item ys w ≡ false) (sym is) never)
+    ∙ ap (λ w. bit_xor (item_mark w) (cell_mark ys)) is
+    ∙ ap (λ l. bit_xor (item_mark x) (cell_mark l)) (sym (dropped ∙ without-none x ys never)))
+    (cases_Bool (has_item ys x)))
+    (λ e.
+    let later : has_item ys x ≡ true = sym (ap (λ b. b || has_item ys x) e) ∙ h in
+    let kept = without-kept x y ys e in
+    let alike : has_item others y ≡ has_item ys y = has_item-without x y ys e in
+    ⊎_elim
+    (λ again.
+    cond-true (has_item ys y) (cell_mark ys) (bit_xor (item_mark y) (cell_mark ys)) again ∙ cell_mark-taken x ys later
+    ∙ ap (bit_xor (item_mark x)) (sym (ap cell_mark kept ∙ cond-true (has_item others y) (cell_mark others) (bit_xor (item_mark y) (cell_mark others)) (alike ∙ again))))
+    (λ never.
+    cond-false (has_item ys y) (cell_mark ys) (bit_xor (item_mark y) (cell_mark ys)) never ∙ ap (bit_xor (item_mark y)) (cell_mark-taken x ys later)
+    ∙ xor_swap (item_mark y) (item_mark x) (cell_mark others)
+    ∙ ap (bit_xor (item_mark x)) (sym (ap cell_mark kept ∙ cond-false (has_item others y) (cell_mark others) (bit_xor (item_mark y) (cell_mark others)) (alike ∙ never))))
+    (cases_Bool (has_item ys y)))
+    (cases_Bool (same_item y x))
+
+-- an item that stands there again may be left out
+within_cell-shorter : (x : Item) (xs ys : List Item) → has_item xs x ≡ true → within_cell ys (x ∷ xs) ≡ true → within_cell ys xs ≡ true
+unfolding within_cell has_item
+within_cell-shorter x xs [] again h = refl
+within_cell-shorter x xs (y ∷ ys) again h =
+    let r = and_parts (has_item (x ∷ xs) y) (within_cell ys (x ∷ xs)) h in
+    and_from (has_item xs y) (within_cell ys xs)
+    (⊎_elim (λ e. subst (λ w. has_item xs w ≡ true) (same_item_is x y e) again) (λ e. e) (or_cases (same_item x y) (has_item xs y) r.0))
+    (within_cell-shorter x xs ys again r.1)
+
+-- cells without x stand within what is left of a cell
+within_cell-without : (x : Item) (xs ys : List Item) → has_item xs x ≡ false → within_cell xs ys ≡ true → within_cell xs (without x ys) ≡ true
+unfolding within_cell has_item
+within_cell-without x [] ys never h = refl
+within_cell-without x (y ∷ xs) ys never h =
+    let r = or_parts (same_item y x) (has_item xs x) never in
+    let s = and_parts (has_item ys y) (within_cell xs ys) h in
+    and_from (has_item (without x ys) y) (within_cell xs (without x ys)) (has_item-without x y ys r.0 ∙ s.0) (within_cell-without x xs ys r.1 s.1)
+
+without-within_cell : (x : Item) (xs ys : List Item) → within_cell ys (x ∷ xs) ≡ true → within_cell (without x ys) xs ≡ true
+unfolding within_cell has_item
+without-within_cell x xs [] h = refl
+without-within_cell x xs (y ∷ ys) h =
+    let r = and_parts (has_item (x ∷ xs) y) (within_cell ys (x ∷ xs)) h in
+    let more = without-within_cell x xs ys r.1 in
+    ⊎_elim
+    (λ e. ap (λ l. within_cell l xs) (without-dropped x y ys e) ∙ more)
+    (λ e.
+    let there : has_item xs y ≡ true =
+    ⊎_elim (λ same. absurd (false≢true (sym e ∙ same_item-back x y same))) (λ later. later) (or_cases (same_item x y) (has_item xs y) r.0) in
+    ap (λ l. within_cell l xs) (without-kept x y ys e) ∙ and_from (has_item xs y) (within_cell (without x ys) xs) there more)
+    (cases_Bool (same_item y x))
+
+cell_mark-within : (a b : List Item) → within_cell a b ≡ true → within_cell b a ≡ true → cell_mark a ≡ cell_mark b
+unfolding within_cell has_item
+cell_mark-within [] [] p q = refl
+cell_mark-within [] (y ∷ ys) p q = absurd (false≢true q)
+cell_mark-within (x ∷ xs) b p q =
+    let r = and_parts (has_item b x) (within_cell xs b) p in
+    ⊎_elim
+    (λ again.
+    cond-true (has_item xs x) (cell_mark xs) (bit_xor (item_mark x) (cell_mark xs)) again
+    ∙ cell_mark-within xs b r.1 (within_cell-shorter x xs b again q))
+    (λ never.
+    cond-false (has_item xs x) (cell_mark xs) (bit_xor (item_mark x) (cell_mark xs)) never
+    ∙ ap (bit_xor (item_mark x)) (cell_mark-within xs (without x b) (within_cell-without x xs b never r.1) (without-within_cell x xs b q))
+    ∙ sym (cell_mark-taken x b r.0))
+    (cases_Bool (has_item xs x))
+
+cell_mark-same : (a b : List Item) → same_cell a b ≡ true → cell_mark a ≡ cell_mark b
+unfolding same_cell
+cell_mark-same a b h = let r = and_parts (within_cell a b) (within_cell b a) h in cell_mark-within a b r.0 r.1
+
+with_cells-same : (mark : ℕ) (a b : List (List Item)) → length a ≡ length b → cells_agree a b ≡ true → fold with_cell mark a ≡ fold with_cell mark b
+unfolding cells_agree with_cell
+with_cells-same mark [] [] n h = refl
+with_cells-same mark [] (y ∷ ys) n h = cc
+with_cells-same mark (x ∷ xs) [] n h = cc
+with_cells-same mark (x ∷ xs) (y ∷ ys) n h =
+    let r = and_parts (same_cell x y) (list_all (λ e. same_cell e.0 e.1) (zip xs ys)) h in
+    ap (λ c. fold with_cell (spread_once (bit_xor mark c)) xs) (cell_mark-same x y r.0) ∙ with_cells-same (with_cell mark y) xs ys (cc) r.1
+
+with_row-same : (mark : ℕ) (a b : RuleRow) → same_row a b ≡ true → with_row mark a ≡ with_row mark b
+unfolding same_row with_row
+with_row-same mark a b h =
+    let r = and_parts (length a.cells == length b.cells) (cells_agree a.cells b.cells) h in
+    with_cells-same mark a.cells b.cells (eqb-true (length a.cells) (length b.cells) r.0) r.1
+
+rows_agree-marks : (mark : ℕ) (a b : List RuleRow) → length a ≡ length b → rows_agree a b ≡ true → fold with_row mark a ≡ fold with_row mark b
+unfolding rows_agree
+rows_agree-marks mark [] [] n h = refl
+rows_agree-marks mark [] (y ∷ ys) n h = cc
+rows_agree-marks mark (x ∷ xs) [] n h = cc
+rows_agree-marks mark (x ∷ xs) (y ∷ ys) n h =
+    let r = and_parts (same_row x y) (list_all (λ e. same_row e.0 e.1) (zip xs ys)) h in
+    ap (λ m. fold with_row m xs) (with_row-same mark x y r.0) ∙ rows_agree-marks (with_row mark y) xs ys (cc) r.1
+
+with_rows-same : (mark : ℕ) (a b : List RuleRow) → same_rows a b ≡ true → with_rows mark a ≡ with_rows mark b
+unfolding same_rows with_rows
+with_rows-same mark a b h =
+    let r = and_parts (length a == length b) (rows_agree a b) h in
+    rows_agree-marks mark a b (eqb-true (length a) (length b) r.0) r.1
+
+pub mark_of-same : (a b : Instance) → same_instance a b ≡ true → mark_of a ≡ mark_of b
+unfolding same_instance mark_of
+mark_of-same a b h =
+    let r = and_parts (same_dir a.scan b.scan) (same_rows a.left b.left && same_rows a.right b.right) h in
+    let s = and_parts (same_rows a.left b.left) (same_rows a.right b.right) r.1 in
+    ap (λ d. with_rows (with_rows (direction_number d) a.left) a.right) (same_dir_is a.scan b.scan r.0)
+    ∙ ap (λ m. with_rows m a.right) (with_rows-same (direction_number b.scan) a.left b.left s.0)
+    ∙ with_rows-same (with_rows (direction_number b.scan) b.left) a.right b.right s.1

@@ -1,0 +1,52 @@
+-- Marks of instances: numbers that equal instances share, and few unequal ones do.
+use Rattle.std.specs.Prelude.{ℕ, ◌+◌, ◌*◌, ◌/◌, ◌%◌, ◌^◌, List, [], ◌∷◌, fold, if◌then◌else◌}
+use Rattle.std.specs.Int.RustNames.{bit_xor}
+use Rattle.pz_source.specs.declared.direction.Dir.{Dir}
+use Rattle.pz_source.specs.declared.direction.Dir.TheVariants.{Up, Down, Left, Right, Action}
+use Rattle.pz_rules.specs.declared.marks.TheConstants.{SPREADER}
+use Rattle.pz_rules.specs.declared.pattern.Word.{Word}
+use Rattle.pz_rules.specs.declared.pattern.Word.TheVariants.{Present, Still, Toward, Absent}
+use Rattle.pz_rules.specs.declared.pattern.Item.{Item}
+use Rattle.pz_rules.specs.declared.instance.Instance.{Instance}
+use Rattle.pz_rules.specs.Equal.{has_item}
+use Rattle.pz_rules.specs.Pattern.{RuleRow}
+
+abbrev pub direction_number : Dir → ℕ
+direction_number Up = 0
+direction_number Down = 1
+direction_number Left = 2
+direction_number Right = 3
+direction_number Action = 4
+
+abbrev pub word_number : Word → ℕ
+word_number (Toward direction) = direction_number direction
+word_number Present = 5
+word_number Still = 6
+word_number Absent = 7
+
+-- a product as a word of 64 bits keeps it
+abbrev pub spread_once : ℕ → ℕ
+spread_once number = number * SPREADER % 2 ^ 64
+
+abbrev pub spread : ℕ → ℕ
+spread number = spread_once (bit_xor (spread_once number) (spread_once number / 2 ^ 32))
+
+unfoldable pub item_mark : Item → ℕ
+item_mark item = spread ((item.object * 8 % 2 ^ 64 + word_number item.word) % 2 ^ 64)
+
+-- of an item that stands in a cell more than once, one counts
+abbrev pub cell_mark : List Item → ℕ
+cell_mark [] = 0
+cell_mark (x ∷ xs) = if has_item xs x then cell_mark xs else bit_xor (item_mark x) (cell_mark xs)
+
+unfoldable pub with_cell : ℕ → List Item → ℕ
+with_cell mark cell = spread_once (bit_xor mark (cell_mark cell))
+
+unfoldable pub with_row : ℕ → RuleRow → ℕ
+with_row mark row = fold with_cell mark row.cells
+
+unfoldable pub with_rows : ℕ → List RuleRow → ℕ
+with_rows mark rows = fold with_row mark rows
+
+unfoldable pub mark_of : Instance → ℕ
+mark_of instance = with_rows (with_rows (direction_number instance.scan) instance.left) instance.right

@@ -1,0 +1,103 @@
+//! Marks of instances: equal instances have the same mark, and few unequal ones do.
+
+ghost use Rattle.std.specs.Prelude.{◌≡◌, fold};
+ghost use Rattle.pz_rules.specs.Marks.{direction_number, word_number, spread, item_mark, cell_mark, with_cell, with_row, with_rows, mark_of};
+
+use crate::equal::has_item;
+use crate::instance::Instance;
+use crate::pattern::{Item, Pattern, Row, Word};
+use pz_source::direction::Dir;
+
+/// An odd number, by which a product spreads what it is multiplied with.
+const SPREADER: u64 = 0x9e37_79b9_7f4a_7c15;
+
+fn direction_number(direction: Dir) -> u64
+    ensures { result ≡ direction_number direction }
+{
+    match direction {
+        Dir::Up => 0,
+        Dir::Down => 1,
+        Dir::Left => 2,
+        Dir::Right => 3,
+        Dir::Action => 4,
+    }
+}
+
+/// A number of its own for each word, below 8.
+fn word_number(word: Word) -> u64
+    ensures { result ≡ word_number word }
+{
+    match word {
+        Word::Toward(direction) => direction_number(direction),
+        Word::Present => 5,
+        Word::Still => 6,
+        Word::Absent => 7,
+    }
+}
+
+/// A number with its bits spread over a whole word.
+fn spread(number: u64) -> u64
+    ensures { result ≡ spread number }
+{
+    let once = number.wrapping_mul(SPREADER);
+    (once ^ (once >> 32)).wrapping_mul(SPREADER)
+}
+
+#[tactic(auto, unfolding(crate::specs::Marks::item_mark))]
+fn item_mark(item: &Item) -> u64
+    ensures { result ≡ item_mark item.now }
+{
+    spread(
+        (item.object as u64)
+            .wrapping_mul(8)
+            .wrapping_add(word_number(item.word)),
+    )
+}
+
+/// The mark of a cell: it doesn't tell the order of the items, nor how often one stands there.
+fn cell_mark(items: &[Item]) -> u64
+    ensures { result ≡ cell_mark items.now }
+{
+    let mut mark = 0;
+    let mut rest = items;
+    while let Some((item, others)) = rest.split_first() {
+        if !has_item(others, item) {
+            mark ^= item_mark(item);
+        }
+        rest = others;
+    }
+    mark
+}
+
+/// The mark of some cells, and of one more behind them.
+#[tactic(auto, unfolding(crate::specs::Marks::with_cell))]
+fn with_cell(mark: u64, cell: &Pattern) -> u64
+    ensures { result ≡ with_cell mark cell.now }
+{
+    (mark ^ cell_mark(cell.items())).wrapping_mul(SPREADER)
+}
+
+#[tactic(auto, unfolding(crate::specs::Marks::with_row))]
+fn with_row(mark: u64, row: &Row) -> u64
+    ensures { result ≡ with_row mark row.now }
+{
+    row.cells()
+        .iter()
+        .fold(mark, |mark, cell| with_cell(mark, cell))
+}
+
+#[tactic(auto, unfolding(crate::specs::Marks::with_rows))]
+fn with_rows(mark: u64, rows: &[Row]) -> u64
+    ensures { result ≡ with_rows mark rows.now }
+{
+    rows.iter().fold(mark, |mark, row| with_row(mark, row))
+}
+
+/// The mark of an instance.
+#[tactic(auto, unfolding(crate::specs::Marks::mark_of))]
+pub fn mark_of(instance: &Instance) -> u64
+    ensures { result ≡ mark_of instance.now }
+{
+    let left = with_rows(direction_number(instance.scan), instance.left.items());
+    with_rows(left, instance.right.items())
+}
