@@ -48,7 +48,8 @@ impl Model for Level {
 impl Level {
     /// The same level once more. Err: memory was refused.
     pub fn copy(&self) -> Result<Level, AllocError>
-        ensures { IfOk result (λ level. level.grid ≡ self.now.grid) }
+        ensures copied { IfOk result (λ level. level.grid ≡ self.now.grid) }
+        ensures lawful { IfOk result (λ level. IsLawful level.grid) }
     {
         let layers = self.layers.clone()?;
         let cells = self.cells.clone()?;

@@ -4,6 +4,7 @@ ghost use Rattle.std.specs.Prelude.{◌≡◌, ◌<◌, IfOk, All, length, map, 
 ghost use Rattle.pz_source.specs.Level.{is_playable};
 ghost use Rattle.pz_source.specs.Game.{background_of};
 ghost use Rattle.pz_grid.specs.Cell.{IsOnLayer};
+ghost use Rattle.pz_grid.specs.Grid.{IsLawful};
 ghost use Rattle.pz_grid.specs.Loading.{with_object, glyph_cell, drawn, first_in_column, first_on, filled_cell, filled, with_background, entry_at, loaded_from, loaded};
 
 use crate::Level;
@@ -16,7 +17,8 @@ impl Level {
     /// The level of the entry of LEVELS of a number, which is not a message. Err: memory was refused.
     pub fn load(alloc: Global, game: &Game, index: usize) -> Result<Level, AllocError>
         requires { is_playable (entry_at game.now index) ≡ true }
-        ensures { IfOk result (λ level. level.grid ≡ loaded game.now index) }
+        ensures loaded { IfOk result (λ level. level.grid ≡ loaded game.now index) }
+        ensures lawful { IfOk result (λ level. IsLawful level.grid) }
     {
         match &game.levels()[index] {
             LevelEntry::Message => unreachable!(),
@@ -26,7 +28,8 @@ impl Level {
 
     fn load_from(alloc: Global, game: &Game, drawing: &DrawnLevel) -> Result<Level, AllocError>
         requires { All (λ number. number < length game.now.values) drawing.now.cells }
-        ensures { IfOk result (λ level. level.grid ≡ loaded_from game.now drawing.now) }
+        ensures loaded { IfOk result (λ level. level.grid ≡ loaded_from game.now drawing.now) }
+        ensures lawful { IfOk result (λ level. IsLawful level.grid) }
     {
         let object = background(game);
         let layer = game.layers()[object];
@@ -56,7 +59,8 @@ impl Level {
     fn lay_background(&mut self, layer: usize, object: u16)
         requires layer_in { layer < self.old.grid.depth }
         requires on_layer { (object < length self.old.grid.layers) × (slice_index self.old.grid.layers object ≡ layer) }
-        ensures { self.new.grid ≡ with_background layer object self.old.grid }
+        ensures laid { self.new.grid ≡ with_background layer object self.old.grid }
+        ensures lawful { IsLawful self.new.grid }
     {
         match self.first_on(layer) {
             Some(piece) => self.fill(layer, piece),
@@ -98,7 +102,8 @@ impl Level {
     fn fill(&mut self, layer: usize, piece: Piece)
         requires layer_in { layer < self.old.grid.depth }
         requires on_layer { (piece.object < length self.old.grid.layers) × (slice_index self.old.grid.layers piece.object ≡ layer) }
-        ensures { self.new.grid ≡ filled layer piece self.old.grid }
+        ensures filled { self.new.grid ≡ filled layer piece self.old.grid }
+        ensures lawful { IsLawful self.new.grid }
     {
         fill_cells(&mut self.cells, layer, piece);
     }

@@ -40,7 +40,7 @@ use Rattle.pz_source.specs.declared.level.LevelEntry.{LevelEntry}
 use Rattle.pz_source.specs.declared.level.LevelEntry.TheVariants.{Message, Level}
 use Rattle.pz_source.specs.declared.name_line.NameLine.{NameLine}
 use Rattle.pz_source.specs.declared.wins.WinLine.{WinLine}
-use Rattle.pz_source.proofs.LineLemmas.{IsWithin, Names, All-filter_map, lines_in-all, first_fault-within, or_else-within, unless-within, unless-ok, any-ok, and_then-within, cut-within}
+use Rattle.pz_source.proofs.LineLemmas.{IsWithin, Names, All-filter_map, lines_in-all, first_fault-within, or_else-within, unless-within, unless-ok, any-ok, and_then-within, cut-within, lines-all}
 
 module _ (n : ℕ) where
   -- OBJECTS
@@ -313,20 +313,13 @@ module _ (n : ℕ) where
       (unless-within n (misplaced_heading lines) whole (first_fault-within n number_of misplaces [] lines all)
       (unless-within n (missing_section lines) (Ok lines) (missing_section-within lines) tt))
 
-  lines-within : (text : List ℕ) → All (IsWithin n) (cut (chars text)) → IfOk (lines_of text) (All (IsWithin n))
-  lines-within text all =
-      let lines = cut (chars text) in
-      let whole : Result (List Line) SourceFault = unless (missing_section lines) (Ok lines) in
-      unless-ok (All (IsWithin n)) (too_long text) (unless (misplaced_heading lines) whole)
-      (unless-ok (All (IsWithin n)) (misplaced_heading lines) whole (unless-ok (All (IsWithin n)) (missing_section lines) (Ok lines) all))
-
 -- the fault of a text names a line of it, or 0
 pub source-fault : (text : List ℕ) → IfErr (source_of text) (Names (line_count text))
 unfolding source_of
 source-fault text =
     let n = line_count text in
     let all = cut-within (chars text) in
-    and_then-within n (All (IsWithin n)) game_of_lines (lines_of text) (lines-fault n text all) (lines-within n text all) (λ lines low. game_of_lines-fault n lines low)
+    and_then-within n (All (IsWithin n)) game_of_lines (lines_of text) (lines-fault n text all) (lines-all (IsWithin n) text all) (λ lines low. game_of_lines-fault n lines low)
 
 is_memory : (c : Code) → (c ≡ code.Memory) ⊎ (c ≢ code.Memory)
 is_memory code.Memory = inl refl

@@ -19,3 +19,4 @@ pub mod RoundLemmas
 pub mod SearchLemmas
 pub mod LineLemmas
 pub mod FaultLines
+pub mod RuleNumbers

@@ -1,12 +1,14 @@
 -- Bounds on the numbers of lines, and on the lines that faults name.
-use Rattle.std.proofs.Common.{ℕ, ◌+◌, ◌≤◌, ◌==◌, Bool, true, false, List, [], ◌∷◌, ◌++◌, length, Option, Some, None, IfSome, Result, Ok, Err, arith}
+use Rattle.std.proofs.Common.{ℕ, ◌+◌, ◌<◌, ◌≤◌, ◌==◌, Bool, true, false, List, [], ◌∷◌, ◌++◌, length, Option, Some, None, IfSome, Result, Ok, Err, arith}
 use Rattle.std.specs.Prelude.{is_some, unwrap_or, if◌then◌else◌, IfOk, IfErr}
 use Rattle.std.specs.Option.{option_map_or}
+use Rattle.std.specs.Str.{chars}
 use Rattle.std.specs.List.{All, filter_map, cons_option, slice_split}
 use Rattle.std.proofs.lemmas.List.Elements.{All-nil, All-cons, All-head, All-tail}
 use Rattle.pz_text.specs.Characters.{trimmed}
 use Rattle.pz_text.specs.Comment.{outside, depth_after}
 use Rattle.pz_text.specs.Heading.{heading_in}
+use Rattle.pz_text.specs.Check.{too_long, misplaced_heading, missing_section, lines_of}
 use Rattle.pz_text.specs.Cutting.{is_left_out, lines_from, cut}
 use Rattle.pz_text.specs.Section.{is_heading_of, before_heading, behind_heading, lines_in}
 use Rattle.pz_text.specs.Fault.{first_fault, or_else, unless, and_then}
@@ -55,23 +57,25 @@ IsWithin n line = line.number ≤ n
 abbrev pub Names : ℕ → SourceFault → Type 0
 Names n fault = fault.line ≤ n
 
-module _ (n : ℕ) where
-  lines_from-within : (section : Section) (depth number : ℕ) (raws : List (List ℕ)) → number + length raws ≤ n + 1 → All (IsWithin n) (lines_from section depth number raws)
-  lines_from-within section depth number [] room = All-nil (IsWithin n)
-  lines_from-within section depth number (raw ∷ more) room =
-      let line = trimmed raw in
-      let left = outside section true [] depth line in
-      let text = trimmed left in
-      let heading = heading_in section text in
-      let after = unwrap_or heading section in
-      let read : Line = record { number = number; section = after; is_heading = is_some heading; text = text } in
-      by (is_left_out depth line left text) read (omega arith) (lines_from after (depth_after section true [] depth line) (number + 1) more)
-      (lines_from-within after (depth_after section true [] depth line) (number + 1) more (omega arith))
-    where
-      by : (b : Bool) (read : Line) → read.number ≤ n → (rest : List Line) → All (IsWithin n) rest → All (IsWithin n) ((if b then [] else read ∷ []) ++ rest)
-      by true read low rest all = all
-      by false read low rest all = All-cons (IsWithin n) read rest low all
+-- the lines are numbered from the first on
+lines_from-numbered : (P : ℕ → Type 0) (section : Section) (depth number : ℕ) (raws : List (List ℕ)) → ((k : ℕ) → number ≤ k → k < number + length raws → P k)
+    → All (λ line. P line.number) (lines_from section depth number raws)
+lines_from-numbered P section depth number [] each = All-nil (λ (line : Line). P line.number)
+lines_from-numbered P section depth number (raw ∷ more) each =
+    let line = trimmed raw in
+    let left = outside section true [] depth line in
+    let text = trimmed left in
+    let heading = heading_in section text in
+    let after = unwrap_or heading section in
+    let read : Line = record { number = number; section = after; is_heading = is_some heading; text = text } in
+    by (is_left_out depth line left text) read (each number (omega arith) (omega arith)) (lines_from after (depth_after section true [] depth line) (number + 1) more)
+    (lines_from-numbered P after (depth_after section true [] depth line) (number + 1) more (λ k above below. each k (omega arith) (omega arith)))
+  where
+    by : (b : Bool) (read : Line) → P read.number → (rest : List Line) → All (λ line. P line.number) rest → All (λ line. P line.number) ((if b then [] else read ∷ []) ++ rest)
+    by true read here rest all = all
+    by false read here rest all = All-cons (λ (line : Line). P line.number) read rest here all
 
+module _ (n : ℕ) where
   pub first_fault-within : {A : Type 0} (at : A → ℕ) (names : List A → A → Option Code) (before xs : List A) → All (λ x. at x ≤ n) xs → IfSome (first_fault at names before xs) (Names n)
   first_fault-within at names before [] all = tt
   first_fault-within at names before (x ∷ xs) all =
@@ -104,6 +108,21 @@ pub any-ok : {A E : Type 0} (r : Result A E) → IfOk r (λ _. Unit {0})
 any-ok (Ok x) = tt
 any-ok (Err e) = tt
 
+-- what is read after something else passes a test
+pub and_then-ok : {A B : Type 0} (P : A → Type 0) (Q : B → Type 0) (next : A → Result B SourceFault) (r : Result A SourceFault) → IfOk r P → ((x : A) → P x → IfOk (next x) Q) → IfOk (and_then next r) Q
+and_then-ok P Q next (Ok x) read each = each x read
+and_then-ok P Q next (Err fault) read each = tt
+
 -- the lines of a text have the numbers of its lines
+pub cut-numbered : (P : ℕ → Type 0) (text : List ℕ) → ((k : ℕ) → 1 ≤ k → k ≤ length (slice_split (λ c. c == 10) text) → P k) → All (λ line. P line.number) (cut text)
+cut-numbered P text each = lines_from-numbered P Prelude 0 1 (slice_split (λ c. c == 10) text) (λ k above below. each k above (omega arith))
+
 pub cut-within : (text : List ℕ) → All (IsWithin (length (slice_split (λ c. c == 10) text))) (cut text)
-cut-within text = lines_from-within (length (slice_split (λ c. c == 10) text)) Prelude 0 1 (slice_split (λ c. c == 10) text) (omega arith)
+cut-within text = cut-numbered (λ k. k ≤ length (slice_split (λ c. c == 10) text)) text (λ k above below. below)
+
+-- and the lines that are read, if its headings are in order, are these
+pub lines-all : (P : Line → Type 0) (text : List ℕ) → All P (cut (chars text)) → IfOk (lines_of text) (All P)
+lines-all P text all =
+    let lines = cut (chars text) in
+    let whole : Result (List Line) SourceFault = unless (missing_section lines) (Ok lines) in
+    unless-ok (All P) (too_long text) (unless (misplaced_heading lines) whole) (unless-ok (All P) (misplaced_heading lines) whole (unless-ok (All P) (missing_section lines) (Ok lines) all))

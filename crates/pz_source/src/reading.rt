@@ -123,12 +123,13 @@ fn read_game_of_lines(alloc: Global, lines: &[Line]) -> Result<Game, SourceFault
 }
 
 /// The game of a source, or its first fault: the first check that names a line, at the least line that it names. Memory, with
-/// line 0, may come in place of either.
+/// line 0, may come in place of either. The rule lines of the game have the numbers of lines of the text, counted from 1.
 pub fn read_game(alloc: Global, text: &str) -> Result<Game, SourceFault>
     ensures read { IfOk result (λ game. source_of text.now ≡ Ok game) }
     ensures refused { IfErr result (λ fault. fault.code ≢ code.Memory → source_of text.now ≡ Err fault) }
     ensures whole { IfErr result (λ fault. fault.code ≡ code.Memory → fault.line ≡ 0) }
     ensures lined { IfErr result (λ fault. fault.line ≤ line_count text.now) }
+    ensures ruled { IfOk result (λ game. All (λ line. 1 ≤ line.number × line.number ≤ line_count text.now) game.rules) }
 {
     let lines = read_lines(alloc, text)?;
     read_game_of_lines(alloc, lines.as_slice())

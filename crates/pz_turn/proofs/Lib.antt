@@ -6,5 +6,6 @@ pub mod Passes
 pub mod Resting
 pub mod Taking
 pub mod Unchanged
+pub mod Stops
 pub mod Stepping
 pub mod WorkedTurns

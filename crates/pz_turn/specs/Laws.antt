@@ -1,13 +1,18 @@
--- Laws of instances and groups.
-use Rattle.std.specs.Prelude.{◌≡◌, ◌*◌, ℕ, List, [], ◌∷◌, length, map, true, false, Ok}
+-- Laws of instances, groups and steps.
+use Rattle.std.specs.Prelude.{◌≡◌, ◌≢◌, ◌*◌, ℕ, List, [], ◌∷◌, length, map, true, false, Option, Ok, Err}
+use Rattle.pz_source.specs.declared.direction.Dir.{Dir}
+use Rattle.pz_source.specs.Game.{GameView}
 use Rattle.pz_rules.specs.declared.instance.Instance.{Instance}
+use Rattle.pz_rules.specs.declared.instance.Program.{Program}
 use Rattle.pz_grid.specs.declared.places.Place.{Place}
 use Rattle.pz_grid.specs.Grid.{Grid}
+use Rattle.pz_turn.specs.declared.outcome.StepFault.TheVariants.{Memory}
 use Rattle.pz_turn.specs.declared.rest.TheConstants.{PASSES}
 use Rattle.pz_turn.specs.Combinations.{combinations}
 use Rattle.pz_turn.specs.Instance.{applied}
 use Rattle.pz_turn.specs.Outcome.{Outcome}
 use Rattle.pz_turn.specs.Rest.{pass_of, rest_of, rests}
+use Rattle.pz_turn.specs.Step.{step_of}
 
 abbrev pub product_of : List ℕ → ℕ
 product_of [] = 1
@@ -24,3 +29,7 @@ QuietPassLeaves = (group : List Instance) (grid : Grid) (end : Outcome Grid) →
 -- one more pass over a group that has come to rest changes nothing and doesn't stop
 abbrev pub RestLasts : Type 0
 RestLasts = (group : List Instance) (grid : Grid) (end : Outcome Grid) → rest_of PASSES (pass_of applied group) grid ≡ Ok end → rests (pass_of applied group end.level) ≡ true
+
+-- want of memory stops a run alone: no step ends with it
+abbrev pub NeverEndsForMemory : Type 0
+NeverEndsForMemory = (game : GameView) (program : Program) (grid : Grid) (input : Option Dir) → step_of game program grid input ≢ Err Memory

@@ -1,6 +1,6 @@
 //! Laws of turns, each proved as what a function without a body ensures.
 
-ghost use Rattle.pz_turn.specs.Laws.{IsCounted, QuietPassLeaves, RestLasts};
+ghost use Rattle.pz_turn.specs.Laws.{IsCounted, QuietPassLeaves, RestLasts, NeverEndsForMemory};
 
 /// There are as many combinations as the product of the numbers of places says.
 pub fn combinations_are_counted()
@@ -15,4 +15,9 @@ pub fn quiet_pass_leaves()
 /// A group that has come to rest stays at rest: one more pass changes nothing.
 pub fn rest_lasts()
     ensures { RestLasts }
+{}
+
+/// By the definition a step never ends for want of memory: that fault is of a run alone.
+pub fn steps_never_end_for_memory()
+    ensures { NeverEndsForMemory }
 {}

@@ -7,9 +7,9 @@ use Rattle.pz_grid.specs.Loading.{entry_at, drawing_of, loaded_from}
 use Rattle.pz_grid.proofs.LoadingLemmas.{playable_within}
 use Rattle.pz_grid.proofs.Level.load.Goals as goal
 
-pub returns : goal.returns
-returns c =
+pub returns-clause-loaded : goal.returns-clause-loaded
+returns-clause-loaded c =
     let game = c.args.game.now in
     let entry = c.index-levels-index.result in
     let is : entry_at game c.args.index ≡ Level c.in-Level.drawing = get_or_default game.levels c.args.index Message entry (playable_within game c.args.index c.requires) ∙ ap (λ (all : List LevelEntry). get_or all c.args.index entry) (sym c.levels.ensures.levels) ∙ sym c.index-levels-index.is ∙ c.in-Level.is in
-    subst (λ (e : LevelEntry). IfOk c.load_from.result (λ level. level.grid ≡ loaded_from game (drawing_of e))) (sym is) c.load_from.ensures
+    subst (λ (e : LevelEntry). IfOk c.load_from.result (λ level. level.grid ≡ loaded_from game (drawing_of e))) (sym is) c.load_from.ensures.loaded

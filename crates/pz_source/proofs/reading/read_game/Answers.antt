@@ -5,6 +5,7 @@ use Rattle.pz_text.specs.Fault.{and_then}
 use Rattle.pz_text.specs.declared.fault.Code.TheVariants as code
 use Rattle.pz_source.specs.Reading.{source_of, game_of_lines}
 use Rattle.pz_source.proofs.FaultLines.{line-within, result-within}
+use Rattle.pz_source.proofs.RuleNumbers.{result-ruled}
 use Rattle.pz_source.proofs.reading.read_game.Goals as goal
 
 pub returns-in_err-lines-clause-refused : goal.returns-in_err-lines-clause-refused
@@ -33,3 +34,6 @@ returns-in_err-lines-clause-lined c =
 
 pub returns-clause-lined : goal.returns-clause-lined
 returns-clause-lined c = result-within c.args.text.now c.read_game_of_lines.result (returns-clause-refused c) c.read_game_of_lines.ensures.whole
+
+pub returns-clause-ruled : goal.returns-clause-ruled
+returns-clause-ruled c = result-ruled c.args.text.now c.read_game_of_lines.result (returns-clause-read c)

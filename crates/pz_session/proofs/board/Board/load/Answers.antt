@@ -7,8 +7,8 @@ pub invariant_of-result : goal.invariant_of-result
 invariant_of-result c = record {
   program = c.requires.program_of;
   entry = c.requires.within;
-  level = loaded_of_game c.args.game.now c.args.entry c.in_ok-level.level.grid c.in_ok-level.ensures;
-  target = loaded_of_game c.args.game.now c.args.entry c.in_ok-target.target.grid (c.in_ok-target.ensures ∙ c.in_ok-level.ensures);
+  level = loaded_of_game c.args.game.now c.args.entry c.in_ok-level.level.grid c.in_ok-level.ensures.loaded;
+  target = loaded_of_game c.args.game.now c.args.entry c.in_ok-target.target.grid (c.in_ok-target.ensures.copied ∙ c.in_ok-level.ensures.loaded);
   past = none_past (IsOfGame c.args.game.now) (λ (level : LevelState). level.grid) c.new.result.items c.new.ensures.items;
   before = tt;
 }
