@@ -1,0 +1,5 @@
+pub mod Answers
+pub mod Holders
+pub mod Rule
+pub mod Steps
+pub mod View

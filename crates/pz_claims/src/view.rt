@@ -1,0 +1,14 @@
+use std::collections::LinkedList;
+
+/// What a holder of a claim table knows. Proofs alone have such values: none is ever made. Each but the last begins with the number of
+/// numbers of the table, and the numbers that its holder has.
+pub enum View {
+    /// The maker, with how many seats it made and how many it joined.
+    Making(u64, LinkedList<u64>, u64, u64),
+    /// A seat that may claim.
+    Claiming(u64, LinkedList<u64>),
+    /// A seat that found the word at the number of numbers or above.
+    Ended(u64, LinkedList<u64>),
+    /// What stays of a seat that was joined.
+    Spent,
+}
