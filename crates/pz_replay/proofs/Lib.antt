@@ -1,3 +1,11 @@
-pub mod Texts
-pub mod Sent
+pub mod Completing
+pub mod Crewing
 pub mod Cut
+pub mod Finishing
+pub mod Gathering
+pub mod Named
+pub mod Sending
+pub mod Sent
+pub mod Settling
+pub mod Texts
+pub mod Visiting

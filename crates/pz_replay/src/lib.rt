@@ -1,11 +1,16 @@
 //! The recording of a job, and its text: one line for each item, in the order of the sessions.
 #![tactic(auto)]
 
+mod crew;
 pub mod fault;
+pub mod gate;
+pub mod lane;
 mod line;
 mod naming;
+mod recorder;
 pub mod recording;
 pub mod replaying;
 #[cfg(test)]
 mod tests;
+pub mod work;
 pub mod writing;

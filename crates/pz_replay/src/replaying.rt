@@ -1,36 +1,98 @@
-//! The replay of a job.
+//! The replay of a job, by several workers.
 
-ghost use Rattle.std.specs.Prelude.{◌≡◌, IfOk};
-ghost use Rattle.pz_replay.specs.Recording.{shown_by, recording};
+ghost use Rattle.std.specs.Prelude.{◌≡◌, ◌≢◌, ◌↔◌, ◌⊎◌, ◌<◌, ◌≤◌, [], length, replicate, Err, IfOk};
+ghost use Rattle.pz_replay.specs.Crew.{IsAll};
+ghost use Rattle.pz_replay.specs.Pieces.{sessions_of};
+ghost use Rattle.pz_replay.specs.Recording.{recording};
 
+use crate::crew::all_started;
+use crate::fault::ReplayFault;
+use crate::gate::Gate;
+use crate::recorder::Sessions;
 use crate::recording::{Record, Recording};
-use pz_session::case::Case;
+use pz_claims::{Claims, Maker};
 use pz_session::job::Job;
-use pz_session::run::frames;
 use pz_text::listed::Listed;
 use pz_text::text::Text;
 use std::alloc::{AllocError, Global};
+use std::sync::Wait;
+use std::thread;
+use std::thread::Threads;
 
-/// What the session of a case shows.
-fn record(alloc: Global, case: &Case) -> Result<Record, AllocError>
-    ensures { IfOk result (λ shown. shown ≡ shown_by case.now) }
-{
-    let name = Text::of_str(alloc, case.name.as_str())?;
-    let items = frames(alloc, case)?;
-    Ok(Record {
-        name,
-        items: Listed::new(items),
-    })
-}
+/// How many messages a lane holds at once.
+const CAPACITY: usize = 64;
 
-/// What every session of a job shows, by session number. The sessions are played in the calling thread.
-pub fn replay(alloc: Global, job: &Job) -> Result<Recording, AllocError>
-    ensures { IfOk result (λ shown. shown ≡ recording job.now) }
+/// The most workers that play a job.
+const MOST_WORKERS: usize = 64;
+
+/// The records of a job, from the items of its sessions.
+fn named(alloc: Global, job: &Job, sessions: Sessions) -> Result<Recording, AllocError>
+    requires { sessions ≡ sessions_of job.now }
+    ensures { IfOk result (λ records. records ≡ recording job.now) }
 {
     let mut records = Vec::new(alloc);
-    for session in 0..job.len() {
-        let shown = record(alloc, job.case(session))?;
-        records.push(shown)?;
+    for items in sessions.into_items() {
+        let case = job.case(records.len());
+        records.push(Record {
+            name: Text::of_str(alloc, case.name.as_str())?,
+            items: Listed::new(items),
+        })?;
     }
     Ok(Recording::new(records))
+}
+
+/// What every session of a job shows, by session number. So many workers play the sessions, each over a lane that holds `capacity` messages.
+pub fn replay_with<R: Threads + Wait + Sync, G: Gate + Sync>(
+    rt: &R,
+    alloc: Global,
+    job: &Job,
+    workers: usize,
+    capacity: usize,
+    gate: &G,
+) -> Result<Recording, ReplayFault>
+    requires capacity { 1 ≤ capacity }
+    ensures workers { (result ≡ Err ReplayFault.Workers) ↔ ((workers ≡ 0) ⊎ (64 < workers)) }
+    ensures recording { IfOk result (λ r. r ≡ recording job.now) }
+    ensures opened { G.lets_all_pass gate.now → result ≢ Err ReplayFault.GateClosed }
+{
+    if workers == 0 || workers > MOST_WORKERS {
+        return Err(ReplayFault::Workers);
+    }
+    let Ok(blank) = Sessions::blank(alloc, job.len()) else {
+        return Err(ReplayFault::Memory);
+    };
+    let Ok((claims, maker)) = Claims::new(alloc, job.len()) else {
+        return Err(ReplayFault::Memory);
+    };
+    let table = &claims;
+    let all = thread::scope(
+        thread::scope_env(),
+        rt,
+        |scope| -> Result<(Maker, Sessions), ReplayFault>
+            requires { (1 ≤ capacity) × (1 ≤ workers) × (workers ≤ 64) × (maker.of ≡ table.now) × (maker.made ≡ 0) × (maker.joined ≡ 0) × (maker.numbers ≡ []) × (table.now.total ≡ length job.now) × (blank ≡ replicate (length job.now) []) }
+            ensures { IfOk result (λ made. IsAll (sessions_of job.entry.now) table.entry.now workers made.0 made.1) × (G.lets_all_pass gate.entry.now → result ≢ Err ReplayFault.GateClosed) × (result ≢ Err ReplayFault.Workers) }
+        {
+            all_started(
+                scope, rt, alloc, table, maker, job, gate, workers, capacity, blank,
+            )
+        },
+    );
+    let (maker, sessions) = all?;
+    claims.close(maker);
+    named(alloc, job, sessions).map_err(|_| ReplayFault::Memory)
+}
+
+/// What every session of a job shows, by session number, played by so many workers.
+pub fn replay<R: Threads + Wait + Sync, G: Gate + Sync>(
+    rt: &R,
+    alloc: Global,
+    job: &Job,
+    workers: usize,
+    gate: &G,
+) -> Result<Recording, ReplayFault>
+    ensures workers { (result ≡ Err ReplayFault.Workers) ↔ ((workers ≡ 0) ⊎ (64 < workers)) }
+    ensures recording { IfOk result (λ r. r ≡ recording job.now) }
+    ensures opened { G.lets_all_pass gate.now → result ≢ Err ReplayFault.GateClosed }
+{
+    replay_with(rt, alloc, job, workers, CAPACITY, gate)
 }

@@ -1,3 +1,7 @@
+mod lane;
+mod replaying;
+mod work;
+
 use crate::fault::{Cause, WriteFault};
 use crate::recording::{Record, Recording};
 use crate::writing::write_recording;

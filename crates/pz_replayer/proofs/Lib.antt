@@ -1,3 +1,4 @@
 pub mod Numbers
 pub mod Deciding
 pub mod Reported
+mod Ended

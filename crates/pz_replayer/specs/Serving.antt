@@ -16,7 +16,7 @@ use Rattle.pz_replay.specs.declared.recording.Record.{Record}
 use Rattle.pz_replay.specs.Lines.{text_of}
 use Rattle.pz_replay.specs.Recording.{recording}
 use Rattle.pz_replayer.specs.declared.refusal.Refusal.{Refusal}
-use Rattle.pz_replayer.specs.declared.refusal.Refusal.TheVariants.{Memory, BadLine, OpenFault, ReadFault, File, WriteFault}
+use Rattle.pz_replayer.specs.declared.refusal.Refusal.TheVariants.{Memory, BadLine, OpenFault, ReadFault, File, LaneLost, WriteFault}
 
 -- the entries that the bytes of a file hold, or its first fault: its length, that it is UTF-8, what it says
 unfoldable pub sessions_in : List ℕ → Result (List Entry) FileFault
@@ -80,6 +80,7 @@ refusal_line BadLine = codes "bad command line\n"
 refusal_line OpenFault = codes "open-fault\n"
 refusal_line ReadFault = codes "read-fault\n"
 refusal_line (File cause) = file_line cause
+refusal_line LaneLost = codes "lane-lost\n"
 refusal_line (WriteFault count) = codes "write-fault " ++ decimal count ++ codes "\n"
 
 -- a refusal's line goes out, or a front of it where that writer fails

@@ -1,7 +1,8 @@
 //! The reading of a file.
 
-ghost use Rattle.std.specs.Prelude.{◌≡◌, ◌≤◌, IfOk, IfErr, IfSome, length};
+ghost use Rattle.std.specs.Prelude.{◌≡◌, ◌≤◌, ◌+◌, IfOk, IfErr, IfSome, length};
 
+use crate::counted::Counted;
 use std::alloc::Global;
 use std::io::Read;
 
@@ -16,12 +17,16 @@ pub enum InputFault {
 /// One byte more than an input may have.
 const MOST: usize = 16_777_217;
 
-/// Reads to the end, or to one byte past the longest input. A read that answers an error ends it at once, and each other read
-/// takes a byte, so that the reader is called at most 16,777,217 times.
-pub(crate) fn read_input<R: Read>(alloc: Global, input: &mut R) -> Result<Vec<u8>, InputFault>
-    ensures whole { IfOk result (λ bytes. IfSome (R.remaining input.old) (λ all. bytes.items ≡ all)) }
+/// Reads to the end, or to one byte past the longest input. A read that answers an error ends it at once.
+pub(crate) fn read_input<R: Read>(
+    alloc: Global,
+    input: &mut Counted<R>,
+) -> Result<Vec<u8>, InputFault>
+    requires { input.old.calls ≡ 0 }
+    ensures whole { IfOk result (λ bytes. IfSome input.old.remaining (λ all. bytes.items ≡ all)) }
     ensures size { IfOk result (λ bytes. length bytes.items ≤ 16777216) }
-    ensures long { IfErr result (λ fault. fault ≡ InputFault.TooLong → IfSome (R.remaining input.old) (λ all. 16777217 ≤ length all)) }
+    ensures called { input.new.calls ≤ 16777217 }
+    ensures long { IfErr result (λ fault. fault ≡ InputFault.TooLong → IfSome input.old.remaining (λ all. 16777217 ≤ length all)) }
 {
     let mut bytes = Vec::new(alloc);
     let mut buffer = [0u8; 4096];

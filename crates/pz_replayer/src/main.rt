@@ -4,6 +4,7 @@
 
 ghost use Rattle.std.specs.Prelude.{◌≤◌, IfOk};
 
+mod counted;
 mod input;
 mod options;
 mod refusal;
@@ -55,9 +56,16 @@ fn main(rt: HostRuntime) -> ExitCode {
         Err(refusal) => return ExitCode::from(refuse(refusal, &mut errors)),
     };
     let status = match file {
-        None => serve(rt.alloc(), rt.stdin(), &mut output, &mut errors, options),
+        None => serve(
+            &rt,
+            rt.alloc(),
+            rt.stdin(),
+            &mut output,
+            &mut errors,
+            options,
+        ),
         Some(name) => match open(&rt, name.as_str()) {
-            Ok(input) => serve(rt.alloc(), input, &mut output, &mut errors, options),
+            Ok(input) => serve(&rt, rt.alloc(), input, &mut output, &mut errors, options),
             Err(refusal) => refuse(refusal, &mut errors),
         },
     };

@@ -12,8 +12,8 @@ use pz_replay::writing::write_line;
 use std::alloc::AllocError;
 use std::io::Write;
 
-/// Why there is no whole recording: memory was refused, the command line is bad, FILE can't be opened, a read failed, the file of
-/// sessions has a fault, or the writing ended after so many bytes.
+/// Why there is no whole recording: memory or a thread was refused, the command line is bad, FILE can't be opened, a read failed, the
+/// file of sessions has a fault, a worker's lane was lost, or the writing ended after so many bytes.
 #[derive(Clone, Copy, Debug, PartialEq, Eq)]
 pub enum Refusal {
     Memory,
@@ -21,6 +21,7 @@ pub enum Refusal {
     OpenFault,
     ReadFault,
     File(FileFault),
+    LaneLost,
     WriteFault(u64),
 }
 
@@ -85,6 +86,7 @@ fn report<E: Write>(refusal: Refusal, errors: &mut E) -> Result<(), Cause>
         Refusal::OpenFault => write_parts("open-fault", "", "\n", errors),
         Refusal::ReadFault => write_parts("read-fault", "", "\n", errors),
         Refusal::File(fault) => report_file(fault, errors),
+        Refusal::LaneLost => write_parts("lane-lost", "", "\n", errors),
         Refusal::WriteFault(written) => write_parts(
             "write-fault ",
             digits.format(written),

@@ -1,10 +1,11 @@
 //! The serving of a file of sessions.
 
-ghost use Rattle.std.specs.Prelude.{◌≡◌, ◌≢◌, ◌≤◌, Bool, Result, Ok, Err, IfOk, IfErr, length};
+ghost use Rattle.std.specs.Prelude.{◌≡◌, ◌≢◌, ◌≤◌, ◌⊎◌, Bool, Result, Ok, Err, IfOk, IfErr, length};
 ghost use Rattle.pz_record.specs.declared.fault.FileFault.TheVariants as fault;
 ghost use Rattle.pz_replayer.specs.declared.refusal.Refusal.{Refusal};
 ghost use Rattle.pz_replayer.specs.Serving.{Reports, Serves, all_passed, has_passed, sessions_in, shown_of, status_of};
 
+use crate::counted::Counted;
 use crate::input::{InputFault, read_input};
 use crate::options::Options;
 use crate::refusal::{Refusal, refuse};
@@ -12,13 +13,17 @@ use pz_record::entry::Entry;
 use pz_record::fault::FileFault;
 use pz_record::file::read_sessions;
 use pz_record::order::Order;
+use pz_replay::fault::ReplayFault;
+use pz_replay::gate::Always;
 use pz_replay::recording::{Record, Recording};
 use pz_replay::replaying::replay;
 use pz_replay::writing::write_recording;
 use pz_session::item::{Item, Verdict};
 use pz_session::job::prepare;
-use std::alloc::{AllocError, Global};
+use std::alloc::Global;
 use std::io::{Read, Write};
+use std::sync::Wait;
+use std::thread::Threads;
 
 /// The entries that the bytes of a file hold, or its first fault.
 fn decode(alloc: Global, bytes: &[u8]) -> Result<Vec<Entry>, FileFault>
@@ -33,13 +38,26 @@ fn decode(alloc: Global, bytes: &[u8]) -> Result<Vec<Entry>, FileFault>
     read_sessions(alloc, text)
 }
 
-/// What the sessions of the entries show.
-fn record(alloc: Global, entries: Vec<Entry>, order: Order) -> Result<Recording, AllocError>
-    requires { length entries.items ≤ 65536 }
-    ensures { IfOk result (λ shown. shown ≡ shown_of order entries.items) }
+/// What the sessions of the entries show, which the workers play.
+fn record<T: Threads + Wait + Sync>(
+    rt: &T,
+    alloc: Global,
+    entries: Vec<Entry>,
+    options: Options,
+) -> Result<Recording, Refusal>
+    requires entries { length entries.items ≤ 65536 }
+    requires some { 1 ≤ options.workers }
+    requires few { options.workers ≤ 64 }
+    ensures shown { IfOk result (λ shown. shown ≡ shown_of options.order entries.items) }
+    ensures refused { IfErr result (λ refusal. (refusal ≡ Refusal.Memory) ⊎ (refusal ≡ Refusal.LaneLost)) }
 {
-    let job = prepare(alloc, entries, order)?;
-    replay(alloc, &job)
+    let job = prepare(alloc, entries, options.order)?;
+    match replay(rt, alloc, &job, options.workers, &Always) {
+        Ok(recording) => Ok(recording),
+        Err(ReplayFault::Memory) => Err(Refusal::Memory),
+        Err(ReplayFault::LaneLost) => Err(Refusal::LaneLost),
+        Err(ReplayFault::Workers | ReplayFault::GateClosed) => unreachable!(),
+    }
 }
 
 /// Whether a session passed.
@@ -61,13 +79,18 @@ fn all_passed(shown: &Recording) -> bool
 }
 
 /// Reads the sessions, replays them and writes their lines; tells whether every session passed.
-fn run<R: Read, W: Write>(
+fn run<T: Threads + Wait + Sync, R: Read, W: Write>(
+    rt: &T,
     alloc: Global,
-    input: &mut R,
+    input: &mut Counted<R>,
     output: &mut W,
-    order: Order,
+    options: Options,
 ) -> Result<bool, Refusal>
-    ensures { Serves order (R.remaining input.old) (W.contents output.old) (W.contents output.new) result }
+    requires fresh { input.old.calls ≡ 0 }
+    requires some { 1 ≤ options.workers }
+    requires few { options.workers ≤ 64 }
+    ensures called { input.new.calls ≤ 16777217 }
+    ensures served { Serves options.order input.old.remaining (W.contents output.old) (W.contents output.new) result }
 {
     let bytes = match read_input(alloc, input) {
         Ok(bytes) => bytes,
@@ -79,19 +102,45 @@ fn run<R: Read, W: Write>(
         Ok(entries) => entries,
         Err(fault) => return Err(Refusal::File(fault)),
     };
-    let recording = record(alloc, entries, order)?;
+    let recording = record(rt, alloc, entries, options)?;
     match write_recording(alloc, &recording, output) {
         Ok(()) => Ok(all_passed(&recording)),
         Err(fault) => Err(Refusal::WriteFault(fault.written)),
     }
 }
 
-/// Reads a file of sessions to its end, replays them, writes the lines of their recording, and answers the exit status: 0 where
-/// every session passed, 1 where some didn't, 2 where there is no whole recording. In that case one line says why, and nothing is
-/// written to the output but, where the writing itself failed, the first bytes of the recording.
-pub fn serve<R: Read, W: Write, E: Write>(
+/// Serves as `serve` does, from a reader that was not called yet and is called at most 16,777,217 times.
+pub fn serve_counted<T: Threads + Wait + Sync, R: Read, W: Write, E: Write>(
+    rt: &T,
     alloc: Global,
-    mut input: R,
+    input: &mut Counted<R>,
+    output: &mut W,
+    errors: &mut E,
+    options: Options,
+) -> u8
+    requires fresh { input.old.calls ≡ 0 }
+    requires some { 1 ≤ options.workers }
+    requires few { options.workers ≤ 64 }
+    ensures called { input.new.calls ≤ 16777217 }
+    ensures served { (end : Result Bool Refusal) × (result ≡ status_of end)
+        × Serves options.order input.old.remaining (W.contents output.old) (W.contents output.new) end
+        × Reports (E.contents errors.old) (E.contents errors.new) end }
+{
+    match run(rt, alloc, input, output, options) {
+        Ok(true) => 0,
+        Ok(false) => 1,
+        Err(refusal) => refuse(refusal, errors),
+    }
+}
+
+/// Reads a file of sessions to its end, replays them on as many threads as there are workers, writes the lines of their recording,
+/// and answers the exit status: 0 where every session passed, 1 where some didn't, 2 where there is no whole recording. In that case
+/// one line says why, and nothing is written to the output but, where the writing itself failed, the first bytes of the recording.
+/// The reader is called through `Counted` alone, and so at most 16,777,217 times.
+pub fn serve<T: Threads + Wait + Sync, R: Read, W: Write, E: Write>(
+    rt: &T,
+    alloc: Global,
+    input: R,
     output: &mut W,
     errors: &mut E,
     options: Options,
@@ -104,9 +153,5 @@ where
         × Serves options.order (R.remaining input) (W.contents output.old) (W.contents output.new) end
         × Reports (E.contents errors.old) (E.contents errors.new) end }
 {
-    match run(alloc, &mut input, output, options.order) {
-        Ok(true) => 0,
-        Ok(false) => 1,
-        Err(refusal) => refuse(refusal, errors),
-    }
+    serve_counted(rt, alloc, &mut Counted::new(input), output, errors, options)
 }

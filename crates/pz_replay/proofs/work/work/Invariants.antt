@@ -1,0 +1,11 @@
+use Rattle.std.proofs.Common.{◌≡◌, ◌<◌, All}
+use Rattle.pz_replay.specs.Pieces.{pieces_of, sessions_of}
+use Rattle.pz_replay.proofs.work.work.Given as goal
+
+abbrev pub invariant-loop : goal.invariant-loop
+invariant-loop g l = record {
+  table : l.seat.of ≡ l.claims;
+  below : All (λ number. number < l.claims.total) l.seat.numbers;
+  lane : l.sender.lane ≡ l.initial.sender.lane;
+  sent : l.sender.sent ≡ pieces_of (sessions_of l.job) l.seat.numbers;
+}

@@ -1,0 +1,239 @@
+//! The crew: workers, each with a lane to the recorder, in one scope of threads.
+
+ghost use Rattle.std.specs.Prelude.{◌≡◌, ◌≢◌, ◌+◌, ◌≤◌, [], map, length, replicate, All, IfOk, IfErr, IfSome, IfNone, IsSome, ◌⊎◌, Err, IsOk};
+ghost use Rattle.pz_replay.specs.declared.lane.End.TheVariants.{GateClosed as gate_closed};
+ghost use Rattle.pz_replay.specs.Crew.{IsAll, IsDone, IsOpened, IsSettled};
+ghost use Rattle.pz_replay.specs.Pieces.{sent_for, sessions_of};
+ghost use Rattle.pz_replay.specs.Recorded.{Gathered, HasEnded, IsHonest, IsRecorded, lane_of, taken_of};
+ghost use Rattle.pz_replay.specs.Worked.{IsWorked};
+
+use crate::fault::ReplayFault;
+use crate::gate::Gate;
+use crate::lane::{End, Sender, SentAll, lane};
+use crate::recorder::{Desk, Sessions, record};
+use crate::work::{Worked, work};
+use pz_claims::{Claims, Ended, Maker, Seat};
+use pz_session::job::Job;
+use std::alloc::Global;
+use std::snapshot::Snapshot;
+use std::sync::Wait;
+use std::thread::{Promise, PromisedHandle, Scope, Threads};
+
+/// What is promised of a worker.
+#[derive(Drop)]
+struct Task<'a, G> {
+    claims: &'a Claims,
+    job: &'a Job,
+    gate: &'a G,
+    lane: Snapshot<Sender>,
+}
+
+impl<'a, G: Gate> Promise<Worked> for Task<'a, G> {
+    ghost kept_by = { λ task worked. IsWorked task.claims.now (sessions_of task.job.now) task.lane.value.lane worked × (G.lets_all_pass task.gate.now → worked.end ≢ gate_closed) };
+}
+
+/// Starts a worker, if a thread can be made.
+fn start<'s, 'e, R: Threads + Wait + Sync, G: Gate + Sync>(
+    scope: &'s Scope<'s, &'e ()>,
+    rt: &'e R,
+    alloc: Global,
+    claims: &'e Claims,
+    seat: Seat,
+    sender: Sender,
+    job: &'e Job,
+    gate: &'e G,
+) -> Option<PromisedHandle<Worked, Task<'e, G>>>
+    requires seat { (seat.of ≡ claims.now) × (seat.numbers ≡ []) }
+    requires sender { sender.sent ≡ [] }
+    requires job { claims.now.total ≡ length job.now }
+    ensures { IfSome result (λ h. (h.promise.claims.now ≡ claims.now) × (h.promise.job.now ≡ job.now) × (h.promise.gate.now ≡ gate.now) × (h.promise.lane.value.lane ≡ sender.lane)) }
+{
+    let task = Task {
+        claims,
+        job,
+        gate,
+        lane: Snapshot::of(&sender),
+    };
+    scope
+        .spawn_with(
+            task,
+            move ||
+                requires { (seat.of ≡ claims.now) × (seat.numbers ≡ []) × (sender.sent ≡ []) × (claims.now.total ≡ length job.now) }
+            { work(rt, alloc, claims, seat, sender, job, gate) },
+        )
+        .ok()
+}
+
+/// Records all that the workers send.
+fn gather<R: Wait>(
+    rt: &R,
+    maker: Maker,
+    desks: &mut Vec<Desk>,
+    sessions: Option<Sessions>,
+) -> Result<(Maker, Sessions), ReplayFault>
+    requires { IsRecorded desks.old.items sessions }
+    ensures lanes { map lane_of desks.new.items ≡ map lane_of desks.old.items }
+    ensures ended { All IsHonest desks.new.items × All HasEnded desks.new.items }
+    ensures done { IfOk result (λ made. (made.0 ≡ maker) × Gathered (map taken_of desks.new.items) made.1 × IfSome sessions (λ s. length made.1 ≡ length s) × IsSome sessions) }
+    ensures fault { IfErr result (λ fault. fault ≡ ReplayFault.Memory) }
+{
+    let mut sessions = sessions;
+    record(rt, desks.as_mut_slice(), &mut sessions);
+    match sessions {
+        Some(sessions) => Ok((maker, sessions)),
+        None => Err(ReplayFault::Memory),
+    }
+}
+
+/// What was taken at the desk is all that was sent on its lane.
+fn confirm(mut desk: Desk, mut sent: SentAll, job: &Job, ended: &Ended)
+    requires lane { sent.lane ≡ desk.taker.lane }
+    requires desk { IsHonest desk × HasEnded desk }
+    requires sent { sent.sent ≡ sent_for (sessions_of job.now) ended.now.numbers }
+    ensures { taken_of desk ≡ sent_for (sessions_of job.now) ended.now.numbers }
+{
+    desk.taker.left(&mut sent);
+}
+
+/// Puts what one worker handed back to what the crew below it made.
+fn settle(
+    claims: &Claims,
+    job: &Job,
+    below: Result<(Maker, Sessions), ReplayFault>,
+    worked: Worked,
+    desk: Desk,
+) -> Result<(Maker, Sessions), ReplayFault>
+    requires maker { IfOk below (λ made. made.0.of ≡ claims.now) }
+    requires worked { IsWorked claims.now (sessions_of job.now) desk.taker.lane worked }
+    requires desk { IsHonest desk × HasEnded desk }
+    ensures settled { IfOk result (λ made. IfOk below (λ before. IsSettled (sessions_of job.now) desk before.0 before.1 made.0 made.1)) }
+    ensures below { IfOk result (λ _. IsOk below) }
+    ensures workers { result ≡ Err ReplayFault.Workers → below ≡ Err ReplayFault.Workers }
+    ensures opened { IfErr result (λ fault. fault ≡ ReplayFault.GateClosed → (worked.end ≡ End.GateClosed) ⊎ (below ≡ Err ReplayFault.GateClosed)) }
+{
+    let Worked { end, ended, sent } = worked;
+    let (maker, sessions) = match (below, end) {
+        (Err(ReplayFault::Memory), _) | (_, End::Memory) => return Err(ReplayFault::Memory),
+        (Err(ReplayFault::GateClosed), _) | (_, End::GateClosed) => {
+            return Err(ReplayFault::GateClosed);
+        }
+        (Err(fault), _) => return Err(fault),
+        (Ok(made), End::Finished) => made,
+    };
+    let Some(ended) = ended else {
+        unreachable!();
+    };
+    let Some(sent) = sent else {
+        return Err(ReplayFault::LaneLost);
+    };
+    confirm(desk, sent, job, &ended);
+    let maker = claims.join(maker, ended);
+    Ok((maker, sessions))
+}
+
+/// Opens a lane, with a desk at its other end. Without memory the desks are as they were.
+fn open_lane(alloc: Global, capacity: usize, desks: &mut Vec<Desk>) -> Option<Sender>
+    requires { 1 ≤ capacity }
+    ensures some { IfSome result (λ sender. (sender.sent ≡ []) × IsOpened desks.old.items desks.new.items sender.lane) }
+    ensures none { IfNone result (desks.new.items ≡ desks.old.items) }
+{
+    let (sender, taker) = lane(alloc, capacity).ok()?;
+    desks.push(Desk { taker, end: None }).ok()?;
+    Some(sender)
+}
+
+/// Starts the workers that are left, and records what all of them send. Each call starts one worker, and joins it. A worker that can't be
+/// started is not waited for: those that run are, and the answer is `Memory`.
+fn crew<'s, 'e, R: Threads + Wait + Sync, G: Gate + Sync>(
+    scope: &'s Scope<'s, &'e ()>,
+    rt: &'e R,
+    alloc: Global,
+    claims: &'e Claims,
+    maker: Maker,
+    job: &'e Job,
+    gate: &'e G,
+    left: usize,
+    capacity: usize,
+    desks: &mut Vec<Desk>,
+    sessions: Option<Sessions>,
+) -> Result<(Maker, Sessions), ReplayFault>
+    requires capacity { 1 ≤ capacity }
+    requires maker { (maker.of ≡ claims.now) × (maker.made + left ≤ 64) }
+    requires job { claims.now.total ≡ length job.now }
+    requires recorded { IsRecorded desks.old.items sessions × IfSome sessions (λ s. length s ≡ length job.now) }
+    ensures lanes { map lane_of desks.new.items ≡ map lane_of desks.old.items }
+    ensures ended { All IsHonest desks.new.items × All HasEnded desks.new.items }
+    ensures whole { IfOk result (λ made. IsDone (sessions_of job.now) maker left desks.new.items made.0 made.1) }
+    ensures workers { result ≢ Err ReplayFault.Workers }
+    ensures opened { G.lets_all_pass gate.now → result ≢ Err ReplayFault.GateClosed }
+{
+    if left == 0 {
+        return gather(rt, maker, desks, sessions);
+    }
+    let Some(sender) = open_lane(alloc, capacity, desks) else {
+        let _ = gather(rt, maker, desks, sessions);
+        return Err(ReplayFault::Memory);
+    };
+    let (maker, seat) = claims.split(maker);
+    let Some(worker) = start(scope, rt, alloc, claims, seat, sender, job, gate) else {
+        let _ = desks.pop();
+        let _ = gather(rt, maker, desks, sessions);
+        return Err(ReplayFault::Memory);
+    };
+    let below = crew(
+        scope,
+        rt,
+        alloc,
+        claims,
+        maker,
+        job,
+        gate,
+        left - 1,
+        capacity,
+        desks,
+        sessions,
+    );
+    let worked = worker.join(rt);
+    let Some(desk) = desks.pop() else {
+        unreachable!()
+    };
+    settle(claims, job, below, worked, desk)
+}
+
+/// Plays a job with so many workers: the maker that has joined them all, and the items of each session.
+pub(crate) fn all_started<'s, 'e, R: Threads + Wait + Sync, G: Gate + Sync>(
+    scope: &'s Scope<'s, &'e ()>,
+    rt: &'e R,
+    alloc: Global,
+    claims: &'e Claims,
+    maker: Maker,
+    job: &'e Job,
+    gate: &'e G,
+    workers: usize,
+    capacity: usize,
+    blank: Sessions,
+) -> Result<(Maker, Sessions), ReplayFault>
+    requires capacity { 1 ≤ capacity }
+    requires workers { (1 ≤ workers) × (workers ≤ 64) }
+    requires maker { (maker.of ≡ claims.now) × (maker.made ≡ 0) × (maker.joined ≡ 0) × (maker.numbers ≡ []) }
+    requires job { claims.now.total ≡ length job.now }
+    requires blank { blank ≡ replicate (length job.now) [] }
+    ensures workers { result ≢ Err ReplayFault.Workers }
+    ensures all { IfOk result (λ made. IsAll (sessions_of job.now) claims.now workers made.0 made.1) }
+    ensures opened { G.lets_all_pass gate.now → result ≢ Err ReplayFault.GateClosed }
+{
+    let mut desks = Vec::new(alloc);
+    crew(
+        scope,
+        rt,
+        alloc,
+        claims,
+        maker,
+        job,
+        gate,
+        workers,
+        capacity,
+        &mut desks,
+        Some(blank),
+    )
+}

@@ -1,0 +1,123 @@
+//! The recorder, which takes the messages of all lanes, and keeps the items of each session.
+
+ghost use Rattle.std.specs.Prelude.{◌≡◌, [], map, replicate, All, IfOk, IsTrue, OnOk};
+ghost use Rattle.pz_replay.specs.Recorded.{GoesOn, HasEnded, IsRecorded, IsVisited, kept};
+ghost use Rattle.pz_replay.specs.declared.lane.Message.TheVariants.{Piece};
+
+use crate::lane::{End, Message, Taker};
+use pz_session::item::Item;
+use std::alloc::{AllocError, Global};
+use std::marker::Model;
+use std::sync::Wait;
+use std::thread;
+
+/// The items of each session so far, by session number.
+#[derive(Drop)]
+pub(crate) struct Sessions {
+    items: Vec<Vec<Item>>,
+}
+
+impl Model for Sessions {
+    ghost use Rattle.std.specs.Prelude.{List, map};
+    ghost use Rattle.pz_session.specs.declared.item.Item.{Item};
+
+    ghost Value = { List (List Item) };
+
+    ghost view = { λ s. map (λ items. items.items) s.items.items };
+}
+
+impl Sessions {
+    /// This many sessions, none of which has an item.
+    pub(crate) fn blank(alloc: Global, count: usize) -> Result<Sessions, AllocError>
+        ensures { IfOk result (λ s. s ≡ replicate count []) }
+    {
+        let mut items = Vec::new(alloc);
+        for _ in 0..count {
+            items.push(Vec::new(alloc))?;
+        }
+        Ok(Sessions { items })
+    }
+
+    /// The items of each session.
+    pub(crate) fn into_items(self) -> Vec<Vec<Item>>
+        ensures { map (λ items. items.items) result.items ≡ self }
+    {
+        let Sessions { items } = self;
+        items
+    }
+
+    /// Appends an item to its session.
+    fn keep(&mut self, session: usize, item: Item) -> Result<(), AllocError>
+        ensures { OnOk result (self.new ≡ kept self.old (Piece session item)) }
+    {
+        let Some(items) = self.items.get_mut(session) else {
+            return Ok(());
+        };
+        items.push(item)?;
+        Ok(())
+    }
+}
+
+/// A lane at the recorder, and how it ended, once its last message was taken.
+#[derive(Drop)]
+pub(crate) struct Desk {
+    pub(crate) taker: Taker,
+    pub(crate) end: Option<End>,
+}
+
+/// Takes one message, if there is one and the lane has not ended, and says whether it has. Without memory for an item there are no sessions any more.
+fn visit(desk: &mut Desk, sessions: &mut Option<Sessions>) -> bool
+    ensures lane { desk.new.taker.lane ≡ desk.old.taker.lane }
+    ensures visited { IsVisited desk.old desk.new sessions.old sessions.new }
+    ensures ended { IsTrue result → HasEnded desk.new }
+{
+    if desk.end.is_some() {
+        return true;
+    }
+    match desk.taker.try_take() {
+        None => false,
+        Some(Message::Last(end)) => {
+            desk.end = Some(end);
+            true
+        }
+        Some(Message::Piece(session, item)) => {
+            if let Some(so_far) = sessions {
+                if so_far.keep(session, item).is_err() {
+                    *sessions = None;
+                }
+            }
+            false
+        }
+    }
+}
+
+/// Visits each desk, and says whether all lanes have ended.
+fn round(desks: &mut [Desk], sessions: &mut Option<Sessions>) -> bool
+    requires { IsRecorded desks.old sessions.old }
+    ensures recorded { IsRecorded desks.new sessions.new }
+    ensures goes { GoesOn desks.old desks.new sessions.old sessions.new }
+    ensures ended { IsTrue result → All HasEnded desks.new }
+{
+    let mut all = true;
+    for number in 0..desks.len() {
+        let ended = visit(&mut desks[number], sessions);
+        all = all && ended;
+    }
+    all
+}
+
+/// Takes from every lane in turn until each has ended, also when there was no memory for an item: else a worker would wait for room on its lane.
+pub(crate) fn record<R: Wait>(rt: &R, desks: &mut [Desk], sessions: &mut Option<Sessions>)
+    requires { IsRecorded desks.old sessions.old }
+    ensures recorded { IsRecorded desks.new sessions.new }
+    ensures goes { GoesOn desks.old desks.new sessions.old sessions.new }
+    ensures ended { All HasEnded desks.new }
+{
+    for _ in rt.forever() {
+        if round(desks, sessions) {
+            return;
+        }
+        thread::yield_now();
+    }
+    unreachable!()
+}

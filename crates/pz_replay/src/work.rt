@@ -1,0 +1,120 @@
+//! The run of a worker: it claims a session, plays it, sends its items, and claims again.
+
+ghost use Rattle.std.specs.Prelude.{◌≡◌, ◌≢◌, ◌++◌, ◌∷◌, [], All, IfErr, IfSome, OnOk, ℕ, length, take};
+ghost use Rattle.pz_session.specs.Case.{items_of};
+ghost use Rattle.pz_replay.specs.Pieces.{pieces, sessions_of};
+ghost use Rattle.pz_replay.specs.Worked.{IsWorked};
+ghost use Rattle.pz_replay.specs.declared.lane.End.TheVariants.{Finished, GateClosed};
+ghost use Rattle.pz_replay.specs.declared.lane.Message.TheVariants.{Last};
+
+use crate::gate::Gate;
+use crate::lane::{End, Message, Sender, SentAll};
+use pz_claims::{Claimed, Claims, Ended, Seat};
+use pz_session::case::Case;
+use pz_session::job::Job;
+use pz_session::run::Run;
+use std::alloc::Global;
+use std::sync::Wait;
+use std::thread;
+
+/// What a worker hands back.
+#[derive(Drop)]
+pub struct Worked {
+    pub end: End,
+    pub ended: Option<Ended>,
+    pub sent: Option<SentAll>,
+}
+
+/// Tries until the message is sent.
+fn send<R: Wait>(rt: &R, sender: &mut Sender, message: Message)
+    ensures { sender.new ≡ record sender.old { sent = sender.old.sent ++ message ∷ [] } }
+{
+    let mut message = message;
+    for _ in rt.forever() {
+        match sender.try_send(message) {
+            Ok(()) => return,
+            Err(back) => message = back,
+        }
+        thread::yield_now();
+    }
+    unreachable!()
+}
+
+/// Sends the items of a session, or its first ones: as far as there is memory to play it and the gate lets them pass.
+fn play<R: Wait, G: Gate>(
+    rt: &R,
+    alloc: Global,
+    sender: &mut Sender,
+    session: usize,
+    case: &Case,
+    gate: &G,
+) -> Result<(), End>
+    ensures whole { OnOk result (sender.new ≡ record sender.old { sent = sender.old.sent ++ pieces session (items_of case.now) }) }
+    ensures part { IfErr result (λ _. (count : ℕ) × (sender.new ≡ record sender.old { sent = sender.old.sent ++ take count (pieces session (items_of case.now)) })) }
+    ensures broken { IfErr result (λ end. end ≢ Finished) }
+    ensures opened { G.lets_all_pass gate.now → IfErr result (λ end. end ≢ GateClosed) }
+{
+    let Ok(mut run) = Run::new(alloc, case) else {
+        return Err(End::Memory);
+    };
+    let mut number: u64 = 0;
+    'items: for _ in rt.forever() {
+        match run.next() {
+            Ok(Some(item)) => {
+                if !gate.pass(session, number) {
+                    return Err(End::GateClosed);
+                }
+                send(rt, sender, Message::Piece(session, item));
+                number = number.wrapping_add(1);
+            }
+            Ok(None) => return Ok(()),
+            Err(_) => return Err(End::Memory),
+        }
+    }
+    unreachable!()
+}
+
+/// Sends the last message, and hands back what the worker has.
+fn end_work<R: Wait>(rt: &R, sender: Sender, end: End, ended: Option<Ended>) -> Worked
+    ensures end { result.end ≡ end }
+    ensures ended { result.ended ≡ ended }
+    ensures sent { IfSome result.sent (λ all. all ≡ record { lane = sender.lane; sent = sender.sent ++ Last end ∷ [] }) }
+{
+    let mut sender = sender;
+    send(rt, &mut sender, Message::Last(end));
+    let sent = sender.finish();
+    Worked { end, ended, sent }
+}
+
+/// A worker's whole run, on a seat that holds nothing and a lane on which nothing was sent.
+pub fn work<R: Wait, G: Gate>(
+    rt: &R,
+    alloc: Global,
+    claims: &Claims,
+    seat: Seat,
+    sender: Sender,
+    job: &Job,
+    gate: &G,
+) -> Worked
+    requires seat { (seat.of ≡ claims.now) × (seat.numbers ≡ []) }
+    requires sender { sender.sent ≡ [] }
+    requires job { claims.now.total ≡ length job.now }
+    ensures worked { IsWorked claims.now (sessions_of job.now) sender.lane result }
+    ensures opened { G.lets_all_pass gate.now → result.end ≢ GateClosed }
+{
+    let mut seat = seat;
+    let mut sender = sender;
+    for _ in rt.forever() {
+        match claims.claim(seat) {
+            Claimed::Got(same, session) => {
+                seat = same;
+                let case = job.case(session);
+                if let Err(end) = play(rt, alloc, &mut sender, session, case, gate) {
+                    return end_work(rt, sender, end, None);
+                }
+            }
+            Claimed::Done(ended) => return end_work(rt, sender, End::Finished, Some(ended)),
+        }
+    }
+    unreachable!()
+}
