@@ -23,21 +23,47 @@ fn first_level(alloc: Global, game: &Game) -> Result<Option<Level>, AllocError>
     }
 }
 
-#[test]
-fn tells_where_the_player_heads(rt: HostRuntime) -> Result<(), Fail> {
-    let alloc = rt.alloc();
+/// The level `p.#` as loaded, and after the player was pushed to the right, and after the movement.
+fn stages(alloc: Global) -> Result<(Level, Level, Level), Fail> {
     let game = read_game(alloc, SOURCE).map_err(|_| "refused")?;
     let mut level = first_level(alloc, &game)?.ok_or("no level")?;
-    let before = level.copy()?;
-    assert_eq!(rt; (before.width(), before.height()), (3, 1));
+    let loaded = level.copy()?;
     push_players(&game, &mut level, Dir::Right);
-    assert_eq!(rt; level.dir_of(0, 0, 1), Some(Dir::Right));
-    assert!(rt; !level.same(&before));
+    let pushed = level.copy()?;
     resolve(&game, &mut level);
+    Ok((loaded, pushed, level))
+}
+
+#[test]
+fn tells_the_size(rt: HostRuntime) -> Result<(), Fail> {
+    let (loaded, _, _) = stages(rt.alloc())?;
+    assert_eq!(rt; (loaded.width(), loaded.height()), (3, 1));
+    Ok(())
+}
+
+#[test]
+fn tells_where_the_player_heads(rt: HostRuntime) -> Result<(), Fail> {
+    let (_, pushed, moved) = stages(rt.alloc())?;
     assert_eq!(rt;
-        (level.has(0, 0, 1), level.has(1, 0, 1), level.has(2, 0, 2)),
+        (pushed.dir_of(0, 0, 1), moved.dir_of(1, 0, 1)),
+        (Some(Dir::Right), None)
+    );
+    Ok(())
+}
+
+#[test]
+fn tells_levels_apart(rt: HostRuntime) -> Result<(), Fail> {
+    let (loaded, pushed, _) = stages(rt.alloc())?;
+    assert!(rt; !pushed.same(&loaded));
+    Ok(())
+}
+
+#[test]
+fn moves_the_player(rt: HostRuntime) -> Result<(), Fail> {
+    let (_, _, moved) = stages(rt.alloc())?;
+    assert_eq!(rt;
+        (moved.has(0, 0, 1), moved.has(1, 0, 1), moved.has(2, 0, 2)),
         (false, true, true)
     );
-    assert_eq!(rt; level.dir_of(1, 0, 1), None);
     Ok(())
 }

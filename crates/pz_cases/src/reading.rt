@@ -1,6 +1,7 @@
 //! Sources, read or refused: a small game, and what becomes of it where lines are changed.
 
-use pz_source::denotation::Kind;
+use pz_names::denotation::Kind;
+use pz_source::game::Game;
 use pz_source::reading::read_game;
 use pz_text::fault::{Code, SourceFault};
 use std::alloc::{AllocError, Global};
@@ -76,16 +77,39 @@ fn at(code: Code, line: u32) -> Option<SourceFault> {
     Some(SourceFault { code, line })
 }
 
-#[test]
-fn reads_the_small_game(rt: HostRuntime) -> Result<(), Fail> {
-    let alloc = rt.alloc();
+/// The small game, with a level and a message.
+fn small_game(alloc: Global) -> Result<Game, Fail> {
     let text = game_with(alloc, 0, "", "#p.#\n\nmessage on\n")?;
     let game = read_game(alloc, text.as_str()).map_err(|_| "refused")?;
-    let shape = (game.objects().len(), game.depth(), game.levels().len());
-    assert_eq!(rt; shape, (7, 4, 2));
+    Ok(game)
+}
+
+#[test]
+fn counts_objects_layers_and_entries(rt: HostRuntime) -> Result<(), Fail> {
+    let game = small_game(rt.alloc())?;
+    let counts = (game.objects().len(), game.depth(), game.levels().len());
+    assert_eq!(rt; counts, (7, 4, 2));
+    Ok(())
+}
+
+#[test]
+fn lays_each_object(rt: HostRuntime) -> Result<(), Fail> {
+    let game = small_game(rt.alloc())?;
     assert_eq!(rt; game.layers(), [0, 1, 2, 2, 2, 2, 3].as_slice());
+    Ok(())
+}
+
+#[test]
+fn tells_kinds_apart(rt: HostRuntime) -> Result<(), Fail> {
+    let game = small_game(rt.alloc())?;
     let kinds = (game.kind("player"), game.kind("Player"), game.kind("thing"));
     assert_eq!(rt; kinds, (Some(Kind::Object), None, Some(Kind::Property)));
+    Ok(())
+}
+
+#[test]
+fn lists_members_in_the_order_of_the_line(rt: HostRuntime) -> Result<(), Fail> {
+    let game = small_game(rt.alloc())?;
     assert_eq!(rt; game.members("@").ok_or("no name")?, [4, 1].as_slice());
     Ok(())
 }
@@ -258,6 +282,12 @@ fn reads_or_refuses_each_beginning(rt: HostRuntime) -> Result<(), Fail> {
         assert!(rt; fault.map(|fault| fault.code) != Some(Code::Memory));
         beginning.push(character)?;
     }
-    assert_eq!(rt; fault_of(rt.alloc(), beginning.as_str()), None);
+    Ok(())
+}
+
+#[test]
+fn reads_the_whole_of_it(rt: HostRuntime) -> Result<(), Fail> {
+    let text = game_with(rt.alloc(), 0, "", "#p.#\n")?;
+    assert_eq!(rt; fault_of(rt.alloc(), text.as_str()), None);
     Ok(())
 }

@@ -7,11 +7,12 @@ use Rattle.std.proofs.lemmas.List.{length-map, length-replicate, get_or-map, get
 use Rattle.std.proofs.lemmas.List.Elements.{All-get_or, All-from_get_or}
 use Rattle.std.specs.Option.{option_map_or}
 use Rattle.std.proofs.lemmas.Option.{slice_get_cases}
-use Rattle.pz_source.specs.declared.denotation.Denotation.{Denotation}
+use Rattle.pz_names.specs.declared.denotation.Denotation.{Denotation}
 use Rattle.pz_source.specs.declared.level.LevelEntry.TheVariants.{Message}
 use Rattle.pz_source.specs.Level.{is_playable}
 use Rattle.pz_source.specs.Drawing.{Drawing, IsDrawing}
-use Rattle.pz_source.specs.Game.{GameView, IsGame, IsDenoted, glyph_objects}
+use Rattle.pz_source.specs.Game.{GameView, IsGame, glyph_objects}
+use Rattle.pz_names.specs.Denotation.{IsDenoted}
 use Rattle.pz_grid.specs.declared.cell.Piece.{Piece}
 use Rattle.pz_grid.specs.Cell.{IsCell, IsOnLayer, still_piece, empty_cell}
 use Rattle.pz_grid.specs.Grid.{Grid, IsLawful}

@@ -1,8 +1,8 @@
 -- Worked cases.
 use Rattle.std.proofs.Common.{◌≡◌, ℕ, List, [], ◌∷◌, Option, Some, None, true, false, refl}
 use Rattle.std.specs.Prelude.{codes}
-use Rattle.pz_source.specs.declared.denotation.Denotation.{Denotation}
-use Rattle.pz_source.specs.declared.denotation.Kind.TheVariants.{Object}
+use Rattle.pz_names.specs.declared.denotation.Denotation.{Denotation}
+use Rattle.pz_names.specs.declared.denotation.Kind.TheVariants.{Object}
 use Rattle.pz_source.specs.declared.direction.Dir.{Dir}
 use Rattle.pz_source.specs.declared.direction.Dir.TheVariants.{Up, Left, Right, Action}
 use Rattle.pz_source.specs.declared.level.LevelEntry.TheVariants.{Message, Level}

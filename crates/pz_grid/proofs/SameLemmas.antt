@@ -6,7 +6,8 @@ use Rattle.std.proofs.lemmas.Bool.{and_parts, and_from, eqb-true, eq-eqb}
 use Rattle.pz_source.specs.declared.direction.Dir.{Dir}
 use Rattle.pz_source.specs.declared.direction.Dir.TheVariants.{Up, Down, Left, Right, Action}
 use Rattle.pz_grid.specs.declared.cell.Piece.{Piece}
-use Rattle.pz_grid.specs.Sameness.{same_dir, same_heading, same_place, same_cell, same_cells, same_layers, same_size, same_grid}
+use Rattle.pz_source.specs.Direction.{same_dir}
+use Rattle.pz_grid.specs.Sameness.{same_heading, same_place, same_cell, same_cells, same_layers, same_size, same_grid}
 
 same_dir_is : (a b : Dir) → same_dir a b ≡ true → a ≡ b
 same_dir_is Up Up h = refl

@@ -5,7 +5,7 @@ use Rattle.pz_source.specs.declared.direction.Dir.TheVariants.{Up, Down, Left, R
 use Rattle.pz_rules.specs.declared.pattern.Item.{Item}
 use Rattle.pz_rules.specs.declared.pattern.Word.{Word}
 use Rattle.pz_rules.specs.declared.pattern.Word.TheVariants.{Present, Toward, Absent}
-use Rattle.pz_rules.specs.declared.commands.Commands.{Commands}
+use Rattle.pz_plan.specs.declared.commands.Commands.{Commands}
 use Rattle.pz_rules.specs.declared.instance.Instance.{Instance}
 use Rattle.pz_rules.specs.Pattern.{RuleRow}
 use Rattle.pz_grid.specs.declared.cell.Piece.{Piece}

@@ -8,7 +8,7 @@ use Rattle.pz_rules.specs.declared.pattern.Word.{Word}
 use Rattle.pz_rules.specs.declared.pattern.Word.TheVariants.{Present, Still, Toward, Absent}
 use Rattle.pz_grid.specs.declared.cell.Piece.{Piece}
 use Rattle.pz_grid.specs.Standing.{standing}
-use Rattle.pz_grid.specs.Sameness.{same_dir}
+use Rattle.pz_source.specs.Direction.{same_dir}
 
 -- what a word asks of its object
 abbrev pub word_holds : Word → Option (Option Dir) → Bool

@@ -1,17 +1,9 @@
 -- Two levels are the same if they agree in their size, their layers and each place of each cell.
 use Rattle.std.specs.Prelude.{ℕ, List, [], ◌∷◌, Option, Some, None, Bool, true, false, nat_eq, ◌&&◌}
 use Rattle.pz_source.specs.declared.direction.Dir.{Dir}
-use Rattle.pz_source.specs.declared.direction.Dir.TheVariants.{Up, Down, Left, Right, Action}
+use Rattle.pz_source.specs.Direction.{same_dir}
 use Rattle.pz_grid.specs.declared.cell.Piece.{Piece}
 use Rattle.pz_grid.specs.Grid.{Grid}
-
-abbrev pub same_dir : Dir → Dir → Bool
-same_dir Up Up = true
-same_dir Down Down = true
-same_dir Left Left = true
-same_dir Right Right = true
-same_dir Action Action = true
-same_dir _ _ = false
 
 abbrev pub same_heading : Option Dir → Option Dir → Bool
 same_heading None None = true

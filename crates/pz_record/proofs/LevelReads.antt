@@ -3,7 +3,8 @@ use Rattle.std.proofs.Common.{◌≡◌, ◌≢◌, ℕ, suc, ◌<◌, ◌^◌, 
 use Rattle.std.specs.List.{list_all}
 use Rattle.std.proofs.lemmas.List.Elements.{All-head, All-tail}
 use Rattle.std.proofs.lemmas.Bool.{ne_eqb, and_parts}
-use Rattle.pz_source.specs.Game.{GameView, IsWord, IsGame}
+use Rattle.pz_source.specs.Game.{GameView, IsGame}
+use Rattle.pz_names.specs.Word.{IsWord}
 use Rattle.pz_grid.specs.Grid.{Grid}
 use Rattle.pz_grid.specs.Standing.{stands}
 use Rattle.pz_record.specs.declared.order.Order.{Order}

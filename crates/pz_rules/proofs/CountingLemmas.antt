@@ -2,12 +2,13 @@
 use Rattle.std.proofs.Common.{Bool, true, false, ◌==◌, ◌||◌, ◌≡◌, ◌≤◌, ℕ, ◌+◌, ◌*◌, List, [], ◌∷◌, map, length, refl, ap, sym, ◌∙◌, arith, ◌<◌, zero, suc, drop, get_or}
 use Rattle.std.specs.List.{All}
 use Rattle.std.proofs.Math.Nat.{mul-le-mul_left, mul_assoc}
-use Rattle.pz_rules.specs.declared.plan.Choice.{Choice}
-use Rattle.pz_source.specs.declared.denotation.Denotation.{Denotation}
+use Rattle.pz_plan.specs.declared.plan.Choice.{Choice}
+use Rattle.pz_names.specs.declared.denotation.Denotation.{Denotation}
 use Rattle.std.proofs.lemmas.Bool.{eqb-true, eqb-false, or_parts, false≢true}
 use Rattle.std.specs.List.{list_any}
 use Rattle.std.proofs.lemmas.List.{at_drop_more}
-use Rattle.pz_rules.specs.Counting.{product_of, size_of}
+use Rattle.pz_plan.specs.Lists.{product_of}
+use Rattle.pz_rules.specs.Counting.{size_of}
 
 -- every choice has a pick
 pub product-positive : (table : List Denotation) (xs : List Choice) → All (λ c. 1 ≤ size_of table c) xs → 1 ≤ product_of (map (size_of table) xs)

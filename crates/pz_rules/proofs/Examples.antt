@@ -3,8 +3,8 @@ use Rattle.std.proofs.Common.{◌≡◌, ℕ, false, List, [], ◌∷◌, map, l
 use Rattle.std.specs.List.{flat_map}
 use Rattle.pz_text.specs.declared.fault.Code.TheVariants as code
 use Rattle.pz_text.specs.declared.fault.SourceFault.{SourceFault}
-use Rattle.pz_source.specs.declared.denotation.Denotation.{Denotation}
-use Rattle.pz_source.specs.declared.denotation.Kind.TheVariants as kind
+use Rattle.pz_names.specs.declared.denotation.Denotation.{Denotation}
+use Rattle.pz_names.specs.declared.denotation.Kind.TheVariants as kind
 use Rattle.pz_source.specs.declared.direction.Dir.{Dir}
 use Rattle.pz_source.specs.declared.direction.Dir.TheVariants as dir
 use Rattle.pz_source.specs.declared.rules.RuleLine.{RuleLine}
@@ -17,24 +17,24 @@ use Rattle.pz_rules.specs.declared.pattern.Word.{Word}
 use Rattle.pz_rules.specs.declared.pattern.Word.TheVariants as word
 use Rattle.pz_rules.specs.declared.pattern.Item.{Item}
 use Rattle.pz_rules.specs.Drafts.{program_of}
-use Rattle.pz_rules.specs.Checks as of_checks
+use Rattle.pz_plan.specs.Checks as of_checks
 use Rattle.pz_rules.specs.Clash as of_clash
-use Rattle.pz_rules.specs.Commands as of_commands
+use Rattle.pz_plan.specs.Commands as of_commands
 use Rattle.pz_rules.specs.Counting as of_counting
-use Rattle.pz_rules.specs.Deciding as of_deciding
+use Rattle.pz_plan.specs.Deciding as of_deciding
 use Rattle.pz_rules.specs.Drafts as of_drafts
 use Rattle.pz_rules.specs.Equal as of_equal
 use Rattle.pz_rules.specs.Expansion as of_expansion
 use Rattle.pz_rules.specs.Instances as of_instances
-use Rattle.pz_rules.specs.Loop as of_loop
-use Rattle.pz_rules.specs.Numbering as of_numbering
-use Rattle.pz_rules.specs.Parsed as of_parsed
-use Rattle.pz_rules.specs.Planning as of_planning
-use Rattle.pz_rules.specs.Prefix as of_prefix
-use Rattle.pz_rules.specs.Same as of_same
+use Rattle.pz_grammar.specs.Loop as of_loop
+use Rattle.pz_plan.specs.Numbering as of_numbering
+use Rattle.pz_grammar.specs.Parsed as of_parsed
+use Rattle.pz_plan.specs.Planning as of_planning
+use Rattle.pz_plan.specs.Prefix as of_prefix
+use Rattle.pz_plan.specs.Same as of_same
 use Rattle.pz_rules.specs.Sides as of_sides
-use Rattle.pz_rules.specs.Spelling as of_spelling
-use Rattle.pz_rules.specs.Words as of_words
+use Rattle.pz_plan.specs.Spelling as of_spelling
+use Rattle.pz_grammar.specs.Words as of_words
 
 abbrev object : ℕ → Denotation
 object k = record { kind = kind.Object; number = k; members = k ∷ [] }

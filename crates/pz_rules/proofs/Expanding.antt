@@ -7,12 +7,12 @@ use Rattle.std.specs.List.{flat_map}
 use Rattle.pz_source.specs.declared.direction.Dir.{Dir}
 use Rattle.pz_rules.specs.declared.instance.Instance.{Instance}
 use Rattle.pz_rules.specs.declared.instances.Pick.{Pick}
-use Rattle.pz_rules.specs.declared.plan.Plan.{Plan}
-use Rattle.pz_source.specs.declared.denotation.Denotation.{Denotation}
+use Rattle.pz_plan.specs.declared.plan.Plan.{Plan}
+use Rattle.pz_names.specs.declared.denotation.Denotation.{Denotation}
 use Rattle.pz_rules.specs.Equal.{same_instance}
-use Rattle.pz_rules.specs.Lists.{firsts, product, added}
+use Rattle.pz_plan.specs.Lists.{firsts, product, added}
 use Rattle.pz_rules.specs.Instances.{instance_of, is_possible, considered, picks_of, possible_of, options_of}
-use Rattle.pz_rules.proofs.Firsts.{firsts-append}
+use Rattle.pz_plan.proofs.Firsts.{firsts-append}
 use Rattle.pz_rules.proofs.EqualLemmas.{same_instance-trans}
 
 pub fold-considered : (layers : List ℕ) (plan : Plan) (direction : Dir) (kept : List Instance) (all : List (List Pick)) → fold (considered layers plan direction) kept all ≡ fold (added same_instance) kept (filter is_possible (map (instance_of layers plan direction) all))

@@ -8,7 +8,7 @@ use Rattle.pz_text.specs.declared.fault.SourceFault.{SourceFault}
 use Rattle.pz_source.specs.Game.{GameView}
 use Rattle.pz_source.specs.declared.rules.RuleLine.{RuleLine}
 use Rattle.pz_rules.specs.declared.draft.Draft.{Draft}
-use Rattle.pz_rules.specs.declared.fault.RuleFault.{RuleFault}
+use Rattle.pz_plan.specs.declared.fault.RuleFault.{RuleFault}
 use Rattle.pz_rules.specs.declared.instance.Program.{Program}
 use Rattle.pz_rules.specs.Drafts.{line_added, going_on, program_from, nothing, program_of}
 

@@ -9,8 +9,8 @@ use Rattle.pz_rules.specs.declared.instance.Instance.{Instance}
 use Rattle.pz_rules.specs.Equal.{same_item, has_item, within_cell, same_cell, cells_agree, same_row, rows_agree, same_rows, same_instance}
 use Rattle.pz_rules.specs.Marks.{direction_number, item_mark, cell_mark, with_cell, with_row, with_rows, mark_of, spread_once}
 use Rattle.pz_rules.specs.Pattern.{RuleRow}
-use Rattle.pz_rules.specs.Same.{same_dir}
-use Rattle.pz_rules.proofs.Directions.{same_dir_is}
+use Rattle.pz_source.specs.Direction.{same_dir}
+use Rattle.pz_plan.proofs.Directions.{same_dir_is}
 use Rattle.pz_rules.proofs.EqualLemmas.{same_item_is}
 
 xor_swap : (a b c : ℕ) → bit_xor a (bit_xor b c) ≡ bit_xor b (bit_xor a c)

@@ -7,23 +7,24 @@ use Rattle.std.proofs.lemmas.List.Sums.{AllPass-from_list_all, list_all-from_All
 use Rattle.std.proofs.lemmas.Option.{unwrap_or-slice_get}
 use Rattle.pz_text.specs.declared.fault.SourceFault.{SourceFault}
 use Rattle.pz_text.specs.NameSet.{number_in}
-use Rattle.pz_source.specs.declared.denotation.Denotation.{Denotation}
+use Rattle.pz_names.specs.declared.denotation.Denotation.{Denotation}
 use Rattle.pz_source.specs.declared.rules.RuleLine.{RuleLine}
-use Rattle.pz_source.specs.Game.{GameView, IsGame, IsDenoted}
+use Rattle.pz_source.specs.Game.{GameView, IsGame}
+use Rattle.pz_names.specs.Denotation.{IsDenoted}
 use Rattle.pz_rules.specs.declared.draft.Draft.{Draft}
 use Rattle.pz_rules.specs.declared.draft.OpenGroup.{OpenGroup}
 use Rattle.pz_rules.specs.declared.expansion.Expansion.{Expansion}
-use Rattle.pz_rules.specs.declared.fault.RuleFault.{RuleFault}
-use Rattle.pz_rules.specs.declared.fault.RuleFault.TheVariants as fault
+use Rattle.pz_plan.specs.declared.fault.RuleFault.{RuleFault}
+use Rattle.pz_plan.specs.declared.fault.RuleFault.TheVariants as fault
 use Rattle.pz_rules.specs.declared.instance.Block.{Block}
 use Rattle.pz_rules.specs.declared.instance.Block.TheVariants.{One, Loop}
 use Rattle.pz_rules.specs.declared.instance.Instance.{Instance}
 use Rattle.pz_rules.specs.declared.instance.Program.{Program}
-use Rattle.pz_rules.specs.declared.loops.LoopWord.{LoopWord}
-use Rattle.pz_rules.specs.declared.loops.LoopWord.TheVariants as loop_words
+use Rattle.pz_grammar.specs.declared.loops.LoopWord.{LoopWord}
+use Rattle.pz_grammar.specs.declared.loops.LoopWord.TheVariants as loop_words
 use Rattle.pz_rules.specs.declared.pattern.Item.{Item}
-use Rattle.pz_rules.specs.declared.plan.Plan.{Plan}
-use Rattle.pz_rules.specs.declared.rule.Rule.{Rule}
+use Rattle.pz_plan.specs.declared.plan.Plan.{Plan}
+use Rattle.pz_grammar.specs.declared.rule.Rule.{Rule}
 use Rattle.pz_rules.specs.declared.sides.Sides.{Sides}
 use Rattle.pz_rules.specs.Clash.{has_clash}
 use Rattle.pz_rules.specs.Counting.{pair_count}
@@ -31,14 +32,14 @@ use Rattle.pz_rules.specs.Drafts.{placed, settled, opened, loop_of, with_loop, c
 use Rattle.pz_rules.specs.Expansion.{unless_clash, expansion_within, expanded_plan, expanded}
 use Rattle.pz_rules.specs.Instance.{IsInstanceOf, IsGroupOf, IsBlockOf, IsProgramOf}
 use Rattle.pz_rules.specs.Instances.{layer_of, instances_of}
-use Rattle.pz_rules.specs.Loop.{loop_word, next_loop, is_end}
-use Rattle.pz_rules.specs.Parsed.{parsed}
+use Rattle.pz_grammar.specs.Loop.{loop_word, next_loop, is_end}
+use Rattle.pz_grammar.specs.Parsed.{parsed}
 use Rattle.pz_rules.specs.Pattern.{RuleRow, IsOf, AreOf, IsRowOf, AreRowsOf}
-use Rattle.pz_rules.specs.Planning.{plan_of}
+use Rattle.pz_plan.specs.Planning.{plan_of}
 use Rattle.pz_rules.specs.Sides.{side_added}
-use Rattle.pz_rules.specs.Words.{tokens_of}
+use Rattle.pz_grammar.specs.Words.{tokens_of}
 use Rattle.pz_rules.proofs.Belonging.{below, denotes, PlanFits, plan-fits, item_is_of, row_is_of, instance_is_of, instances-are_of}
-use Rattle.pz_rules.proofs.EachOf.{each-append, each-get}
+use Rattle.pz_plan.proofs.EachOf.{each-append, each-get}
 
 abbrev group_is_of : List ℕ → List Instance → Bool
 group_is_of layers group = list_all (instance_is_of layers) group

@@ -1,12 +1,13 @@
 -- How many pairs of a direction and a list of picks a plan has.
-use Rattle.std.specs.Prelude.{ℕ, ◌*◌, List, [], ◌∷◌, length, map, slice_get}
+use Rattle.std.specs.Prelude.{ℕ, ◌*◌, List, length, map, slice_get}
 use Rattle.std.specs.Option.{option_map_or}
-use Rattle.pz_rules.specs.declared.token.Class.{Class}
-use Rattle.pz_rules.specs.declared.token.Class.TheVariants.{Moving, Orthogonal}
-use Rattle.pz_source.specs.declared.denotation.Denotation.{Denotation}
-use Rattle.pz_rules.specs.declared.plan.Asked.TheVariants.{Member, Direction}
-use Rattle.pz_rules.specs.declared.plan.Choice.{Choice}
-use Rattle.pz_rules.specs.declared.plan.Plan.{Plan}
+use Rattle.pz_grammar.specs.declared.token.Class.{Class}
+use Rattle.pz_grammar.specs.declared.token.Class.TheVariants.{Moving, Orthogonal}
+use Rattle.pz_names.specs.declared.denotation.Denotation.{Denotation}
+use Rattle.pz_plan.specs.Lists.{product_of}
+use Rattle.pz_plan.specs.declared.plan.Asked.TheVariants.{Member, Direction}
+use Rattle.pz_plan.specs.declared.plan.Choice.{Choice}
+use Rattle.pz_plan.specs.declared.plan.Plan.{Plan}
 
 -- how many directions a word has
 abbrev pub class_size : Class → ℕ
@@ -21,10 +22,6 @@ size_of table choice =
       | Member property ↦ option_map_or (λ denotation. length denotation.members) (slice_get table property) 0
       | Direction class on ↦ class_size class
     ]
-
-abbrev pub product_of : List ℕ → ℕ
-product_of [] = 1
-product_of (n ∷ ns) = n * product_of ns
 
 unfoldable pub pair_count : List Denotation → Plan → ℕ
 pair_count table plan = length plan.directions * product_of (map (size_of table) plan.choices)

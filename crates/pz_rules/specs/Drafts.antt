@@ -6,23 +6,23 @@ use Rattle.pz_source.specs.declared.rules.RuleLine.{RuleLine}
 use Rattle.pz_rules.specs.declared.draft.Draft.{Draft}
 use Rattle.pz_rules.specs.declared.draft.OpenGroup.{OpenGroup}
 use Rattle.pz_rules.specs.declared.expansion.Expansion.{Expansion}
-use Rattle.pz_rules.specs.declared.fault.RuleFault.{RuleFault}
-use Rattle.pz_rules.specs.declared.fault.RuleFault.TheVariants as fault
+use Rattle.pz_plan.specs.declared.fault.RuleFault.{RuleFault}
+use Rattle.pz_plan.specs.declared.fault.RuleFault.TheVariants as fault
 use Rattle.pz_rules.specs.declared.instance.Block.{Block}
 use Rattle.pz_rules.specs.declared.instance.Block.TheVariants.{One, Loop}
 use Rattle.pz_rules.specs.declared.instance.Instance.{Instance}
 use Rattle.pz_rules.specs.declared.instance.Program.{Program}
-use Rattle.pz_rules.specs.declared.loops.LoopWord.{LoopWord}
-use Rattle.pz_rules.specs.declared.loops.LoopWord.TheVariants as loop_words
-use Rattle.pz_rules.specs.declared.rule.Rule.{Rule}
+use Rattle.pz_grammar.specs.declared.loops.LoopWord.{LoopWord}
+use Rattle.pz_grammar.specs.declared.loops.LoopWord.TheVariants as loop_words
+use Rattle.pz_grammar.specs.declared.rule.Rule.{Rule}
 use Rattle.pz_rules.specs.declared.sides.Sides.{Sides}
 use Rattle.pz_rules.specs.Expansion.{expanded}
-use Rattle.pz_rules.specs.Fault.{code_of}
-use Rattle.pz_rules.specs.Loop.{loop_word, next_loop, is_end}
-use Rattle.pz_rules.specs.Parsed.{parsed}
-use Rattle.pz_rules.specs.Prefix.{is_late_rule}
+use Rattle.pz_plan.specs.Fault.{code_of}
+use Rattle.pz_grammar.specs.Loop.{loop_word, next_loop, is_end}
+use Rattle.pz_grammar.specs.Parsed.{parsed}
+use Rattle.pz_plan.specs.Prefix.{is_late_rule}
 use Rattle.pz_rules.specs.Sides.{side_added}
-use Rattle.pz_rules.specs.Words.{tokens_of}
+use Rattle.pz_grammar.specs.Words.{tokens_of}
 
 -- a group takes its place: in the loop that is open, else as a block of its own
 unfoldable pub placed : Draft → OpenGroup → Draft

@@ -6,7 +6,7 @@ use Rattle.pz_rules.specs.declared.pattern.Word.TheVariants.{Present, Still, Tow
 use Rattle.pz_rules.specs.declared.pattern.Item.{Item}
 use Rattle.pz_rules.specs.declared.instance.Instance.{Instance}
 use Rattle.pz_rules.specs.Pattern.{RuleRow}
-use Rattle.pz_rules.specs.Same.{same_dir}
+use Rattle.pz_source.specs.Direction.{same_dir}
 
 -- two words of one meaning
 abbrev pub same_meaning : Word → Word → Bool

@@ -1,17 +1,17 @@
 -- The instances of a rule, or its first fault.
 use Rattle.std.specs.Prelude.{ℕ, ◌+◌, Bool, nat_lt, List, Result, Ok, Err, if◌then◌else◌}
 use Rattle.std.specs.List.{list_any}
-use Rattle.pz_source.specs.declared.denotation.Denotation.{Denotation}
+use Rattle.pz_names.specs.declared.denotation.Denotation.{Denotation}
 use Rattle.pz_rules.specs.declared.expansion.Expansion.{Expansion}
-use Rattle.pz_rules.specs.declared.fault.RuleFault.{RuleFault}
-use Rattle.pz_rules.specs.declared.fault.RuleFault.TheVariants as fault
+use Rattle.pz_plan.specs.declared.fault.RuleFault.{RuleFault}
+use Rattle.pz_plan.specs.declared.fault.RuleFault.TheVariants as fault
 use Rattle.pz_rules.specs.declared.instance.Instance.{Instance}
-use Rattle.pz_rules.specs.declared.plan.Plan.{Plan}
-use Rattle.pz_rules.specs.declared.rule.Rule.{Rule}
+use Rattle.pz_plan.specs.declared.plan.Plan.{Plan}
+use Rattle.pz_grammar.specs.declared.rule.Rule.{Rule}
 use Rattle.pz_rules.specs.Clash.{has_clash}
 use Rattle.pz_rules.specs.Counting.{pair_count}
 use Rattle.pz_rules.specs.Instances.{instances_of}
-use Rattle.pz_rules.specs.Planning.{plan_of}
+use Rattle.pz_plan.specs.Planning.{plan_of}
 
 -- the instances that are kept, where the right of none has a clash
 unfoldable pub unless_clash : ℕ → List Instance → Result Expansion RuleFault

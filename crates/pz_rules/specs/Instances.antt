@@ -2,7 +2,7 @@
 use Rattle.std.specs.Prelude.{ℕ, Bool, true, false, not, ◌&&◌, ◌||◌, ◌==◌, List, [], Option, Some, map, filter, slice_get, unwrap_or, length, if◌then◌else◌}
 use Rattle.std.specs.List.{list_any, list_all, flat_map}
 use Rattle.std.specs.Option.{option_map_or}
-use Rattle.pz_source.specs.declared.denotation.Denotation.{Denotation}
+use Rattle.pz_names.specs.declared.denotation.Denotation.{Denotation}
 use Rattle.pz_source.specs.declared.direction.Dir.{Dir}
 use Rattle.pz_source.specs.declared.direction.Dir.TheVariants.{Up}
 use Rattle.pz_rules.specs.declared.pattern.Item.{Item}
@@ -11,17 +11,17 @@ use Rattle.pz_rules.specs.declared.pattern.Word.TheVariants.{Present, Still, Tow
 use Rattle.pz_rules.specs.declared.instance.Instance.{Instance}
 use Rattle.pz_rules.specs.declared.instances.Pick.{Pick}
 use Rattle.pz_rules.specs.declared.instances.Pick.TheVariants as pick
-use Rattle.pz_rules.specs.declared.plan.Asked.TheVariants as asked
-use Rattle.pz_rules.specs.declared.plan.Choice.{Choice}
-use Rattle.pz_rules.specs.declared.plan.Plan.{Plan}
-use Rattle.pz_rules.specs.declared.plan.PlanRow.{PlanRow}
-use Rattle.pz_rules.specs.declared.plan.Term.{Term}
-use Rattle.pz_rules.specs.declared.plan.TermName.{TermName}
-use Rattle.pz_rules.specs.declared.plan.TermName.TheVariants as name
-use Rattle.pz_rules.specs.declared.plan.TermWord.{TermWord}
-use Rattle.pz_rules.specs.declared.plan.TermWord.TheVariants as word
+use Rattle.pz_plan.specs.declared.plan.Asked.TheVariants as asked
+use Rattle.pz_plan.specs.declared.plan.Choice.{Choice}
+use Rattle.pz_plan.specs.declared.plan.Plan.{Plan}
+use Rattle.pz_plan.specs.declared.plan.PlanRow.{PlanRow}
+use Rattle.pz_plan.specs.declared.plan.Term.{Term}
+use Rattle.pz_plan.specs.declared.plan.TermName.{TermName}
+use Rattle.pz_plan.specs.declared.plan.TermName.TheVariants as name
+use Rattle.pz_plan.specs.declared.plan.TermWord.{TermWord}
+use Rattle.pz_plan.specs.declared.plan.TermWord.TheVariants as word
 use Rattle.pz_rules.specs.Equal.{same_meaning, same_instance}
-use Rattle.pz_rules.specs.Lists.{product, firsts, added}
+use Rattle.pz_plan.specs.Lists.{product, firsts, added}
 use Rattle.pz_rules.specs.Pattern.{RuleRow}
 use Rattle.pz_rules.specs.Turning.{turned, class_directions}
 

@@ -2,10 +2,10 @@
 use Rattle.std.specs.Prelude.{List, [], ◌∷◌}
 use Rattle.pz_source.specs.declared.direction.Dir.{Dir}
 use Rattle.pz_source.specs.declared.direction.Dir.TheVariants.{Up, Down, Left, Right, Action}
-use Rattle.pz_rules.specs.declared.token.Turn.{Turn}
-use Rattle.pz_rules.specs.declared.token.Turn.TheVariants as turn
-use Rattle.pz_rules.specs.declared.token.Class.{Class}
-use Rattle.pz_rules.specs.declared.token.Class.TheVariants as class
+use Rattle.pz_grammar.specs.declared.token.Turn.{Turn}
+use Rattle.pz_grammar.specs.declared.token.Turn.TheVariants as turn
+use Rattle.pz_grammar.specs.declared.token.Class.{Class}
+use Rattle.pz_grammar.specs.declared.token.Class.TheVariants as class
 
 -- the direction that `^`, `v`, `<` or `>` means in a rule of this direction
 abbrev pub turned : Dir → Turn → Dir

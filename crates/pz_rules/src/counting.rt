@@ -3,11 +3,12 @@
 ghost use Rattle.std.specs.Prelude.{◌≡◌, ◌≤◌, ◌+◌, ◌*◌, ◌==◌, List, All, length, map};
 ghost use Rattle.std.specs.List.{list_any};
 ghost use Rattle.std.specs.Option.{SomeIff};
-ghost use Rattle.pz_rules.specs.Counting.{class_size, size_of, product_of, pair_count};
+ghost use Rattle.pz_plan.specs.Lists.{product_of};
+ghost use Rattle.pz_rules.specs.Counting.{class_size, size_of, pair_count};
 
-use crate::plan::{Asked, Choice, Plan};
-use crate::token::Class;
-use pz_source::denotation::Denotation;
+use pz_grammar::token::Class;
+use pz_names::denotation::Denotation;
+use pz_plan::plan::{Asked, Choice, Plan};
 
 fn class_size(class: Class) -> u64
     ensures { result ≡ class_size class }

@@ -1,20 +1,20 @@
 //! A program while its lines are read.
 
 ghost use Rattle.std.specs.Prelude.{◌≡◌, ◌≢◌, ◌++◌, true, Ok, Err, IfOk, IfErr};
-ghost use Rattle.pz_rules.specs.declared.fault.RuleFault.TheVariants.{Memory};
+ghost use Rattle.pz_plan.specs.declared.fault.RuleFault.TheVariants.{Memory};
 ghost use Rattle.pz_rules.specs.Drafts.{placed, settled, opened, loop_of, closed, is_misplaced, lateness, with_instances, extended, rule_added, loop_added, line_added};
-ghost use Rattle.pz_rules.specs.Written.{is_whole};
+ghost use Rattle.pz_grammar.specs.Written.{is_whole};
 
 use crate::expansion::{Expansion, expanded};
-use crate::fault::RuleFault;
-use crate::grammar::parse;
 use crate::instance::{Block, Blocks, Group, Groups};
-use crate::listing::{joined, pushed};
-use crate::loops::{LoopWord, loop_word, next_loop};
-use crate::prefix::is_late_rule;
-use crate::rule::Rule;
 use crate::sides::{Sides, no_sides, side_added};
-use crate::words::tokens_of;
+use pz_grammar::grammar::parse;
+use pz_grammar::listing::{joined, pushed};
+use pz_grammar::loops::{LoopWord, loop_word, next_loop};
+use pz_grammar::rule::Rule;
+use pz_grammar::words::tokens_of;
+use pz_plan::fault::RuleFault;
+use pz_plan::prefix::is_late_rule;
 use pz_source::game::Game;
 use pz_source::rules::RuleLine;
 use pz_text::name::Name;

@@ -2,15 +2,15 @@
 
 ghost use Rattle.std.specs.Prelude.{◌≡◌, ◌≢◌, Ok, Err, IfOk, IfErr, map, Contains};
 ghost use Rattle.pz_text.specs.declared.fault.Code.TheVariants.{Memory};
-ghost use Rattle.pz_rules.specs.declared.fault.RuleFault.TheVariants as rule_faults;
+ghost use Rattle.pz_plan.specs.declared.fault.RuleFault.TheVariants as rule_faults;
 ghost use Rattle.pz_rules.specs.Drafts.{nothing, finished, program_of};
-ghost use Rattle.pz_rules.specs.Fault.{code_of};
+ghost use Rattle.pz_plan.specs.Fault.{code_of};
 ghost use Rattle.pz_rules.specs.Instance.{IsProgramOf};
 
 use crate::draft::{Draft, line_added, settled};
-use crate::fault::RuleFault;
 use crate::instance::Program;
 use crate::sides::no_sides;
+use pz_plan::fault::RuleFault;
 use pz_source::game::Game;
 use pz_text::fault::{Code, SourceFault};
 use std::alloc::{AllocError, Global};

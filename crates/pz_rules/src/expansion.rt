@@ -2,21 +2,21 @@
 
 ghost use Rattle.std.specs.Prelude.{◌≡◌, ◌≢◌, ◌≤◌, ◌+◌, true, Ok, Err, IfOk, IfErr};
 ghost use Rattle.std.specs.Option.{SomeIff};
-ghost use Rattle.pz_rules.specs.declared.fault.RuleFault.TheVariants.{Memory};
+ghost use Rattle.pz_plan.specs.declared.fault.RuleFault.TheVariants.{Memory};
 ghost use Rattle.pz_rules.specs.Counting.{pair_count};
 ghost use Rattle.pz_rules.specs.Expansion.{unless_clash, expansion_within, expanded};
-ghost use Rattle.pz_rules.specs.Shape.{AreShaped};
-ghost use Rattle.pz_rules.specs.Written.{is_whole};
+ghost use Rattle.pz_plan.specs.Shape.{AreShaped};
+ghost use Rattle.pz_grammar.specs.Written.{is_whole};
 
 use crate::clash::have_clash;
 use crate::counting::count_within;
-use crate::fault::RuleFault;
 use crate::instance::{Group, Instance};
 use crate::instances::instances_of;
-use crate::plan::Plan;
-use crate::planning::plan_of;
-use crate::rule::Rule;
-use pz_source::denotation::Denotation;
+use pz_grammar::rule::Rule;
+use pz_names::denotation::Denotation;
+use pz_plan::fault::RuleFault;
+use pz_plan::plan::Plan;
+use pz_plan::planning::plan_of;
 use pz_text::listed::Listed;
 use std::alloc::Global;
 

@@ -2,8 +2,8 @@
 
 ghost use Rattle.std.specs.Prelude.{◌≡◌};
 
-use crate::commands::Commands;
 use crate::pattern::Rows;
+use pz_plan::commands::Commands;
 use pz_source::direction::Dir;
 use pz_text::listed::Listed;
 

@@ -3,7 +3,7 @@
 ghost use Rattle.std.specs.Prelude.{◌≡◌, ◌∷◌, ◌++◌, [], length, IfOk, OnOk, OnErr};
 ghost use Rattle.std.specs.List.{list_any};
 ghost use Rattle.pz_rules.specs.Equal.{same_instance};
-ghost use Rattle.pz_rules.specs.Lists.{added};
+ghost use Rattle.pz_plan.specs.Lists.{added};
 ghost use Rattle.pz_rules.specs.Marks.{mark_of};
 ghost use Rattle.pz_rules.specs.Kept.{stands_at, bucket_of};
 

@@ -3,7 +3,7 @@
 ghost use Rattle.std.specs.Prelude.{◌≡◌, [], IfOk};
 ghost use Rattle.pz_rules.specs.Sides.{side_added};
 
-use crate::listing::pushed;
+use pz_grammar::listing::pushed;
 use pz_text::listed::Listed;
 use std::alloc::{AllocError, Global};
 

@@ -3,7 +3,7 @@
 ghost use Rattle.std.specs.Prelude.{◌≡◌};
 ghost use Rattle.pz_rules.specs.Turning.{turned, along, across, class_directions};
 
-use crate::token::{Class, Turn};
+use pz_grammar::token::{Class, Turn};
 use pz_source::direction::Dir;
 
 /// The direction that a turning word means in a rule of this direction.

@@ -1,8 +1,8 @@
 -- How many items a session has at most.
 use Rattle.std.proofs.Common.{◌≡◌, ℕ, zero, suc, ◌+◌, ◌*◌, ◌<◌, ◌≤◌, ◌^◌, Bool, true, false, ◌||◌, List, [], ◌∷◌, length, map, Option, Some, None, option_to_list, Result, Ok, Err, IfOk, if◌then◌else◌, refl, ap, ◌∙◌, arith}
 use Rattle.std.proofs.lemmas.List.{length-map, length-append}
-use Rattle.pz_rules.specs.declared.commands.Commands.{Commands}
-use Rattle.pz_rules.specs.declared.token.Command.TheVariants as command
+use Rattle.pz_plan.specs.declared.commands.Commands.{Commands}
+use Rattle.pz_grammar.specs.declared.token.Command.TheVariants as command
 use Rattle.pz_grid.specs.Grid.{Grid}
 use Rattle.pz_turn.specs.declared.outcome.StepFault.{StepFault}
 use Rattle.pz_turn.specs.Outcome.{Outcome}

@@ -1,8 +1,8 @@
 -- Worked sessions, computed.
 use Rattle.std.proofs.Common.{◌≡◌, ℕ, List, [], ◌∷◌, Option, Some, None, Err, false, if◌then◌else◌, refl}
 use Rattle.std.specs.Prelude.{codes}
-use Rattle.pz_source.specs.declared.denotation.Denotation.{Denotation}
-use Rattle.pz_source.specs.declared.denotation.Kind.TheVariants.{Object}
+use Rattle.pz_names.specs.declared.denotation.Denotation.{Denotation}
+use Rattle.pz_names.specs.declared.denotation.Kind.TheVariants.{Object}
 use Rattle.pz_source.specs.declared.direction.Dir.TheVariants.{Left, Right}
 use Rattle.pz_source.specs.declared.level.LevelEntry.{LevelEntry}
 use Rattle.pz_source.specs.declared.level.LevelEntry.TheVariants.{Message, Level}

@@ -2,9 +2,9 @@
 use Rattle.std.specs.Prelude.{ℕ, ◌+◌, ◌<◌, Bool, true, false, ◌&&◌, ◌||◌, List, [], ◌∷◌, length, Option, Some, None, Result, Ok, Err, All, IfSome, if◌then◌else◌}
 use Rattle.pz_source.specs.Game.{GameView}
 use Rattle.pz_source.specs.declared.direction.Dir.{Dir}
-use Rattle.pz_rules.specs.declared.commands.Commands.{Commands}
+use Rattle.pz_plan.specs.declared.commands.Commands.{Commands}
 use Rattle.pz_rules.specs.declared.instance.Program.{Program}
-use Rattle.pz_rules.specs.declared.token.Command.TheVariants as command
+use Rattle.pz_grammar.specs.declared.token.Command.TheVariants as command
 use Rattle.pz_rules.specs.Instance.{IsProgramOf}
 use Rattle.pz_grid.specs.Grid.{Grid, IsOfGame}
 use Rattle.pz_grid.specs.Loading.{loaded}

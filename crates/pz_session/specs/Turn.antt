@@ -1,9 +1,9 @@
 -- What a session makes of the end of a step.
 use Rattle.std.specs.Prelude.{Bool, not, ◌||◌}
-use Rattle.pz_rules.specs.declared.commands.Commands.{Commands}
-use Rattle.pz_rules.specs.declared.token.Command.{Command}
-use Rattle.pz_rules.specs.declared.token.Command.TheVariants.{Cancel, Restart, Win}
-use Rattle.pz_rules.specs.Commands.{has, flag_of}
+use Rattle.pz_plan.specs.declared.commands.Commands.{Commands}
+use Rattle.pz_grammar.specs.declared.token.Command.{Command}
+use Rattle.pz_grammar.specs.declared.token.Command.TheVariants.{Cancel, Restart, Win}
+use Rattle.pz_plan.specs.Commands.{has, flag_of}
 use Rattle.pz_grid.specs.Grid.{Grid}
 use Rattle.pz_turn.specs.declared.outcome.StepFault.{StepFault}
 use Rattle.pz_turn.specs.declared.outcome.StepFault.TheVariants as step

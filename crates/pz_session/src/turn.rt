@@ -11,7 +11,7 @@ use crate::chain::PlayFault;
 use crate::item::Stop;
 use bitflags::Flags;
 use pz_grid::Level;
-use pz_rules::commands::Commands;
+use pz_plan::commands::Commands;
 use pz_rules::instance::Program;
 use pz_source::direction::Dir;
 use pz_source::game::Game;

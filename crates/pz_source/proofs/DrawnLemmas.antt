@@ -14,7 +14,7 @@ use Rattle.pz_text.specs.declared.fault.Code.TheVariants as code
 use Rattle.pz_source.specs.Level.{is_playable}
 use Rattle.pz_source.specs.Levels.{draws, glyph_of, glyphs_of, filled, rows_of, is_message, is_too_large, entry_of, entries_of, read_entries, levels_of}
 use Rattle.pz_source.specs.Game.{IsDrawnBy}
-use Rattle.pz_source.specs.declared.denotation.Denotation.{Denotation}
+use Rattle.pz_names.specs.declared.denotation.Denotation.{Denotation}
 use Rattle.pz_source.specs.declared.level.LevelEntry.{LevelEntry}
 use Rattle.pz_source.specs.declared.level.LevelEntry.TheVariants.{Message, Level}
 

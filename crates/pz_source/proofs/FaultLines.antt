@@ -15,30 +15,30 @@ use Rattle.pz_text.specs.declared.line.Section.TheVariants as section
 use Rattle.pz_text.specs.declared.fault.Code.{Code}
 use Rattle.pz_text.specs.declared.fault.Code.TheVariants as code
 use Rattle.pz_text.specs.declared.fault.SourceFault.{SourceFault}
-use Rattle.pz_source.specs.Cycles.{reaches_itself}
-use Rattle.pz_source.specs.Denotation.{values_of}
+use Rattle.pz_names.specs.Cycles.{reaches_itself}
+use Rattle.pz_names.specs.Denotation.{values_of}
 use Rattle.pz_source.specs.Game.{GameView}
-use Rattle.pz_source.specs.Kinds.{kind_in, mixes}
+use Rattle.pz_names.specs.Kinds.{kind_in, mixes}
 use Rattle.pz_source.specs.Layers.{layer_names, layer_lines, name_line_at, layer_of, holds, lies_nowhere, layers_of, fault_of_layers}
 use Rattle.pz_source.specs.Layers as layers
-use Rattle.pz_source.specs.Legend.{sides, said_by, defined_by, definition_of, definitions_of, line_number, line_at, speaks_of_unknown}
-use Rattle.pz_source.specs.Legend as legend
+use Rattle.pz_names.specs.Legend.{sides, said_by, defined_by, definition_of, definitions_of, line_number, line_at, speaks_of_unknown}
+use Rattle.pz_names.specs.Legend as legend
 use Rattle.pz_source.specs.Level.{is_playable}
 use Rattle.pz_source.specs.Levels.{is_message, closed, entries_of, glyph_of, glyphs_of, filled, rows_of, is_too_large, entry_of, read_entries, levels_of}
-use Rattle.pz_source.specs.Meaning.{meanings_of}
+use Rattle.pz_names.specs.Meaning.{meanings_of}
 use Rattle.pz_source.specs.Missing.{names_single, fault_of_needs}
-use Rattle.pz_source.specs.Objects.{object_names, is_blank, sprite_rows, block_of, behind_block, blocks_within, blocks_of, name_line_of, block_at, misnames, objects_of}
+use Rattle.pz_names.specs.Objects.{object_names, is_blank, sprite_rows, block_of, behind_block, blocks_within, blocks_of, name_line_of, block_at, misnames, objects_of}
 use Rattle.pz_source.specs.Profile.{leaves_profile, outside_profile, options_of}
 use Rattle.pz_source.specs.Reading.{line_count, first_names, game_over, game_of_objects, game_of_lines, source_of}
 use Rattle.pz_source.specs.Rules.{rule_lines}
-use Rattle.pz_source.specs.Values.{names_of_source, meanings_of_source, fault_of_definitions, fault_of_legend}
+use Rattle.pz_names.specs.Values.{names_of_source, meanings_of_source, fault_of_definitions, fault_of_legend}
 use Rattle.pz_source.specs.Wins.{at_line, win_of, wins_from, wins_of}
-use Rattle.pz_source.specs.declared.denotation.Denotation.{Denotation}
-use Rattle.pz_source.specs.declared.legend.Definition.{Definition}
-use Rattle.pz_source.specs.declared.legend.Said.{Said}
+use Rattle.pz_names.specs.declared.denotation.Denotation.{Denotation}
+use Rattle.pz_names.specs.declared.legend.Definition.{Definition}
+use Rattle.pz_names.specs.declared.legend.Said.{Said}
 use Rattle.pz_source.specs.declared.level.LevelEntry.{LevelEntry}
 use Rattle.pz_source.specs.declared.level.LevelEntry.TheVariants.{Message, Level}
-use Rattle.pz_source.specs.declared.name_line.NameLine.{NameLine}
+use Rattle.pz_names.specs.declared.name_line.NameLine.{NameLine}
 use Rattle.pz_source.specs.declared.wins.WinLine.{WinLine}
 use Rattle.pz_source.proofs.LineLemmas.{IsWithin, Names, All-filter_map, lines_in-all, first_fault-within, or_else-within, unless-within, unless-ok, any-ok, and_then-within, cut-within, lines-all}
 

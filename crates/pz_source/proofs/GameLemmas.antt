@@ -13,20 +13,22 @@ use Rattle.pz_text.specs.declared.line.Line.{Line}
 use Rattle.pz_text.specs.declared.line.Section.TheVariants as section
 use Rattle.pz_text.specs.declared.fault.SourceFault.{SourceFault}
 use Rattle.pz_text.specs.declared.fault.Code.TheVariants as code
-use Rattle.pz_source.specs.Objects.{IsNamed, objects_of}
-use Rattle.pz_source.specs.Legend.{definitions_of}
-use Rattle.pz_source.specs.Denotation.{values_of}
-use Rattle.pz_source.specs.Values.{names_of_source, meanings_of_source, fault_of_legend}
+use Rattle.pz_names.specs.Objects.{IsNamed, objects_of}
+use Rattle.pz_names.specs.Legend.{definitions_of}
+use Rattle.pz_names.specs.Denotation.{values_of}
+use Rattle.pz_names.specs.Values.{names_of_source, meanings_of_source, fault_of_legend}
 use Rattle.pz_source.specs.Missing.{is_single, names_single, fault_of_needs}
 use Rattle.pz_source.specs.Layers.{layer_lines, fault_of_layers, layers_of}
 use Rattle.pz_source.specs.Rules.{rule_lines}
 use Rattle.pz_source.specs.Wins.{wins_of}
 use Rattle.pz_source.specs.Levels.{glyph_of, levels_of}
 use Rattle.pz_source.specs.Profile.{outside_profile, options_of}
-use Rattle.pz_source.specs.Game.{GameView, IsGame, IsDenoted, IsWord}
+use Rattle.pz_source.specs.Game.{GameView, IsGame}
+use Rattle.pz_names.specs.Word.{IsWord}
+use Rattle.pz_names.specs.Denotation.{IsDenoted}
 use Rattle.pz_source.specs.Reading.{first_names, game_over, game_of_objects, game_of_lines}
-use Rattle.pz_source.specs.declared.name_line.NameLine.{NameLine}
-use Rattle.pz_source.specs.declared.denotation.Denotation.{Denotation}
+use Rattle.pz_names.specs.declared.name_line.NameLine.{NameLine}
+use Rattle.pz_names.specs.declared.denotation.Denotation.{Denotation}
 use Rattle.pz_source.specs.declared.level.LevelEntry.{LevelEntry}
 use Rattle.pz_source.specs.declared.rules.RuleLine.{RuleLine}
 use Rattle.pz_source.specs.declared.wins.WinLine.{WinLine}

@@ -9,15 +9,15 @@ use Rattle.pz_text.specs.NameSet.{is_name_of}
 use Rattle.pz_text.specs.declared.line.Line.{Line}
 use Rattle.pz_text.specs.declared.fault.SourceFault.{SourceFault}
 use Rattle.pz_text.proofs.FaultLemmas.{or_else-later}
-use Rattle.pz_source.specs.Kinds.{kind_in, is_of_kind}
+use Rattle.pz_names.specs.Kinds.{kind_in, is_of_kind}
 use Rattle.pz_source.specs.Layers.{misplaces, last_layer, layer_of, layer_lines, layers_of, holds, fault_of_layers}
-use Rattle.pz_source.specs.declared.denotation.Denotation.{Denotation}
-use Rattle.pz_source.specs.declared.denotation.Kind.TheVariants.{Aggregate}
-use Rattle.pz_source.proofs.ValueLemmas.{table_length}
+use Rattle.pz_names.specs.declared.denotation.Denotation.{Denotation}
+use Rattle.pz_names.specs.declared.denotation.Kind.TheVariants.{Aggregate}
+use Rattle.pz_names.proofs.ValueLemmas.{table_length}
 use borrow.Author.Tests.{ltb-false}
 use Rattle.pz_source.specs.Layers.{name_line_at, lies_nowhere}
 use Rattle.pz_text.specs.Fault.{first_fault}
-use Rattle.pz_source.specs.declared.name_line.NameLine.{NameLine}
+use Rattle.pz_names.specs.declared.name_line.NameLine.{NameLine}
 use Rattle.pz_text.specs.declared.fault.Code.TheVariants as code
 
 -- tables that agree on the objects name the same line

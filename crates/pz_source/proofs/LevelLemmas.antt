@@ -5,7 +5,7 @@ use Rattle.std.specs.Prelude.{if◌then◌else◌}
 use Rattle.std.proofs.lemmas.List.Folds.{list_all-append, list_all_at}
 use Rattle.std.proofs.lemmas.List.{get_or-drop}
 use Rattle.pz_source.specs.Levels.{entries_of, closed, is_message, is_drawn, filled}
-use Rattle.pz_source.specs.Objects.{is_blank}
+use Rattle.pz_names.specs.Objects.{is_blank}
 use Rattle.pz_text.proofs.ListLemmas.{take-next}
 use Rattle.pz_text.specs.declared.line.Line.{Line}
 

@@ -6,7 +6,7 @@ use Rattle.pz_text.specs.declared.line.Line.{Line}
 use Rattle.pz_text.specs.declared.line.Section.{Section}
 use Rattle.pz_text.specs.declared.line.Section.TheVariants.{Prelude, Objects, Wins}
 use Rattle.pz_text.specs.declared.fault.Code.TheVariants as code
-use Rattle.pz_source.specs.Objects.{objects_of}
+use Rattle.pz_names.specs.Objects.{objects_of}
 use Rattle.pz_source.specs.Profile.{has_outside_word, outside_profile, options_of}
 use Rattle.pz_source.specs.Rules.{rule_words}
 use Rattle.pz_source.specs.Wins.{win_of, wins_of}

@@ -10,21 +10,21 @@ use Rattle.pz_text.specs.Section.{lines_in}
 use Rattle.pz_text.specs.declared.line.Line.{Line}
 use Rattle.pz_text.specs.declared.line.Section.TheVariants as section
 use Rattle.pz_text.specs.declared.fault.SourceFault.{SourceFault}
-use Rattle.pz_source.specs.Denotation.{values_of}
+use Rattle.pz_names.specs.Denotation.{values_of}
 use Rattle.pz_source.specs.Game.{GameView}
 use Rattle.pz_source.specs.Layers.{fault_of_layers}
-use Rattle.pz_source.specs.Legend.{definitions_of}
+use Rattle.pz_names.specs.Legend.{definitions_of}
 use Rattle.pz_source.specs.Levels.{glyph_of, levels_of}
 use Rattle.pz_source.specs.Missing.{fault_of_needs}
-use Rattle.pz_source.specs.Objects.{is_blank, objects_of}
+use Rattle.pz_names.specs.Objects.{is_blank, objects_of}
 use Rattle.pz_source.specs.Profile.{outside_profile}
 use Rattle.pz_source.specs.Reading.{line_count, game_over, game_of_objects, game_of_lines, source_of}
 use Rattle.pz_source.specs.Rules.{rule_line_of, rule_lines}
-use Rattle.pz_source.specs.Values.{names_of_source, meanings_of_source, fault_of_legend}
+use Rattle.pz_names.specs.Values.{names_of_source, meanings_of_source, fault_of_legend}
 use Rattle.pz_source.specs.Wins.{wins_of}
-use Rattle.pz_source.specs.declared.denotation.Denotation.{Denotation}
+use Rattle.pz_names.specs.declared.denotation.Denotation.{Denotation}
 use Rattle.pz_source.specs.declared.level.LevelEntry.{LevelEntry}
-use Rattle.pz_source.specs.declared.name_line.NameLine.{NameLine}
+use Rattle.pz_names.specs.declared.name_line.NameLine.{NameLine}
 use Rattle.pz_source.specs.declared.rules.RuleLine.{RuleLine}
 use Rattle.pz_source.specs.declared.wins.WinLine.{WinLine}
 use Rattle.pz_source.proofs.LineLemmas.{lines_in-all, unless-ok, any-ok, and_then-ok, cut-numbered, lines-all}

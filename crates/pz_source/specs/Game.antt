@@ -1,9 +1,10 @@
 -- What contracts see of a game.
-use Rattle.std.specs.Prelude.{◌≡◌, ◌≢◌, ℕ, ◌<◌, ◌≤◌, List, [], length, All, codes, get_or, Option, option_and_then, slice_get}
+use Rattle.std.specs.Prelude.{◌≡◌, ℕ, ◌<◌, ◌≤◌, List, [], length, All, codes, get_or, Option, option_and_then, slice_get}
 use Rattle.std.specs.Option.{option_map_or}
-use Rattle.pz_text.specs.Name.{folded}
 use Rattle.pz_text.specs.NameSet.{number_in}
-use Rattle.pz_source.specs.declared.denotation.Denotation.{Denotation}
+use Rattle.pz_names.specs.Word.{IsWord}
+use Rattle.pz_names.specs.Denotation.{IsDenoted}
+use Rattle.pz_names.specs.declared.denotation.Denotation.{Denotation}
 use Rattle.pz_source.specs.declared.level.LevelEntry.{LevelEntry}
 use Rattle.pz_source.specs.declared.level.LevelEntry.TheVariants.{Message, Level}
 use Rattle.pz_source.specs.declared.rules.RuleLine.{RuleLine}
@@ -44,21 +45,10 @@ background_of game = get_or (members_in game (codes "background")) 0 0
 abbrev pub glyph_objects : GameView → ℕ → List ℕ
 glyph_objects game number = option_map_or (λ d. d.members) (slice_get game.values number) []
 
--- a name denotes objects of the game, at least one
-pub record IsDenoted (objects : ℕ) (denotation : Denotation) : Type 0 where
-  pub some : 0 < length denotation.members
-  pub all : All (λ object. object < objects) denotation.members
-
 -- each cell of a level is drawn by a name
 abbrev pub IsDrawnBy : ℕ → LevelEntry → Type 0
 IsDrawnBy names Message = Unit {0}
 IsDrawnBy names (Level drawing) = All (λ number. number < names) drawing.cells
-
--- a name is a word: it has a character, no space or line end, and no capital letter
-pub record IsWord (name : List ℕ) : Type 0 where
-  pub some : 0 < length name
-  pub solid : All (λ c. c ≢ 32 × c ≢ 10 × c ≢ 13) name
-  pub lower : folded name ≡ name
 
 -- what holds of every game
 pub record IsGame (game : GameView) : Type 0 where

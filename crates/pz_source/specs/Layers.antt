@@ -10,11 +10,11 @@ use Rattle.pz_text.specs.declared.line.Line.{Line}
 use Rattle.pz_text.specs.declared.fault.SourceFault.{SourceFault}
 use Rattle.pz_text.specs.declared.fault.Code.{Code}
 use Rattle.pz_text.specs.declared.fault.Code.TheVariants as code
-use Rattle.pz_source.specs.Meaning.{number_or_end}
-use Rattle.pz_source.specs.Kinds.{kind_in, is_of_kind}
-use Rattle.pz_source.specs.declared.name_line.NameLine.{NameLine}
-use Rattle.pz_source.specs.declared.denotation.Denotation.{Denotation}
-use Rattle.pz_source.specs.declared.denotation.Kind.TheVariants.{Aggregate}
+use Rattle.pz_names.specs.Meaning.{number_or_end}
+use Rattle.pz_names.specs.Kinds.{kind_in, is_of_kind}
+use Rattle.pz_names.specs.declared.name_line.NameLine.{NameLine}
+use Rattle.pz_names.specs.declared.denotation.Denotation.{Denotation}
+use Rattle.pz_names.specs.declared.denotation.Kind.TheVariants.{Aggregate}
 
 -- the words of a line, parted by commas and white space
 abbrev pub layer_words : List ℕ → List (List ℕ)

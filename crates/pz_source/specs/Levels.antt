@@ -9,11 +9,11 @@ use Rattle.pz_text.specs.NameSet.{number_in}
 use Rattle.pz_text.specs.declared.line.Line.{Line}
 use Rattle.pz_text.specs.declared.fault.SourceFault.{SourceFault}
 use Rattle.pz_text.specs.declared.fault.Code.TheVariants as code
-use Rattle.pz_source.specs.Objects.{is_blank}
+use Rattle.pz_names.specs.Objects.{is_blank}
 use Rattle.pz_source.specs.Level.{is_playable}
-use Rattle.pz_source.specs.declared.denotation.Denotation.{Denotation}
-use Rattle.pz_source.specs.declared.denotation.Kind.{Kind}
-use Rattle.pz_source.specs.declared.denotation.Kind.TheVariants.{Object, Property, Aggregate}
+use Rattle.pz_names.specs.declared.denotation.Denotation.{Denotation}
+use Rattle.pz_names.specs.declared.denotation.Kind.{Kind}
+use Rattle.pz_names.specs.declared.denotation.Kind.TheVariants.{Object, Property, Aggregate}
 use Rattle.pz_source.specs.declared.level.LevelEntry.{LevelEntry}
 use Rattle.pz_source.specs.declared.level.LevelEntry.TheVariants.{Message, Level}
 

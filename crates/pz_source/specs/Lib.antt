@@ -1,10 +1,4 @@
-pub mod Objects
-pub mod Legend
-pub mod Meaning
-pub mod Denotation
-pub mod Cycles
-pub mod Kinds
-pub mod Values
+pub mod Direction
 pub mod Missing
 pub mod Layers
 pub mod Rules

@@ -9,18 +9,18 @@ use Rattle.pz_text.specs.declared.line.Line.{Line}
 use Rattle.pz_text.specs.declared.line.Section.TheVariants as section
 use Rattle.pz_text.specs.declared.fault.SourceFault.{SourceFault}
 use Rattle.pz_source.specs.Profile.{outside_profile, options_of}
-use Rattle.pz_source.specs.Objects.{objects_of}
-use Rattle.pz_source.specs.Legend.{definitions_of}
-use Rattle.pz_source.specs.Denotation.{values_of}
-use Rattle.pz_source.specs.Values.{names_of_source, meanings_of_source, fault_of_legend}
+use Rattle.pz_names.specs.Objects.{objects_of}
+use Rattle.pz_names.specs.Legend.{definitions_of}
+use Rattle.pz_names.specs.Denotation.{values_of}
+use Rattle.pz_names.specs.Values.{names_of_source, meanings_of_source, fault_of_legend}
 use Rattle.pz_source.specs.Missing.{fault_of_needs}
 use Rattle.pz_source.specs.Layers.{layer_lines, fault_of_layers, layers_of}
 use Rattle.pz_source.specs.Rules.{rule_lines}
 use Rattle.pz_source.specs.Wins.{wins_of}
 use Rattle.pz_source.specs.Levels.{glyph_of, levels_of}
 use Rattle.pz_source.specs.Game.{GameView}
-use Rattle.pz_source.specs.declared.name_line.NameLine.{NameLine}
-use Rattle.pz_source.specs.declared.denotation.Denotation.{Denotation}
+use Rattle.pz_names.specs.declared.name_line.NameLine.{NameLine}
+use Rattle.pz_names.specs.declared.denotation.Denotation.{Denotation}
 
 -- how many lines a text has, which line feeds end
 abbrev pub line_count : List ℕ → ℕ

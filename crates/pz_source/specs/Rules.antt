@@ -6,7 +6,7 @@ use Rattle.pz_text.specs.Comment.{ends_arrow, ends_word, ends_message, is_first_
 use Rattle.pz_text.specs.Name.{name_of}
 use Rattle.pz_text.specs.declared.line.Line.{Line}
 use Rattle.pz_text.specs.declared.line.Section.TheVariants.{Rules}
-use Rattle.pz_source.specs.Objects.{is_blank}
+use Rattle.pz_names.specs.Objects.{is_blank}
 use Rattle.pz_source.specs.declared.rules.RuleLine.{RuleLine}
 
 -- a word that was read, if it has a character

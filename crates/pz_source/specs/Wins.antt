@@ -8,7 +8,7 @@ use Rattle.pz_text.specs.declared.line.Line.{Line}
 use Rattle.pz_text.specs.declared.fault.Code.{Code}
 use Rattle.pz_text.specs.declared.fault.Code.TheVariants as code
 use Rattle.pz_text.specs.declared.fault.SourceFault.{SourceFault}
-use Rattle.pz_source.specs.Objects.{is_blank}
+use Rattle.pz_names.specs.Objects.{is_blank}
 use Rattle.pz_source.specs.declared.wins.Quantifier.{Quantifier}
 use Rattle.pz_source.specs.declared.wins.Quantifier.TheVariants as quantifier
 use Rattle.pz_source.specs.declared.wins.WinLine.{WinLine}

@@ -4,11 +4,11 @@ ghost use Rattle.std.specs.Prelude.{◌≡◌, option_map, option_copied};
 ghost use Rattle.pz_source.specs.Game.{denotation_in, IsGame};
 ghost use Rattle.pz_text.specs.NameSet.{number_in};
 
-use crate::denotation::{Denotation, Kind};
 use crate::level::LevelEntry;
 use crate::options::Options;
 use crate::rules::RuleLine;
 use crate::wins::WinLine;
+use pz_names::denotation::{Denotation, Kind};
 use pz_text::listed::Listed;
 use pz_text::name::Name;
 use pz_text::name_set::NameSet;

@@ -6,11 +6,11 @@ ghost use Rattle.pz_text.specs.Fault.{first_fault};
 ghost use Rattle.pz_text.specs.declared.fault.Code.TheVariants as code;
 ghost use Rattle.pz_source.specs.Layers.{layer_words, layer_names, layer_lines, name_line_at, misplaced, misplaces, members_of, holds, entry_at, layer_of, lies_nowhere, fault_of_layers, layers_of};
 
-use crate::denotation::{Denotation, Kind};
-use crate::kinds::has_kind;
-use crate::legend::has_unknown;
-use crate::meaning::number_or_end;
-use crate::name_line::NameLine;
+use pz_names::denotation::{Denotation, Kind};
+use pz_names::kinds::has_kind;
+use pz_names::legend::has_unknown;
+use pz_names::meaning::number_or_end;
+use pz_names::name_line::NameLine;
 use pz_text::fault::{Code, SourceFault};
 use pz_text::line::Line;
 use pz_text::listed::Listed;

@@ -6,9 +6,9 @@ ghost use Rattle.pz_text.specs.declared.fault.Code.TheVariants as code;
 ghost use Rattle.pz_source.specs.Level.{is_playable};
 ghost use Rattle.pz_source.specs.Levels.{is_message, closed, entries_of, is_drawn, glyph_of, glyphs_of, filled, is_too_large, rows_of, entry_of, levels_of};
 
-use crate::denotation::{Denotation, Kind};
 use crate::level::{DrawnLevel, LevelEntry};
-use crate::objects::is_blank;
+use pz_names::denotation::{Denotation, Kind};
+use pz_names::objects::is_blank;
 use pz_text::fault::{Code, SourceFault};
 use pz_text::heading::begins_with_word;
 use pz_text::line::Line;

@@ -3,7 +3,7 @@
 ghost use Rattle.std.specs.Prelude.{◌≡◌};
 ghost use Rattle.pz_source.specs.Missing.{is_single, names_single, fault_of_needs};
 
-use crate::denotation::{Denotation, Kind};
+use pz_names::denotation::{Denotation, Kind};
 use pz_text::fault::{Code, SourceFault};
 use pz_text::name_set::NameSet;
 

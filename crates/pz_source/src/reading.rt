@@ -2,21 +2,22 @@
 
 ghost use Rattle.std.specs.Prelude.{◌≡◌, ◌≢◌, ◌≤◌, ◌<◌, length, All, [], get_or, IfOk, IfErr, Ok, Err};
 ghost use Rattle.pz_text.specs.declared.fault.Code.TheVariants as code;
-ghost use Rattle.pz_source.specs.Objects.{IsNamed, object_names};
-ghost use Rattle.pz_source.specs.Game.{IsDenoted, IsWord};
+ghost use Rattle.pz_names.specs.Objects.{IsNamed, object_names};
+ghost use Rattle.pz_names.specs.Word.{IsWord};
+ghost use Rattle.pz_names.specs.Denotation.{IsDenoted};
 ghost use Rattle.pz_source.specs.Reading.{first_names, game_over, game_of_objects, game_of_lines, source_of, line_count};
 
-use crate::denotation::Denotation;
 use crate::game::Game;
 use crate::layers::read_layers;
 use crate::levels::read_levels;
 use crate::missing::missing_name;
-use crate::name_line::NameLine;
-use crate::objects::read_objects;
 use crate::profile::{check_profile, options_of};
 use crate::rules::rule_lines;
-use crate::values::read_legend;
 use crate::wins::read_wins;
+use pz_names::denotation::Denotation;
+use pz_names::name_line::NameLine;
+use pz_names::objects::read_objects;
+use pz_names::values::read_legend;
 use pz_text::check::read_lines;
 use pz_text::fault::SourceFault;
 use pz_text::line::{Line, Section};

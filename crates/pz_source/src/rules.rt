@@ -5,7 +5,7 @@ ghost use Rattle.pz_text.specs.Name.{name_of};
 ghost use Rattle.pz_text.specs.Characters.{trimmed};
 ghost use Rattle.pz_source.specs.Rules.{closed, ended, rule_words, rule_line_of, rule_lines};
 
-use crate::objects::is_blank;
+use pz_names::objects::is_blank;
 use pz_text::characters::trimmed;
 use pz_text::comment::Place;
 use pz_text::line::{Line, Section};

@@ -4,7 +4,7 @@ ghost use Rattle.std.specs.Prelude.{◌≡◌, ◌≢◌, Ok, Err, IfOk, IfErr};
 ghost use Rattle.pz_text.specs.declared.fault.Code.TheVariants as code;
 ghost use Rattle.pz_source.specs.Wins.{quantifier_of, win_about, win_of, wins_of};
 
-use crate::objects::is_blank;
+use pz_names::objects::is_blank;
 use pz_text::fault::{Code, SourceFault};
 use pz_text::line::Line;
 use pz_text::name::Name;

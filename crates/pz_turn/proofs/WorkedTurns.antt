@@ -1,15 +1,15 @@
 -- Worked cases of instances, groups, steps and wins.
 use Rattle.std.proofs.Common.{◌≡◌, ℕ, List, [], ◌∷◌, Option, Some, None, Bool, true, false, Ok, Err, length, refl}
 use Rattle.std.specs.Prelude.{codes}
-use Rattle.pz_source.specs.declared.denotation.Denotation.{Denotation}
-use Rattle.pz_source.specs.declared.denotation.Kind.{Kind}
-use Rattle.pz_source.specs.declared.denotation.Kind.TheVariants.{Object, Property, Aggregate}
+use Rattle.pz_names.specs.declared.denotation.Denotation.{Denotation}
+use Rattle.pz_names.specs.declared.denotation.Kind.{Kind}
+use Rattle.pz_names.specs.declared.denotation.Kind.TheVariants.{Object, Property, Aggregate}
 use Rattle.pz_source.specs.declared.direction.Dir.TheVariants.{Right}
 use Rattle.pz_source.specs.declared.wins.Quantifier.{Quantifier}
 use Rattle.pz_source.specs.declared.wins.Quantifier.TheVariants as quantifier
 use Rattle.pz_source.specs.declared.wins.WinLine.{WinLine}
 use Rattle.pz_source.specs.Game.{GameView}
-use Rattle.pz_rules.specs.declared.commands.Commands.{Commands}
+use Rattle.pz_plan.specs.declared.commands.Commands.{Commands}
 use Rattle.pz_rules.specs.declared.pattern.Item.{Item}
 use Rattle.pz_rules.specs.declared.pattern.Word.{Word}
 use Rattle.pz_rules.specs.declared.pattern.Word.TheVariants.{Present, Toward, Absent}
@@ -23,7 +23,7 @@ use Rattle.pz_grid.specs.Places.{searched}
 use Rattle.pz_turn.specs.declared.outcome.StepFault.TheVariants.{LoopLimit}
 use Rattle.pz_turn.specs.declared.rest.TheConstants.{PASSES}
 use Rattle.pz_turn.specs.Combinations.{combinations}
-use Rattle.pz_rules.specs.Commands.{no_commands}
+use Rattle.pz_plan.specs.Commands.{no_commands}
 use Rattle.pz_turn.specs.Instance.{applied}
 use Rattle.pz_turn.specs.Rest.{pass_of, rest_of, group_runs}
 use Rattle.pz_turn.specs.Step.{block_runs, blocks_run, rules_run, step_of, cancel}

@@ -4,7 +4,7 @@
 -- places, or if there are too many combinations.
 use Rattle.std.specs.Prelude.{List, [], ◌∷◌, fold, length, false, Result, Ok, Err, nat_lt, if◌then◌else◌}
 use Rattle.pz_source.specs.declared.direction.Dir.{Dir}
-use Rattle.pz_rules.specs.declared.commands.Commands.{Commands}
+use Rattle.pz_plan.specs.declared.commands.Commands.{Commands}
 use Rattle.pz_rules.specs.declared.instance.Instance.{Instance}
 use Rattle.pz_rules.specs.Pattern.{RuleRow}
 use Rattle.pz_grid.specs.declared.places.GridFault.{GridFault}
@@ -17,7 +17,7 @@ use Rattle.pz_turn.specs.declared.outcome.StepFault.{StepFault}
 use Rattle.pz_turn.specs.declared.outcome.StepFault.TheVariants.{Memory, MatchLimit}
 use Rattle.pz_turn.specs.declared.instance.TheConstants.{COMBINATION_LIMIT}
 use Rattle.pz_turn.specs.Combinations.{combinations}
-use Rattle.pz_rules.specs.Commands.{no_commands}
+use Rattle.pz_plan.specs.Commands.{no_commands}
 use Rattle.pz_turn.specs.Outcome.{Outcome}
 
 -- the stop of a search is a stop of the step

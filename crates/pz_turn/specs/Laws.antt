@@ -1,7 +1,8 @@
 -- Laws of instances, groups and steps.
-use Rattle.std.specs.Prelude.{◌≡◌, ◌≢◌, ◌*◌, ℕ, List, [], ◌∷◌, length, map, true, false, Option, Ok, Err}
+use Rattle.std.specs.Prelude.{◌≡◌, ◌≢◌, List, length, map, true, false, Option, Ok, Err}
 use Rattle.pz_source.specs.declared.direction.Dir.{Dir}
 use Rattle.pz_source.specs.Game.{GameView}
+use Rattle.pz_plan.specs.Lists.{product_of}
 use Rattle.pz_rules.specs.declared.instance.Instance.{Instance}
 use Rattle.pz_rules.specs.declared.instance.Program.{Program}
 use Rattle.pz_grid.specs.declared.places.Place.{Place}
@@ -13,10 +14,6 @@ use Rattle.pz_turn.specs.Instance.{applied}
 use Rattle.pz_turn.specs.Outcome.{Outcome}
 use Rattle.pz_turn.specs.Rest.{pass_of, rest_of, rests}
 use Rattle.pz_turn.specs.Step.{step_of}
-
-abbrev pub product_of : List ℕ → ℕ
-product_of [] = 1
-product_of (n ∷ ns) = n * product_of ns
 
 -- there are as many combinations as the product of the numbers of places says
 abbrev pub IsCounted : Type 0

@@ -6,11 +6,11 @@ use Rattle.std.specs.Prelude.{ℕ, Bool, true, false, not, ◌&&◌, ◌||◌, L
 use Rattle.std.specs.List.{list_any, list_all, zip}
 use Rattle.pz_source.specs.declared.direction.Dir.{Dir}
 use Rattle.pz_source.specs.Game.{GameView, players_of}
-use Rattle.pz_rules.specs.declared.commands.Commands.{Commands}
+use Rattle.pz_plan.specs.declared.commands.Commands.{Commands}
 use Rattle.pz_rules.specs.declared.instance.Block.{Block}
 use Rattle.pz_rules.specs.declared.instance.Block.TheVariants.{One, Loop}
 use Rattle.pz_rules.specs.declared.instance.Program.{Program}
-use Rattle.pz_rules.specs.Commands.{has}
+use Rattle.pz_plan.specs.Commands.{has}
 use Rattle.pz_grid.specs.declared.cell.Piece.{Piece}
 use Rattle.pz_grid.specs.Grid.{Grid}
 use Rattle.pz_grid.specs.Movement.{resolved}
@@ -20,7 +20,7 @@ use Rattle.pz_grid.specs.Sameness.{same_grid}
 use Rattle.pz_turn.specs.declared.outcome.StepFault.{StepFault}
 use Rattle.pz_turn.specs.declared.rest.TheConstants.{PASSES}
 use Rattle.pz_turn.specs.Instance.{applied}
-use Rattle.pz_rules.specs.Commands.{either}
+use Rattle.pz_plan.specs.Commands.{either}
 use Rattle.pz_turn.specs.Outcome.{Outcome, followed_by}
 use Rattle.pz_turn.specs.Rest.{Runs, pass_of, rest_of, group_runs}
 

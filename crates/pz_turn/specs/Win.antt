@@ -3,8 +3,8 @@
 use Rattle.std.specs.Prelude.{ℕ, Bool, true, false, not, ◌&&◌, ◌||◌, List, Option, Some, None, length, nat_lt, slice_get}
 use Rattle.std.specs.List.{list_any, list_all}
 use Rattle.std.specs.Option.{option_map_or}
-use Rattle.pz_source.specs.declared.denotation.Kind.{Kind}
-use Rattle.pz_source.specs.declared.denotation.Kind.TheVariants.{Aggregate}
+use Rattle.pz_names.specs.declared.denotation.Kind.{Kind}
+use Rattle.pz_names.specs.declared.denotation.Kind.TheVariants.{Aggregate}
 use Rattle.pz_source.specs.declared.wins.Quantifier.{Quantifier}
 use Rattle.pz_source.specs.declared.wins.Quantifier.TheVariants as quantifier
 use Rattle.pz_source.specs.declared.wins.WinLine.{WinLine}

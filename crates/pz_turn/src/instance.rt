@@ -14,7 +14,7 @@ use crate::outcome::{Given, StepFault};
 use bitflags::Flags;
 use pz_grid::Level;
 use pz_grid::places::{GridFault, Place, places, still_matches};
-use pz_rules::commands::Commands;
+use pz_plan::commands::Commands;
 use pz_rules::instance::Instance;
 use pz_rules::pattern::Row;
 use pz_source::direction::Dir;

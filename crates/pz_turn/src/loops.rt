@@ -12,7 +12,7 @@ use crate::outcome::{Given, StepFault};
 use crate::rest::{PASSES, run_group};
 use bitflags::Flags;
 use pz_grid::Level;
-use pz_rules::commands::Commands;
+use pz_plan::commands::Commands;
 use pz_rules::instance::Groups;
 use pz_source::game::Game;
 use std::alloc::Global;

@@ -1,6 +1,6 @@
 //! What running rules gives, and why it ends early.
 
-use pz_rules::commands::Commands;
+use pz_plan::commands::Commands;
 
 /// Why running rules ended early: memory was refused, a group or a loop still changed something in its last pass, or a row or
 /// an instance has more places or combinations than the limit.

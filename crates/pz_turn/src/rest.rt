@@ -12,7 +12,7 @@ use crate::instance::apply;
 use crate::outcome::{Given, StepFault};
 use bitflags::Flags;
 use pz_grid::Level;
-use pz_rules::commands::Commands;
+use pz_plan::commands::Commands;
 use pz_rules::instance::Group;
 use pz_source::game::Game;
 use std::alloc::Global;

@@ -16,7 +16,7 @@ use crate::outcome::{Given, StepFault};
 use crate::rest::run_group;
 use bitflags::Flags;
 use pz_grid::{Level, push_players, resolve};
-use pz_rules::commands::Commands;
+use pz_plan::commands::Commands;
 use pz_rules::instance::{Block, Program};
 use pz_source::direction::Dir;
 use pz_source::game::Game;

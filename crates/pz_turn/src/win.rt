@@ -6,7 +6,7 @@ ghost use Rattle.pz_grid.specs.Presence.{cell_of};
 ghost use Rattle.pz_turn.specs.Win.{fits_kind, fits, fits_on, fits_both, fits_if, line_holds, has_won};
 
 use pz_grid::Level;
-use pz_source::denotation::{Denotation, Kind};
+use pz_names::denotation::{Denotation, Kind};
 use pz_source::game::Game;
 use pz_source::wins::{Quantifier, WinLine};
 

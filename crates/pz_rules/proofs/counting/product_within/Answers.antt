@@ -1,10 +1,11 @@
 use Rattle.std.proofs.Common.{◌≡◌, ◌+◌, ◌≤◌, ◌<◌, ◌*◌, map, drop, length, slice_index_or, arith, ap, sym, ◌∙◌}
 use Rattle.std.proofs.lemmas.List.{get_or_default}
-use Rattle.pz_rules.specs.declared.plan.Choice.{Choice}
-use Rattle.pz_rules.specs.declared.plan.Asked.TheVariants.{Member}
+use Rattle.pz_plan.specs.declared.plan.Choice.{Choice}
+use Rattle.pz_plan.specs.declared.plan.Asked.TheVariants.{Member}
 use Rattle.std.proofs.lemmas.List.Elements.{All-drop}
 use Rattle.std.proofs.Math.Nat.{mul-le-mul_left}
-use Rattle.pz_rules.specs.Counting.{size_of, product_of}
+use Rattle.pz_plan.specs.Lists.{product_of}
+use Rattle.pz_rules.specs.Counting.{size_of}
 use Rattle.pz_rules.proofs.CountingLemmas.{product-positive, above-stays, next-size, next-count}
 use Rattle.pz_rules.proofs.counting.product_within.Goals as goal
 

@@ -4,9 +4,9 @@ use Rattle.std.proofs.lemmas.Grind.{common_steps}
 use Rattle.pz_rules.specs.declared.instance.Instance.{Instance}
 use Rattle.pz_rules.specs.declared.instances.Pick.{Pick}
 use Rattle.pz_rules.specs.declared.instances.Pick.TheVariants.{Object}
-use Rattle.pz_rules.specs.Lists.{product}
+use Rattle.pz_plan.specs.Lists.{product}
 use Rattle.pz_rules.specs.Instances.{considered}
-use Rattle.pz_rules.proofs.Products.{fold-headed_more}
+use Rattle.pz_plan.proofs.Products.{fold-headed_more}
 use Rattle.pz_rules.proofs.instances.+consider_all.Goals as goal
 
 pub options-preserved : goal.options-preserved

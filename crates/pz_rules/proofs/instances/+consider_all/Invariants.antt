@@ -1,6 +1,6 @@
 use Rattle.std.proofs.Common.{length, ◌≡◌, ◌++◌, map, fold, take}
 use Rattle.pz_rules.specs.Instances.{considered}
-use Rattle.pz_rules.proofs.Products.{headed}
+use Rattle.pz_plan.proofs.Products.{headed}
 use Rattle.pz_rules.proofs.instances.+consider_all.Given as goal
 
 abbrev pub decreases-consider_all : goal.decreases-consider_all

@@ -4,7 +4,7 @@ use Rattle.pz_text.specs.Fault.{first_fault}
 use Rattle.pz_text.proofs.FaultLemmas.{or_else-later}
 use Rattle.pz_source.specs.Layers.{layer_lines, name_line_at, misplaces, lies_nowhere, layer_of, holds, entry_at}
 use Rattle.pz_source.proofs.LayerLemmas.{nowhere-same, nowhere-none}
-use Rattle.pz_source.proofs.ValueLemmas.{table_values}
+use Rattle.pz_names.proofs.ValueLemmas.{table_values}
 use Rattle.pz_source.proofs.layers.read_layers.Goals as goal
 
 pub returns-in-Some-missing_layer-clause-refused : goal.returns-in-Some-missing_layer-clause-refused

@@ -2,7 +2,7 @@ use Rattle.std.proofs.Common.{◌≡◌, length, ap, sym, subst, ◌∙◌}
 use Rattle.std.specs.Prelude.{None, Ok}
 use Rattle.std.proofs.lemmas.Result.{err_from_is_err_and}
 use Rattle.std.specs.List.{All}
-use Rattle.pz_source.specs.Game.{IsDenoted}
+use Rattle.pz_names.specs.Denotation.{IsDenoted}
 use Rattle.pz_source.specs.Missing.{fault_of_needs}
 use Rattle.pz_source.specs.Rules.{rule_lines}
 use Rattle.pz_source.specs.Profile.{options_of}

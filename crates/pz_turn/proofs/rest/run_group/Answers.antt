@@ -1,6 +1,6 @@
 use Rattle.std.proofs.Common.{◌≡◌, arith, ap, ◌∙◌}
 use Rattle.std.proofs.lemmas.Result.{err_from_is_err_and}
-use Rattle.pz_rules.specs.Commands.{either}
+use Rattle.pz_plan.specs.Commands.{either}
 use Rattle.pz_turn.specs.Outcome.{joined}
 use Rattle.pz_turn.specs.Rest.{ends}
 use Rattle.pz_turn.proofs.Resting.{rest_ends, rest_never_ends, or_not}

@@ -1,0 +1,5 @@
+pub mod Words
+pub mod Written
+pub mod Parsed
+pub mod Steps
+pub mod Loop

@@ -1,0 +1,42 @@
+//! The lines of loops.
+
+ghost use Rattle.std.specs.Prelude.{◌≡◌};
+ghost use Rattle.pz_grammar.specs.Loop.{loop_word, next_loop};
+
+use pz_source::rules::RuleLine;
+use pz_text::name::Name;
+
+/// A word that begins or ends a loop of groups.
+#[derive(Clone, Copy, PartialEq, Eq, Debug)]
+pub enum LoopWord {
+    Start,
+    End,
+}
+
+/// The loop word that a line is, if it is one.
+#[tactic(auto, unfolding(crate::specs::Loop::loop_word))]
+pub fn loop_word(words: &[Name]) -> Option<LoopWord>
+    ensures { result ≡ loop_word words.now }
+{
+    match words {
+        [word] => match word.as_str() {
+            "startloop" => Some(LoopWord::Start),
+            "endloop" => Some(LoopWord::End),
+            _ => None,
+        },
+        _ => None,
+    }
+}
+
+/// The first loop word of lines.
+#[tactic(auto, unfolding(crate::specs::Loop::next_loop))]
+pub fn next_loop(lines: &[RuleLine]) -> Option<LoopWord>
+    ensures { result ≡ next_loop lines.now }
+{
+    for line in lines {
+        if let Some(word) = loop_word(line.words.items()) {
+            return Some(word);
+        }
+    }
+    None
+}

@@ -1,0 +1,13 @@
+pub mod WordLemmas
+pub mod ObjectLemmas
+pub mod LegendLemmas
+pub mod MemberLemmas
+pub mod CycleLemmas
+pub mod ChainLemmas
+pub mod QuickLemmas
+pub mod ValueLemmas
+pub mod DenotedLemmas
+pub mod SourceLemmas
+pub mod SettledLemmas
+pub mod RoundLemmas
+pub mod SearchLemmas

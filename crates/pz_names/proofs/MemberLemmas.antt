@@ -1,0 +1,74 @@
+-- Rounds over all lines, and the chains that they follow.
+use Rattle.std.proofs.Common.{◌≡◌, ℕ, ◌+◌, zero, suc, List, [], ◌∷◌, refl, ap, sym, ◌∙◌, add-one}
+use Rattle.std.specs.Prelude.{Option, Some, None, option_and_then, option_map, slice_get}
+use Rattle.pz_names.specs.Denotation.{value_at, denotation_next, denotation_of, gathered, with_mentions}
+use Rattle.pz_names.specs.declared.denotation.Kind.{Kind}
+use Rattle.pz_names.specs.declared.denotation.Kind.TheVariants.{Property, Aggregate}
+use Rattle.pz_names.specs.declared.meaning.Meaning.TheVariants.{Itself, Same, AllOf, AnyOf}
+use Rattle.pz_names.specs.declared.meaning.Meaning.{Meaning}
+use Rattle.pz_names.specs.declared.denotation.Denotation.{Denotation}
+
+-- a round over what chains of n lines give is what chains of one line more give
+pub value_at-round : (known : ℕ → Option Denotation) (n : ℕ) (meanings : List Meaning) → ((k : ℕ) → known k ≡ value_at n meanings k)
+    → (k : ℕ) → denotation_next known meanings k ≡ value_at (n + 1) meanings k
+unfolding value_at
+value_at-round known n meanings same k =
+    let functions : known ≡ value_at n meanings = λ i. λ j. same j i in
+    ap (λ f. denotation_next f meanings k) functions ∙ ap (λ m. value_at m meanings k) (sym (add-one n))
+
+-- no chain of lines
+pub value_at-none : (meanings : List Meaning) (k : ℕ) → value_at 0 meanings k ≡ None
+unfolding value_at
+value_at-none meanings k = refl
+
+-- where f knows a name, g says the same of it
+pub record Below (f g : ℕ → Option Denotation) : Type 0 where
+  pub at : (k : ℕ) (d : Denotation) → f k ≡ Some d → g k ≡ Some d
+
+module _ (f g : ℕ → Option Denotation) (le : Below f g) where
+  gathered-mono : (mentions parts r : List ℕ) → gathered f mentions parts ≡ Some r → gathered g mentions parts ≡ Some r
+  gathered-mono mentions [] r e = e
+  gathered-mono mentions (part ∷ parts) r e = by (f part) refl e (λ m h. gathered-mono m parts r h)
+    where
+      by : (o : Option Denotation) → f part ≡ o → option_and_then (λ d. gathered f (with_mentions mentions d.members) parts) o ≡ Some r
+          → ((m : List ℕ) → gathered f m parts ≡ Some r → gathered g m parts ≡ Some r)
+          → option_and_then (λ d. gathered g (with_mentions mentions d.members) parts) (g part) ≡ Some r
+      by None q h more = cc
+      by (Some d) q h more = rw (le.at part d q) (more (with_mentions mentions d.members) h)
+
+  joined-mono : (kind : Kind) (number : ℕ) (parts : List ℕ) (d : Denotation) (o : Option (List ℕ)) → gathered f [] parts ≡ o
+      → option_map (λ ms. record { kind = kind; members = ms; number = number }) o ≡ Some d
+      → option_map (λ ms. record { kind = kind; members = ms; number = number }) (gathered g [] parts) ≡ Some d
+  joined-mono kind number parts d None q h = cc
+  joined-mono kind number parts d (Some ms) q h = rw (gathered-mono [] parts ms q) h
+
+  denotation_of-mono : (number : ℕ) (meaning : Meaning) (d : Denotation) → denotation_of f number meaning ≡ Some d → denotation_of g number meaning ≡ Some d
+  denotation_of-mono number (Itself place first) d e = e
+  denotation_of-mono number (Same other) d e = le.at other d e
+  denotation_of-mono number (AllOf parts) d e = joined-mono Aggregate number parts d (gathered f [] parts) refl e
+  denotation_of-mono number (AnyOf parts) d e = joined-mono Property number parts d (gathered f [] parts) refl e
+
+  pub denotation_next-mono : (meanings : List Meaning) → Below (denotation_next f meanings) (denotation_next g meanings)
+  denotation_next-mono meanings = record { at = λ k d e. by k d (slice_get meanings k) e }
+    where
+      by : (k : ℕ) (d : Denotation) (o : Option Meaning) → option_and_then (denotation_of f k) o ≡ Some d → option_and_then (denotation_of g k) o ≡ Some d
+      by k d None e = cc
+      by k d (Some meaning) e = denotation_of-mono k meaning d e
+
+-- an assignment that satisfies every line
+pub record Satisfies (f : ℕ → Option Denotation) (meanings : List Meaning) : Type 0 where
+  pub each : (k : ℕ) → denotation_next f meanings k ≡ f k
+
+-- `value_at` is below every assignment that satisfies the lines: it is the least
+pub value_at-least : (f : ℕ → Option Denotation) (meanings : List Meaning) → Satisfies f meanings → (n : ℕ) → Below (value_at n meanings) f
+unfolding value_at
+value_at-least f meanings s zero = record { at = λ k d e. cc }
+value_at-least f meanings s (suc n) =
+    let step = denotation_next-mono (value_at n meanings) f (value_at-least f meanings s n) meanings in
+    record { at = λ k d e. sym (s.each k) ∙ step.at k d e }
+
+-- longer chains keep what shorter ones give
+pub value_at-more : (meanings : List Meaning) (n : ℕ) → Below (value_at n meanings) (value_at (suc n) meanings)
+unfolding value_at
+value_at-more meanings zero = record { at = λ k d e. cc }
+value_at-more meanings (suc n) = denotation_next-mono (value_at n meanings) (value_at (suc n) meanings) (value_at-more meanings n) meanings

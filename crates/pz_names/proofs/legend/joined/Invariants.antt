@@ -1,0 +1,9 @@
+use Rattle.std.proofs.Common.{◌≡◌, [], length}
+use Rattle.pz_names.specs.Legend.{joined}
+use Rattle.pz_names.proofs.legend.joined.Given as goal
+
+abbrev pub invariant-loop-name : goal.invariant-loop-name
+invariant-loop-name l = joined l.joint l.parts.items l.rest ≡ joined l.joint [] l.names
+
+abbrev pub decreases-loop-name : goal.decreases-loop-name
+decreases-loop-name l = length l.rest

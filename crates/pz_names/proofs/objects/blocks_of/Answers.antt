@@ -1,0 +1,19 @@
+use Rattle.std.proofs.Common.{◌+◌, ◌-◌, ◌++◌, length, ap, sym, ◌∙◌, arith}
+use Rattle.pz_names.specs.Objects.{blocks_within}
+use Rattle.pz_names.proofs.ObjectLemmas.{blocks_within-end, blocks_within-out, blocks_within-turn}
+use Rattle.pz_names.proofs.objects.blocks_of.Goals as goal
+use Rattle.pz_names.proofs.objects.blocks_of.Goals.{else-loop-step-test, then-loop-step-test+in_default}
+
+pub loop-step-preserved : goal.loop-step-preserved
+loop-step-preserved c =
+    let n = length c.args.lines.now in
+    let i = c.loop-step._step in
+    let turn = blocks_within-turn c.loop-step.found.items n i c.in-Some.line.now c.in-Some.others.now c.in_ok-block.after.now c.in_ok-block.block c.loop-step-test.true c.in_ok-block.ensures in
+    ap (λ f. f ++ blocks_within (n - (i + 1)) c.in_ok-block.after.now) c.in_ok-push_found.ensures ∙ (turn ∙ (ap (λ r. c.loop-step.found.items ++ blocks_within (n - i) r) (sym c.in-Some.ensures.cases.0) ∙ c.loop-step.invariant))
+
+pub returns : goal.returns
+returns c =
+    elim c.loop-step-test.branch [
+      | else-loop-step-test w ↦ sym (blocks_within-out c.loop-step.found.items (length c.args.lines.now) c.loop-step._step c.loop-step.rest.now (omega arith)) ∙ c.loop-step.invariant
+      | then-loop-step-test+in_default w ↦ sym (blocks_within-end c.loop-step.found.items (length c.args.lines.now - c.loop-step._step) c.loop-step.rest.now w.in_default.ensures.cases) ∙ c.loop-step.invariant
+    ]

@@ -1,0 +1,10 @@
+use Rattle.std.proofs.Common.{◌≡◌, [], map, take, drop}
+use Rattle.pz_text.specs.Fault.{first_fault}
+use Rattle.pz_names.specs.Objects.{object_names, name_line_of, block_at, misnames}
+use Rattle.pz_names.proofs.objects.names_of_blocks.Given as goal
+
+abbrev pub invariant-loop-count : goal.invariant-loop-count
+invariant-loop-count l = record {
+  none_yet : first_fault block_at misnames (take l.count l.blocks) (drop l.count l.blocks) ≡ first_fault block_at misnames [] l.blocks;
+  noted : l.names ≡ object_names (map name_line_of (take l.count l.blocks));
+}

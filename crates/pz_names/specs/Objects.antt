@@ -1,0 +1,100 @@
+-- OBJECTS: its objects, and the names that they have.
+use Rattle.std.specs.Prelude.{ℕ, zero, suc, ◌-◌, Bool, true, false, not, ◌&&◌, ◌||◌, ◌==◌, if◌then◌else◌, nat_lt, nat_le, List, [], ◌∷◌, ◌++◌, length, drop, map, Option, Some, None, Result, Ok, All, ◌<◌}
+use Rattle.std.specs.List.{flat_map, list_all}
+use Rattle.std.specs.Char.{is_ascii_digit, is_whitespace}
+use Rattle.pz_text.specs.Fault.{first_fault, unless}
+use Rattle.pz_text.specs.NameSet.{is_name_of}
+use Rattle.pz_text.specs.Words.{names_of}
+use Rattle.pz_text.specs.declared.line.Line.{Line}
+use Rattle.pz_text.specs.declared.fault.Code.{Code}
+use Rattle.pz_text.specs.declared.fault.Code.TheVariants as code
+use Rattle.pz_text.specs.declared.fault.SourceFault.{SourceFault}
+use Rattle.pz_names.specs.Word.{IsWord}
+use Rattle.pz_names.specs.declared.name_line.NameLine.{NameLine}
+use Rattle.pz_names.specs.declared.objects.Block.{Block}
+
+-- the names that OBJECTS gives, in the order of first mention
+abbrev pub object_names : List NameLine → List (List ℕ)
+object_names objects = flat_map (λ line. line.names) objects
+
+-- white space alone
+abbrev pub is_blank : Line → Bool
+is_blank line = list_all is_whitespace line.text
+
+-- digits and dots alone
+abbrev pub are_pixels : List ℕ → Bool
+are_pixels [] = true
+are_pixels (c ∷ cs) = (c == 46 || is_ascii_digit c) && are_pixels cs
+
+abbrev pub is_sprite_row : Line → Bool
+is_sprite_row line = not (is_blank line) && are_pixels line.text
+
+-- the sprite rows at the front, of which no more than so many are taken
+abbrev pub sprite_rows : ℕ → List Line → List Line
+sprite_rows most [] = []
+sprite_rows most (line ∷ lines) = if is_sprite_row line && nat_lt 0 most then line ∷ sprite_rows (most - 1) lines else []
+
+-- each of the rows has five digits or dots
+abbrev pub are_wide : List Line → Bool
+are_wide [] = true
+are_wide (row ∷ rows) = length row.text == 5 && are_wide rows
+
+-- none or five rows, of five digits or dots each
+abbrev pub is_sprite : List Line → Bool
+is_sprite rows = length rows == 0 || (length rows == 5 && are_wide rows)
+
+-- The lines behind a name line are as they should be: the line of colours, of any words, stands directly behind it, and
+-- then a sprite.
+abbrev pub is_whole : List Line → Bool
+is_whole [] = false
+is_whole (colours ∷ lines) = not (is_blank colours) && is_sprite (sprite_rows 5 lines)
+
+-- the lines behind a name line, its colours and its sprite rows
+abbrev pub behind_block : List Line → List Line
+behind_block [] = []
+behind_block (colours ∷ lines) = if is_blank colours then colours ∷ lines else drop (length (sprite_rows 5 lines)) lines
+
+abbrev pub block_of : Line → List Line → Block
+block_of line lines = record { line = record { number = line.number; names = names_of line.text }; is_whole = is_whole lines }
+
+-- The blocks of lines, at most so many: a line that isn't blank is a name line, and begins one. Blank lines may stand
+-- between blocks.
+abbrev pub blocks_within : ℕ → List Line → List Block
+blocks_within zero lines = []
+blocks_within (suc most) [] = []
+blocks_within (suc most) (line ∷ lines) =
+    if is_blank line then blocks_within most lines else block_of line lines ∷ blocks_within most (behind_block lines)
+
+abbrev pub blocks_of : List Line → List Block
+blocks_of lines = blocks_within (length lines) lines
+
+abbrev pub name_line_of : Block → NameLine
+name_line_of block = block.line
+
+abbrev pub block_at : Block → ℕ
+block_at block = block.line.number
+
+-- one of the names is among those above, or stands before itself
+abbrev pub has_repeat : List (List ℕ) → List (List ℕ) → Bool
+has_repeat above [] = false
+has_repeat above (name ∷ names) = is_name_of above name || has_repeat (above ++ name ∷ []) names
+
+-- what is wrong with a block below so many others, which have these names: its form, a name that is there already, or that
+-- there are too many objects or names
+abbrev pub misnamed : List (List ℕ) → ℕ → Block → Option Code
+misnamed above count block =
+    if not block.is_whole then Some code.BadObject
+    else (if has_repeat above block.line.names then Some code.Duplicate
+    else (if nat_le 128 count || nat_lt 1024 (length (above ++ block.line.names)) then Some code.TooLarge
+    else None))
+
+abbrev pub misnames : List Block → Block → Option Code
+misnames before block = misnamed (object_names (map name_line_of before)) (length before) block
+
+-- the name line of each object, or the first fault of OBJECTS
+abbrev pub objects_of : List Line → Result (List NameLine) SourceFault
+objects_of lines = unless (first_fault block_at misnames [] (blocks_of lines)) (Ok (map name_line_of (blocks_of lines)))
+
+-- a line of names has one, and all are words
+abbrev pub IsNamed : NameLine → Type 0
+IsNamed line = (0 < length line.names) × All IsWord line.names

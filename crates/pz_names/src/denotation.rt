@@ -1,0 +1,255 @@
+//! What a name denotes.
+
+ghost use Rattle.std.specs.Prelude.{Option, ◌≡◌, ◌<◌, ◌==◌, ◌||◌, not, ℕ, length, [], OnOk, IfOk, option_copied, is_some, None, false, if◌then◌else◌};
+ghost use Rattle.std.specs.List.{list_all, list_any};
+ghost use Rattle.pz_names.specs.Meaning.{parts_of, StaysInside};
+ghost use Rattle.pz_names.specs.Denotation.{AreMarked, with_mention, with_mentions, gathered, known_at, IsBelow, denotation_of, denotation_next, value_at, settled, IsRound};
+
+use crate::meaning::Meaning;
+use crate::objects::MAX_OBJECTS;
+use pz_text::listed::Listed;
+use std::alloc::{AllocError, Global};
+
+/// The kind of a name: a synonym has the kind of what it names.
+#[derive(Clone, Copy, Debug, PartialEq, Eq)]
+pub enum Kind {
+    Object,
+    Property,
+    Aggregate,
+}
+
+/// What a name denotes: its kind, its members by their places among the game's objects in the order of first mention, and the
+/// number of the name that it goes back to (a synonym has that of the name that it stands for).
+#[derive(Drop, Debug)]
+pub struct Denotation {
+    pub kind: Kind,
+    pub members: Listed<usize>,
+    pub number: usize,
+}
+
+/// Whether a number is mentioned; the marks answer it for those below their count.
+pub fn is_mentioned(mentions: &[usize], marks: &[bool], number: usize) -> bool
+    requires { AreMarked marks.now mentions.now }
+    ensures { result ≡ list_any (λ other. other == number) mentions.now }
+{
+    match marks.get(number) {
+        Some(mark) => *mark,
+        None => mentions.contains(&number),
+    }
+}
+
+fn add_mention(
+    mentions: &mut Vec<usize>,
+    marks: &mut [bool],
+    number: usize,
+) -> Result<(), AllocError>
+    requires { AreMarked marks.old mentions.old.items }
+    ensures mentions { OnOk result (mentions.new.items ≡ with_mention mentions.old.items number) }
+    ensures marked { OnOk result (AreMarked marks.new mentions.new.items) }
+{
+    if is_mentioned(mentions.as_slice(), marks, number) {
+        return Ok(());
+    }
+    mentions.push(number)?;
+    if number < marks.len() {
+        marks[number] = true;
+    }
+    Ok(())
+}
+
+/// Puts numbers behind those that are mentioned, repeats dropped.
+pub fn add_mentions(
+    mentions: &mut Vec<usize>,
+    marks: &mut [bool],
+    more: &[usize],
+) -> Result<(), AllocError>
+    requires { AreMarked marks.old mentions.old.items }
+    ensures mentions { OnOk result (mentions.new.items ≡ with_mentions mentions.old.items more.now) }
+    ensures marked { OnOk result (AreMarked marks.new mentions.new.items) }
+{
+    for number in more {
+        add_mention(mentions, marks, *number)?;
+    }
+    Ok(())
+}
+
+/// Marks for a count of numbers, none of which is mentioned yet.
+pub fn no_marks(alloc: Global, count: usize) -> Result<Vec<bool>, AllocError>
+    ensures none { IfOk result (λ marks. AreMarked marks.items []) }
+    ensures count { IfOk result (λ marks. length marks.items ≡ count) }
+{
+    vec![in alloc; false; count]
+}
+
+/// The entry of a table of names at a number.
+pub fn entry(known: &[Option<Denotation>], number: usize) -> Option<&Denotation>
+    ensures { option_copied result ≡ known_at known.now number }
+{
+    match known.get(number) {
+        Some(Some(denotation)) => Some(denotation),
+        _ => None,
+    }
+}
+
+/// The members of all parts, in order of first mention, where each part is known.
+fn gathered(
+    alloc: Global,
+    parts: &[usize],
+    known: &[Option<Denotation>],
+) -> Result<Option<Listed<usize>>, AllocError>
+    ensures { IfOk result (λ r. r ≡ gathered (known_at known.now) [] parts.now) }
+{
+    let mut marks = no_marks(alloc, MAX_OBJECTS)?;
+    let marks = marks.as_mut_slice();
+    let mut mentions = Vec::new(alloc);
+    for part in parts {
+        let Some(denotation) = entry(known, *part) else {
+            return Ok(None);
+        };
+        add_mentions(&mut mentions, marks, denotation.members.items())?;
+    }
+    Ok(Some(Listed::new(mentions)))
+}
+
+/// What a line says of the name with a number, as far as the names on its right are known.
+fn denote(
+    alloc: Global,
+    number: usize,
+    meaning: &Meaning,
+    known: &[Option<Denotation>],
+) -> Result<Option<Denotation>, AllocError>
+    ensures { IfOk result (λ r. r ≡ denotation_of (known_at known.now) number meaning.now) }
+{
+    match meaning {
+        Meaning::Itself(place, first) => Ok(Some(Denotation {
+            kind: Kind::Object,
+            members: Listed::new(vec![in alloc; *place]?),
+            number: *first,
+        })),
+        Meaning::Same(other) => match entry(known, *other) {
+            Some(denotation) => Ok(Some(Denotation {
+                kind: denotation.kind,
+                members: Listed::new(denotation.members.items().to_vec(alloc)?),
+                number: denotation.number,
+            })),
+            None => Ok(None),
+        },
+        Meaning::AllOf(parts) => Ok(gathered(alloc, parts.items(), known)?.map(|members| {
+            Denotation {
+                kind: Kind::Aggregate,
+                members,
+                number,
+            }
+        })),
+        Meaning::AnyOf(parts) => Ok(gathered(alloc, parts.items(), known)?.map(|members| {
+            Denotation {
+                kind: Kind::Property,
+                members,
+                number,
+            }
+        })),
+    }
+}
+
+/// Whether it is known of each of the names what it denotes.
+fn are_known(parts: &[usize], known: &[Option<Denotation>]) -> bool
+    ensures { result ≡ list_all (λ part. is_some (known_at known.now part)) parts.now }
+{
+    parts.iter().all(|part| entry(known, *part).is_some())
+}
+
+/// Whether a look at the line of a name finds nothing: it is known what it denotes, or not what a name on its right denotes.
+fn is_settled(number: usize, meaning: &Meaning, known: &[Option<Denotation>]) -> bool
+    ensures { result ≡ (is_some (known_at known.now number) || not (list_all (λ part. is_some (known_at known.now part)) (parts_of meaning.now))) }
+{
+    entry(known, number).is_some() || !are_known(meaning.parts(), known)
+}
+
+/// Looks at the line of a name: what it denotes is noted if it is not known yet, and the names on its right are. Answers whether it
+/// was noted.
+fn settle(
+    alloc: Global,
+    number: usize,
+    meaning: &Meaning,
+    known: &mut [Option<Denotation>],
+) -> Result<bool, AllocError>
+    requires { number < length known.old }
+    ensures each { IfOk result (λ _. (k : ℕ) → known_at known.new k ≡ (if k == number then settled (known_at known.old) number meaning.now else known_at known.old k)) }
+    ensures same { IfOk result (λ found. found ≡ false → (k : ℕ) → known_at known.new k ≡ known_at known.old k) }
+{
+    if is_settled(number, meaning, known) {
+        return Ok(false);
+    }
+    let found = denote(alloc, number, meaning, known)?;
+    known[number] = found;
+    Ok(true)
+}
+
+/// Looks at each line once. Answers whether something was noted.
+fn round(
+    alloc: Global,
+    meanings: &[Meaning],
+    known: &mut [Option<Denotation>],
+) -> Result<bool, AllocError>
+    requires { length known.old ≡ length meanings.now }
+    ensures { IfOk result (λ found. IsRound meanings.now (known_at known.old) (known_at known.new) (length meanings.now) found) }
+{
+    let mut found = false;
+    for (number, meaning) in meanings.iter().enumerate() {
+        let noted = settle(alloc, number, meaning, known)?;
+        found = noted || found;
+    }
+    Ok(found)
+}
+
+/// Notes what each name denotes, in rounds, until one finds nothing.
+fn fill(
+    alloc: Global,
+    meanings: &[Meaning],
+    known: &mut [Option<Denotation>],
+) -> Result<(), AllocError>
+    requires inside { StaysInside meanings.now }
+    requires count { length known.old ≡ length meanings.now }
+    requires empty { (k : ℕ) → known_at known.old k ≡ None }
+    ensures { OnOk result ((k : ℕ) → known_at known.new k ≡ value_at (length meanings.now) meanings.now k) }
+{
+    for _rank in 0..meanings.len() {
+        if !round(alloc, meanings, known)? {
+            return Ok(());
+        }
+    }
+    Ok(())
+}
+
+fn nothing_known(alloc: Global, count: usize) -> Result<Vec<Option<Denotation>>, AllocError>
+    ensures empty { IfOk result (λ known. (k : ℕ) → known_at known.items k ≡ None) }
+    ensures count { IfOk result (λ known. length known.items ≡ count) }
+{
+    let mut known = Vec::new(alloc);
+    for _number in 0..count {
+        known.push(None)?;
+    }
+    Ok(known)
+}
+
+/// What every name denotes, where no line speaks of an unknown name.
+pub fn denotations(
+    alloc: Global,
+    meanings: &[Meaning],
+) -> Result<Vec<Option<Denotation>>, AllocError>
+    requires { StaysInside meanings.now }
+    ensures each { IfOk result (λ known. (number : ℕ) → known_at known.items number ≡ value_at (length meanings.now) meanings.now number) }
+    ensures count { IfOk result (λ known. length known.items ≡ length meanings.now) }
+{
+    let mut known = nothing_known(alloc, meanings.len())?;
+    fill(alloc, meanings, known.as_mut_slice())?;
+    Ok(known)
+}
+
+/// What names denote is the least assignment that satisfies each line of OBJECTS and LEGEND: it satisfies them, and whatever
+/// satisfies them says the same where it says something.
+pub fn values_are_least(meanings: &[Meaning])
+    requires { StaysInside meanings.now }
+    ensures lawful { (k : ℕ) → denotation_next (value_at (length meanings.now) meanings.now) meanings.now k ≡ value_at (length meanings.now) meanings.now k }
+    ensures least { (g : ℕ → Option Denotation) → ((k : ℕ) → denotation_next g meanings.now k ≡ g k) → IsBelow (value_at (length meanings.now) meanings.now) g }
+{}

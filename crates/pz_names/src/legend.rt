@@ -1,0 +1,195 @@
+//! The lines of LEGEND.
+
+ghost use Rattle.std.specs.Prelude.{◌≡◌, ◌≢◌, ◌==◌, ◌++◌, [], IfOk, IfErr, IfSome, None, Some, option_map, map, position, not};
+ghost use Rattle.std.specs.List.{list_any};
+ghost use Rattle.pz_text.specs.Fault.{first_fault};
+ghost use Rattle.pz_text.specs.NameSet.{is_name_of};
+ghost use Rattle.pz_text.specs.declared.fault.Code.TheVariants as code;
+ghost use Rattle.pz_names.specs.Legend.{sides, joined, said_by, definition_of, definitions_of, line_number, line_at, misnames, speaks_of_unknown, names_in};
+
+use crate::objects::{MAX_NAMES, is_blank};
+use pz_text::fault::{Code, SourceFault};
+use pz_text::line::Line;
+use pz_text::listed::Listed;
+use pz_text::name::Name;
+use pz_text::name_set::NameSet;
+use pz_text::words::names_of;
+use std::alloc::{AllocError, Global};
+
+/// The right side of a line of LEGEND: a name alone, names joined by `and`, or names joined by `or`.
+#[derive(Drop, Debug)]
+pub enum Said {
+    Same(Name),
+    AllOf(Listed<Name>),
+    AnyOf(Listed<Name>),
+}
+
+/// A line of LEGEND: its number, the name that it defines, and what it says of it.
+#[derive(Drop, Debug)]
+pub struct Definition {
+    pub number: u32,
+    pub name: Name,
+    pub said: Said,
+}
+
+fn equals_sign(characters: &[char]) -> Option<usize>
+    ensures { result ≡ position (λ c. c == 61) characters.now }
+{
+    characters.iter().position(|c| *c == '=')
+}
+
+/// The two sides of a line, cut at its first `=` that isn't its first character.
+fn sides<'a>(text: &'a [char]) -> Option<(&'a [char], &'a [char])>
+    ensures { option_map (λ both. (both.0.now, both.1.now)) result ≡ sides text.entry.now }
+{
+    let Some((_, others)) = text.split_first() else {
+        return None;
+    };
+    match equals_sign(others) {
+        Some(at) if at < others.len() => Some((&text[..at + 1], &others[at + 1..])),
+        _ => None,
+    }
+}
+
+/// The names at the odd places, if there is one and each name between them is the joint.
+fn joined(alloc: Global, names: &[Name], joint: &str) -> Result<Option<Listed<Name>>, AllocError>
+    ensures { IfOk result (λ parts. parts ≡ joined joint.now [] names.now) }
+{
+    let mut parts = Vec::new(alloc);
+    let mut rest = names;
+    while let Some((name, others)) = rest.split_first() {
+        parts.push(name.copy(alloc)?)?;
+        let Some((other, more)) = others.split_first() else {
+            return Ok(Some(Listed::new(parts)));
+        };
+        if !other.is(joint) {
+            return Ok(None);
+        }
+        rest = more;
+    }
+    Ok(None)
+}
+
+fn said_by(alloc: Global, right: &[Name]) -> Result<Option<Said>, AllocError>
+    ensures { IfOk result (λ said. said ≡ said_by right.now) }
+{
+    let Some((first, others)) = right.split_first() else {
+        return Ok(None);
+    };
+    let Some((joint, _)) = others.split_first() else {
+        return Ok(Some(Said::Same(first.copy(alloc)?)));
+    };
+    if joint.is("and") {
+        Ok(joined(alloc, right, "and")?.map(Said::AllOf))
+    } else {
+        Ok(joined(alloc, right, "or")?.map(Said::AnyOf))
+    }
+}
+
+/// The definition that a line holds, if it has the form of one.
+fn read_definition(alloc: Global, line: &Line) -> Result<Option<Definition>, AllocError>
+    ensures { IfOk result (λ definition. definition ≡ definition_of line.now) }
+{
+    let Some((left, right)) = sides(line.text.items()) else {
+        return Ok(None);
+    };
+    let left = names_of(alloc, left)?;
+    let right = names_of(alloc, right)?;
+    let [name] = left.items() else {
+        return Ok(None);
+    };
+    let Some(said) = said_by(alloc, right.items())? else {
+        return Ok(None);
+    };
+    let name = name.copy(alloc)?;
+    Ok(Some(Definition {
+        number: line.number,
+        name,
+        said,
+    }))
+}
+
+/// The definitions of LEGEND, whose names are put behind those that are there; or the first line that is none (BadLegend), gives
+/// a name that is there already (Duplicate), or gives one name too many (TooLarge).
+pub fn definitions(
+    alloc: Global,
+    names: &mut NameSet,
+    lines: &[Line],
+) -> Result<Vec<Definition>, SourceFault>
+    ensures refused { IfErr result (λ fault. fault.code ≢ code.Memory → first_fault line_number (misnames names.old) [] lines.now ≡ Some fault) }
+    ensures whole { IfErr result (λ fault. fault.code ≡ code.Memory → fault.line ≡ 0) }
+    ensures sound { IfOk result (λ _. first_fault line_number (misnames names.old) [] lines.now ≡ None) }
+    ensures definitions { IfOk result (λ r. r.items ≡ definitions_of lines.now) }
+    ensures noted { IfOk result (λ r. names.new ≡ names.old ++ map (λ d. d.name) r.items) }
+{
+    let mut definitions = Vec::new(alloc);
+    for line in lines {
+        if is_blank(line) {
+            continue;
+        }
+        let Some(definition) = read_definition(alloc, line)? else {
+            return Err(SourceFault {
+                code: Code::BadLegend,
+                line: line.number,
+            });
+        };
+        let name = definition.name.as_str();
+        if names.contains(name) {
+            return Err(SourceFault {
+                code: Code::Duplicate,
+                line: line.number,
+            });
+        }
+        if names.len() >= MAX_NAMES {
+            return Err(SourceFault {
+                code: Code::TooLarge,
+                line: line.number,
+            });
+        }
+        names.add(alloc, name)?;
+        definitions.push(definition)?;
+    }
+    Ok(definitions)
+}
+
+impl Said {
+    /// The names on the right of the line.
+    fn parts(&self) -> &[Name]
+        ensures { result.now ≡ names_in self.now }
+    {
+        match self {
+            Said::Same(name) => std::slice::from_ref(name),
+            Said::AllOf(parts) | Said::AnyOf(parts) => parts.items(),
+        }
+    }
+
+    /// Whether a part isn't a name.
+    fn speaks_beyond(&self, names: &NameSet) -> bool
+        ensures { result ≡ list_any (λ part. not (is_name_of names.now part)) (names_in self.now) }
+    {
+        has_unknown(names, self.parts())
+    }
+}
+
+/// Whether one of the texts isn't a name.
+pub fn has_unknown(names: &NameSet, parts: &[Name]) -> bool
+    ensures { result ≡ list_any (λ part. not (is_name_of names.now part)) parts.now }
+{
+    parts.iter().any(|part| !names.contains(part.as_str()))
+}
+
+/// The first line with a part that isn't a name.
+pub fn unknown_part(names: &NameSet, definitions: &[Definition]) -> Option<SourceFault>
+    ensures first { result ≡ first_fault line_at (speaks_of_unknown names.now) [] definitions.now }
+    ensures code { IfSome result (λ fault. fault.code ≡ code.Unknown) }
+{
+    for definition in definitions {
+        if definition.said.speaks_beyond(names) {
+            return Some(SourceFault {
+                code: Code::Unknown,
+                line: definition.number,
+            });
+        }
+    }
+    None
+}

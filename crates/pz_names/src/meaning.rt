@@ -1,0 +1,99 @@
+//! What the lines of OBJECTS and LEGEND say of their names, by the numbers of the names.
+
+ghost use Rattle.std.specs.Prelude.{◌≡◌, ◌++◌, IfOk, OnOk, map};
+ghost use Rattle.pz_names.specs.declared.meaning.Meaning.TheVariants.{Itself};
+ghost use Rattle.pz_names.specs.Meaning.{number_or_end, parts_of, meaning_by, meanings_of};
+
+use crate::legend::{Definition, Said};
+use crate::name_line::NameLine;
+use pz_text::listed::Listed;
+use pz_text::name::Name;
+use pz_text::name_set::NameSet;
+use std::alloc::{AllocError, Global};
+
+/// What a line says of its name: that it is the object at a place, of which the first name has a number, or what it stands for,
+/// by the numbers of other names.
+#[derive(Drop, Debug)]
+pub enum Meaning {
+    Itself(usize, usize),
+    Same(usize),
+    AllOf(Listed<usize>),
+    AnyOf(Listed<usize>),
+}
+
+impl Meaning {
+    /// The names on the right of the line.
+    pub fn parts(&self) -> &[usize]
+        ensures { result.now ≡ parts_of self.now }
+    {
+        match self {
+            Meaning::Itself(_, _) => &[],
+            Meaning::Same(other) => std::slice::from_ref(other),
+            Meaning::AllOf(parts) | Meaning::AnyOf(parts) => parts.items(),
+        }
+    }
+}
+
+/// The number of a name, and the number of names where it is none of them.
+pub fn number_or_end(names: &NameSet, name: &Name) -> usize
+    ensures { result ≡ number_or_end names.now name.now }
+{
+    names.number_of(name.as_str()).unwrap_or(names.len())
+}
+
+fn numbers(alloc: Global, names: &NameSet, parts: &[Name]) -> Result<Listed<usize>, AllocError>
+    ensures { IfOk result (λ numbers. numbers ≡ map (number_or_end names.now) parts.now) }
+{
+    let items = parts
+        .iter()
+        .map(|part| number_or_end(names, part))
+        .collect(alloc)?;
+    Ok(Listed::new(items))
+}
+
+impl Said {
+    /// What is said, by the numbers of the names.
+    fn meaning(&self, alloc: Global, names: &NameSet) -> Result<Meaning, AllocError>
+        ensures { IfOk result (λ meaning. meaning ≡ meaning_by names.now self.now) }
+    {
+        match self {
+            Said::Same(name) => Ok(Meaning::Same(number_or_end(names, name))),
+            Said::AllOf(parts) => Ok(Meaning::AllOf(numbers(alloc, names, parts.items())?)),
+            Said::AnyOf(parts) => Ok(Meaning::AnyOf(numbers(alloc, names, parts.items())?)),
+        }
+    }
+}
+
+fn add_object(
+    meanings: &mut Vec<Meaning>,
+    place: usize,
+    first: usize,
+    names: &[Name],
+) -> Result<(), AllocError>
+    ensures { OnOk result (meanings.new.items ≡ meanings.old.items ++ map (λ name. Itself place first) names.now) }
+{
+    for _name in names {
+        meanings.push(Meaning::Itself(place, first))?;
+    }
+    Ok(())
+}
+
+/// What the lines of OBJECTS and LEGEND say of their names, by the names' numbers.
+pub fn meanings(
+    alloc: Global,
+    objects: &[NameLine],
+    names: &NameSet,
+    definitions: &[Definition],
+) -> Result<Vec<Meaning>, AllocError>
+    ensures { IfOk result (λ meanings. meanings.items ≡ meanings_of objects.now names.now definitions.now) }
+{
+    let mut meanings = Vec::new(alloc);
+    for (place, line) in objects.iter().enumerate() {
+        let first = meanings.len();
+        add_object(&mut meanings, place, first, line.names.items())?;
+    }
+    for definition in definitions {
+        meanings.push(definition.said.meaning(alloc, names)?)?;
+    }
+    Ok(meanings)
+}

@@ -1,0 +1,231 @@
+//! OBJECTS: its objects, and the names that they have.
+
+ghost use Rattle.std.specs.Prelude.{◌≡◌, ◌≢◌, ◌≤◌, ◌++◌, ◌∷◌, [], ℕ, suc, length, map, option_to_list, IfOk, IfErr, IfSome, OnOk, Ok, Err, Some, None, false, All};
+ghost use Rattle.pz_text.specs.Fault.{first_fault};
+ghost use Rattle.pz_text.specs.declared.fault.Code.TheVariants as code;
+ghost use Rattle.pz_names.specs.Objects.{object_names, is_blank, are_pixels, is_sprite_row, sprite_rows, are_wide, is_sprite, is_whole, behind_block, block_of, blocks_within, blocks_of, name_line_of, has_repeat, block_at, misnamed, misnames, objects_of, IsNamed};
+
+use crate::name_line::NameLine;
+use pz_text::fault::{Code, SourceFault};
+use pz_text::line::Line;
+use pz_text::listed::Listed;
+use pz_text::name::Name;
+use pz_text::name_set::NameSet;
+use pz_text::words::names_of;
+use std::alloc::{AllocError, Global};
+
+/// The most objects that a source may have.
+pub const MAX_OBJECTS: usize = 128;
+
+/// The most names that a source may have, all names of OBJECTS and LEGEND together.
+pub const MAX_NAMES: usize = 1024;
+
+/// An object as its lines give it: its name line, and whether its colours and its sprite are as they should be.
+#[derive(Drop, Debug)]
+pub struct Block {
+    pub line: NameLine,
+    pub is_whole: bool,
+}
+
+/// Whether a line holds white space alone.
+pub fn is_blank(line: &Line) -> bool
+    ensures { result ≡ is_blank line.now }
+{
+    line.text.items().iter().all(|c| c.is_whitespace())
+}
+
+fn are_pixels(text: &[char]) -> bool
+    ensures { result ≡ are_pixels text.now }
+{
+    let mut rest = text;
+    while let Some((c, others)) = rest.split_first() {
+        if *c != '.' && !c.is_ascii_digit() {
+            return false;
+        }
+        rest = others;
+    }
+    true
+}
+
+fn is_sprite_row(line: &Line) -> bool
+    ensures { result ≡ is_sprite_row line.now }
+{
+    !is_blank(line) && are_pixels(line.text.items())
+}
+
+/// The sprite rows at the front, of which at most five are taken.
+fn sprite_rows(lines: &[Line]) -> &[Line]
+    ensures rows { result.now ≡ sprite_rows 5 lines.now }
+    ensures within { length result.now ≤ length lines.now }
+{
+    for (count, line) in lines.iter().enumerate() {
+        if count == 5 || !is_sprite_row(line) {
+            return &lines[..count];
+        }
+    }
+    lines
+}
+
+fn is_sprite(rows: &[Line]) -> bool
+    ensures { result ≡ is_sprite rows.now }
+{
+    rows.is_empty() || rows.len() == 5 && are_wide(rows)
+}
+
+fn are_wide(rows: &[Line]) -> bool
+    ensures { result ≡ are_wide rows.now }
+{
+    let mut rest = rows;
+    while let Some((row, others)) = rest.split_first() {
+        if row.text.items().len() != 5 {
+            return false;
+        }
+        rest = others;
+    }
+    true
+}
+
+/// Whether the lines behind a name line begin with colours, and then with no sprite or a whole one.
+fn is_whole(lines: &[Line]) -> bool
+    ensures { result ≡ is_whole lines.now }
+{
+    match lines.split_first() {
+        Some((colours, rest)) => !is_blank(colours) && is_sprite(sprite_rows(rest)),
+        None => false,
+    }
+}
+
+/// The lines behind a name line, its colours and its sprite rows.
+fn behind_block(lines: &[Line]) -> &[Line]
+    ensures { result.now ≡ behind_block lines.now }
+{
+    match lines.split_first() {
+        Some((colours, rest)) if !is_blank(colours) => &rest[sprite_rows(rest).len()..],
+        _ => lines,
+    }
+}
+
+/// The block that a line begins, if it is not blank, and the lines behind.
+fn read_block<'a>(
+    alloc: Global,
+    line: &Line,
+    others: &'a [Line],
+) -> Result<(Option<Block>, &'a [Line]), AllocError>
+    ensures { IfOk result (λ r. (n : ℕ) → blocks_within (suc n) (line.entry.now ∷ others.entry.now) ≡ option_to_list r.0 ++ blocks_within n r.1.now) }
+{
+    if is_blank(line) {
+        return Ok((None, others));
+    }
+    let block = Block {
+        line: NameLine {
+            number: line.number,
+            names: names_of(alloc, line.text.items())?,
+        },
+        is_whole: is_whole(others),
+    };
+    Ok((Some(block), behind_block(others)))
+}
+
+fn push_found(found: &mut Vec<Block>, block: Option<Block>) -> Result<(), AllocError>
+    ensures { OnOk result (found.new.items ≡ found.old.items ++ option_to_list block) }
+{
+    if let Some(block) = block {
+        found.push(block)?;
+    }
+    Ok(())
+}
+
+fn blocks_of(alloc: Global, lines: &[Line]) -> Result<Vec<Block>, AllocError>
+    ensures { IfOk result (λ found. found.items ≡ blocks_of lines.now) }
+{
+    let mut found = Vec::new(alloc);
+    let mut rest = lines;
+    for _step in 0..lines.len() {
+        let Some((line, others)) = rest.split_first() else {
+            break;
+        };
+        let (block, after) = read_block(alloc, line, others)?;
+        push_found(&mut found, block)?;
+        rest = after;
+    }
+    Ok(found)
+}
+
+/// Puts names behind those that are there, and says whether one was there already.
+fn note_names(alloc: Global, above: &mut NameSet, names: &[Name]) -> Result<bool, AllocError>
+    ensures repeat { IfOk result (λ r. r ≡ has_repeat above.old names.now) }
+    ensures noted { IfOk result (λ r. (r ≡ false) → above.new ≡ above.old ++ names.now) }
+{
+    for name in names {
+        if above.contains(name.as_str()) {
+            return Ok(true);
+        }
+        above.add(alloc, name.as_str())?;
+    }
+    Ok(false)
+}
+
+/// What is wrong with a block below so many others, whose names are given; where nothing is, its names are put behind them.
+fn misnamed(
+    alloc: Global,
+    above: &mut NameSet,
+    count: usize,
+    block: &Block,
+) -> Result<Option<Code>, AllocError>
+    ensures code { IfOk result (λ r. r ≡ misnamed above.old count block.now) }
+    ensures noted { IfOk result (λ r. (r ≡ None) → above.new ≡ above.old ++ block.now.line.names) }
+    ensures other { IfOk result (λ r. IfSome r (λ c. c ≢ code.Memory)) }
+{
+    if !block.is_whole {
+        return Ok(Some(Code::BadObject));
+    }
+    if note_names(alloc, above, block.line.names.items())? {
+        return Ok(Some(Code::Duplicate));
+    }
+    if count >= MAX_OBJECTS || above.len() > MAX_NAMES {
+        return Ok(Some(Code::TooLarge));
+    }
+    Ok(None)
+}
+
+/// The names of the blocks, or the first fault that a block has.
+fn names_of_blocks(alloc: Global, blocks: &[Block]) -> Result<NameSet, SourceFault>
+    ensures sound { IfOk result (λ _. first_fault block_at misnames [] blocks.now ≡ None) }
+    ensures names { IfOk result (λ names. names ≡ object_names (map name_line_of blocks.now)) }
+    ensures refused { IfErr result (λ fault. fault.code ≢ code.Memory → first_fault block_at misnames [] blocks.now ≡ Some fault) }
+    ensures whole { IfErr result (λ fault. fault.code ≡ code.Memory → fault.line ≡ 0) }
+{
+    let mut names = NameSet::new(alloc);
+    for (count, block) in blocks.iter().enumerate() {
+        if let Some(code) = misnamed(alloc, &mut names, count, block)? {
+            return Err(SourceFault {
+                code,
+                line: block.line.number,
+            });
+        }
+    }
+    Ok(names)
+}
+
+fn name_line_of(block: Block) -> NameLine
+    ensures { result ≡ name_line_of block }
+{
+    let Block { line, is_whole: _ } = block;
+    line
+}
+
+/// The name line of each object of OBJECTS, and all its names, or its first fault: BadObject, Duplicate or TooLarge, at the
+/// name line of an object. Memory, with line 0, may come in place of either.
+pub fn read_objects(alloc: Global, lines: &[Line]) -> Result<(Vec<NameLine>, NameSet), SourceFault>
+    ensures read { IfOk result (λ r. objects_of lines.now ≡ Ok r.0.items) }
+    ensures names { IfOk result (λ r. r.1 ≡ object_names r.0.items) }
+    ensures few { IfOk result (λ r. length r.0.items ≤ 128) }
+    ensures named { IfOk result (λ r. All IsNamed r.0.items) }
+    ensures refused { IfErr result (λ fault. fault.code ≢ code.Memory → objects_of lines.now ≡ Err fault) }
+    ensures whole { IfErr result (λ fault. fault.code ≡ code.Memory → fault.line ≡ 0) }
+{
+    let blocks = blocks_of(alloc, lines)?;
+    let names = names_of_blocks(alloc, blocks.as_slice())?;
+    let objects = blocks.into_iter().map(name_line_of).collect(alloc)?;
+    Ok((objects, names))
+}

@@ -1,0 +1,86 @@
+//! What each name of a source denotes.
+
+ghost use Rattle.std.specs.Prelude.{◌≡◌, ◌≢◌, length, IfOk, IfErr, None, Some, OnOk};
+ghost use Rattle.std.specs.List.{filter_map};
+ghost use Rattle.pz_text.specs.declared.fault.Code.TheVariants as code;
+ghost use Rattle.pz_names.specs.Objects.{object_names};
+ghost use Rattle.pz_names.specs.Legend.{definitions_of};
+ghost use Rattle.pz_names.specs.Denotation.{values_of};
+ghost use Rattle.pz_names.specs.Values.{names_of_source, meanings_of_source, fault_of_definitions, fault_of_legend};
+
+use crate::cycles::circle;
+use crate::denotation::{Denotation, denotations};
+use crate::kinds::mixture;
+use crate::legend::{Definition, definitions, unknown_part};
+use crate::meaning::meanings;
+use crate::name_line::NameLine;
+use pz_text::fault::SourceFault;
+use pz_text::line::Line;
+use pz_text::name_set::NameSet;
+use std::alloc::{AllocError, Global};
+
+fn known_values(
+    alloc: Global,
+    known: Vec<Option<Denotation>>,
+) -> Result<Vec<Denotation>, AllocError>
+    ensures { IfOk result (λ values. values.items ≡ filter_map (λ entry. entry) known.items) }
+{
+    known.into_iter().filter_map(|entry| entry).collect(alloc)
+}
+
+/// What each name denotes, or the first line that speaks of an unknown name (Unknown), else whose name reaches itself (BadLegend),
+/// else that mixes properties and aggregates (Mixed). The lines' names have the numbers from `first` on.
+fn denoted(
+    alloc: Global,
+    first: usize,
+    objects: &[NameLine],
+    names: &NameSet,
+    definitions: &[Definition],
+) -> Result<Vec<Denotation>, SourceFault>
+    requires first { first ≡ length (object_names objects.now) }
+    requires named { names.now ≡ names_of_source objects.now definitions.now }
+    ensures sound { IfOk result (λ _. fault_of_definitions objects.now definitions.now ≡ None) }
+    ensures denoted { IfOk result (λ values. values.items ≡ values_of (meanings_of_source objects.now definitions.now)) }
+    ensures all { IfOk result (λ values. length values.items ≡ length names.now) }
+    ensures refused { IfErr result (λ fault. fault.code ≢ code.Memory → fault_of_definitions objects.now definitions.now ≡ Some fault) }
+    ensures whole { IfErr result (λ fault. fault.code ≡ code.Memory → fault.line ≡ 0) }
+{
+    if let Some(fault) = unknown_part(names, definitions) {
+        return Err(fault);
+    }
+    let _count = names.len();
+    let meanings = meanings(alloc, objects, names, definitions)?;
+    let meanings = meanings.as_slice();
+    let known = denotations(alloc, meanings)?;
+    if let Some(fault) = circle(alloc, first, meanings, known.as_slice(), definitions)? {
+        return Err(fault);
+    }
+    let values = known_values(alloc, known)?;
+    if let Some(fault) = mixture(names, values.as_slice(), definitions) {
+        return Err(fault);
+    }
+    Ok(values)
+}
+
+/// What each name of a source denotes, or the first fault of its legend: first BadLegend (the form), Duplicate and TooLarge, line
+/// by line, then Unknown, then BadLegend (a name that reaches itself), then Mixed. The names of OBJECTS are handed in, and those
+/// of LEGEND put behind them. Memory, with line 0, may come in place of either.
+pub fn read_legend(
+    alloc: Global,
+    objects: &[NameLine],
+    names: &mut NameSet,
+    lines: &[Line],
+) -> Result<Vec<Denotation>, SourceFault>
+    requires { names.old ≡ object_names objects.now }
+    ensures sound { IfOk result (λ _. fault_of_legend objects.now lines.now ≡ None) }
+    ensures named { OnOk result (names.new ≡ names_of_source objects.now (definitions_of lines.now)) }
+    ensures denoted { IfOk result (λ values. values.items ≡ values_of (meanings_of_source objects.now (definitions_of lines.now))) }
+    ensures all { IfOk result (λ values. length values.items ≡ length names.new) }
+    ensures refused { IfErr result (λ fault. fault.code ≢ code.Memory → fault_of_legend objects.now lines.now ≡ Some fault) }
+    ensures whole { IfErr result (λ fault. fault.code ≡ code.Memory → fault.line ≡ 0) }
+{
+    let first = names.len();
+    let definitions = definitions(alloc, names, lines)?;
+    let values = denoted(alloc, first, objects, names, definitions.as_slice())?;
+    Ok(values)
+}

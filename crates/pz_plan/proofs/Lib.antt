@@ -1,0 +1,9 @@
+pub mod Firsts
+pub mod Unions
+pub mod Products
+pub mod Directions
+pub mod Mentions
+pub mod Joining
+pub mod Only
+pub mod Shaping
+pub mod EachOf

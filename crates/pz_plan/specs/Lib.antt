@@ -1,0 +1,12 @@
+pub mod Lists
+pub mod Commands
+pub mod Laws
+pub mod Fault
+pub mod Same
+pub mod Prefix
+pub mod Spelling
+pub mod Numbering
+pub mod Deciding
+pub mod Checks
+pub mod Planning
+pub mod Shape

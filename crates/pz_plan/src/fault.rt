@@ -1,0 +1,61 @@
+//! What is wrong with a rule line.
+
+ghost use Rattle.std.specs.Prelude.{◌≡◌};
+ghost use Rattle.pz_plan.specs.Fault.{code_of};
+ghost use Rattle.pz_plan.specs.declared.fault.RuleFault.TheVariants.{Memory};
+
+use pz_text::fault::Code;
+use std::alloc::{AllocError, AllocFailed};
+
+/// What is wrong with a rule line.
+#[derive(Clone, Copy, PartialEq, Eq, Debug)]
+pub enum RuleFault {
+    Memory,
+    BadRule,
+    OutsideProfile,
+    TooLarge,
+    Unknown,
+    Mixed,
+    Shape,
+    LateMovement,
+    AmbiguousRight,
+    TooManyRules,
+    RightClash,
+}
+
+impl RuleFault {
+    /// The code by which a source is refused that has a line with this fault.
+    pub fn code(self) -> Code
+        ensures { result ≡ code_of self }
+    {
+        match self {
+            RuleFault::Memory => Code::Memory,
+            RuleFault::BadRule => Code::BadRule,
+            RuleFault::OutsideProfile => Code::OutsideProfile,
+            RuleFault::TooLarge => Code::TooLarge,
+            RuleFault::Unknown => Code::Unknown,
+            RuleFault::Mixed => Code::Mixed,
+            RuleFault::Shape => Code::Shape,
+            RuleFault::LateMovement => Code::LateMovement,
+            RuleFault::AmbiguousRight => Code::AmbiguousRight,
+            RuleFault::TooManyRules => Code::TooManyRules,
+            RuleFault::RightClash => Code::RightClash,
+        }
+    }
+}
+
+impl From<AllocError> for RuleFault {
+    ghost from_gives = { λ _ fault. fault ≡ Memory };
+
+    fn from(_: AllocError) -> RuleFault {
+        RuleFault::Memory
+    }
+}
+
+impl<T: Drop> From<AllocFailed<T>> for RuleFault {
+    ghost from_gives = { λ _ fault. fault ≡ Memory };
+
+    fn from(_: AllocFailed<T>) -> RuleFault {
+        RuleFault::Memory
+    }
+}

@@ -1,0 +1,84 @@
+//! A rule whose names are spelled out and whose choices are numbered.
+
+use crate::commands::Commands;
+use pz_grammar::token::{Class, Lead, Turn};
+use pz_source::direction::Dir;
+use pz_text::listed::Listed;
+
+/// An object, or one of the members of a property, by the number of the property's own name.
+#[derive(Clone, Copy, PartialEq, Eq, Debug)]
+pub enum Subject {
+    Object(usize),
+    Property(usize),
+}
+
+/// An object or a property of several members, with the word before it.
+#[derive(Clone, Copy, PartialEq, Eq, Debug)]
+pub struct Mention {
+    pub lead: Option<Lead>,
+    pub subject: Subject,
+}
+
+/// The cells of a row without its gap, and how many of them stand before the gap.
+#[derive(Drop, Debug)]
+pub struct PlanRow<T> {
+    pub cells: Listed<Listed<T>>,
+    pub gap: Option<usize>,
+}
+
+/// A cell, by its row and its place there.
+#[derive(Clone, Copy, PartialEq, Eq, Debug)]
+pub struct Spot {
+    pub row: usize,
+    pub cell: usize,
+}
+
+/// What a choice is asked for: a member of a property, or the direction of a word on something.
+#[derive(Clone, Copy, PartialEq, Eq, Debug)]
+pub enum Asked {
+    Member(usize),
+    Direction(Class, Subject),
+}
+
+/// A choice, and the cell that asks for it.
+#[derive(Clone, Copy, PartialEq, Eq, Debug)]
+pub struct Choice {
+    pub spot: Spot,
+    pub asked: Asked,
+}
+
+/// The word of a term: as it stands there, or the direction that a choice gives.
+#[derive(Clone, Copy, PartialEq, Eq, Debug)]
+pub enum TermWord {
+    Bare,
+    No,
+    Stationary,
+    Toward(Dir),
+    Turned(Turn),
+    Chosen(usize),
+}
+
+/// The name of a term: an object, or the object that a choice gives.
+#[derive(Clone, Copy, PartialEq, Eq, Debug)]
+pub enum TermName {
+    Object(usize),
+    Chosen(usize),
+}
+
+/// An item of a cell, before the choices are made.
+#[derive(Clone, Copy, PartialEq, Eq, Debug)]
+pub struct Term {
+    pub word: TermWord,
+    pub name: TermName,
+}
+
+/// A rule whose choices are numbered in the order of its text, with each term pointing at the choices that decide it, and the
+/// commands that it gives.
+#[derive(Drop, Debug)]
+pub struct Plan {
+    pub directions: Listed<Dir>,
+    pub choices: Listed<Choice>,
+    pub left: Listed<PlanRow<Term>>,
+    pub right: Listed<PlanRow<Term>>,
+    pub commands: Commands,
+}

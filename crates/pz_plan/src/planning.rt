@@ -1,0 +1,80 @@
+//! The plan of a rule, or its first fault.
+
+ghost use Rattle.std.specs.Prelude.{◌≡◌, ◌≢◌, true, Ok, Err, IfOk, IfErr};
+ghost use Rattle.pz_plan.specs.declared.fault.RuleFault.TheVariants.{Memory};
+ghost use Rattle.pz_plan.specs.Planning.{planned, plan_of};
+ghost use Rattle.pz_plan.specs.Shape.{AreShaped};
+ghost use Rattle.pz_grammar.specs.Written.{is_whole};
+
+use crate::checks::fault_of;
+use crate::commands::commands_given;
+use crate::deciding::decided_rows;
+use crate::fault::RuleFault;
+use crate::numbering::number_rows;
+use crate::plan::{Mention, Plan, PlanRow};
+use crate::prefix::directions_of;
+use crate::spelling::{Side, rows_spelled_out};
+use pz_grammar::rule::Rule;
+use pz_names::denotation::Denotation;
+use pz_text::listed::Listed;
+use std::alloc::Global;
+
+/// The plan of a rule whose names are spelled out.
+#[tactic(auto, unfolding(crate::specs::Planning::planned, crate::specs::Planning::with_right))]
+fn planned(
+    alloc: Global,
+    rule: &Rule,
+    left: &[PlanRow<Mention>],
+    right: &[PlanRow<Mention>],
+) -> Result<Plan, RuleFault>
+    ensures plan { IfOk result (λ plan. planned rule.now left.now right.now ≡ Ok plan) }
+    ensures fault { IfErr result (λ fault. fault ≢ Memory → planned rule.now left.now right.now ≡ Err fault) }
+{
+    let mut choices = Vec::new(alloc);
+    let terms = number_rows(alloc, left, &mut choices)?;
+    match decided_rows(alloc, &choices, right)? {
+        Some(decided) => Ok(Plan {
+            directions: directions_of(alloc, rule)?,
+            choices: Listed::new(choices),
+            left: terms,
+            right: decided,
+            commands: commands_given(rule.commands.items()),
+        }),
+        None => Err(RuleFault::AmbiguousRight),
+    }
+}
+
+/// The plan of a rule, late or not, or its first fault.
+#[tactic(auto, unfolding(crate::specs::Planning::plan_of))]
+fn read_plan(
+    alloc: Global,
+    table: &[Denotation],
+    is_late: bool,
+    rule: &Rule,
+) -> Result<Plan, RuleFault>
+    ensures plan { IfOk result (λ plan. plan_of table.now is_late rule.now ≡ Ok plan) }
+    ensures fault { IfErr result (λ fault. fault ≢ Memory → plan_of table.now is_late rule.now ≡ Err fault) }
+{
+    if let Some(fault) = fault_of(table, is_late, rule) {
+        return Err(fault);
+    }
+    let left = rows_spelled_out(alloc, Side::Left, table, rule.left.items())?;
+    let right = rows_spelled_out(alloc, Side::Right, table, rule.right.items())?;
+    planned(alloc, rule, left.items(), right.items())
+}
+
+/// The plan of a rule, late or not, or its first fault. Its rows have the shape of rows.
+#[tactic(auto, using(crate::proofs::Shaping::shaped))]
+pub fn plan_of(
+    alloc: Global,
+    table: &[Denotation],
+    is_late: bool,
+    rule: &Rule,
+) -> Result<Plan, RuleFault>
+    requires whole { is_whole rule.now ≡ true }
+    ensures plan { IfOk result (λ plan. plan_of table.now is_late rule.now ≡ Ok plan) }
+    ensures fault { IfErr result (λ fault. fault ≢ Memory → plan_of table.now is_late rule.now ≡ Err fault) }
+    ensures shaped { IfOk result (λ plan. AreShaped plan.left × AreShaped plan.right) }
+{
+    read_plan(alloc, table, is_late, rule)
+}

@@ -1,0 +1,240 @@
+//! What the names of a rule stand for: aggregates and synonyms are replaced, and what a cell says twice counts once.
+
+ghost use Rattle.std.specs.Prelude.{◌≡◌, ◌||◌, ◌++◌, OnOk, IfOk, option_copied, slice_get};
+ghost use Rattle.std.specs.List.{flat_map, list_any};
+ghost use Rattle.pz_plan.specs.Lists.{added, added_all};
+ghost use Rattle.pz_plan.specs.Same.{is_class, is_some_member, same_mention, says_the_same};
+ghost use Rattle.pz_plan.specs.Spelling.{is_chosen, mentions_of, mentions_at, denoted, spelled_out, cell_of, is_gap, gap_of, row_spelled_out, rows_spelled_out};
+
+use crate::plan::{Mention, PlanRow, Subject};
+use pz_grammar::rule::{Cell, Phrase};
+use pz_grammar::token::Lead;
+use pz_names::denotation::{Denotation, Kind};
+use pz_text::listed::Listed;
+use std::alloc::{AllocError, Global};
+
+/// A side of a rule.
+#[derive(Clone, Copy, PartialEq, Eq, Debug)]
+pub enum Side {
+    Left,
+    Right,
+}
+
+#[tactic(auto, unfolding(crate::specs::Same::same_mention))]
+fn same_mention(a: &Mention, b: &Mention) -> bool
+    ensures { result ≡ same_mention a.now b.now }
+{
+    a == b
+}
+
+/// Whether a mention has a choice.
+fn has_choice(mention: &Mention) -> bool
+    ensures { result ≡ is_class mention.now.lead || is_some_member mention.now.subject }
+{
+    matches!(mention.lead, Some(Lead::Class(_))) || matches!(mention.subject, Subject::Property(_))
+}
+
+/// Whether a mention says no more than one before it.
+#[tactic(auto, unfolding(crate::specs::Same::says_the_same))]
+fn says_the_same(side: Side, a: &Mention, b: &Mention) -> bool
+    ensures { result ≡ says_the_same side a.now b.now }
+{
+    match side {
+        Side::Left => !has_choice(a) && same_mention(a, b),
+        Side::Right => same_mention(a, b),
+    }
+}
+
+fn is_said(side: Side, mentions: &[Mention], mention: &Mention) -> bool
+    ensures { result ≡ list_any (λ other. says_the_same side other mention.now) mentions.now }
+{
+    mentions
+        .iter()
+        .any(|other| says_the_same(side, other, mention))
+}
+
+/// Adds a mention, unless the same is said already.
+fn add_mention(side: Side, mention: Mention, mentions: &mut Vec<Mention>) -> Result<(), AllocError>
+    ensures { OnOk result (mentions.new.items ≡ added (says_the_same side) mentions.old.items mention) }
+{
+    if !is_said(side, mentions, &mention) {
+        mentions.push(mention)?;
+    }
+    Ok(())
+}
+
+/// Whether the name stands for one of its members.
+fn is_chosen(lead: Option<Lead>, denotation: &Denotation) -> bool
+    ensures { result ≡ is_chosen lead denotation.now }
+{
+    matches!(denotation.kind, Kind::Property)
+        && !matches!(lead, Some(Lead::No))
+        && denotation.members.items().len() != 1
+}
+
+/// Adds what a name stands for, with the word before it.
+#[tactic(auto, unfolding(crate::specs::Spelling::mentions_of))]
+fn add_mentions(
+    side: Side,
+    lead: Option<Lead>,
+    denotation: &Denotation,
+    mentions: &mut Vec<Mention>,
+) -> Result<(), AllocError>
+    ensures { OnOk result (mentions.new.items ≡ added_all (says_the_same side) mentions.old.items (mentions_of lead denotation.now)) }
+{
+    if is_chosen(lead, denotation) {
+        return add_mention(
+            side,
+            Mention {
+                lead,
+                subject: Subject::Property(denotation.number),
+            },
+            mentions,
+        );
+    }
+    for object in denotation.members.items() {
+        add_mention(
+            side,
+            Mention {
+                lead,
+                subject: Subject::Object(*object),
+            },
+            mentions,
+        )?;
+    }
+    Ok(())
+}
+
+/// What the name of this number denotes.
+fn denotation_at(table: &[Denotation], number: usize) -> Option<&Denotation>
+    ensures { option_copied result ≡ slice_get table.now number }
+{
+    table.get(number)
+}
+
+/// What a name denotes, if there is such a name.
+#[tactic(auto, unfolding(crate::specs::Spelling::denoted))]
+pub fn denoted(table: &[Denotation], name: Option<usize>) -> Option<&Denotation>
+    ensures { option_copied result ≡ denoted table.now name }
+{
+    match name {
+        Some(number) => denotation_at(table, number),
+        None => None,
+    }
+}
+
+#[tactic(auto, unfolding(crate::specs::Spelling::mentions_at))]
+fn add_phrase(
+    side: Side,
+    table: &[Denotation],
+    phrase: &Phrase,
+    mentions: &mut Vec<Mention>,
+) -> Result<(), AllocError>
+    ensures { OnOk result (mentions.new.items ≡ added_all (says_the_same side) mentions.old.items (mentions_at table.now phrase.now)) }
+{
+    match denoted(table, phrase.name) {
+        Some(denotation) => add_mentions(side, phrase.lead, denotation, mentions),
+        None => Ok(()),
+    }
+}
+
+/// What the phrases of a cell stand for.
+#[tactic(auto, using(crate::proofs::Mentions::mentioning), unfolding(crate::specs::Spelling::spelled_out))]
+fn spelled_out(
+    alloc: Global,
+    side: Side,
+    table: &[Denotation],
+    phrases: &Listed<Phrase>,
+) -> Result<Listed<Mention>, AllocError>
+    ensures { IfOk result (λ mentions. mentions ≡ spelled_out side table.now phrases.now) }
+{
+    let mut mentions = Vec::new(alloc);
+    for phrase in phrases.items() {
+        add_phrase(side, table, phrase, &mut mentions)?;
+    }
+    Ok(Listed::new(mentions))
+}
+
+/// Adds what a cell says; a gap is no cell.
+#[tactic(auto, unfolding(crate::specs::Spelling::cell_of))]
+fn add_cell(
+    alloc: Global,
+    side: Side,
+    table: &[Denotation],
+    cell: &Cell,
+    cells: &mut Vec<Listed<Mention>>,
+) -> Result<(), AllocError>
+    ensures { OnOk result (cells.new.items ≡ cells.old.items ++ cell_of side table.now cell.now) }
+{
+    match cell {
+        Cell::Gap => Ok(()),
+        Cell::Items(phrases) => {
+            let mentions = spelled_out(alloc, side, table, phrases)?;
+            cells.push(mentions)?;
+            Ok(())
+        }
+    }
+}
+
+fn cells_spelled_out(
+    alloc: Global,
+    side: Side,
+    table: &[Denotation],
+    row: &[Cell],
+) -> Result<Listed<Listed<Mention>>, AllocError>
+    ensures { IfOk result (λ out. out ≡ flat_map (cell_of side table.now) row.now) }
+{
+    let mut out = Vec::new(alloc);
+    for cell in row {
+        add_cell(alloc, side, table, cell, &mut out)?;
+    }
+    Ok(Listed::new(out))
+}
+
+/// Whether this is the gap.
+#[tactic(auto, unfolding(crate::specs::Spelling::is_gap))]
+pub fn is_gap(cell: &Cell) -> bool
+    ensures { result ≡ is_gap cell.now }
+{
+    matches!(cell, Cell::Gap)
+}
+
+/// How many cells stand before the gap of a row.
+#[tactic(auto, unfolding(crate::specs::Spelling::gap_of))]
+pub fn gap_of(row: &[Cell]) -> Option<usize>
+    ensures { result ≡ gap_of row.now }
+{
+    row.iter().position(|cell| is_gap(cell))
+}
+
+#[tactic(auto, unfolding(crate::specs::Spelling::row_spelled_out))]
+fn row_spelled_out(
+    alloc: Global,
+    side: Side,
+    table: &[Denotation],
+    row: &[Cell],
+) -> Result<PlanRow<Mention>, AllocError>
+    ensures { IfOk result (λ out. out ≡ row_spelled_out side table.now row.now) }
+{
+    Ok(PlanRow {
+        cells: cells_spelled_out(alloc, side, table, row)?,
+        gap: gap_of(row),
+    })
+}
+
+/// The rows with each name replaced by what it stands for.
+#[tactic(auto, unfolding(crate::specs::Spelling::rows_spelled_out))]
+pub fn rows_spelled_out(
+    alloc: Global,
+    side: Side,
+    table: &[Denotation],
+    rows: &[Listed<Cell>],
+) -> Result<Listed<PlanRow<Mention>>, AllocError>
+    ensures { IfOk result (λ out. out ≡ rows_spelled_out side table.now rows.now) }
+{
+    let mut out = Vec::new(alloc);
+    for row in rows {
+        out.push(row_spelled_out(alloc, side, table, row.items())?)?;
+    }
+    Ok(Listed::new(out))
+}

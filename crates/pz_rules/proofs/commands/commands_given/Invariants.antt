@@ -1,7 +1,0 @@
-use Rattle.std.proofs.Common.{◌≡◌, drop, fold}
-use Rattle.pz_rules.specs.Commands.{either, flag_of, no_commands}
-use Rattle.pz_rules.proofs.commands.commands_given.Given as goal
-
-abbrev pub invariant-loop-command : goal.invariant-loop-command
-invariant-loop-command l =
-    fold (λ given command. either given (flag_of command)) l.given (drop l.command-index l.commands) ≡ fold (λ given command. either given (flag_of command)) no_commands l.commands

@@ -1,7 +1,0 @@
-use Rattle.std.proofs.Common.{◌≡◌, drop}
-use Rattle.pz_rules.specs.Deciding.{decided_cells}
-use Rattle.pz_rules.proofs.Joining.{after}
-use Rattle.pz_rules.proofs.deciding.decided_cells.Given as goal
-
-abbrev pub invariant-loop-cell : goal.invariant-loop-cell
-invariant-loop-cell l = after l.out.items (decided_cells l.choices l.row l.cell (drop l.cell l.cells)) ≡ decided_cells l.choices l.row 0 l.cells

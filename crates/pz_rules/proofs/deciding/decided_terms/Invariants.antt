@@ -1,7 +1,0 @@
-use Rattle.std.proofs.Common.{◌≡◌, drop}
-use Rattle.pz_rules.specs.Deciding.{decided_terms}
-use Rattle.pz_rules.proofs.Joining.{after}
-use Rattle.pz_rules.proofs.deciding.decided_terms.Given as goal
-
-abbrev pub invariant-loop-mention : goal.invariant-loop-mention
-invariant-loop-mention l = after l.terms.items (decided_terms l.choices l.spot (drop l.mention-index l.mentions)) ≡ decided_terms l.choices l.spot l.mentions

@@ -1,5 +1,0 @@
-use Rattle.pz_rules.proofs.Unions.{unions_hold}
-use Rattle.pz_rules.proofs.laws.unions_hold_what_either_holds.Goals as goal
-
-pub returns : goal.returns
-returns c = λ command a b. unions_hold command a b

@@ -1,6 +1,0 @@
-use Rattle.std.proofs.Common.{◌≡◌, drop}
-use Rattle.pz_rules.specs.Loop.{next_loop}
-use Rattle.pz_rules.proofs.loops.next_loop.Given as goal
-
-abbrev pub invariant-loop-line : goal.invariant-loop-line
-invariant-loop-line l = next_loop (drop l.line-index l.lines) ≡ next_loop l.lines

@@ -1,7 +1,0 @@
-use Rattle.std.proofs.Common.{◌≡◌, drop}
-use Rattle.pz_rules.specs.Lists.{added_all}
-use Rattle.pz_rules.specs.Same.{same_dir}
-use Rattle.pz_rules.proofs.prefix.add_directions.Given as goal
-
-abbrev pub invariant-loop-direction : goal.invariant-loop-direction
-invariant-loop-direction l = added_all same_dir l.directions.items (drop l.direction-index l.more) ≡ added_all same_dir l.fn.directions.items l.more

@@ -1,9 +1,0 @@
--- A law of sets of commands.
-use Rattle.std.specs.Prelude.{◌≡◌, ◌||◌}
-use Rattle.pz_rules.specs.declared.commands.Commands.{Commands}
-use Rattle.pz_rules.specs.declared.token.Command.{Command}
-use Rattle.pz_rules.specs.Commands.{has, either, flag_of}
-
--- a union holds the flag of a command exactly if one of the two holds it
-abbrev pub UnionsHoldEither : Type 0
-UnionsHoldEither = (command : Command) (a b : Commands) → has (either a b) (flag_of command) ≡ (has a (flag_of command) || has b (flag_of command))

@@ -1,8 +1,0 @@
-//! A law of sets of commands, proved as what a function without a body ensures.
-
-ghost use Rattle.pz_rules.specs.Laws.{UnionsHoldEither};
-
-/// A union holds exactly the flags that one of the two sets holds.
-pub fn unions_hold_what_either_holds()
-    ensures { UnionsHoldEither }
-{}

@@ -1,7 +1,0 @@
-use Rattle.std.proofs.Common.{◌≡◌, [], take, drop}
-use Rattle.pz_source.specs.Legend.{line_at, speaks_of_unknown}
-use Rattle.pz_text.specs.Fault.{first_fault}
-use Rattle.pz_source.proofs.legend.unknown_part.Given as goal
-
-abbrev pub invariant-loop-definition : goal.invariant-loop-definition
-invariant-loop-definition l = first_fault line_at (speaks_of_unknown l.names) (take l.definition-index l.definitions) (drop l.definition-index l.definitions) ≡ first_fault line_at (speaks_of_unknown l.names) [] l.definitions
