@@ -13,3 +13,4 @@ pub mod FoundLemmas
 pub mod RewritingLemmas
 pub mod PlaceLemmas
 pub mod WorkedPlaces
+pub mod WorkedLevels

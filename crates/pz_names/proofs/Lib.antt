@@ -11,3 +11,4 @@ pub mod SourceLemmas
 pub mod SettledLemmas
 pub mod RoundLemmas
 pub mod SearchLemmas
+pub mod WorkedNames

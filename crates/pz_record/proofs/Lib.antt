@@ -11,3 +11,4 @@ pub mod Pieces
 pub mod RoundTrip
 pub mod Rows
 pub mod Sets
+pub mod WorkedRecords

@@ -5,7 +5,8 @@ use Rattle.serde_json.specs.Data.{Data, number, string, unsigned}
 use Rattle.pz_source.specs.declared.direction.Dir.TheVariants.{Up, Down, Left, Right, Action}
 use Rattle.pz_record.specs.declared.input.Input.{Input}
 use Rattle.pz_record.specs.declared.input.Input.TheVariants.{Press, Undo, Restart, Tick}
-use Rattle.pz_record.specs.Json.{list_of, all_some, ◌>>=◌}
+use Rattle.pz_source.specs.Each.{all_some}
+use Rattle.pz_record.specs.Json.{list_of, ◌>>=◌}
 
 -- 0 up, 1 left, 2 down, 3 right, 4 action
 abbrev pub press : ℕ → Option Input

@@ -9,3 +9,4 @@ pub mod Sent
 pub mod Settling
 pub mod Texts
 pub mod Visiting
+pub mod WorkedLines

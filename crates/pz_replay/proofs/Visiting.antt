@@ -1,5 +1,5 @@
 -- A visit of one desk keeps what holds of all.
-use Rattle.std.proofs.Common.{◌≡◌, ℕ, ◌+◌, ◌<◌, List, [], ◌∷◌, ◌++◌, map, length, get_or, set, Some, None, Option, IfSome, IsSome, refl, sym, ap, ◌∙◌, subst, ⊎_elim, arith}
+use Rattle.std.proofs.Common.{◌≡◌, ℕ, ◌+◌, ◌<◌, List, [], ◌∷◌, ◌++◌, map, length, get_or, set, Some, None, Option, IfSome, refl, sym, ap, ◌∙◌, subst, ⊎_elim, arith}
 use Rattle.std.proofs.lemmas.List.{length-map, map-set, get_or-map, set-get_or, get_or-set_same, get_or-set_other}
 use native.Mathlib.Decide.{ℕ_discrete}
 use mathlib.Core.Logic.{dite}
@@ -8,7 +8,7 @@ use Rattle.pz_session.specs.declared.item.Item.{Item}
 use Rattle.pz_replay.specs.declared.lane.End.{End}
 use Rattle.pz_replay.specs.declared.lane.Message.{Message}
 use Rattle.pz_replay.specs.declared.lane.Message.TheVariants.{Piece, Last}
-use Rattle.pz_replay.specs.Recorded.{Gathered, kept, taken_of, lane_of, end_after, IsHonest, HasEnded, HasKept, IsVisited, IsRecorded, IsAsLong, GoesOn}
+use Rattle.pz_replay.specs.Recorded.{Gathered, taken_of, lane_of, end_after, IsHonest, HasEnded, HasKept, IsVisited, IsRecorded, IsAsLong, GoesOn}
 use Rattle.pz_replay.specs.declared.recorder.Desk.{Desk}
 use Rattle.pz_replay.proofs.Gathering.{gathers, length_kept}
 

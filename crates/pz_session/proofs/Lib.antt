@@ -7,3 +7,4 @@ pub mod BoardLemmas
 pub mod FirstLevel
 pub mod Closing
 pub mod Rows
+pub mod WorkedSessions

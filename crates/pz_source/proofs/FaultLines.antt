@@ -1,10 +1,10 @@
 -- The fault of a source names a line of its text, or 0.
-use Rattle.std.proofs.Common.{◌≡◌, ◌≢◌, ◌⊎◌, inl, inr, ℕ, ◌≤◌, zero, suc, Bool, true, false, ◌&&◌, ◌==◌, map, List, [], ◌∷◌, ◌++◌, length, drop, take, Option, Some, None, IfSome, Result, Ok, Err, refl, subst, arith}
-use Rattle.std.specs.Prelude.{option_and_then, option_map, if◌then◌else◌, nat_lt, IfOk, IfErr, codes}
+use Rattle.std.proofs.Common.{◌≡◌, ◌≢◌, ◌⊎◌, inl, inr, ℕ, ◌≤◌, zero, suc, Bool, true, false, not, ◌&&◌, ◌==◌, map, filter, List, [], ◌∷◌, ◌++◌, length, drop, take, Option, Some, None, IfSome, Result, Ok, Err, refl, subst, arith}
+use Rattle.std.specs.Prelude.{option_and_then, option_map, if◌then◌else◌, nat_lt, nat_le, IfOk, IfErr, codes}
 use Rattle.std.specs.Option.{option_map_or}
-use Rattle.std.specs.List.{All, list_any}
+use Rattle.std.specs.List.{All, list_any, flat_map, enumerate_from}
 use Rattle.std.specs.Str.{chars}
-use Rattle.std.proofs.lemmas.List.Elements.{All-nil, All-cons, All-head, All-tail, All-append, All-push, All-drop, All-map}
+use Rattle.std.proofs.lemmas.List.Elements.{All-nil, All-cons, All-head, All-tail, All-append, All-push, All-drop, All-map, All-filter}
 use Rattle.pz_text.specs.Check.{number_of, too_long, misplaces, misplaced_heading, has_section, missing_section, lines_of}
 use Rattle.pz_text.specs.Cutting.{cut}
 use Rattle.pz_text.specs.Fault.{first_fault, or_else, unless, and_then}
@@ -23,8 +23,9 @@ use Rattle.pz_source.specs.Layers.{layer_names, layer_lines, name_line_at, layer
 use Rattle.pz_source.specs.Layers as layers
 use Rattle.pz_names.specs.Legend.{sides, said_by, defined_by, definition_of, definitions_of, line_number, line_at, speaks_of_unknown}
 use Rattle.pz_names.specs.Legend as legend
+use Rattle.pz_source.specs.Each.{each_ok}
 use Rattle.pz_source.specs.Level.{is_playable}
-use Rattle.pz_source.specs.Levels.{is_message, closed, entries_of, glyph_of, glyphs_of, filled, rows_of, is_too_large, entry_of, read_entries, levels_of}
+use Rattle.pz_source.specs.Levels.{is_message, closed, entries_of, glyph_of, glyphs_of, filled, row_of, rows_of, is_too_large, entry_of, read_entries, levels_of}
 use Rattle.pz_names.specs.Meaning.{meanings_of}
 use Rattle.pz_source.specs.Missing.{names_single, fault_of_needs}
 use Rattle.pz_names.specs.Objects.{object_names, is_blank, sprite_rows, block_of, behind_block, blocks_within, blocks_of, name_line_of, block_at, misnames, objects_of}
@@ -32,14 +33,16 @@ use Rattle.pz_source.specs.Profile.{leaves_profile, outside_profile, options_of}
 use Rattle.pz_source.specs.Reading.{line_count, first_names, game_over, game_of_objects, game_of_lines, source_of}
 use Rattle.pz_source.specs.Rules.{rule_lines}
 use Rattle.pz_names.specs.Values.{names_of_source, meanings_of_source, fault_of_definitions, fault_of_legend}
-use Rattle.pz_source.specs.Wins.{at_line, win_of, wins_from, wins_of}
+use Rattle.pz_source.specs.Wins.{at_line, win_of, win_at, wins_of}
 use Rattle.pz_names.specs.declared.denotation.Denotation.{Denotation}
 use Rattle.pz_names.specs.declared.legend.Definition.{Definition}
 use Rattle.pz_names.specs.declared.legend.Said.{Said}
+use Rattle.pz_source.specs.declared.levels.TheConstants.{MAX_ENTRIES}
 use Rattle.pz_source.specs.declared.level.LevelEntry.{LevelEntry}
 use Rattle.pz_source.specs.declared.level.LevelEntry.TheVariants.{Message, Level}
 use Rattle.pz_names.specs.declared.name_line.NameLine.{NameLine}
 use Rattle.pz_source.specs.declared.wins.WinLine.{WinLine}
+use Rattle.pz_source.proofs.EachLemmas.{each-fault, All-numbered}
 use Rattle.pz_source.proofs.LineLemmas.{IsWithin, Names, All-filter_map, lines_in-all, first_fault-within, or_else-within, unless-within, unless-ok, any-ok, and_then-within, cut-within, lines-all}
 
 module _ (n : ℕ) where
@@ -148,19 +151,10 @@ module _ (n : ℕ) where
   at_line-within number (Ok x) low = tt
   at_line-within number (Err code) low = low
 
-  wins_from-fault : (names : List (List ℕ)) (wins : List WinLine) (lines : List Line) → All (IsWithin n) lines → IfErr (wins_from names wins lines) (Names n)
-  wins_from-fault names wins [] all = tt
-  wins_from-fault names wins (line ∷ lines) all =
-      by (is_blank line) (wins_from-fault names wins lines (All-tail (IsWithin n) line lines all))
-      (λ win. wins_from-fault names (wins ++ win ∷ []) lines (All-tail (IsWithin n) line lines all))
-    where
-      by : (b : Bool) → IfErr (wins_from names wins lines) (Names n) → ((win : WinLine) → IfErr (wins_from names (wins ++ win ∷ []) lines) (Names n))
-          → IfErr (if b then wins_from names wins lines else and_then (λ win. wins_from names (wins ++ win ∷ []) lines) (at_line line.number (win_of names (names_of line.text)))) (Names n)
-      by true skipped each = skipped
-      by false skipped each =
-          and_then-within n (λ _. Unit {0}) (λ win. wins_from names (wins ++ win ∷ []) lines) (at_line line.number (win_of names (names_of line.text)))
-          (at_line-within line.number (win_of names (names_of line.text)) (All-head (IsWithin n) line lines all)) (any-ok (at_line line.number (win_of names (names_of line.text))))
-          (λ win read. each win)
+  wins-fault : (names : List (List ℕ)) (lines : List Line) → All (IsWithin n) lines → IfErr (wins_of names lines) (Names n)
+  wins-fault names lines all =
+      each-fault (IsWithin n) (Names n) (win_at names) (λ line low. at_line-within line.number (win_of names (names_of line.text)) low) (filter (λ line. not (is_blank line)) lines)
+      (All-filter (λ line. not (is_blank line)) (IsWithin n) lines all)
 
   -- LEVELS
 
@@ -183,19 +177,23 @@ module _ (n : ℕ) where
           (All-cons (All (IsWithin n)) (line ∷ []) (entries_of [] lines) (All-cons (IsWithin n) line [] (All-head (IsWithin n) line lines all) (All-nil (IsWithin n))) new)
       by false false new longer = longer
 
-  rows-fault : (glyph : ℕ → Option ℕ) (width : ℕ) (cells : List ℕ) (lines : List Line) → All (IsWithin n) lines → IfErr (rows_of glyph width cells lines) (Names n)
-  rows-fault glyph width cells [] all = tt
-  rows-fault glyph width cells (line ∷ lines) all =
-      by (glyphs_of glyph [] (take width line.text)) (λ row. rows-fault glyph width (cells ++ filled width 0 row) lines (All-tail (IsWithin n) line lines all))
+  row-fault : (glyph : ℕ → Option ℕ) (width : ℕ) (line : Line) → IsWithin n line → IfErr (row_of glyph width line) (Names n)
+  row-fault glyph width line low = by (glyphs_of glyph (take width line.text))
     where
-      by : (o : Option (List ℕ)) → ((row : List ℕ) → IfErr (rows_of glyph width (cells ++ filled width 0 row) lines) (Names n))
-          → IfErr (option_map_or (λ row. rows_of glyph width (cells ++ filled width 0 row) lines) o (Err (record { code = code.BadGlyph; line = line.number }))) (Names n)
-      by None each = All-head (IsWithin n) line lines all
-      by (Some row) each = each row
+      by : (o : Option (List ℕ)) → IfErr (option_map_or (λ row. Ok (filled width 0 row)) o (let fault : SourceFault = record { code = code.BadGlyph; line = line.number } in Err fault)) (Names n)
+      by None = low
+      by (Some row) = tt
+
+  rows-fault : (glyph : ℕ → Option ℕ) (width : ℕ) (lines : List Line) → All (IsWithin n) lines → IfErr (rows_of glyph width lines) (Names n)
+  unfolding rows_of
+  rows-fault glyph width lines all =
+      let rows = each_ok (map (row_of glyph width) lines) in
+      and_then-within n (λ _. Unit {0}) (λ rows. Ok (flat_map (λ row. row) rows)) rows (each-fault (IsWithin n) (Names n) (row_of glyph width) (row-fault glyph width) lines all) (any-ok rows)
+      (λ rows read. tt)
 
   entry-fault : (glyph : ℕ → Option ℕ) (above : ℕ) (lines : List Line) → All (IsWithin n) lines → IfErr (entry_of glyph above lines) (Names n)
   entry-fault glyph above [] all = tt
-  entry-fault glyph above (first ∷ rest) all = by (nat_lt 1_023 above) (is_message first) (is_too_large width height)
+  entry-fault glyph above (first ∷ rest) all = by (nat_le MAX_ENTRIES above) (is_message first) (is_too_large width height)
     where
       width : ℕ
       width = length first.text
@@ -209,25 +207,23 @@ module _ (n : ℕ) where
       by : (many message large : Bool) → IfErr (if many then Err (record { code = code.TooLarge; line = first.number })
           else (if message then Ok Message
           else (if large then Err (record { code = code.TooLarge; line = first.number })
-          else and_then drawn (rows_of glyph width [] (first ∷ rest))))) (Names n)
+          else and_then drawn (rows_of glyph width (first ∷ rest))))) (Names n)
       by true message large = All-head (IsWithin n) first rest all
       by false true large = tt
       by false false true = All-head (IsWithin n) first rest all
       by false false false =
-          and_then-within n (λ _. Unit {0}) drawn (rows_of glyph width [] (first ∷ rest)) (rows-fault glyph width [] (first ∷ rest) all) (any-ok (rows_of glyph width [] (first ∷ rest)))
+          and_then-within n (λ _. Unit {0}) drawn (rows_of glyph width (first ∷ rest)) (rows-fault glyph width (first ∷ rest) all) (any-ok (rows_of glyph width (first ∷ rest)))
           (λ cells read. tt)
 
-  read_entries-fault : (glyph : ℕ → Option ℕ) (read : List LevelEntry) (entries : List (List Line)) → All (All (IsWithin n)) entries → IfErr (read_entries glyph read entries) (Names n)
-  read_entries-fault glyph read [] all = tt
-  read_entries-fault glyph read (lines ∷ more) all =
-      and_then-within n (λ _. Unit {0}) (λ entry. read_entries glyph (read ++ entry ∷ []) more) (entry_of glyph (length read) lines)
-      (entry-fault glyph (length read) lines (All-head (All (IsWithin n)) lines more all)) (any-ok (entry_of glyph (length read) lines))
-      (λ entry done. read_entries-fault glyph (read ++ entry ∷ []) more (All-tail (All (IsWithin n)) lines more all))
+  read_entries-fault : (glyph : ℕ → Option ℕ) (entries : List (List Line)) → All (All (IsWithin n)) entries → IfErr (read_entries glyph entries) (Names n)
+  read_entries-fault glyph entries all =
+      each-fault (λ e. All (IsWithin n) e.1) (Names n) (λ e. entry_of glyph e.0 e.1) (λ e low. entry-fault glyph e.0 e.1 low) (enumerate_from 0 entries)
+      (All-numbered (All (IsWithin n)) 0 entries all)
 
   levels-fault : (glyph : ℕ → Option ℕ) (lines : List Line) → All (IsWithin n) lines → IfErr (levels_of glyph lines) (Names n)
   levels-fault glyph lines all =
-      and_then-within n (λ _. Unit {0}) chosen (read_entries glyph [] (entries_of [] lines))
-      (read_entries-fault glyph [] (entries_of [] lines) (entries-within [] lines (All-nil (IsWithin n)) all)) (any-ok (read_entries glyph [] (entries_of [] lines)))
+      and_then-within n (λ _. Unit {0}) chosen (read_entries glyph (entries_of [] lines))
+      (read_entries-fault glyph (entries_of [] lines) (entries-within [] lines (All-nil (IsWithin n)) all)) (any-ok (read_entries glyph (entries_of [] lines)))
       (λ entries read. by entries (list_any is_playable entries))
     where
       chosen : List LevelEntry → Result (List LevelEntry) SourceFault
@@ -246,7 +242,7 @@ module _ (n : ℕ) where
       (unless-within n (fault_of_layers objects names values (lines_in section.Layers lines)) won
       (layers-fault objects names values (lines_in section.Layers lines) there (lines_in-all (IsWithin n) section.Layers lines all))
       (and_then-within n (λ _. Unit {0}) levelled (wins_of names (lines_in section.Wins lines))
-      (wins_from-fault names [] (lines_in section.Wins lines) (lines_in-all (IsWithin n) section.Wins lines all)) (any-ok (wins_of names (lines_in section.Wins lines)))
+      (wins-fault names (lines_in section.Wins lines) (lines_in-all (IsWithin n) section.Wins lines all)) (any-ok (wins_of names (lines_in section.Wins lines)))
       (λ wins read. and_then-within n (λ _. Unit {0}) (made wins) (levels_of (glyph_of names values) (lines_in section.Levels lines))
       (levels-fault (glyph_of names values) (lines_in section.Levels lines) (lines_in-all (IsWithin n) section.Levels lines all)) (any-ok (levels_of (glyph_of names values) (lines_in section.Levels lines)))
       (λ entries done. tt))))

@@ -1,6 +1,6 @@
 -- Layers, and objects in none.
 use Rattle.std.proofs.Common.{◌≡◌, ◌≢◌, ℕ, ◌<◌, ◌+◌, zero, suc, List, [], ◌∷◌, ◌++◌, length, refl, ap, sym, ◌∙◌, arith, length-append, zero-add, ◌≤◌, Bool, true, false, not}
-use Rattle.std.specs.Prelude.{Option, Some, None, is_some, if◌then◌else◌, nat_lt}
+use Rattle.std.specs.Prelude.{Option, Some, None, is_some, if◌then◌else◌, nat_le}
 use Rattle.std.specs.Option.{option_map_or}
 use Rattle.std.specs.List.{All, list_any, filter_map, range_with_len}
 use Rattle.std.proofs.lemmas.List.Elements.{All-nil, All-cons}
@@ -14,7 +14,8 @@ use Rattle.pz_source.specs.Layers.{misplaces, last_layer, layer_of, layer_lines,
 use Rattle.pz_names.specs.declared.denotation.Denotation.{Denotation}
 use Rattle.pz_names.specs.declared.denotation.Kind.TheVariants.{Aggregate}
 use Rattle.pz_names.proofs.ValueLemmas.{table_length}
-use borrow.Author.Tests.{ltb-false}
+use Rattle.std.proofs.lemmas.Bool.{leb-false}
+use Rattle.pz_source.specs.declared.layers.TheConstants.{MAX_LAYERS}
 use Rattle.pz_source.specs.Layers.{name_line_at, lies_nowhere}
 use Rattle.pz_text.specs.Fault.{first_fault}
 use Rattle.pz_names.specs.declared.name_line.NameLine.{NameLine}
@@ -52,10 +53,10 @@ few : (names : List (List ℕ)) (values : List Denotation) (before rest : List N
     → length before + length rest ≤ 25
 few names values before [] low none = omega arith
 few names values before (x ∷ rest) low none =
-    by (list_any (λ name. not (is_name_of names name)) x.names) (list_any (λ name. is_of_kind Aggregate (kind_in names values name)) x.names) (nat_lt 24 (length before)) refl none
+    by (list_any (λ name. not (is_name_of names name)) x.names) (list_any (λ name. is_of_kind Aggregate (kind_in names values name)) x.names) (nat_le MAX_LAYERS (length before)) refl none
     (λ room n. few names values (before ++ x ∷ []) rest room n)
   where
-    by : (a b d : Bool) → nat_lt 24 (length before) ≡ d
+    by : (a b d : Bool) → nat_le MAX_LAYERS (length before) ≡ d
         → option_map_or (λ c. Some (record { code = c; line = name_line_at x })) (if a then Some code.Unknown else (if b then Some code.Mixed else (if d then Some code.TooLarge else None)))
         (first_fault name_line_at (misplaces names values) (before ++ x ∷ []) rest) ≡ None
         → (length (before ++ x ∷ []) ≤ 25 → first_fault name_line_at (misplaces names values) (before ++ x ∷ []) rest ≡ None → length (before ++ x ∷ []) + length rest ≤ 25)
@@ -65,7 +66,7 @@ few names values before (x ∷ rest) low none =
     by false false true e n more = cc
     by false false false e n more =
         let long = length-append before (x ∷ []) in
-        let room = ltb-false 24 (length before) e in
+        let room = leb-false 25 (length before) e in
         let all = more (omega (arith, long)) n in
         omega (arith, long)
 

@@ -4,7 +4,7 @@ use Rattle.std.specs.List.{slice_range, list_all}
 use Rattle.std.specs.Prelude.{if◌then◌else◌}
 use Rattle.std.proofs.lemmas.List.Folds.{list_all-append, list_all_at}
 use Rattle.std.proofs.lemmas.List.{get_or-drop}
-use Rattle.pz_source.specs.Levels.{entries_of, closed, is_message, is_drawn, filled}
+use Rattle.pz_source.specs.Levels.{entries_of, closed, is_message, is_entry, filled}
 use Rattle.pz_names.specs.Objects.{is_blank}
 use Rattle.pz_text.proofs.ListLemmas.{take-next}
 use Rattle.pz_text.specs.declared.line.Line.{Line}
@@ -48,24 +48,24 @@ pub entries-row : (rows : List Line) (line : Line) (more : List Line) → is_bla
 entries-row rows line more e m = rw (e, m) refl
 
 -- the first lines of the entries aren't blank
-entries-drawn : (rows lines : List Line) → list_all is_drawn (closed rows) ≡ true → list_all is_drawn (entries_of rows lines) ≡ true
+entries-drawn : (rows lines : List Line) → list_all is_entry (closed rows) ≡ true → list_all is_entry (entries_of rows lines) ≡ true
 entries-drawn rows [] h = h
 entries-drawn rows (line ∷ lines) h = by (is_blank line) refl (is_message line) (entries-drawn [] lines refl) (λ k. entries-drawn (rows ++ line ∷ []) lines k)
   where
-    longer : (rows : List Line) → list_all is_drawn (closed rows) ≡ true → is_blank line ≡ false → list_all is_drawn (closed (rows ++ line ∷ [])) ≡ true
+    longer : (rows : List Line) → list_all is_entry (closed rows) ≡ true → is_blank line ≡ false → list_all is_entry (closed (rows ++ line ∷ [])) ≡ true
     longer [] h e = rw e refl
     longer (row ∷ rows) h e = h
 
-    by : (b : Bool) → is_blank line ≡ b → (m : Bool) → list_all is_drawn (entries_of [] lines) ≡ true
-        → (list_all is_drawn (closed (rows ++ line ∷ [])) ≡ true → list_all is_drawn (entries_of (rows ++ line ∷ []) lines) ≡ true)
-        → list_all is_drawn (if b then closed rows ++ entries_of [] lines else (if m then closed rows ++ (line ∷ []) ∷ entries_of [] lines else entries_of (rows ++ line ∷ []) lines)) ≡ true
-    by true e m next more = list_all-append is_drawn (closed rows) (entries_of [] lines) ∙ rw (h, next) refl
-    by false e true next more = list_all-append is_drawn (closed rows) ((line ∷ []) ∷ entries_of [] lines) ∙ rw (h, e, next) refl
+    by : (b : Bool) → is_blank line ≡ b → (m : Bool) → list_all is_entry (entries_of [] lines) ≡ true
+        → (list_all is_entry (closed (rows ++ line ∷ [])) ≡ true → list_all is_entry (entries_of (rows ++ line ∷ []) lines) ≡ true)
+        → list_all is_entry (if b then closed rows ++ entries_of [] lines else (if m then closed rows ++ (line ∷ []) ∷ entries_of [] lines else entries_of (rows ++ line ∷ []) lines)) ≡ true
+    by true e m next more = list_all-append is_entry (closed rows) (entries_of [] lines) ∙ rw (h, next) refl
+    by false e true next more = list_all-append is_entry (closed rows) ((line ∷ []) ∷ entries_of [] lines) ∙ rw (h, e, next) refl
     by false e false next more = more (longer rows h e)
 
-pub entry-drawn : (lines : List Line) (k : ℕ) (x : List Line) → k < length (entries_of [] lines) → x ≡ get_or (entries_of [] lines) k x → is_drawn x ≡ true
-entry-drawn lines k x lt is = by (is_drawn x) refl
+pub entry-drawn : (lines : List Line) (k : ℕ) (x : List Line) → k < length (entries_of [] lines) → x ≡ get_or (entries_of [] lines) k x → is_entry x ≡ true
+entry-drawn lines k x lt is = by (is_entry x) refl
   where
-    by : (b : Bool) → is_drawn x ≡ b → is_drawn x ≡ true
+    by : (b : Bool) → is_entry x ≡ b → is_entry x ≡ true
     by true e = e
-    by false e = absurd (true≢false (sym (entries-drawn [] lines refl) ∙ list_all_at is_drawn (entries_of [] lines) k x lt (ap is_drawn (sym is) ∙ e)))
+    by false e = absurd (true≢false (sym (entries-drawn [] lines refl) ∙ list_all_at is_entry (entries_of [] lines) k x lt (ap is_entry (sym is) ∙ e)))

@@ -2,8 +2,10 @@ pub mod LayerLemmas
 pub mod LevelLemmas
 pub mod RuleLemmas
 pub mod ReadingExamples
+pub mod EachLemmas
 pub mod DrawnLemmas
 pub mod GameLemmas
 pub mod LineLemmas
 pub mod FaultLines
 pub mod RuleNumbers
+pub mod WorkedSections

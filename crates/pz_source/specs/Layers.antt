@@ -1,5 +1,5 @@
 -- COLLISIONLAYERS: which layer each object is in.
-use Rattle.std.specs.Prelude.{ℕ, ◌+◌, Bool, not, ◌==◌, ◌||◌, if◌then◌else◌, nat_lt, List, [], ◌∷◌, length, map, filter, Option, Some, None, is_some, option_and_then, slice_get}
+use Rattle.std.specs.Prelude.{ℕ, ◌+◌, Bool, not, ◌==◌, ◌||◌, if◌then◌else◌, nat_le, List, [], ◌∷◌, length, map, filter, Option, Some, None, is_some, option_and_then, slice_get}
 use Rattle.std.specs.List.{list_any, filter_map, slice_split, range_with_len}
 use Rattle.std.specs.Option.{option_map_or}
 use Rattle.std.specs.Char.{is_whitespace}
@@ -15,6 +15,7 @@ use Rattle.pz_names.specs.Kinds.{kind_in, is_of_kind}
 use Rattle.pz_names.specs.declared.name_line.NameLine.{NameLine}
 use Rattle.pz_names.specs.declared.denotation.Denotation.{Denotation}
 use Rattle.pz_names.specs.declared.denotation.Kind.TheVariants.{Aggregate}
+use Rattle.pz_source.specs.declared.layers.TheConstants.{MAX_LAYERS}
 
 -- the words of a line, parted by commas and white space
 abbrev pub layer_words : List ℕ → List (List ℕ)
@@ -38,7 +39,7 @@ abbrev pub misplaced : List (List ℕ) → List Denotation → ℕ → List (Lis
 misplaced names values above layer =
     if list_any (λ name. not (is_name_of names name)) layer then Some code.Unknown
     else (if list_any (λ name. is_of_kind Aggregate (kind_in names values name)) layer then Some code.Mixed
-    else (if nat_lt 24 above then Some code.TooLarge else None))
+    else (if nat_le MAX_LAYERS above then Some code.TooLarge else None))
 
 abbrev pub misplaces : List (List ℕ) → List Denotation → List NameLine → NameLine → Option Code
 misplaces names values before layer = misplaced names values (length before) layer.names

@@ -1,6 +1,6 @@
 -- LEVELS: its entries, and the cells of each level.
-use Rattle.std.specs.Prelude.{ℕ, zero, suc, ◌*◌, Bool, true, false, not, ◌||◌, if◌then◌else◌, nat_lt, List, [], ◌∷◌, ◌++◌, length, take, drop, get_or, Option, Some, None, option_and_then, slice_get, Result, Ok, Err, codes}
-use Rattle.std.specs.List.{list_any}
+use Rattle.std.specs.Prelude.{ℕ, zero, suc, ◌*◌, Bool, true, false, not, ◌||◌, if◌then◌else◌, nat_lt, nat_le, List, [], ◌∷◌, ◌++◌, length, map, take, drop, get_or, Option, Some, None, option_and_then, slice_get, Result, Ok, Err, codes}
+use Rattle.std.specs.List.{list_any, flat_map, enumerate_from}
 use Rattle.std.specs.Option.{option_map_or}
 use Rattle.pz_text.specs.Fault.{and_then}
 use Rattle.pz_text.specs.Heading.{begins_with_word}
@@ -10,10 +10,12 @@ use Rattle.pz_text.specs.declared.line.Line.{Line}
 use Rattle.pz_text.specs.declared.fault.SourceFault.{SourceFault}
 use Rattle.pz_text.specs.declared.fault.Code.TheVariants as code
 use Rattle.pz_names.specs.Objects.{is_blank}
+use Rattle.pz_source.specs.Each.{each_ok, all_some}
 use Rattle.pz_source.specs.Level.{is_playable}
 use Rattle.pz_names.specs.declared.denotation.Denotation.{Denotation}
 use Rattle.pz_names.specs.declared.denotation.Kind.{Kind}
 use Rattle.pz_names.specs.declared.denotation.Kind.TheVariants.{Object, Property, Aggregate}
+use Rattle.pz_source.specs.declared.levels.TheConstants.{MAX_SIDE, MAX_CELLS, MAX_ENTRIES}
 use Rattle.pz_source.specs.declared.level.LevelEntry.{LevelEntry}
 use Rattle.pz_source.specs.declared.level.LevelEntry.TheVariants.{Message, Level}
 
@@ -34,9 +36,9 @@ entries_of rows (line ∷ lines) =
     else entries_of (rows ++ line ∷ []) lines)
 
 -- the lines of an entry: it has one, and the first isn't blank
-abbrev pub is_drawn : List Line → Bool
-is_drawn [] = false
-is_drawn (first ∷ rest) = not (is_blank first)
+abbrev pub is_entry : List Line → Bool
+is_entry [] = false
+is_entry (first ∷ rest) = not (is_blank first)
 
 -- a kind that draws something: a property doesn't
 abbrev pub draws : Kind → Bool
@@ -49,41 +51,44 @@ abbrev pub glyph_of : List (List ℕ) → List Denotation → ℕ → Option ℕ
 glyph_of names values c =
     option_and_then (λ number. option_and_then (λ d. if draws d.kind then Some number else None) (slice_get values number)) (number_in names (name_of (c ∷ [])))
 
--- the numbers of the glyphs behind those found, if each draws something
-abbrev pub glyphs_of : (ℕ → Option ℕ) → List ℕ → List ℕ → Option (List ℕ)
-glyphs_of glyph found [] = Some found
-glyphs_of glyph found (c ∷ cs) = option_and_then (λ number. glyphs_of glyph (found ++ number ∷ []) cs) (glyph c)
+-- the numbers of the glyphs of a row, if each draws something
+abbrev pub glyphs_of : (ℕ → Option ℕ) → List ℕ → Option (List ℕ)
+glyphs_of glyph row = all_some (map glyph row)
 
 -- a row of n cells: the numbers in order, and then the last of them again
 abbrev pub filled : ℕ → ℕ → List ℕ → List ℕ
 filled zero last row = []
 filled (suc n) last row = get_or row 0 last ∷ filled n (get_or row 0 last) (drop 1 row)
 
--- the cells of the rows behind those read: a longer row is cut, a shorter one filled
-abbrev pub rows_of : (ℕ → Option ℕ) → ℕ → List ℕ → List Line → Result (List ℕ) SourceFault
-rows_of glyph width cells [] = Ok cells
-rows_of glyph width cells (line ∷ lines) =
-    option_map_or (λ row. rows_of glyph width (cells ++ filled width 0 row) lines) (glyphs_of glyph [] (take width line.text))
+-- the cells of a row: a longer row is cut, a shorter one filled
+abbrev pub row_of : (ℕ → Option ℕ) → ℕ → Line → Result (List ℕ) SourceFault
+row_of glyph width line =
+    option_map_or (λ row. Ok (filled width 0 row)) (glyphs_of glyph (take width line.text))
     (Err (record { code = code.BadGlyph; line = line.number }))
 
+-- the cells of the rows of a level
+unfoldable pub rows_of : (ℕ → Option ℕ) → ℕ → List Line → Result (List ℕ) SourceFault
+rows_of glyph width lines = and_then (λ rows. Ok (flat_map (λ row. row) rows)) (each_ok (map (row_of glyph width) lines))
+
 abbrev pub is_too_large : ℕ → ℕ → Bool
-is_too_large width height = nat_lt 255 width || nat_lt 255 height || nat_lt 16_384 (width * height)
+is_too_large width height = nat_lt MAX_SIDE width || nat_lt MAX_SIDE height || nat_lt MAX_CELLS (width * height)
 
 -- an entry below so many others
 abbrev pub entry_of : (ℕ → Option ℕ) → ℕ → List Line → Result LevelEntry SourceFault
 entry_of glyph above [] = Ok Message
 entry_of glyph above (first ∷ rest) =
-    if nat_lt 1_023 above then Err (record { code = code.TooLarge; line = first.number })
+    if nat_le MAX_ENTRIES above then Err (record { code = code.TooLarge; line = first.number })
     else (if is_message first then Ok Message
     else (if is_too_large (length first.text) (length (first ∷ rest)) then Err (record { code = code.TooLarge; line = first.number })
-    else and_then (λ cells. Ok (Level (record { width = length first.text; height = length (first ∷ rest); cells = cells }))) (rows_of glyph (length first.text) [] (first ∷ rest))))
+    else and_then (λ cells. Ok (Level (record { width = length first.text; height = length (first ∷ rest); cells = cells })))
+    (rows_of glyph (length first.text) (first ∷ rest))))
 
--- the entries behind those read
-abbrev pub read_entries : (ℕ → Option ℕ) → List LevelEntry → List (List Line) → Result (List LevelEntry) SourceFault
-read_entries glyph read [] = Ok read
-read_entries glyph read (lines ∷ more) = and_then (λ entry. read_entries glyph (read ++ entry ∷ []) more) (entry_of glyph (length read) lines)
+-- the entries, each by the number of those above it and its lines
+abbrev pub read_entries : (ℕ → Option ℕ) → List (List Line) → Result (List LevelEntry) SourceFault
+read_entries glyph entries = each_ok (map (λ entry. entry_of glyph entry.0 entry.1) (enumerate_from 0 entries))
 
 -- the entries of LEVELS, of which one is to be playable
 abbrev pub levels_of : (ℕ → Option ℕ) → List Line → Result (List LevelEntry) SourceFault
 levels_of glyph lines =
-    and_then (λ entries. if list_any is_playable entries then Ok entries else Err (record { code = code.NoLevel; line = 0 })) (read_entries glyph [] (entries_of [] lines))
+    and_then (λ entries. if list_any is_playable entries then Ok entries else Err (record { code = code.NoLevel; line = 0 }))
+    (read_entries glyph (entries_of [] lines))

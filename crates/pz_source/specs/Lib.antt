@@ -1,3 +1,4 @@
+pub mod Each
 pub mod Direction
 pub mod Missing
 pub mod Layers

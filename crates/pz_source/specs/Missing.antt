@@ -8,7 +8,7 @@ use Rattle.pz_names.specs.declared.denotation.Denotation.{Denotation}
 use Rattle.pz_names.specs.declared.denotation.Kind.{Kind}
 use Rattle.pz_names.specs.declared.denotation.Kind.TheVariants.{Object, Property, Aggregate}
 
--- an object, a synonym of one, or a property
+-- an object or a property: a synonym has the kind of what it names
 abbrev pub is_single : Kind → Bool
 is_single Object = true
 is_single Property = true

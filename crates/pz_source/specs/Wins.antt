@@ -1,7 +1,6 @@
 -- WINCONDITIONS: its lines.
-use Rattle.std.specs.Prelude.{ℕ, ◌||◌, if◌then◌else◌, List, [], ◌∷◌, ◌++◌, Option, Some, None, option_map, Result, Ok, Err, codes}
+use Rattle.std.specs.Prelude.{ℕ, not, ◌||◌, if◌then◌else◌, List, [], ◌∷◌, map, filter, Option, Some, None, option_map, Result, Ok, Err, codes}
 use Rattle.std.specs.Str.{bytes_eq}
-use Rattle.pz_text.specs.Fault.{and_then}
 use Rattle.pz_text.specs.NameSet.{number_in}
 use Rattle.pz_text.specs.Words.{names_of}
 use Rattle.pz_text.specs.declared.line.Line.{Line}
@@ -9,6 +8,7 @@ use Rattle.pz_text.specs.declared.fault.Code.{Code}
 use Rattle.pz_text.specs.declared.fault.Code.TheVariants as code
 use Rattle.pz_text.specs.declared.fault.SourceFault.{SourceFault}
 use Rattle.pz_names.specs.Objects.{is_blank}
+use Rattle.pz_source.specs.Each.{each_ok}
 use Rattle.pz_source.specs.declared.wins.Quantifier.{Quantifier}
 use Rattle.pz_source.specs.declared.wins.Quantifier.TheVariants as quantifier
 use Rattle.pz_source.specs.declared.wins.WinLine.{WinLine}
@@ -41,13 +41,10 @@ abbrev pub at_line : {A : Type 0} → ℕ → Result A Code → Result A SourceF
 at_line number (Ok x) = Ok x
 at_line number (Err code) = Err (record { code = code; line = number })
 
--- the win lines, behind those read; blank lines are none
-abbrev pub wins_from : List (List ℕ) → List WinLine → List Line → Result (List WinLine) SourceFault
-wins_from names wins [] = Ok wins
-wins_from names wins (line ∷ lines) =
-    if is_blank line then wins_from names wins lines
-    else and_then (λ win. wins_from names (wins ++ win ∷ []) lines) (at_line line.number (win_of names (names_of line.text)))
+-- what a line says, or its fault
+abbrev pub win_at : List (List ℕ) → Line → Result WinLine SourceFault
+win_at names line = at_line line.number (win_of names (names_of line.text))
 
--- the lines of WINCONDITIONS over these names, or their first fault
+-- the lines of WINCONDITIONS over these names, or their first fault; blank lines are none
 abbrev pub wins_of : List (List ℕ) → List Line → Result (List WinLine) SourceFault
-wins_of names lines = wins_from names [] lines
+wins_of names lines = each_ok (map (win_at names) (filter (λ line. not (is_blank line)) lines))

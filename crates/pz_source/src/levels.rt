@@ -4,7 +4,7 @@ ghost use Rattle.std.specs.Prelude.{◌≡◌, ◌≢◌, ◌≤◌, ◌<◌, �
 ghost use Rattle.std.specs.List.{list_any, slice_range};
 ghost use Rattle.pz_text.specs.declared.fault.Code.TheVariants as code;
 ghost use Rattle.pz_source.specs.Level.{is_playable};
-ghost use Rattle.pz_source.specs.Levels.{is_message, closed, entries_of, is_drawn, glyph_of, glyphs_of, filled, is_too_large, rows_of, entry_of, levels_of};
+ghost use Rattle.pz_source.specs.Levels.{is_message, closed, entries_of, is_entry, glyph_of, glyphs_of, filled, is_too_large, rows_of, entry_of, levels_of};
 
 use crate::level::{DrawnLevel, LevelEntry};
 use pz_names::denotation::{Denotation, Kind};
@@ -111,7 +111,7 @@ fn glyphs(
     values: &[Denotation],
     row: &[char],
 ) -> Result<Option<Vec<usize>>, AllocError>
-    ensures { IfOk result (λ r. option_map (λ found. found.items) r ≡ glyphs_of (glyph_of names.now values.now) [] row.now) }
+    ensures { IfOk result (λ r. option_map (λ found. found.items) r ≡ glyphs_of (glyph_of names.now values.now) row.now) }
 {
     let mut found = Vec::new(alloc);
     for character in row {
@@ -150,9 +150,9 @@ fn rows(
     width: usize,
     lines: &[Line],
 ) -> Result<Vec<usize>, SourceFault>
-    ensures read { IfOk result (λ cells. rows_of (glyph_of names.now values.now) width [] lines.now ≡ Ok cells.items) }
+    ensures read { IfOk result (λ cells. rows_of (glyph_of names.now values.now) width lines.now ≡ Ok cells.items) }
     ensures count { IfOk result (λ cells. length cells.items ≡ width * length lines.now) }
-    ensures refused { IfErr result (λ fault. fault.code ≢ code.Memory → rows_of (glyph_of names.now values.now) width [] lines.now ≡ Err fault) }
+    ensures refused { IfErr result (λ fault. fault.code ≢ code.Memory → rows_of (glyph_of names.now values.now) width lines.now ≡ Err fault) }
     ensures whole { IfErr result (λ fault. fault.code ≡ code.Memory → fault.line ≡ 0) }
 {
     let mut cells = Vec::new(alloc);
@@ -193,7 +193,7 @@ fn read_entry(
     above: usize,
     lines: &[Line],
 ) -> Result<LevelEntry, SourceFault>
-    requires { is_drawn lines.now ≡ true }
+    requires { is_entry lines.now ≡ true }
     ensures read { IfOk result (λ entry. entry_of (glyph_of names.now values.now) above lines.now ≡ Ok entry) }
     ensures refused { IfErr result (λ fault. fault.code ≢ code.Memory → entry_of (glyph_of names.now values.now) above lines.now ≡ Err fault) }
     ensures whole { IfErr result (λ fault. fault.code ≡ code.Memory → fault.line ≡ 0) }

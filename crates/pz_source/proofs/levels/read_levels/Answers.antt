@@ -1,8 +1,9 @@
 use Rattle.std.proofs.Common.{◌≡◌, ◌<◌, [], List, Bor, length, map, get_or, sym, ◌∙◌, ap, subst, arith}
 use Rattle.std.proofs.lemmas.List.{length-map, get_or-map}
-use Rattle.pz_source.specs.Levels.{entries_of}
+use Rattle.pz_source.specs.Levels.{entries_of, entry_of, glyph_of}
 use Rattle.pz_text.specs.declared.line.Line.{Line}
 use Rattle.pz_source.proofs.LevelLemmas.{entry-drawn}
+use Rattle.pz_source.proofs.EachLemmas.{behind_at, behind_at_none}
 use Rattle.pz_source.proofs.levels.read_levels.Goals as goal
 
 pub read_entry-requires : goal.read_entry-requires
@@ -21,3 +22,10 @@ read_entry-requires c =
     let inside : i < length (map now items) = omega arith in
     entry-drawn lines i x.now (subst (λ (es : List (List Line)). i < length es) all inside)
     (ap now is ∙ (sym mapped ∙ ap (λ (es : List (List Line)). get_or es i x.now) all))
+
+pub loop-block-init : goal.loop-block-init
+loop-block-init c =
+    let entry = entry_of (glyph_of c.args.names.now c.args.values.now) in
+    let blocks = λ (items : List (Bor (List Line))). behind_at entry [] (map (λ (block : Bor (List Line)). block.now) items) in
+    let all = ap (behind_at entry []) c.in_ok-blocks.ensures in
+    rw c.new-read.ensures.items (ap blocks c.deref-block-items.ensures.value ∙ (all ∙ behind_at_none entry (entries_of [] c.args.lines.now)))

@@ -1,6 +1,8 @@
 use Rattle.std.proofs.Common.{◌≡◌, [], map, drop}
-use Rattle.pz_source.specs.Levels.{read_entries, entries_of, glyph_of}
+use Rattle.pz_source.specs.Levels.{entry_of, read_entries, entries_of, glyph_of}
+use Rattle.pz_source.proofs.EachLemmas.{behind_at}
 use Rattle.pz_source.proofs.levels.read_levels.Given as goal
 
 abbrev pub invariant-loop-block : goal.invariant-loop-block
-invariant-loop-block l = read_entries (glyph_of l.names l.values) l.read.items (map (λ block. block.now) (drop l.block-index l.block-items)) ≡ read_entries (glyph_of l.names l.values) [] (entries_of [] l.lines)
+invariant-loop-block l =
+    behind_at (entry_of (glyph_of l.names l.values)) l.read.items (map (λ block. block.now) (drop l.block-index l.block-items)) ≡ read_entries (glyph_of l.names l.values) (entries_of [] l.lines)

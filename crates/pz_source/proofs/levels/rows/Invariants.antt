@@ -1,9 +1,10 @@
-use Rattle.std.proofs.Common.{◌≡◌, ◌*◌, [], drop, length}
-use Rattle.pz_source.specs.Levels.{rows_of, glyph_of}
+use Rattle.std.proofs.Common.{◌≡◌, ◌*◌, drop, length}
+use Rattle.pz_source.specs.Levels.{row_of, rows_of, glyph_of}
+use Rattle.pz_source.proofs.EachLemmas.{behind}
 use Rattle.pz_source.proofs.levels.rows.Given as goal
 
 abbrev pub invariant-loop-line : goal.invariant-loop-line
 invariant-loop-line l = record {
-  read : rows_of (glyph_of l.names l.values) l.width l.cells.items (drop l.line-index l.lines) ≡ rows_of (glyph_of l.names l.values) l.width [] l.lines;
+  read : behind (λ row. row) (row_of (glyph_of l.names l.values) l.width) l.cells.items (drop l.line-index l.lines) ≡ rows_of (glyph_of l.names l.values) l.width l.lines;
   count : length l.cells.items ≡ l.width * l.line-index;
 }

@@ -1,0 +1,315 @@
+-- Worked cases of sessions: where they start, undo and restart, what commands make of a step, the order of the items, and the close.
+use Rattle.std.proofs.Common.{◌≡◌, ℕ, suc, List, [], ◌∷◌, length, Option, Some, None, Bool, true, false, Ok, Err, refl}
+use Rattle.std.specs.Prelude.{codes, map, nat_lt, ◌==◌, if◌then◌else◌}
+use Rattle.std.specs.Str.{chars}
+use Rattle.std.specs.Fmt.{digits}
+use Rattle.pz_text.specs.declared.fault.Code.TheVariants as code
+use Rattle.pz_names.specs.declared.denotation.Denotation.{Denotation}
+use Rattle.pz_names.specs.declared.denotation.Kind.TheVariants.{Object}
+use Rattle.pz_source.specs.declared.direction.Dir.TheVariants.{Up, Right}
+use Rattle.pz_source.specs.declared.level.LevelEntry.{LevelEntry}
+use Rattle.pz_source.specs.declared.level.LevelEntry.TheVariants.{Message, Level}
+use Rattle.pz_source.specs.Game.{GameView}
+use Rattle.pz_source.specs.Reading.{source_of}
+use Rattle.pz_grammar.specs.declared.token.Command.TheVariants as command
+use Rattle.pz_plan.specs.declared.commands.Commands.{Commands}
+use Rattle.pz_plan.specs.Commands.{either, flag_of}
+use Rattle.pz_rules.specs.declared.instance.Program.{Program}
+use Rattle.pz_grid.specs.declared.cell.Piece.{Piece}
+use Rattle.pz_grid.specs.Grid.{Grid}
+use Rattle.pz_turn.specs.Outcome.{Outcome}
+use Rattle.pz_turn.specs.Step.{blocks_run, rules_run, step_of}
+use Rattle.pz_turn.specs.Win.{has_won}
+use Rattle.pz_record.specs.declared.input.Input.TheVariants.{Press, Undo, Restart, Tick}
+use Rattle.pz_record.specs.declared.order.Order.TheVariants.{Rows}
+use Rattle.pz_record.specs.CellNames.{with_name, same_set}
+use Rattle.pz_record.specs.Equality.{equals_recorded}
+use Rattle.pz_record.specs.LevelNames.{standing_names}
+use Rattle.pz_record.specs.LevelText.{with_cell, piece, text_of_level}
+use Rattle.pz_session.specs.declared.item.FrameKind.{FrameKind}
+use Rattle.pz_session.specs.declared.item.FrameKind.TheVariants as kind
+use Rattle.pz_session.specs.declared.item.Frame.{Frame}
+use Rattle.pz_session.specs.declared.item.Item.TheVariants as item
+use Rattle.pz_session.specs.declared.item.Refusal.TheVariants.{Source, NoLevel}
+use Rattle.pz_session.specs.declared.item.Stop.TheVariants as stop
+use Rattle.pz_session.specs.declared.item.Verdict.TheVariants.{Passed, Differs, Stopped, Refused}
+use Rattle.pz_session.specs.Board.{State, frame_of, start_link, restarted, won_link, kept_link, reached_link, effect}
+use Rattle.pz_session.specs.Board.{press_link, undo_link, begun, settled}
+use Rattle.pz_session.specs.Case.{played_items, items_of_plan}
+use Rattle.pz_session.specs.FirstLevel.{level_from}
+use Rattle.pz_session.specs.Job.{plan_of}
+use Rattle.pz_session.specs.Plan.{PlanState}
+use Rattle.pz_session.specs.Session.{Links, closing, played, numbered, items_from}
+use Rattle.pz_session.specs.Turn.{is_idle}
+
+-- the objects 0 background, alone on its layer, and 1 player and 2 crate on another
+abbrev object : ℕ → Denotation
+object k = record { kind = Object; members = k ∷ []; number = k }
+
+abbrev game_with : Bool → List LevelEntry → GameView
+game_with runs_at_start entries = record {
+  objects = codes "background" ∷ codes "player" ∷ codes "crate" ∷ [];
+  names = codes "background" ∷ codes "player" ∷ codes "crate" ∷ [];
+  values = object 0 ∷ object 1 ∷ object 2 ∷ [];
+  layers = 0 ∷ 1 ∷ 1 ∷ [];
+  depth = 2;
+  rules = [];
+  wins = [];
+  levels = entries;
+  options = record { run_rules_on_level_start = runs_at_start; require_player_movement = false };
+}
+
+-- a level of one row: the player and a bare cell
+abbrev entry : LevelEntry
+entry = Level (record { width = 2; height = 1; cells = 1 ∷ 0 ∷ [] })
+
+abbrev game : GameView
+game = game_with false (entry ∷ Message ∷ [])
+
+abbrev no_rules : Program
+no_rules = record { early = []; late = [] }
+
+abbrev strip : List (Option Piece) → Grid
+strip pieces = record {
+  width = length pieces;
+  height = 1;
+  depth = 2;
+  layers = 0 ∷ 1 ∷ 1 ∷ [];
+  cells = map (λ here. Some (record { object = 0; heading = None }) ∷ here ∷ []) pieces;
+}
+
+abbrev player : Option Piece
+player = Some (record { object = 1; heading = None })
+
+-- the player on the left, and on the right
+abbrev here : Grid
+here = strip (player ∷ None ∷ [])
+
+abbrev there : Grid
+there = strip (None ∷ player ∷ [])
+
+-- a session with this level, this target and this past
+abbrev session_of : GameView → Grid → Grid → List Grid → State
+session_of game level target past = record {
+  game = game;
+  program = no_rules;
+  order = Rows;
+  recorded = [];
+  entry = 0;
+  level = level;
+  target = target;
+  past = past;
+  before = None;
+  is_over = false;
+}
+
+abbrev session : Grid → Grid → List Grid → State
+session = session_of game
+
+abbrev shows : FrameKind → Grid → Frame
+shows kind level = record { kind = kind; level_text = text_of_level game Rows level }
+
+-- where a session starts
+
+-- a message is passed over, behind the last level none is left
+first_levels : map (level_from (game_with false (Message ∷ entry ∷ Message ∷ entry ∷ Message ∷ []))) (0 ∷ 1 ∷ 2 ∷ 4 ∷ 9 ∷ [])
+    ≡ Some 1 ∷ Some 1 ∷ Some 3 ∷ None ∷ None ∷ []
+unfolding level_from
+first_levels = refl
+
+-- undo
+
+-- with no past an undo shows the level as it is
+undo_without_a_past : undo_link (session here there []) ≡ record { shown = shows kind.Undo here ∷ []; after = session here there []; goes_on = false }
+unfolding undo_link frame_of
+undo_without_a_past = refl
+
+-- the last of the past is taken, and the target stays
+undo_takes_the_last : undo_link (session here here (there ∷ here ∷ []))
+    ≡ record { shown = shows kind.Undo there ∷ []; after = session there here (here ∷ []); goes_on = false }
+unfolding undo_link frame_of
+undo_takes_the_last = refl
+
+-- the level before an input is put on the past if the level differs, and only then
+moved_is_past : settled (record (session there here []) { before = Some here }) ≡ session there here (here ∷ [])
+unfolding settled
+moved_is_past = refl
+
+unmoved_is_not : settled (record (session here here (there ∷ [])) { before = Some here }) ≡ session here here (there ∷ [])
+unfolding settled
+unmoved_is_not = refl
+
+-- restart
+
+-- a restart makes the level the target, and can be undone: the level before it is kept
+restart_is_kept : begun Restart (session here there [])
+    ≡ Ok (record { shown = shows kind.Restart there ∷ []; after = record (session there there []) { before = Some here }; goes_on = false })
+unfolding begun restarted frame_of
+restart_is_kept = refl
+
+-- with `run_rules_on_level_start` a tick follows a restart, and none an undo
+restart_with_a_tick : restarted (session_of (game_with true (entry ∷ [])) here there [])
+    ≡ record { shown = shows kind.Restart there ∷ []; after = session_of (game_with true (entry ∷ [])) there there []; goes_on = true }
+unfolding restarted frame_of text_of_level
+restart_with_a_tick = refl
+
+undo_without_a_tick : undo_link (session_of (game_with true (entry ∷ [])) here here (there ∷ []))
+    ≡ record { shown = shows kind.Undo there ∷ []; after = session_of (game_with true (entry ∷ [])) there here []; goes_on = false }
+unfolding undo_link frame_of text_of_level
+undo_without_a_tick = refl
+
+-- what commands make of a step
+
+-- cancel goes before restart: the level stays, and the frame is that of the step
+cancel_before_restart : effect kind.Move (session here there [])
+        (record { level = here; commands = either (flag_of command.Restart) (flag_of command.Cancel); changed = false })
+    ≡ record { shown = shows kind.Move here ∷ []; after = session here there []; goes_on = false }
+unfolding effect frame_of
+cancel_before_restart = refl
+
+-- restart goes before win, and is shown in place of the step
+restart_before_win : effect kind.Move (session here here [])
+        (record { level = there; commands = either (flag_of command.Win) (flag_of command.Restart); changed = true })
+    ≡ record { shown = shows kind.Restart here ∷ []; after = session here here []; goes_on = false }
+unfolding effect restarted frame_of
+restart_before_win = refl
+
+-- checkpoint and again of one step both count
+checkpoint_and_again : effect kind.Move (session here here [])
+        (record { level = there; commands = either (flag_of command.Again) (flag_of command.Checkpoint); changed = true })
+    ≡ record { shown = shows kind.Move there ∷ []; after = session there there []; goes_on = true }
+unfolding effect reached_link kept_link has_won frame_of
+checkpoint_and_again = refl
+
+-- again without a change asks for no tick
+again_without_a_change : effect kind.Move (session here there []) (record { level = here; commands = flag_of command.Again; changed = false })
+    ≡ record { shown = shows kind.Move here ∷ []; after = session here there []; goes_on = false }
+unfolding effect reached_link kept_link has_won frame_of
+again_without_a_change = refl
+
+-- a message alone is left behind the won level: play is over, and the level stays
+last_level_won : effect kind.Move (session here here []) (record { level = there; commands = flag_of command.Win; changed = true })
+    ≡ record { shown = shows kind.Move there ∷ []; after = record (session there here []) { is_over = true }; goes_on = false }
+unfolding effect reached_link won_link has_won level_from frame_of
+last_level_won = refl
+
+-- after that an undo too shows the won level alone
+over_means_over : begun Undo (record (session there here (here ∷ [])) { is_over = true })
+    ≡ Ok (record { shown = shows kind.Over there ∷ []; after = record (session there here (here ∷ [])) { is_over = true }; goes_on = false })
+unfolding begun frame_of
+over_means_over = refl
+
+-- a win shows the step and then the next level, behind a message; it is the target, and there is no past
+next_level : effect kind.Move (session_of (game_with false (entry ∷ Message ∷ entry ∷ [])) there there (here ∷ []))
+        (record { level = there; commands = flag_of command.Win; changed = false })
+    ≡ record {
+        shown = shows kind.Move there ∷ shows kind.Load here ∷ [];
+        after = record (session_of (game_with false (entry ∷ Message ∷ entry ∷ [])) here here []) { entry = 2 };
+        goes_on = false;
+      }
+unfolding effect reached_link won_link has_won level_from frame_of text_of_level
+next_level = refl
+
+-- which ticks are idle
+
+abbrev tick_with : Bool → Commands → Outcome Grid
+tick_with changed commands = record { level = here; commands = commands; changed = changed }
+
+-- a tick that changes nothing is idle, though it gives checkpoint or again; restart or win make it count, and cancel doesn't
+without_a_change : map (λ c. is_idle (tick_with false (flag_of c))) (command.Checkpoint ∷ command.Again ∷ command.Restart ∷ command.Win
+        ∷ command.Cancel ∷ [])
+    ≡ true ∷ true ∷ false ∷ false ∷ true ∷ []
+without_a_change = refl
+
+cancelled_with_win : is_idle (tick_with false (either (flag_of command.Cancel) (flag_of command.Win))) ≡ true
+cancelled_with_win = refl
+
+-- the order of the items
+
+abbrev shown : Frame
+shown = record { kind = kind.Move; level_text = [] }
+
+-- each input shows a frame and is counted, the third one is a stop; the session passes after two
+abbrev counting : Links ℕ
+counting = record {
+  begun = λ input n. if n == 2 then Err stop.LoopLimit else Ok (record { shown = shown ∷ []; after = suc n; goes_on = false });
+  ticked = λ n. Err stop.MatchLimit;
+  settled = λ n. n;
+  verdict = λ n. if n == 2 then Passed else Differs;
+}
+
+-- frames are numbered from 0, each with the number of inputs taken, and the close follows
+two_inputs : items_from 0 (played counting 0 (Undo ∷ Restart ∷ []) 0) ≡ item.Frame 0 1 shown ∷ item.Frame 1 2 shown ∷ item.Close Passed ∷ []
+unfolding played items_from numbered
+two_inputs = refl
+
+-- at a stop the frames so far stand, and no later input is played
+stopped : items_from 0 (played counting 0 (Undo ∷ Undo ∷ Undo ∷ Undo ∷ []) 0)
+    ≡ item.Frame 0 1 shown ∷ item.Frame 1 2 shown ∷ item.Close (Stopped stop.LoopLimit) ∷ []
+unfolding played items_from numbered
+stopped = refl
+
+no_input : items_from 3 (played counting 7 [] 0) ≡ item.Close Differs ∷ []
+unfolding played items_from numbered
+no_input = refl
+
+-- an input's first link asks for a tick, and so does each tick before the 500th
+abbrev ticking : Links ℕ
+ticking = record {
+  begun = λ input n. Ok (record { shown = []; after = 0; goes_on = true });
+  ticked = λ n. Ok (record { shown = []; after = suc n; goes_on = nat_lt (suc n) 500 });
+  settled = λ n. n;
+  verdict = λ n. if n == 500 then Passed else Differs;
+}
+
+-- 500 ticks may follow a press; a tick input is itself one of the 500
+ticks_after_a_press : played ticking 0 (Press Up ∷ []) 0 ≡ closing Passed
+unfolding played
+ticks_after_a_press = refl
+
+ticks_after_a_tick : played ticking 0 (Tick ∷ []) 0 ≡ closing (Stopped stop.AgainLimit)
+unfolding played
+ticks_after_a_tick = refl
+
+-- whole sessions
+
+abbrev here_text : List ℕ
+here_text = codes "background player:0,background:1,\n"
+
+abbrev there_text : List ℕ
+there_text = codes "background:0,background player:1,\n"
+
+abbrev frame : FrameKind → List ℕ → Frame
+frame kind text = record { kind = kind; level_text = text }
+
+abbrev plan : PlanState
+plan = record {
+  game = game;
+  program = no_rules;
+  first = 0;
+  inputs = Press Right ∷ Undo ∷ Undo ∷ [];
+  recorded = (codes "background" ∷ codes "player" ∷ []) ∷ (codes "background" ∷ []) ∷ [];
+  order = Rows;
+}
+
+-- a step to the right is taken back, the second undo finds nothing, and the last level is the recorded one
+taken_back : items_of_plan (Ok plan)
+    ≡ item.Frame 0 0 (frame kind.Start here_text) ∷ item.Frame 1 1 (frame kind.Move there_text)
+    ∷ item.Frame 2 2 (frame kind.Undo here_text) ∷ item.Frame 3 3 (frame kind.Undo here_text) ∷ item.Close Passed ∷ []
+unfolding items_of_plan played_items items_from numbered played begun start_link press_link undo_link effect reached_link kept_link settled frame_of text_of_level standing_names with_name with_cell piece digits step_of rules_run blocks_run has_won equals_recorded same_set
+taken_back = refl
+
+-- without an input there is the start, and the close
+start_alone : items_of_plan (Ok (record plan { inputs = []; recorded = [] })) ≡ item.Frame 0 0 (frame kind.Start here_text) ∷ item.Close Differs ∷ []
+unfolding items_of_plan played_items items_from numbered played start_link settled frame_of text_of_level standing_names with_name with_cell piece digits equals_recorded same_set
+start_alone = refl
+
+-- a refused session has its close alone
+refused : items_of_plan (Err NoLevel) ≡ item.Close (Refused NoLevel) ∷ []
+unfolding items_of_plan
+refused = refl
+
+-- an empty source is refused by its sections
+empty_source : plan_of [] [] [] 0 Rows ≡ Err (Source (record { code = code.Section; line = 0 }))
+unfolding plan_of source_of chars
+empty_source = refl
