@@ -164,7 +164,7 @@ one_cell_less = refl
 
 -- the width isn't compared: a row and a column of the same cells are both as recorded
 shape_is_not_compared : map (λ grid. equals_recorded game Rows grid ((codes "background" ∷ []) ∷ on_background (codes "player") ∷ []))
-        (level 2 1 (bare ∷ player ∷ []) ∷ level 1 2 (bare ∷ player ∷ []) ∷ [])
+    (level 2 1 (bare ∷ player ∷ []) ∷ level 1 2 (bare ∷ player ∷ []) ∷ [])
     ≡ true ∷ true ∷ []
 unfolding equals_recorded standing_names with_name same_set
 shape_is_not_compared = refl
@@ -201,14 +201,14 @@ session name inputs level more =
 
 -- further elements are not looked at
 further_elements : listed_entries (session (codes "a") (item (number (unsigned 0)) (item (string (codes "undo")) no_items)) (codes "w:0,0,")
-        (item null (item (string (codes "seed")) (item null no_items))) ∷ [])
+    (item null (item (string (codes "seed")) (item null no_items))) ∷ [])
     ≡ Ok (record {
-        name = codes "a";
-        source = codes "s";
-        inputs = Press Up ∷ Undo ∷ [];
-        recorded = (codes "w" ∷ []) ∷ (codes "w" ∷ []) ∷ [];
-        index = 0;
-      } ∷ [])
+      name = codes "a";
+      source = codes "s";
+      inputs = Press Up ∷ Undo ∷ [];
+      recorded = (codes "w" ∷ []) ∷ (codes "w" ∷ []) ∷ [];
+      index = 0;
+    } ∷ [])
 unfolding entry_of written_of inputs_of reading read_piece number_of name_set with_word with_name
 further_elements = refl
 

@@ -162,21 +162,21 @@ undo_without_a_tick = refl
 
 -- cancel goes before restart: the level stays, and the frame is that of the step
 cancel_before_restart : effect kind.Move (session here there [])
-        (record { level = here; commands = either (flag_of command.Restart) (flag_of command.Cancel); changed = false })
+    (record { level = here; commands = either (flag_of command.Restart) (flag_of command.Cancel); changed = false })
     ≡ record { shown = shows kind.Move here ∷ []; after = session here there []; goes_on = false }
 unfolding effect frame_of
 cancel_before_restart = refl
 
 -- restart goes before win, and is shown in place of the step
 restart_before_win : effect kind.Move (session here here [])
-        (record { level = there; commands = either (flag_of command.Win) (flag_of command.Restart); changed = true })
+    (record { level = there; commands = either (flag_of command.Win) (flag_of command.Restart); changed = true })
     ≡ record { shown = shows kind.Restart here ∷ []; after = session here here []; goes_on = false }
 unfolding effect restarted frame_of
 restart_before_win = refl
 
 -- checkpoint and again of one step both count
 checkpoint_and_again : effect kind.Move (session here here [])
-        (record { level = there; commands = either (flag_of command.Again) (flag_of command.Checkpoint); changed = true })
+    (record { level = there; commands = either (flag_of command.Again) (flag_of command.Checkpoint); changed = true })
     ≡ record { shown = shows kind.Move there ∷ []; after = session there there []; goes_on = true }
 unfolding effect reached_link kept_link has_won frame_of
 checkpoint_and_again = refl
@@ -201,12 +201,12 @@ over_means_over = refl
 
 -- a win shows the step and then the next level, behind a message; it is the target, and there is no past
 next_level : effect kind.Move (session_of (game_with false (entry ∷ Message ∷ entry ∷ [])) there there (here ∷ []))
-        (record { level = there; commands = flag_of command.Win; changed = false })
+    (record { level = there; commands = flag_of command.Win; changed = false })
     ≡ record {
-        shown = shows kind.Move there ∷ shows kind.Load here ∷ [];
-        after = record (session_of (game_with false (entry ∷ Message ∷ entry ∷ [])) here here []) { entry = 2 };
-        goes_on = false;
-      }
+      shown = shows kind.Move there ∷ shows kind.Load here ∷ [];
+      after = record (session_of (game_with false (entry ∷ Message ∷ entry ∷ [])) here here []) { entry = 2 };
+      goes_on = false;
+    }
 unfolding effect reached_link won_link has_won level_from frame_of text_of_level
 next_level = refl
 
@@ -217,7 +217,7 @@ tick_with changed commands = record { level = here; commands = commands; changed
 
 -- a tick that changes nothing is idle, though it gives checkpoint or again; restart or win make it count, and cancel doesn't
 without_a_change : map (λ c. is_idle (tick_with false (flag_of c))) (command.Checkpoint ∷ command.Again ∷ command.Restart ∷ command.Win
-        ∷ command.Cancel ∷ [])
+    ∷ command.Cancel ∷ [])
     ≡ true ∷ true ∷ false ∷ false ∷ true ∷ []
 without_a_change = refl
 
