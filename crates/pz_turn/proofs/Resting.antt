@@ -1,5 +1,5 @@
 -- When a loop of passes ends.
-use Rattle.std.proofs.Common.{◌≡◌, ℕ, ◌+◌, ◌<◌, ◌≤◌, Bool, true, false, not, ◌||◌, Ok, Err, Some, None, length, get_or, refl, ap, ◌∙◌, arith, add-one, below_more}
+use Rattle.std.proofs.Common.{◌≡◌, ℕ, ◌+◌, ◌<◌, ◌≤◌, Bool, true, false, not, Ok, Err, Some, None, length, get_or, refl, ap, ◌∙◌, arith, add-one, below_more}
 use Rattle.std.specs.List.{find, range_with_len}
 use Rattle.std.proofs.lemmas.List.FromFn.{length-range_with_len, get_or-range_with_len}
 use Rattle.std.proofs.lemmas.List.Recursion.{found_at, found_nowhere}
@@ -49,8 +49,3 @@ running_more pass start n o p q running gives changes both =
       so_far = rw add-one (ap (λ r. followed_by r pass) running.so_far ∙ ap (joined o) gives ∙ both);
       went_on = λ k below. below_more (λ k. is_last pass start k ≡ false) n running.went_on (ap (ends_after pass) running.so_far ∙ ap ends gives ∙ ap not changes) k below;
     }
-
-pub or_not : (a b : Bool) → not b ≡ true → (a || b) ≡ a
-or_not true b h = refl
-or_not false true h = cc
-or_not false false h = refl

@@ -11,6 +11,7 @@ ghost use Rattle.pz_turn.specs.Outcome.{GivesOutcome};
 ghost use Rattle.pz_turn.specs.declared.outcome.StepFault.TheVariants.{Memory};
 
 use crate::outcome::{Given, StepFault};
+use crate::rest::Runnable;
 use bitflags::Flags;
 use pz_grid::Level;
 use pz_grid::places::{GridFault, Place, places, still_matches};
@@ -152,4 +153,14 @@ pub fn apply(alloc: Global, level: &mut Level, instance: &Instance) -> Result<Gi
     let changed = apply_all(level, instance, &lists, &mut chosen, false);
     let commands = given(&lists, instance.commands);
     Ok(Given { commands, changed })
+}
+
+impl Runnable for Instance {
+    ghost places_of = { PlacesObjectsOf };
+
+    ghost runs = { applied };
+
+    fn run(&self, alloc: Global, level: &mut Level) -> Result<Given, StepFault> {
+        apply(alloc, level, self)
+    }
 }

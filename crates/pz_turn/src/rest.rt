@@ -1,16 +1,14 @@
 //! Groups of instances, run until a pass changes nothing.
 
-ghost use Rattle.std.specs.Prelude.{◌≡◌, ◌≢◌, Ok};
+ghost use Rattle.std.specs.Prelude.{◌≡◌, ◌≢◌, Ok, All};
 ghost use Rattle.pz_rules.specs.Instance.{IsGroupOf};
 ghost use Rattle.pz_grid.specs.Grid.{IsLawful, IsOfGame, SameSize};
 ghost use Rattle.pz_turn.specs.Belonging.{GroupPlacesObjectsOf};
 ghost use Rattle.pz_turn.specs.Instance.{applied};
 ghost use Rattle.pz_turn.specs.Outcome.{GivesOutcome, GivesBoth};
-ghost use Rattle.pz_turn.specs.Rest.{pass_of, rest_of};
+ghost use Rattle.pz_turn.specs.Rest.{pass_of, rest_of, group_runs};
 
-use crate::instance::apply;
 use crate::outcome::{Given, StepFault};
-use bitflags::Flags;
 use pz_grid::Level;
 use pz_plan::commands::Commands;
 use pz_rules::instance::Group;
@@ -20,39 +18,72 @@ use std::alloc::Global;
 /// The greatest number of passes in which a group or a loop comes to rest: the last of them changes nothing.
 pub const PASSES: u64 = 200;
 
-/// One pass over the instances of a group.
-fn pass(alloc: Global, level: &mut Level, group: &Group) -> Result<Given, StepFault>
-    requires places_of { GroupPlacesObjectsOf level.old.grid.layers group.now }
-    ensures outcome { GivesOutcome (pass_of applied group.now level.old.grid) level.new.grid result }
-    ensures size { SameSize level.old.grid level.new.grid }
-{
-    let mut commands = Commands::empty();
-    let mut changed = false;
-    for instance in group.items() {
-        let given = apply(alloc, level, instance)?;
-        commands.insert(given.commands);
-        changed |= given.changed;
-    }
-    Ok(Given { commands, changed })
+/// What runs on a level: an instance, a group of a loop, a block.
+pub(crate) trait Runnable {
+    ghost use Rattle.std.specs.Prelude.{ℕ, List};
+    ghost use Rattle.pz_grid.specs.Grid.{Grid};
+    ghost use Rattle.pz_turn.specs.Rest.{Runs};
+
+    ghost places_of: { List ℕ → Self → Type 0 };
+
+    ghost runs: { Self → Runs Grid };
+
+    fn run(&self, alloc: Global, level: &mut Level) -> Result<Given, StepFault>
+        requires places_of { places_of level.old.grid.layers self.now }
+        ensures outcome { GivesOutcome (runs self.now level.old.grid) level.new.grid result }
+        ensures size { SameSize level.old.grid level.new.grid };
 }
 
-/// Runs a group to rest.
-pub(crate) fn run_group(alloc: Global, level: &mut Level, group: &Group) -> Result<Given, StepFault>
-    requires places_of { GroupPlacesObjectsOf level.old.grid.layers group.now }
-    ensures outcome { GivesOutcome (rest_of PASSES (pass_of applied group.now) level.old.grid) level.new.grid result }
+/// One pass: items, one after another.
+pub(crate) fn pass<T: Runnable>(
+    alloc: Global,
+    level: &mut Level,
+    items: &[T],
+) -> Result<Given, StepFault>
+    requires places_of { All (T.places_of level.old.grid.layers) items.now }
+    ensures outcome { GivesOutcome (pass_of T.runs items.now level.old.grid) level.new.grid result }
     ensures size { SameSize level.old.grid level.new.grid }
 {
-    let mut commands = Commands::empty();
-    let mut changed = false;
+    let mut so_far = Given::nothing();
+    for item in items {
+        let given = item.run(alloc, level)?;
+        so_far = so_far.and(given);
+    }
+    Ok(so_far)
+}
+
+/// Pass after pass, up to the first that changes nothing.
+pub(crate) fn to_rest<T: Runnable>(
+    alloc: Global,
+    level: &mut Level,
+    items: &[T],
+) -> Result<Given, StepFault>
+    requires places_of { All (T.places_of level.old.grid.layers) items.now }
+    ensures outcome { GivesOutcome (rest_of PASSES (pass_of T.runs items.now) level.old.grid) level.new.grid result }
+    ensures size { SameSize level.old.grid level.new.grid }
+{
+    let mut so_far = Given::nothing();
     'passes: for _ in 0..PASSES {
-        let given = pass(alloc, level, group)?;
-        commands.insert(given.commands);
+        let given = pass(alloc, level, items)?;
+        so_far = so_far.and(given);
         if !given.changed {
-            return Ok(Given { commands, changed });
+            return Ok(so_far);
         }
-        changed |= given.changed;
     }
     Err(StepFault::LoopLimit)
+}
+
+/// A group of a loop, run to rest.
+impl Runnable for Group {
+    ghost use Rattle.pz_turn.specs.declared.rest.TheConstants.{PASSES};
+
+    ghost places_of = { GroupPlacesObjectsOf };
+
+    ghost runs = { group_runs PASSES applied };
+
+    fn run(&self, alloc: Global, level: &mut Level) -> Result<Given, StepFault> {
+        to_rest(alloc, level, self.items())
+    }
 }
 
 /// Runs a group to rest: pass after pass over its instances, up to the first that changes nothing. Answers the commands that were
@@ -71,7 +102,7 @@ pub fn rest(
     ensures lawful { IsLawful level.new.grid }
 {
     let _ = game;
-    let given = run_group(alloc, level, group);
+    let given = to_rest(alloc, level, group.items());
     let _ = level.width();
     match given {
         Ok(given) => Ok((given.commands, given.changed)),

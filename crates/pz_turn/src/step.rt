@@ -11,9 +11,8 @@ ghost use Rattle.pz_turn.specs.Outcome.{GivesOutcome};
 ghost use Rattle.pz_turn.specs.Step.{block_runs, blocks_run, rules_run, given_input, keeps_player, has_stayed, must_cancel, with_cancel, ended, step_of};
 ghost use Rattle.pz_turn.specs.declared.outcome.StepFault.TheVariants.{Memory};
 
-use crate::loops::run_loop;
 use crate::outcome::{Given, StepFault};
-use crate::rest::run_group;
+use crate::rest::{Runnable, pass, to_rest};
 use bitflags::Flags;
 use pz_grid::{Level, push_players, resolve};
 use pz_plan::commands::Commands;
@@ -30,16 +29,18 @@ pub struct StepEnd {
     pub changed: bool,
 }
 
-/// Runs a group or a loop of groups to rest.
-#[tactic(auto, unfolding(crate::specs::Step::block_runs))]
-fn run_block(alloc: Global, level: &mut Level, block: &Block) -> Result<Given, StepFault>
-    requires places_of { BlockPlacesObjectsOf level.old.grid.layers block.now }
-    ensures outcome { GivesOutcome (block_runs block.now level.old.grid) level.new.grid result }
-    ensures size { SameSize level.old.grid level.new.grid }
-{
-    match block {
-        Block::One(group) => run_group(alloc, level, group),
-        Block::Loop(groups) => run_loop(alloc, level, groups),
+impl Runnable for Block {
+    ghost places_of = { BlockPlacesObjectsOf };
+
+    ghost runs = { block_runs };
+
+    /// Runs a group or a loop of groups to rest.
+    #[tactic(auto, unfolding(crate::specs::Step::block_runs))]
+    fn run(&self, alloc: Global, level: &mut Level) -> Result<Given, StepFault> {
+        match self {
+            Block::One(group) => to_rest(alloc, level, group.items()),
+            Block::Loop(groups) => to_rest(alloc, level, groups.items()),
+        }
     }
 }
 
@@ -50,14 +51,7 @@ fn run_blocks(alloc: Global, level: &mut Level, blocks: &[Block]) -> Result<Give
     ensures outcome { GivesOutcome (blocks_run blocks.now level.old.grid) level.new.grid result }
     ensures size { SameSize level.old.grid level.new.grid }
 {
-    let mut commands = Commands::empty();
-    let mut changed = false;
-    for block in blocks {
-        let given = run_block(alloc, level, block)?;
-        commands.insert(given.commands);
-        changed |= given.changed;
-    }
-    Ok(Given { commands, changed })
+    pass(alloc, level, blocks)
 }
 
 /// Runs the early blocks, the movement and the late blocks.
@@ -77,10 +71,7 @@ fn run_rules(
     let early = run_blocks(alloc, level, program.early())?;
     resolve(game, level);
     let late = run_blocks(alloc, level, program.late())?;
-    let mut commands = early.commands;
-    commands.insert(late.commands);
-    let changed = early.changed || late.changed;
-    Ok(Given { commands, changed })
+    Ok(early.and(late))
 }
 
 fn copy_of(level: &Level) -> Result<Level, StepFault>
