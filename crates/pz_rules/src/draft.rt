@@ -1,8 +1,8 @@
 //! A program while its lines are read.
 
-ghost use Rattle.std.specs.Prelude.{◌≡◌, ◌≢◌, ◌++◌, true, Ok, Err, IfOk, IfErr};
+ghost use Rattle.std.specs.Prelude.{◌≡◌, ◌≢◌, ◌++◌, true, None, Ok, Err, IfOk, IfErr, if◌then◌else◌};
 ghost use Rattle.pz_plan.specs.declared.fault.RuleFault.TheVariants.{Memory};
-ghost use Rattle.pz_rules.specs.Drafts.{placed, settled, opened, loop_of, closed, is_misplaced, lateness, with_instances, extended, rule_added, loop_added, line_added};
+ghost use Rattle.pz_rules.specs.Drafts.{placed, settled, opened, loop_of, with_loop, closed, is_misplaced, lateness, with_instances, before, extended, rule_added, loop_added, line_added};
 ghost use Rattle.pz_grammar.specs.Written.{is_whole};
 
 use crate::expansion::{Expansion, expanded};
@@ -36,9 +36,11 @@ pub struct Draft {
     pub pairs: u64,
 }
 
+/// The draft with a group in its place: in the loop that is open, else as a block of its own.
 #[tactic(auto, unfolding(crate::specs::Drafts::placed))]
 fn placed(draft: Draft, group: OpenGroup) -> Result<Draft, AllocError>
-    ensures { IfOk result (λ out. out ≡ placed draft group) }
+    ensures draft { IfOk result (λ out. out ≡ placed draft group) }
+    ensures group { IfOk result (λ out. out.group ≡ None) }
 {
     let Draft {
         done,
@@ -65,31 +67,13 @@ fn placed(draft: Draft, group: OpenGroup) -> Result<Draft, AllocError>
 
 /// The draft where no rule can join the last group any more.
 #[tactic(auto, unfolding(crate::specs::Drafts::settled, crate::specs::Drafts::placed))]
-pub fn settled(draft: Draft) -> Result<Draft, AllocError>
-    ensures { IfOk result (λ out. out ≡ settled draft) }
+pub fn settled(mut draft: Draft) -> Result<Draft, AllocError>
+    ensures draft { IfOk result (λ out. out ≡ settled draft) }
+    ensures group { IfOk result (λ out. out.group ≡ None) }
 {
-    let Draft {
-        done,
-        repeated,
-        group,
-        pairs,
-    } = draft;
-    match group {
-        None => Ok(Draft {
-            done,
-            repeated,
-            group: None,
-            pairs,
-        }),
-        Some(group) => placed(
-            Draft {
-                done,
-                repeated,
-                group: None,
-                pairs,
-            },
-            group,
-        ),
+    match draft.group.take() {
+        None => Ok(draft),
+        Some(group) => placed(draft, group),
     }
 }
 
@@ -98,17 +82,10 @@ pub fn settled(draft: Draft) -> Result<Draft, AllocError>
 fn opened(alloc: Global, draft: Draft) -> Result<Draft, AllocError>
     ensures { IfOk result (λ out. out ≡ opened draft) }
 {
-    let Draft {
-        done,
-        repeated: _,
-        group: _,
-        pairs,
-    } = settled(draft)?;
+    let draft = settled(draft)?;
     Ok(Draft {
-        done,
         repeated: Some(no_sides(alloc)),
-        group: None,
-        pairs,
+        ..draft
     })
 }
 
@@ -122,34 +99,31 @@ fn with_part(blocks: Blocks, groups: Groups) -> Result<Blocks, AllocError>
     pushed(blocks, Block::Loop(groups))
 }
 
+/// The blocks with those of a loop.
+fn with_loop(done: Sides<Block>, groups: Sides<Group>) -> Result<Sides<Block>, AllocError>
+    ensures { IfOk result (λ out. out ≡ with_loop done groups) }
+{
+    let Sides { early, late } = done;
+    Ok(Sides {
+        early: with_part(early, groups.early)?,
+        late: with_part(late, groups.late)?,
+    })
+}
+
 /// The draft where the loop that is open ends.
 #[tactic(auto, unfolding(crate::specs::Drafts::closed))]
 fn closed(draft: Draft) -> Result<Draft, AllocError>
     ensures { IfOk result (λ out. out ≡ closed draft) }
 {
-    let Draft {
-        done,
-        repeated,
-        group,
-        pairs,
-    } = settled(draft)?;
-    match repeated {
-        None => Ok(Draft {
-            done,
+    let mut draft = settled(draft)?;
+    match draft.repeated.take() {
+        None => Ok(draft),
+        Some(groups) => Ok(Draft {
+            done: with_loop(draft.done, groups)?,
             repeated: None,
-            group,
-            pairs,
+            group: None,
+            pairs: draft.pairs,
         }),
-        Some(groups) => {
-            let early = with_part(done.early, groups.early)?;
-            let late = with_part(done.late, groups.late)?;
-            Ok(Draft {
-                done: Sides { early, late },
-                repeated: None,
-                group: None,
-                pairs,
-            })
-        }
     }
 }
 
@@ -196,40 +170,31 @@ fn with_instances(
     }
 }
 
+/// The draft that the rule's group stands after.
+#[tactic(auto, unfolding(crate::specs::Drafts::before))]
+fn before(draft: Draft, rule: &Rule) -> Result<Draft, AllocError>
+    ensures draft { IfOk result (λ out. out ≡ before draft rule.now) }
+    ensures group { IfOk result (λ out. out.group ≡ (if rule.now.is_joined then draft.group else None)) }
+{
+    if rule.is_joined {
+        Ok(draft)
+    } else {
+        settled(draft)
+    }
+}
+
 /// The draft with the instances of a rule.
-#[tactic(auto, unfolding(crate::specs::Drafts::extended, crate::specs::Drafts::before, crate::specs::Drafts::joins, crate::specs::Drafts::lateness))]
+#[tactic(auto, unfolding(crate::specs::Drafts::extended, crate::specs::Drafts::joins, crate::specs::Drafts::lateness))]
 fn extended(draft: Draft, rule: &Rule, more: Expansion) -> Result<Draft, AllocError>
     ensures { IfOk result (λ out. out ≡ extended draft rule.now more) }
 {
-    if rule.is_joined {
-        let Draft {
-            done,
-            repeated,
-            group,
-            pairs: _,
-        } = draft;
-        let group = with_instances(group, rule, more.instances)?;
-        Ok(Draft {
-            done,
-            repeated,
-            group: Some(group),
-            pairs: more.pairs,
-        })
-    } else {
-        let Draft {
-            done,
-            repeated,
-            group: _,
-            pairs: _,
-        } = settled(draft)?;
-        let group = with_instances(None, rule, more.instances)?;
-        Ok(Draft {
-            done,
-            repeated,
-            group: Some(group),
-            pairs: more.pairs,
-        })
-    }
+    let mut draft = before(draft, rule)?;
+    let group = with_instances(draft.group.take(), rule, more.instances)?;
+    Ok(Draft {
+        group: Some(group),
+        pairs: more.pairs,
+        ..draft
+    })
 }
 
 /// The draft with a rule, or the first fault of the rule.
