@@ -1,10 +1,11 @@
 -- The instances of a plan.
-use Rattle.std.specs.Prelude.{ℕ, Bool, true, false, not, ◌&&◌, ◌||◌, ◌==◌, List, [], Option, Some, map, filter, slice_get, unwrap_or, length, if◌then◌else◌}
+use Rattle.std.specs.Prelude.{ℕ, Bool, not, ◌==◌, List, [], Option, Some, map, filter, slice_get, unwrap_or, length, if◌then◌else◌}
 use Rattle.std.specs.List.{list_any, list_all, flat_map}
 use Rattle.std.specs.Option.{option_map_or}
 use Rattle.pz_names.specs.declared.denotation.Denotation.{Denotation}
 use Rattle.pz_source.specs.declared.direction.Dir.{Dir}
 use Rattle.pz_source.specs.declared.direction.Dir.TheVariants.{Up}
+use Rattle.pz_rules.specs.declared.exclusion.Role.TheVariants.{Asked}
 use Rattle.pz_rules.specs.declared.pattern.Item.{Item}
 use Rattle.pz_rules.specs.declared.pattern.Word.{Word}
 use Rattle.pz_rules.specs.declared.pattern.Word.TheVariants.{Present, Still, Toward, Absent}
@@ -20,7 +21,8 @@ use Rattle.pz_plan.specs.declared.plan.TermName.{TermName}
 use Rattle.pz_plan.specs.declared.plan.TermName.TheVariants as name
 use Rattle.pz_plan.specs.declared.plan.TermWord.{TermWord}
 use Rattle.pz_plan.specs.declared.plan.TermWord.TheVariants as word
-use Rattle.pz_rules.specs.Equal.{same_meaning, same_instance}
+use Rattle.pz_rules.specs.Equal.{same_instance}
+use Rattle.pz_rules.specs.Exclusion.{has_impossible}
 use Rattle.pz_plan.specs.Lists.{product, firsts, added}
 use Rattle.pz_rules.specs.Pattern.{RuleRow}
 use Rattle.pz_rules.specs.Turning.{turned, class_directions}
@@ -91,38 +93,9 @@ instance_of layers plan direction picks =
       commands = plan.commands;
     }
 
-abbrev pub is_absent : Word → Bool
-is_absent Absent = true
-is_absent _ = false
-
-abbrev pub is_present : Word → Bool
-is_present Present = true
-is_present _ = false
-
--- one object can't be both: there and not there, or of two movements
-abbrev pub contradict : Word → Word → Bool
-contradict a b =
-    if is_absent a || is_absent b then not (is_absent a && is_absent b)
-    else not (is_present a || is_present b || same_meaning a b)
-
--- no cell can be as both items say: what they say of one object contradicts, or they ask for two objects of one layer
-unfoldable pub excludes : Item → Item → Bool
-excludes a b =
-    if a.object == b.object then contradict a.word b.word
-    else not (is_absent a.word || is_absent b.word) && (a.layer == b.layer)
-
-unfoldable pub excludes_some : List Item → Item → Bool
-excludes_some cell a = list_any (excludes a) cell
-
-unfoldable pub is_impossible : List Item → Bool
-is_impossible cell = list_any (excludes_some cell) cell
-
-unfoldable pub has_impossible : RuleRow → Bool
-has_impossible row = list_any is_impossible row.cells
-
 -- some level can be as the left of an instance says
 unfoldable pub is_possible : Instance → Bool
-is_possible instance = not (list_any has_impossible instance.left)
+is_possible instance = not (list_any (has_impossible Asked) instance.left)
 
 -- the lists of picks for one direction, the first choice varying slowest
 unfoldable pub picks_of : List Denotation → Plan → Dir → List (List Pick)

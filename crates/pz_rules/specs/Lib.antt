@@ -5,6 +5,7 @@ pub mod Turning
 pub mod Equal
 pub mod Marks
 pub mod Kept
+pub mod Exclusion
 pub mod Instances
 pub mod Clash
 pub mod Expansion

@@ -4,9 +4,9 @@ ghost use Rattle.std.specs.Prelude.{◌≡◌, ◌++◌, IfOk, OnOk, map, fold, 
 ghost use Rattle.std.specs.List.{list_any, list_all};
 ghost use Rattle.pz_plan.specs.Lists.{product};
 ghost use Rattle.pz_plan.specs.Shape.{IsShaped, AreShaped};
-ghost use Rattle.pz_rules.specs.Instances.{members_at, options_of, object_of, meaning_of, layer_of, item_of, cell_of, row_of, rows_of, is_one_cell, scan_of, instance_of, is_absent, is_present, contradict, excludes, excludes_some, is_impossible, has_impossible, is_possible, instances_of, considered};
+ghost use Rattle.pz_rules.specs.Instances.{members_at, options_of, object_of, meaning_of, layer_of, item_of, cell_of, row_of, rows_of, is_one_cell, scan_of, instance_of, is_possible, instances_of, considered};
 
-use crate::equal::same_meaning;
+use crate::exclusion::{Role, have_impossible};
 use crate::instance::Instance;
 use crate::kept::Kept;
 use crate::pattern::{Item, Pattern, Row, Rows, Word};
@@ -251,76 +251,12 @@ fn instance_of(
     })
 }
 
-pub fn is_absent(word: Word) -> bool
-    ensures { result ≡ is_absent word }
-{
-    matches!(word, Word::Absent)
-}
-
-fn is_present(word: Word) -> bool
-    ensures { result ≡ is_present word }
-{
-    matches!(word, Word::Present)
-}
-
-/// Whether one object can't be both.
-fn contradict(a: Word, b: Word) -> bool
-    ensures { result ≡ contradict a b }
-{
-    if is_absent(a) || is_absent(b) {
-        !(is_absent(a) && is_absent(b))
-    } else {
-        !(is_present(a) || is_present(b) || same_meaning(a, b))
-    }
-}
-
-/// Whether no cell can be as both items say.
-#[tactic(auto, unfolding(crate::specs::Instances::excludes))]
-fn excludes(a: &Item, b: &Item) -> bool
-    ensures { result ≡ excludes a.now b.now }
-{
-    if a.object == b.object {
-        contradict(a.word, b.word)
-    } else {
-        !(is_absent(a.word) || is_absent(b.word)) && a.layer == b.layer
-    }
-}
-
-#[tactic(auto, unfolding(crate::specs::Instances::excludes_some))]
-fn excludes_some(cell: &[Item], a: &Item) -> bool
-    ensures { result ≡ excludes_some cell.now a.now }
-{
-    cell.iter().any(|b| excludes(a, b))
-}
-
-/// Whether nothing can be as a cell says.
-#[tactic(auto, unfolding(crate::specs::Instances::is_impossible))]
-fn is_impossible(cell: &[Item]) -> bool
-    ensures { result ≡ is_impossible cell.now }
-{
-    cell.iter().any(|a| excludes_some(cell, a))
-}
-
-/// Whether a row has a cell that nothing can be.
-#[tactic(auto, unfolding(crate::specs::Instances::has_impossible))]
-fn has_impossible(row: &Row) -> bool
-    ensures { result ≡ has_impossible row.now }
-{
-    row.cells().iter().any(|cell| is_impossible(cell.items()))
-}
-
-fn have_impossible(rows: &[Row]) -> bool
-    ensures { result ≡ list_any has_impossible rows.now }
-{
-    rows.iter().any(|row| has_impossible(row))
-}
-
 /// Whether some level can be as the left of an instance says.
 #[tactic(auto, unfolding(crate::specs::Instances::is_possible))]
 fn is_possible(instance: &Instance) -> bool
     ensures { result ≡ is_possible instance.now }
 {
-    !have_impossible(instance.left.items())
+    !have_impossible(Role::Asked, instance.left.items())
 }
 
 /// Adds the instance of these picks, unless it is impossible or there already.

@@ -5,6 +5,7 @@ pub mod clash;
 pub mod counting;
 pub mod draft;
 pub mod equal;
+pub mod exclusion;
 pub mod expand;
 pub mod expansion;
 pub mod instance;

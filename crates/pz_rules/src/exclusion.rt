@@ -1,0 +1,87 @@
+//! Items that can't stand in one cell.
+
+ghost use Rattle.std.specs.Prelude.{◌≡◌};
+ghost use Rattle.std.specs.List.{list_any};
+ghost use Rattle.pz_rules.specs.Exclusion.{is_absent, is_present, at_odds, excludes, excludes_some, is_impossible, has_impossible};
+
+use crate::equal::same_meaning;
+use crate::pattern::{Item, Row, Word};
+
+/// What the items of a cell are for: a left asks for them, a right places them.
+#[derive(Clone, Copy, PartialEq, Eq, Debug)]
+pub enum Role {
+    Asked,
+    Placed,
+}
+
+fn is_absent(word: Word) -> bool
+    ensures { result ≡ is_absent word }
+{
+    matches!(word, Word::Absent)
+}
+
+fn is_present(word: Word) -> bool
+    ensures { result ≡ is_present word }
+{
+    matches!(word, Word::Present)
+}
+
+/// Whether what two words say of one object doesn't go together.
+fn at_odds(role: Role, a: Word, b: Word) -> bool
+    ensures { result ≡ at_odds role a b }
+{
+    match role {
+        Role::Asked => {
+            if is_absent(a) || is_absent(b) {
+                !(is_absent(a) && is_absent(b))
+            } else {
+                !(is_present(a) || is_present(b) || same_meaning(a, b))
+            }
+        }
+        Role::Placed => !(is_absent(a) || is_absent(b)) && !same_meaning(a, b),
+    }
+}
+
+/// Whether no cell can be as both items say.
+#[tactic(auto, unfolding(crate::specs::Exclusion::excludes))]
+fn excludes(role: Role, a: &Item, b: &Item) -> bool
+    ensures { result ≡ excludes role a.now b.now }
+{
+    if a.object == b.object {
+        at_odds(role, a.word, b.word)
+    } else {
+        !(is_absent(a.word) || is_absent(b.word)) && a.layer == b.layer
+    }
+}
+
+#[tactic(auto, unfolding(crate::specs::Exclusion::excludes_some))]
+fn excludes_some(role: Role, cell: &[Item], a: &Item) -> bool
+    ensures { result ≡ excludes_some role cell.now a.now }
+{
+    cell.iter().any(|b| excludes(role, a, b))
+}
+
+/// Whether nothing can be as a cell says.
+#[tactic(auto, unfolding(crate::specs::Exclusion::is_impossible))]
+fn is_impossible(role: Role, cell: &[Item]) -> bool
+    ensures { result ≡ is_impossible role cell.now }
+{
+    cell.iter().any(|a| excludes_some(role, cell, a))
+}
+
+/// Whether a row has a cell that nothing can be.
+#[tactic(auto, unfolding(crate::specs::Exclusion::has_impossible))]
+fn has_impossible(role: Role, row: &Row) -> bool
+    ensures { result ≡ has_impossible role row.now }
+{
+    row.cells()
+        .iter()
+        .any(|cell| is_impossible(role, cell.items()))
+}
+
+/// Whether a row of these has a cell that nothing can be.
+pub fn have_impossible(role: Role, rows: &[Row]) -> bool
+    ensures { result ≡ list_any (has_impossible role) rows.now }
+{
+    rows.iter().any(|row| has_impossible(role, row))
+}
