@@ -1,8 +1,9 @@
 -- A level: a grid of cells over a game's collision layers.
 use Rattle.std.specs.Prelude.{◌≡◌, ℕ, ◌+◌, ◌*◌, ◌<◌, ◌≤◌, List, [], Option, None, length, slice_index_or, slice_set, All}
+use Rattle.pz_names.specs.declared.objects.TheConstants.{MAX_OBJECTS}
+use Rattle.pz_source.specs.declared.layers.TheConstants.{MAX_LAYERS}
 use Rattle.pz_source.specs.Game.{GameView}
 use Rattle.pz_grid.specs.declared.cell.Piece.{Piece}
-use Rattle.pz_grid.specs.declared.cell.TheConstants.{MAX_LAYERS, MAX_OBJECTS}
 use Rattle.pz_grid.specs.Cell.{IsCell}
 
 pub record Grid : Type 0 where

@@ -8,12 +8,6 @@ use pz_source::direction::Dir;
 use std::alloc::{AllocError, Global};
 use std::marker::Model;
 
-/// The greatest number of collision layers of a game.
-pub const MAX_LAYERS: usize = 25;
-
-/// The greatest number of objects of a game.
-pub const MAX_OBJECTS: usize = 128;
-
 /// An object in a cell, by its place among the game's objects, and where it heads; None: it is still.
 #[derive(Clone, Copy, PartialEq, Eq, Debug)]
 pub struct Piece {

@@ -1,5 +1,5 @@
 -- LEGEND: what each of its lines defines, and which of them are refused.
-use Rattle.std.specs.Prelude.{ℕ, ◌+◌, ◌==◌, if◌then◌else◌, nat_lt, not, Bool, List, [], ◌∷◌, ◌++◌, length, map, take, drop, Option, Some, None, option_map, option_and_then, position, codes}
+use Rattle.std.specs.Prelude.{ℕ, ◌+◌, ◌==◌, if◌then◌else◌, nat_le, not, Bool, List, [], ◌∷◌, ◌++◌, length, map, take, drop, Option, Some, None, option_map, option_and_then, position, codes}
 use Rattle.std.specs.List.{list_any, filter_map}
 use Rattle.std.specs.Str.{bytes_eq}
 use Rattle.pz_text.specs.NameSet.{is_name_of}
@@ -8,6 +8,7 @@ use Rattle.pz_text.specs.declared.line.Line.{Line}
 use Rattle.pz_text.specs.declared.fault.Code.{Code}
 use Rattle.pz_text.specs.declared.fault.Code.TheVariants as code
 use Rattle.pz_names.specs.Objects.{is_blank}
+use Rattle.pz_names.specs.declared.objects.TheConstants.{MAX_NAMES}
 use Rattle.pz_names.specs.declared.legend.Said.{Said}
 use Rattle.pz_names.specs.declared.legend.Said.TheVariants.{Same, AllOf, AnyOf}
 use Rattle.pz_names.specs.declared.legend.Definition.{Definition}
@@ -62,7 +63,7 @@ names_in (AnyOf parts) = parts
 
 -- where 1,024 names are there, no further one may be
 abbrev pub is_full : List (List ℕ) → Bool
-is_full names = nat_lt 1_023 (length names)
+is_full names = nat_le MAX_NAMES (length names)
 
 -- a line that is no definition, or one of a name that is there already, or of one name too many
 abbrev pub misnames_by : List (List ℕ) → Option Definition → Option Code

@@ -12,6 +12,7 @@ use Rattle.pz_text.specs.declared.fault.SourceFault.{SourceFault}
 use Rattle.pz_names.specs.Word.{IsWord}
 use Rattle.pz_names.specs.declared.name_line.NameLine.{NameLine}
 use Rattle.pz_names.specs.declared.objects.Block.{Block}
+use Rattle.pz_names.specs.declared.objects.TheConstants.{MAX_OBJECTS, MAX_NAMES}
 
 -- the names that OBJECTS gives, in the order of first mention
 abbrev pub object_names : List NameLine → List (List ℕ)
@@ -85,7 +86,7 @@ abbrev pub misnamed : List (List ℕ) → ℕ → Block → Option Code
 misnamed above count block =
     if not block.is_whole then Some code.BadObject
     else (if has_repeat above block.line.names then Some code.Duplicate
-    else (if nat_le 128 count || nat_lt 1024 (length (above ++ block.line.names)) then Some code.TooLarge
+    else (if nat_le MAX_OBJECTS count || nat_lt MAX_NAMES (length (above ++ block.line.names)) then Some code.TooLarge
     else None))
 
 abbrev pub misnames : List Block → Block → Option Code

@@ -219,7 +219,7 @@ fn name_line_of(block: Block) -> NameLine
 pub fn read_objects(alloc: Global, lines: &[Line]) -> Result<(Vec<NameLine>, NameSet), SourceFault>
     ensures read { IfOk result (λ r. objects_of lines.now ≡ Ok r.0.items) }
     ensures names { IfOk result (λ r. r.1 ≡ object_names r.0.items) }
-    ensures few { IfOk result (λ r. length r.0.items ≤ 128) }
+    ensures few { IfOk result (λ r. length r.0.items ≤ MAX_OBJECTS) }
     ensures named { IfOk result (λ r. All IsNamed r.0.items) }
     ensures refused { IfErr result (λ fault. fault.code ≢ code.Memory → objects_of lines.now ≡ Err fault) }
     ensures whole { IfErr result (λ fault. fault.code ≡ code.Memory → fault.line ≡ 0) }

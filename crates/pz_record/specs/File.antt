@@ -5,6 +5,7 @@ use Rattle.serde_json.specs.Read.{read}
 use Rattle.pz_record.specs.declared.entry.Entry.{Entry}
 use Rattle.pz_record.specs.declared.fault.FileFault.{FileFault}
 use Rattle.pz_record.specs.declared.fault.FileFault.TheVariants.{NotJson, TooMany}
+use Rattle.pz_record.specs.declared.file.TheConstants.{MOST_BYTES, MOST_ENTRIES}
 use Rattle.pz_record.specs.Json.{list_of}
 use Rattle.pz_record.specs.Entry.{entry_of, or_fault, ◌>=>◌}
 
@@ -14,8 +15,8 @@ entries_from n [] = Ok []
 entries_from n (d ∷ ds) = entry_of n d >=> (λ e. entries_from (suc n) ds >=> (λ es. Ok (e ∷ es)))
 
 abbrev pub listed_entries : List Data → Result (List Entry) FileFault
-listed_entries ds = if nat_lt 65536 (length ds) then Err TooMany else entries_from 0 ds
+listed_entries ds = if nat_lt MOST_ENTRIES (length ds) then Err TooMany else entries_from 0 ds
 
 -- the entries of a text, or its first fault: the length first, then the whole list, then entry by entry
 unfoldable pub entries_of : List ℕ → Result (List Entry) FileFault
-entries_of text = if nat_lt 16777216 (length text) then Err TooMany else or_fault NotJson (option_and_then list_of (read text)) >=> listed_entries
+entries_of text = if nat_lt MOST_BYTES (length text) then Err TooMany else or_fault NotJson (option_and_then list_of (read text)) >=> listed_entries

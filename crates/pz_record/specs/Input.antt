@@ -3,6 +3,7 @@ use Rattle.std.specs.Prelude.{ℕ, List, [], ◌∷◌, length, map, nat_lt, sli
 use Rattle.std.specs.Str.{bytes_eq}
 use Rattle.serde_json.specs.Data.{Data, number, string, unsigned}
 use Rattle.pz_source.specs.declared.direction.Dir.TheVariants.{Up, Down, Left, Right, Action}
+use Rattle.pz_record.specs.declared.input.TheConstants.{MOST_INPUTS}
 use Rattle.pz_record.specs.declared.input.Input.{Input}
 use Rattle.pz_record.specs.declared.input.Input.TheVariants.{Press, Undo, Restart, Tick}
 use Rattle.pz_source.specs.Each.{all_some}
@@ -24,6 +25,6 @@ input_of _ = None
 abbrev pub at_most : {A : Type 0} → ℕ → List A → Option (List A)
 at_most n xs = if nat_lt n (length xs) then None else Some xs
 
--- a list of at most 65,536 inputs
+-- a list of no more inputs than a session may have
 unfoldable pub inputs_of : Data → Option (List Input)
-inputs_of d = list_of d >>= at_most 65536 >>= (λ ds. all_some (map input_of ds))
+inputs_of d = list_of d >>= at_most MOST_INPUTS >>= (λ ds. all_some (map input_of ds))

@@ -11,10 +11,10 @@ use serde_json::Value;
 use std::alloc::Global;
 
 /// The most bytes that a file has.
-const MOST_BYTES: usize = 16_777_216;
+pub const MOST_BYTES: usize = 16_777_216;
 
 /// The most entries that a file has.
-const MOST_ENTRIES: usize = 65_536;
+pub const MOST_ENTRIES: usize = 65_536;
 
 /// The entries of the values, or the first fault.
 fn read_entries(alloc: Global, list: &[Value]) -> Result<Vec<Entry>, FileFault>
@@ -35,7 +35,7 @@ fn read_entries(alloc: Global, list: &[Value]) -> Result<Vec<Entry>, FileFault>
 pub fn read_sessions(alloc: Global, text: &str) -> Result<Vec<Entry>, FileFault>
     ensures read { IfOk result (λ entries. entries_of text.now ≡ Ok entries.items) }
     ensures refused { IfErr result (λ fault. fault ≢ Memory → entries_of text.now ≡ Err fault) }
-    ensures few { IfOk result (λ entries. length entries.items ≤ 65536) }
+    ensures few { IfOk result (λ entries. length entries.items ≤ MOST_ENTRIES) }
 {
     if text.len() > MOST_BYTES {
         return Err(FileFault::TooMany);

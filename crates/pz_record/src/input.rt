@@ -10,6 +10,9 @@ use serde_json::Value;
 use std::alloc::{AllocError, Global};
 use std::marker::Model;
 
+/// The most inputs that a session has.
+pub const MOST_INPUTS: usize = 65_536;
+
 /// An input of a session: a direction or the action is pressed, the last change is undone, the level is restarted, or time passes.
 #[derive(Clone, Copy, Debug, PartialEq, Eq)]
 pub enum Input {
@@ -19,7 +22,7 @@ pub enum Input {
     Tick,
 }
 
-/// The inputs of a session, at most 65,536, which contracts see as their list.
+/// The inputs of a session, at most `MOST_INPUTS`, which contracts see as their list.
 #[derive(Drop, Debug)]
 pub struct Inputs {
     items: Vec<Input>,
@@ -28,17 +31,18 @@ pub struct Inputs {
 impl Model for Inputs {
     ghost use Rattle.std.specs.Prelude.{List, ◌≤◌, length};
     ghost use Rattle.pz_record.specs.declared.input.Input.{Input};
+    ghost use Rattle.pz_record.specs.declared.input.TheConstants.{MOST_INPUTS};
 
     ghost Value = { List Input };
 
     ghost view = { λ i. i.items.items };
 
-    ghost invariant = { λ i. length i.items.items ≤ 65536 };
+    ghost invariant = { λ i. length i.items.items ≤ MOST_INPUTS };
 }
 
 impl Inputs {
     pub fn new(items: Vec<Input>) -> Inputs
-        requires { length items.items ≤ 65536 }
+        requires { length items.items ≤ MOST_INPUTS }
         ensures { result ≡ items.items }
     {
         Inputs { items }
@@ -46,7 +50,7 @@ impl Inputs {
 
     pub fn items(&self) -> &[Input]
         ensures items { result.now ≡ self.now }
-        ensures few { length self.now ≤ 65536 }
+        ensures few { length self.now ≤ MOST_INPUTS }
     {
         self.items.as_slice()
     }
@@ -76,7 +80,7 @@ fn read_input(value: &Value) -> Option<Input>
 
 /// The inputs, if each element is one.
 fn read_each(alloc: Global, list: &[Value]) -> Result<Option<Inputs>, AllocError>
-    requires { length list.now ≤ 65536 }
+    requires { length list.now ≤ MOST_INPUTS }
     ensures { IfOk result (λ inputs. inputs ≡ all_some (map (λ v. input_of (data_of v)) list.now)) }
 {
     let mut items = Vec::new(alloc);
@@ -89,14 +93,14 @@ fn read_each(alloc: Global, list: &[Value]) -> Result<Option<Inputs>, AllocError
     Ok(Some(Inputs::new(items)))
 }
 
-/// The inputs that a list gives; None: it is no list of at most 65,536 inputs.
+/// The inputs that a list gives; None: it is no list of at most `MOST_INPUTS` inputs.
 pub(crate) fn read_inputs(alloc: Global, value: &Value) -> Result<Option<Inputs>, AllocError>
     ensures { IfOk result (λ inputs. inputs ≡ inputs_of (data_of value.now)) }
 {
     let Some(list) = value.as_array() else {
         return Ok(None);
     };
-    if list.len() > 65536 {
+    if list.len() > MOST_INPUTS {
         return Ok(None);
     }
     read_each(alloc, list)

@@ -3,6 +3,7 @@ use Rattle.std.specs.Prelude.{ℕ, ◌+◌, Bool, nat_lt, List, Result, Ok, Err,
 use Rattle.std.specs.List.{list_any}
 use Rattle.pz_names.specs.declared.denotation.Denotation.{Denotation}
 use Rattle.pz_rules.specs.declared.expansion.Expansion.{Expansion}
+use Rattle.pz_rules.specs.declared.expansion.TheConstants.{PAIRS}
 use Rattle.pz_plan.specs.declared.fault.RuleFault.{RuleFault}
 use Rattle.pz_plan.specs.declared.fault.RuleFault.TheVariants as fault
 use Rattle.pz_rules.specs.declared.instance.Instance.{Instance}
@@ -21,7 +22,7 @@ unless_clash total instances =
 -- the instances of a plan, where all rules up to it have no more than 65,536 pairs
 unfoldable pub expansion_within : List Denotation → List ℕ → ℕ → Plan → Result Expansion RuleFault
 expansion_within table layers total plan =
-    if nat_lt 65_536 total then Err fault.TooManyRules else unless_clash total (instances_of table layers plan)
+    if nat_lt PAIRS total then Err fault.TooManyRules else unless_clash total (instances_of table layers plan)
 
 abbrev pub expanded_plan : List Denotation → List ℕ → ℕ → Result Plan RuleFault → Result Expansion RuleFault
 expanded_plan table layers pairs (Err fault) = Err fault

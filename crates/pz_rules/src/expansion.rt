@@ -32,7 +32,7 @@ pub struct Expansion {
 
 /// How many pairs there are with those of a plan, if no more than are allowed.
 fn total_within(table: &[Denotation], pairs: u64, plan: &Plan) -> Option<u64>
-    ensures { SomeIff result (pairs + pair_count table.now plan.now ≤ 65_536) (pairs + pair_count table.now plan.now) }
+    ensures { SomeIff result (pairs + pair_count table.now plan.now ≤ PAIRS) (pairs + pair_count table.now plan.now) }
 {
     let count = count_within(table, plan, PAIRS)?;
     let total = pairs.checked_add(count)?;

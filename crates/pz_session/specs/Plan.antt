@@ -5,6 +5,7 @@ use Rattle.pz_source.specs.Level.{is_playable}
 use Rattle.pz_rules.specs.declared.instance.Program.{Program}
 use Rattle.pz_rules.specs.Instance.{IsProgramOf}
 use Rattle.pz_grid.specs.Loading.{entry_at}
+use Rattle.pz_record.specs.declared.input.TheConstants.{MOST_INPUTS}
 use Rattle.pz_record.specs.declared.input.Input.{Input}
 use Rattle.pz_record.specs.declared.order.Order.{Order}
 
@@ -23,4 +24,4 @@ pub record IsPlan (plan : PlanState) : Type 0 where
   pub program : IsProgramOf plan.game.layers plan.program
   pub playable : is_playable (entry_at plan.game plan.first) ≡ true
   pub within : plan.first < length plan.game.levels
-  pub few : length plan.inputs ≤ 65536
+  pub few : length plan.inputs ≤ MOST_INPUTS

@@ -8,6 +8,7 @@ use crate::first_level::level_from;
 use crate::item::Refusal;
 use crate::plan::Plan;
 use pz_record::entry::Entry;
+use pz_record::file::MOST_ENTRIES;
 use pz_record::input::Inputs;
 use pz_record::order::Order;
 use pz_record::recorded::Recorded;
@@ -18,7 +19,7 @@ use pz_text::text::Text;
 use std::alloc::{AllocError, Global};
 use std::marker::Model;
 
-/// The cases of a list of entries, at most 65,536, which contracts see as their list.
+/// The cases of a list of entries, at most `MOST_ENTRIES`, which contracts see as their list.
 #[derive(Drop)]
 pub struct Job {
     cases: Vec<Case>,
@@ -26,20 +27,21 @@ pub struct Job {
 
 impl Model for Job {
     ghost use Rattle.std.specs.Prelude.{List, ◌≤◌, length};
+    ghost use Rattle.pz_record.specs.declared.file.TheConstants.{MOST_ENTRIES};
     ghost use Rattle.pz_session.specs.declared.case.Case.{Case};
 
     ghost Value = { List Case };
 
     ghost view = { λ j. j.cases.items };
 
-    ghost invariant = { λ j. length j.cases.items ≤ 65536 };
+    ghost invariant = { λ j. length j.cases.items ≤ MOST_ENTRIES };
 }
 
 impl Job {
     /// The number of cases.
     pub fn len(&self) -> usize
         ensures count { result ≡ length self.now }
-        ensures few { result ≤ 65536 }
+        ensures few { result ≤ MOST_ENTRIES }
     {
         self.cases.len()
     }
@@ -113,7 +115,7 @@ fn make_case(alloc: Global, entry: Entry, order: Order) -> Result<Case, AllocErr
 /// The job that the entries make, each level's cells in this order: a case for each entry. An entry whose source or rules
 /// can't be read, or whose index leaves no level, makes a case that is refused.
 pub fn prepare(alloc: Global, entries: Vec<Entry>, order: Order) -> Result<Job, AllocError>
-    requires { length entries.items ≤ 65536 }
+    requires { length entries.items ≤ MOST_ENTRIES }
     ensures { IfOk result (λ job. job ≡ job_of order entries.items) }
 {
     let mut cases = Vec::new(alloc);

@@ -5,6 +5,8 @@ use Rattle.pz_text.specs.NameSet.{number_in}
 use Rattle.pz_names.specs.Word.{IsWord}
 use Rattle.pz_names.specs.Denotation.{IsDenoted}
 use Rattle.pz_names.specs.declared.denotation.Denotation.{Denotation}
+use Rattle.pz_names.specs.declared.objects.TheConstants.{MAX_OBJECTS}
+use Rattle.pz_source.specs.declared.layers.TheConstants.{MAX_LAYERS}
 use Rattle.pz_source.specs.declared.level.LevelEntry.{LevelEntry}
 use Rattle.pz_source.specs.declared.level.LevelEntry.TheVariants.{Message, Level}
 use Rattle.pz_source.specs.declared.rules.RuleLine.{RuleLine}
@@ -52,8 +54,8 @@ IsDrawnBy names (Level drawing) = All (λ number. number < names) drawing.cells
 
 -- what holds of every game
 pub record IsGame (game : GameView) : Type 0 where
-  pub few : length game.objects ≤ 128
-  pub shallow : game.depth ≤ 25
+  pub few : length game.objects ≤ MAX_OBJECTS
+  pub shallow : game.depth ≤ MAX_LAYERS
   pub laid : length game.layers ≡ length game.objects
   pub layered : All (λ layer. layer < game.depth) game.layers
   pub denoted : length game.values ≡ length game.names

@@ -16,7 +16,7 @@ use crate::rules::rule_lines;
 use crate::wins::read_wins;
 use pz_names::denotation::Denotation;
 use pz_names::name_line::NameLine;
-use pz_names::objects::read_objects;
+use pz_names::objects::{MAX_OBJECTS, read_objects};
 use pz_names::values::read_legend;
 use pz_text::check::read_lines;
 use pz_text::fault::SourceFault;
@@ -56,7 +56,7 @@ fn read_over(
     names: NameSet,
     values: Vec<Denotation>,
 ) -> Result<Game, SourceFault>
-    requires few { length objects.now ≤ 128 }
+    requires few { length objects.now ≤ MAX_OBJECTS }
     requires named { All IsNamed objects.now }
     requires all { length values.items ≡ length names }
     requires denoted { All (IsDenoted (length objects.now)) values.items }
@@ -100,7 +100,7 @@ fn read_over_objects(
     objects: &[NameLine],
     mut names: NameSet,
 ) -> Result<Game, SourceFault>
-    requires few { length objects.now ≤ 128 }
+    requires few { length objects.now ≤ MAX_OBJECTS }
     requires named { All IsNamed objects.now }
     requires names { names ≡ object_names objects.now }
     ensures read { IfOk result (λ game. game_of_objects lines.now objects.now ≡ Ok game) }

@@ -6,9 +6,9 @@ use Rattle.pz_record.proofs.input.read_inputs.Goals as goal
 pub returns-in_default : goal.returns-in_default
 returns-in_default c = let none = inputs_of-none (data_of c.args.value.now) (search rules) in rw none refl
 
-pub returns-then-len-gt65536 : goal.returns-then-len-gt65536
-returns-then-len-gt65536 c =
-    let many : 65536 < length c.in-Some.list.now.items = omega (arith, c.len.ensures, c.if-len-gt65536.true, c.in-Some.list.now.ok.0) in
+pub returns-then-len-gt-MOST_INPUTS : goal.returns-then-len-gt-MOST_INPUTS
+returns-then-len-gt-MOST_INPUTS c =
+    let many : 65536 < length c.in-Some.list.now.items = omega (arith, c.len.ensures, c.if-len-gt-MOST_INPUTS.true, c.in-Some.list.now.ok.0) in
     let none = inputs_of-many (data_of c.args.value.now) c.in-Some.list.now.items (search rules) many in
     rw none refl
 
