@@ -70,11 +70,7 @@ glyph-named game number h within =
 pub lawful-drawn : (game : GameView) (drawing : Drawing) → IsGame game → IsDrawing drawing → All (λ number. number < length game.values) drawing.cells → IsLawful (drawn game drawing)
 lawful-drawn game drawing h d numbers = record {
   covers = length-map drawing.cells (glyph_cell game) ∙ d.covers;
-  some_width = d.some_width;
-  some_height = d.some_height;
-  narrow = d.narrow;
-  low = d.low;
-  small = d.small;
+  size = d.size;
   shallow = h.shallow;
   few = omega (arith, h.laid, h.few);
   layered = h.layered;

@@ -56,11 +56,7 @@ rewritten_is_cell depth layers left right cell are h =
 pub lawful-with_rewritten : (grid : Grid) (x y : ℕ) (left right : List Item) → AreOf grid.layers right → y * grid.width + x < length grid.cells → IsLawful grid → IsLawful (with_rewritten grid x y left right)
 lawful-with_rewritten grid x y left right are within h = record {
   covers = length-set grid.cells (y * grid.width + x) (rewritten_cell left right (cell_at grid x y)) ∙ h.covers;
-  some_width = h.some_width;
-  some_height = h.some_height;
-  narrow = h.narrow;
-  low = h.low;
-  small = h.small;
+  size = h.size;
   shallow = h.shallow;
   few = h.few;
   layered = h.layered;

@@ -3,6 +3,7 @@ use Rattle.std.specs.Prelude.{◌≡◌, ℕ, ◌+◌, ◌*◌, ◌<◌, ◌≤�
 use Rattle.pz_names.specs.declared.objects.TheConstants.{MAX_OBJECTS}
 use Rattle.pz_source.specs.declared.layers.TheConstants.{MAX_LAYERS}
 use Rattle.pz_source.specs.Game.{GameView}
+use Rattle.pz_source.specs.Size.{IsSize}
 use Rattle.pz_grid.specs.declared.cell.Piece.{Piece}
 use Rattle.pz_grid.specs.Cell.{IsCell}
 
@@ -35,11 +36,7 @@ with_place grid x y layer place =
 -- what holds of every level: it has a cell for each position, each a cell of the game, and is within the limits
 pub record IsLawful (grid : Grid) : Type 0 where
   pub covers : length grid.cells ≡ grid.width * grid.height
-  pub some_width : 0 < grid.width
-  pub some_height : 0 < grid.height
-  pub narrow : grid.width ≤ 255
-  pub low : grid.height ≤ 255
-  pub small : grid.width * grid.height ≤ 16384
+  pub size : IsSize grid.width grid.height
   pub shallow : grid.depth ≤ MAX_LAYERS
   pub few : length grid.layers ≤ MAX_OBJECTS
   pub layered : All (λ layer. layer < grid.depth) grid.layers

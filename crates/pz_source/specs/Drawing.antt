@@ -1,5 +1,6 @@
 -- A level as its rows draw it.
-use Rattle.std.specs.Prelude.{◌≡◌, ℕ, ◌*◌, ◌<◌, ◌≤◌, List, length}
+use Rattle.std.specs.Prelude.{◌≡◌, ℕ, ◌*◌, List, length}
+use Rattle.pz_source.specs.Size.{IsSize}
 
 -- its size, and for each cell, row by row, the number of the name that its glyph is
 pub record Drawing : Type 0 where
@@ -10,8 +11,4 @@ pub record Drawing : Type 0 where
 -- a level has a cell for each position, and is within the limits of its sides
 pub record IsDrawing (drawing : Drawing) : Type 0 where
   pub covers : length drawing.cells ≡ drawing.width * drawing.height
-  pub some_width : 0 < drawing.width
-  pub some_height : 0 < drawing.height
-  pub narrow : drawing.width ≤ 255
-  pub low : drawing.height ≤ 255
-  pub small : drawing.width * drawing.height ≤ 16384
+  pub size : IsSize drawing.width drawing.height

@@ -4,6 +4,7 @@ pub mod Missing
 pub mod Layers
 pub mod Rules
 pub mod Wins
+pub mod Size
 pub mod Drawing
 pub mod Level
 pub mod Levels

@@ -45,6 +45,6 @@ returns-clause-reads_back c no_comma =
     let all : c.loop-number.number ≡ length cells = ends ∙ ap₂ (λ w h. w * h) c.width-width.ensures.width c.height.ensures.height ∙ sym (length-texts_in game c.args.order grid) in
     let is : c.new.result ≡ text_of_cells grid.width cells =
     c.new.ensures ∙ all_written c.width-width.result cells c.loop-number.number (string_bytes c.loop-number.text) all c.loop-number.invariant.text ∙ ap (λ w. text_of_cells w cells) c.width-width.ensures.width in
-    let small : grid.width * grid.height ≤ 16384 = c.height.ensures.lawful.small in
+    let small : grid.width * grid.height ≤ 16384 = c.height.ensures.lawful.size.small in
     let few : length cells < 2 ^ 64 = rw (length-texts_in game c.args.order grid) (omega arith) in
     ap reading is ∙ level_reads game c.args.order grid grid.width c.objects-objects.ensures.game no_comma few
