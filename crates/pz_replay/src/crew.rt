@@ -1,6 +1,6 @@
 //! The crew: workers, each with a lane to the recorder, in one scope of threads.
 
-ghost use Rattle.std.specs.Prelude.{◌≡◌, ◌≢◌, ◌+◌, ◌≤◌, [], map, length, replicate, All, IfOk, IfErr, IfSome, IfNone, IsSome, ◌⊎◌, Err, IsOk};
+ghost use Rattle.std.specs.Prelude.{◌≡◌, ◌≢◌, ◌+◌, ◌≤◌, [], map, length, replicate, All, IfOk, IfErr, IfSome, IfNone, IsSome, ◌⊎◌, None, Err, IsOk};
 ghost use Rattle.pz_replay.specs.declared.lane.End.TheVariants.{GateClosed as gate_closed};
 ghost use Rattle.pz_replay.specs.Crew.{IsAll, IsDone, IsOpened, IsSettled};
 ghost use Rattle.pz_replay.specs.Pieces.{sent_for, sessions_of};
@@ -109,6 +109,7 @@ fn settle(
     ensures settled { IfOk result (λ made. IfOk below (λ before. IsSettled (sessions_of job.now) desk before.0 before.1 made.0 made.1)) }
     ensures below { IfOk result (λ _. IsOk below) }
     ensures workers { result ≡ Err ReplayFault.Workers → below ≡ Err ReplayFault.Workers }
+    ensures lost { result ≡ Err ReplayFault.LaneLost → (worked.sent ≡ None) ⊎ (below ≡ Err ReplayFault.LaneLost) }
     ensures opened { IfErr result (λ fault. fault ≡ ReplayFault.GateClosed → (worked.end ≡ End.GateClosed) ⊎ (below ≡ Err ReplayFault.GateClosed)) }
 {
     let Worked { end, ended, sent } = worked;

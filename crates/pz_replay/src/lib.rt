@@ -7,6 +7,7 @@ pub mod gate;
 pub mod lane;
 mod line;
 mod naming;
+pub mod output;
 mod recorder;
 pub mod recording;
 pub mod replaying;

@@ -3,6 +3,7 @@ mod replaying;
 mod work;
 
 use crate::fault::{Cause, WriteFault};
+use crate::output::Output;
 use crate::recording::{Record, Recording};
 use crate::writing::write_recording;
 use pz_session::item::{Frame, FrameKind, Item, Verdict};
@@ -87,25 +88,25 @@ const WALK: &str =
 #[test]
 fn writes_the_walk(rt: HostRuntime) -> Result<(), Fail> {
     let recording = walk(rt.alloc())?;
-    let mut output: Vec<u8> = Vec::new(rt.alloc());
+    let mut output = Output::new(Vec::new(rt.alloc()));
     assert!(rt; write_recording(rt.alloc(), &recording, &mut output).is_ok());
-    assert!(rt; output.as_slice() == WALK.as_bytes());
+    assert!(rt; output.into_writer().as_slice() == WALK.as_bytes());
     Ok(())
 }
 
 #[test]
 fn counts_what_went_out(rt: HostRuntime) -> Result<(), Fail> {
     let recording = walk(rt.alloc())?;
-    let mut output = Failing {
+    let mut output = Output::new(Failing {
         bytes: Vec::new(rt.alloc()),
         calls: 0,
-    };
+    });
     let fault = WriteFault {
         written: 21,
         cause: Cause::Device,
     };
     assert!(rt; write_recording(rt.alloc(), &recording, &mut output) == Err(fault));
-    assert!(rt; output.bytes.as_slice() == b"{\"at\":0,\"frame\":0,\"ki".as_slice());
+    assert!(rt; output.into_writer().bytes.as_slice() == b"{\"at\":0,\"frame\":0,\"ki".as_slice());
     Ok(())
 }
 
@@ -116,6 +117,6 @@ fn ends_where_nothing_is_taken(rt: HostRuntime) -> Result<(), Fail> {
         written: 0,
         cause: Cause::Zero,
     };
-    assert!(rt; write_recording(rt.alloc(), &recording, &mut Full) == Err(fault));
+    assert!(rt; write_recording(rt.alloc(), &recording, &mut Output::new(Full)) == Err(fault));
     Ok(())
 }

@@ -1,5 +1,5 @@
 -- A reader that is at its end has given all that it had.
-use Rattle.std.proofs.Common.{◌≡◌, ℕ, List, [], ◌++◌, Option, Some, None, IfSome, refl, sym, ◌∙◌, ap, append-nil}
+use Rattle.std.proofs.Common.{◌≡◌, ℕ, List, [], ◌++◌, Option, Some, None, IfSome, sym, ◌∙◌, ap, append-nil}
 use Rattle.std.specs.Io.KnownBytes.{Consumes, IsAtEnd}
 
 pub ended : (a b c : Option (List ℕ)) (bs part : List ℕ) → Consumes a b bs → Consumes b c part → part ≡ [] → IsAtEnd c → IfSome a (λ all. bs ≡ all)

@@ -1,35 +1,31 @@
 -- The parts of a line, and what of them went out.
-use Rattle.std.proofs.Common.{◌++◌, ℕ, [], List, Option, Some, None, Result, Ok, Err, OnOk, OnErr, length, take, refl, arith}
-use Rattle.std.proofs.lemmas.List.{append_assoc, append-nil, take_all}
-use Rattle.std.specs.Io.KnownBytes.{Appends, Keeps}
-use Rattle.pz_replay.specs.Writing.{IsSent, IsSentInPart}
-use Rattle.pz_replay.proofs.Sent.{sent_more, part_behind}
+use Rattle.std.proofs.Common.{◌≡◌, ◌++◌, ◌<◌, ℕ, ◌+◌, [], List, Result, Ok, Err, IfErr, OnOk, length, take, ap, ◌∙◌, inl, inr, arith}
+use Rattle.std.proofs.lemmas.List.{append_assoc, append-nil, take-append-le}
+use Rattle.std.proofs.Math.Seq.{take-append-add}
+use Rattle.pz_replay.specs.declared.fault.Cause.{Cause}
+use Rattle.pz_replay.specs.declared.fault.WriteFault.{WriteFault}
+use Rattle.pz_replay.specs.Writing.{Writes, HasFailed, HasWritten}
+use Rattle.pz_replay.proofs.Sent.{Appends-more, written_more, written_none}
+use Rattle.pz_replayer.specs.Serving.{IsReported}
 
--- some first bytes of a line went out
-abbrev pub Fronts : List ℕ → Option (List ℕ) → Option (List ℕ) → Type 0
-Fronts line old new = (count : ℕ) × Appends old new (take count line)
+-- a part before which x went out, and behind which z would have followed
+pub cut_behind : (x y z : List ℕ) (k : ℕ) (a b c : Writes) (cause : Cause) → k < length y → HasWritten x a b → HasFailed cause (take k y) b c → IsReported (x ++ (y ++ z)) a c
+cut_behind x y z k a b c cause h p q =
+    let front : take (length x + k) (x ++ (y ++ z)) ≡ x ++ take k y =
+    take-append-add x (y ++ z) k ∙ ap (λ t. x ++ t) (take-append-le k y z (omega (arith, h))) in
+    inr (q.failed, length x + k, rw front (Appends-more a.contents b.contents c.contents x (take k y) p.sent q.sent))
 
-pub second_part : (x y z : List ℕ) (l m n : ℕ) (a b c : Option (List ℕ)) → IsSent x l m a b → IsSentInPart y m n b c → Fronts (x ++ y ++ z) a c
-second_part x y z l m n a b c p q =
-    let whole = part_behind x y z l m n a b c p q in
-    (whole.count, rw (append_assoc x y z) whole.sent)
+-- of three parts the first was cut
+pub first_cut : (x y z : List ℕ) (k : ℕ) (a b : Writes) (cause : Cause) → k < length x → HasFailed cause (take k x) a b → IsReported (x ++ y ++ z) a b
+first_cut x y z k a b cause h q = rw (append_assoc x y z) (cut_behind [] x (y ++ z) k a a b cause h (written_none a) q)
 
-pub third_part : (x y z : List ℕ) (l m n k : ℕ) (a b c d : Option (List ℕ)) → IsSent x l m a b → IsSent y m n b c → IsSentInPart z n k c d → Fronts (x ++ y ++ z) a d
-third_part x y z l m n k a b c d p q r =
-    let whole = part_behind (x ++ y) z [] l n k a c d (sent_more x y l m n a b c p q) r in
-    (whole.count, rw (append-nil z) at whole.sent)
+-- the second
+pub second_cut : (x y z : List ℕ) (k : ℕ) (a b c : Writes) (cause : Cause) → k < length y → HasWritten x a b → HasFailed cause (take k y) b c → IsReported (x ++ y ++ z) a c
+second_cut x y z k a b c cause h p q = rw (append_assoc x y z) (cut_behind x y z k a b c cause h p q)
 
-pub front_whole : (line : List ℕ) (a b : Option (List ℕ)) → Appends a b line → Fronts line a b
-front_whole line a b p = (length line, rw (take_all (length line) line (omega arith)) p)
-
-pub front_if_ok : {A E : Type 0} (r : Result A E) (line : List ℕ) (a b : Option (List ℕ)) → OnOk r (Appends a b line) → OnErr r (Fronts line a b) → Fronts line a b
-front_if_ok (Ok x) line a b ok err = front_whole line a b ok
-front_if_ok (Err e) line a b ok err = err
-
-pub third_if_err : {A E : Type 0} (r : Result A E) (x y z : List ℕ) (l m n k : ℕ) (a b c d : Option (List ℕ)) → IsSent x l m a b → IsSent y m n b c → OnErr r (IsSentInPart z n k c d) → OnErr r (Fronts (x ++ y ++ z) a d)
-third_if_err (Ok x) _ _ _ _ _ _ _ _ _ _ _ p q r = tt
-third_if_err (Err e) x y z l m n k a b c d p q r = third_part x y z l m n k a b c d p q r
-
-pub Keeps-same : (o : Option (List ℕ)) → Keeps o o
-Keeps-same None = tt
-Keeps-same (Some xs) = refl
+-- the third was cut, or none
+pub third_end : {A : Type 0} (r : Result A WriteFault) (x y z : List ℕ) (a b c d : Writes) → HasWritten x a b → HasWritten y b c
+    → OnOk r (HasWritten z c d) → IfErr r (λ fault. fault.written < length z) → IfErr r (λ fault. HasFailed fault.cause (take fault.written z) c d) → IsReported (x ++ y ++ z) a d
+third_end (Ok v) x y z a b c d p q whole within cut = inl (written_more (x ++ y) z a c d (written_more x y a b c p q) whole)
+third_end (Err fault) x y z a b c d p q whole within cut =
+    rw (append-nil z) at (cut_behind (x ++ y) z [] fault.written a c d fault.cause within (written_more x y a b c p q) cut)

@@ -1,7 +1,8 @@
 -- What contracts see of a reader whose calls are counted.
-use Rattle.std.specs.Prelude.{ℕ, List, Option}
+use Rattle.std.specs.Prelude.{ℕ, Bool, List, Option}
 
--- the bytes that are still to come, where they are known, and how often the reader was called
+-- the bytes that are still to come, where they are known, how often the reader was called, and whether a call answered an error
 pub record Reads : Type 0 where
   pub remaining : Option (List ℕ)
   pub calls : ℕ
+  pub has_failed : Bool

@@ -1,6 +1,6 @@
 //! The reading of a file.
 
-ghost use Rattle.std.specs.Prelude.{◌≡◌, ◌≤◌, ◌+◌, IfOk, IfErr, IfSome, length};
+ghost use Rattle.std.specs.Prelude.{◌≡◌, ◌≤◌, ◌+◌, ◌↔◌, true, false, Err, IfOk, IfErr, IfSome, length};
 
 use crate::counted::Counted;
 use std::alloc::Global;
@@ -22,10 +22,11 @@ pub(crate) fn read_input<R: Read>(
     alloc: Global,
     input: &mut Counted<R>,
 ) -> Result<Vec<u8>, InputFault>
-    requires { input.old.calls ≡ 0 }
+    requires fresh { (input.old.calls ≡ 0) × (input.old.has_failed ≡ false) }
     ensures whole { IfOk result (λ bytes. IfSome input.old.remaining (λ all. bytes.items ≡ all)) }
     ensures size { IfOk result (λ bytes. length bytes.items ≤ 16777216) }
     ensures called { input.new.calls ≤ 16777217 }
+    ensures failed { (result ≡ Err InputFault.Device) ↔ (input.new.has_failed ≡ true) }
     ensures long { IfErr result (λ fault. fault ≡ InputFault.TooLong → IfSome input.old.remaining (λ all. 16777217 ≤ length all)) }
 {
     let mut bytes = Vec::new(alloc);

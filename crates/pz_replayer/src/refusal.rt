@@ -1,19 +1,18 @@
 //! Why the program ends without a whole recording, and the line that says so.
 
-ghost use Rattle.std.specs.Prelude.{◌≡◌, ◌++◌, ℕ, take, OnErr, OnOk};
-ghost use Rattle.std.specs.Io.KnownBytes.{Appends};
-ghost use Rattle.pz_replayer.specs.Serving.{file_line, refusal_line};
+ghost use Rattle.std.specs.Prelude.{◌≡◌, ◌++◌};
+ghost use Rattle.pz_replayer.specs.Serving.{IsReported, file_line, refusal_line};
 ghost use Rattle.pz_replayer.specs.declared.refusal.Refusal.TheVariants.{Memory};
 
 use itoa::Buffer;
 use pz_record::fault::FileFault;
-use pz_replay::fault::Cause;
-use pz_replay::writing::write_line;
+use pz_replay::fault::WriteFault;
+use pz_replay::output::Output;
 use std::alloc::AllocError;
 use std::io::Write;
 
 /// Why there is no whole recording: memory or a thread was refused, the command line is bad, FILE can't be opened, a read failed, the
-/// file of sessions has a fault, a worker's lane was lost, or the writing ended after so many bytes.
+/// file of sessions has a fault, a worker's lane was lost, or the writing ended before the last byte.
 #[derive(Clone, Copy, Debug, PartialEq, Eq)]
 pub enum Refusal {
     Memory,
@@ -22,7 +21,7 @@ pub enum Refusal {
     ReadFault,
     File(FileFault),
     LaneLost,
-    WriteFault(u64),
+    WriteFault(WriteFault),
 }
 
 impl From<AllocError> for Refusal {
@@ -38,21 +37,18 @@ fn write_parts<E: Write>(
     first: &str,
     second: &str,
     third: &str,
-    errors: &mut E,
-) -> Result<(), Cause>
-    ensures ok { OnOk result (Appends (E.contents errors.old) (E.contents errors.new) (first.now ++ second.now ++ third.now)) }
-    ensures err { OnErr result ((count : ℕ) × Appends (E.contents errors.old) (E.contents errors.new) (take count (first.now ++ second.now ++ third.now))) }
+    errors: &mut Output<E>,
+) -> Result<(), WriteFault>
+    ensures { IsReported (first.now ++ second.now ++ third.now) errors.old errors.new }
 {
-    let mut written = 0;
-    write_line(first.as_bytes(), &mut written, errors)?;
-    write_line(second.as_bytes(), &mut written, errors)?;
-    write_line(third.as_bytes(), &mut written, errors)
+    errors.write_whole(first.as_bytes())?;
+    errors.write_whole(second.as_bytes())?;
+    errors.write_whole(third.as_bytes())
 }
 
 /// Writes the line of a fault of the file.
-fn report_file<E: Write>(fault: FileFault, errors: &mut E) -> Result<(), Cause>
-    ensures ok { OnOk result (Appends (E.contents errors.old) (E.contents errors.new) (file_line fault)) }
-    ensures err { OnErr result ((count : ℕ) × Appends (E.contents errors.old) (E.contents errors.new) (take count (file_line fault))) }
+fn report_file<E: Write>(fault: FileFault, errors: &mut Output<E>) -> Result<(), WriteFault>
+    ensures { IsReported (file_line fault) errors.old errors.new }
 {
     let mut digits = Buffer::new();
     match fault {
@@ -75,9 +71,8 @@ fn report_file<E: Write>(fault: FileFault, errors: &mut E) -> Result<(), Cause>
 }
 
 /// Writes the line of a refusal. Where that writer fails too, the line ends early.
-fn report<E: Write>(refusal: Refusal, errors: &mut E) -> Result<(), Cause>
-    ensures ok { OnOk result (Appends (E.contents errors.old) (E.contents errors.new) (refusal_line refusal)) }
-    ensures err { OnErr result ((count : ℕ) × Appends (E.contents errors.old) (E.contents errors.new) (take count (refusal_line refusal))) }
+fn report<E: Write>(refusal: Refusal, errors: &mut Output<E>) -> Result<(), WriteFault>
+    ensures { IsReported (refusal_line refusal) errors.old errors.new }
 {
     let mut digits = Buffer::new();
     match refusal {
@@ -87,19 +82,19 @@ fn report<E: Write>(refusal: Refusal, errors: &mut E) -> Result<(), Cause>
         Refusal::ReadFault => write_parts("read-fault", "", "\n", errors),
         Refusal::File(fault) => report_file(fault, errors),
         Refusal::LaneLost => write_parts("lane-lost", "", "\n", errors),
-        Refusal::WriteFault(written) => write_parts(
+        Refusal::WriteFault(fault) => write_parts(
             "write-fault ",
-            digits.format(written),
+            digits.format(fault.written),
             "\n",
             errors,
         ),
     }
 }
 
-/// Ends with the line of a refusal, whether it goes out or not: the status is 2.
-pub(crate) fn refuse<E: Write>(refusal: Refusal, errors: &mut E) -> u8
+/// Ends with the line of a refusal: the status is 2.
+pub(crate) fn refuse<E: Write>(refusal: Refusal, errors: &mut Output<E>) -> u8
     ensures status { result ≡ 2 }
-    ensures line { (count : ℕ) × Appends (E.contents errors.old) (E.contents errors.new) (take count (refusal_line refusal)) }
+    ensures line { IsReported (refusal_line refusal) errors.old errors.new }
 {
     let _ = report(refusal, errors);
     2

@@ -1,6 +1,6 @@
 //! The serving of a file of sessions.
 
-ghost use Rattle.std.specs.Prelude.{◌≡◌, ◌≢◌, ◌≤◌, ◌⊎◌, Bool, Result, Ok, Err, IfOk, IfErr, length};
+ghost use Rattle.std.specs.Prelude.{◌≡◌, ◌≢◌, ◌≤◌, ◌⊎◌, ◌↔◌, Bool, true, false, Result, Ok, Err, IfOk, IfErr, length};
 ghost use Rattle.pz_record.specs.declared.fault.FileFault.TheVariants as fault;
 ghost use Rattle.pz_replayer.specs.declared.refusal.Refusal.{Refusal};
 ghost use Rattle.pz_replayer.specs.Serving.{Reports, Serves, all_passed, has_passed, sessions_in, shown_of, status_of};
@@ -15,6 +15,7 @@ use pz_record::file::read_sessions;
 use pz_record::order::Order;
 use pz_replay::fault::ReplayFault;
 use pz_replay::gate::Always;
+use pz_replay::output::Output;
 use pz_replay::recording::{Record, Recording};
 use pz_replay::replaying::replay;
 use pz_replay::writing::write_recording;
@@ -83,14 +84,15 @@ fn run<T: Threads + Wait + Sync, R: Read, W: Write>(
     rt: &T,
     alloc: Global,
     input: &mut Counted<R>,
-    output: &mut W,
+    output: &mut Output<W>,
     options: Options,
 ) -> Result<bool, Refusal>
-    requires fresh { input.old.calls ≡ 0 }
+    requires fresh { (input.old.calls ≡ 0) × (input.old.has_failed ≡ false) }
     requires some { 1 ≤ options.workers }
     requires few { options.workers ≤ 64 }
     ensures called { input.new.calls ≤ 16777217 }
-    ensures served { Serves options.order input.old.remaining (W.contents output.old) (W.contents output.new) result }
+    ensures failed { (result ≡ Err Refusal.ReadFault) ↔ (input.new.has_failed ≡ true) }
+    ensures served { Serves options.order input.old.remaining output.old output.new result }
 {
     let bytes = match read_input(alloc, input) {
         Ok(bytes) => bytes,
@@ -105,26 +107,27 @@ fn run<T: Threads + Wait + Sync, R: Read, W: Write>(
     let recording = record(rt, alloc, entries, options)?;
     match write_recording(alloc, &recording, output) {
         Ok(()) => Ok(all_passed(&recording)),
-        Err(fault) => Err(Refusal::WriteFault(fault.written)),
+        Err(fault) => Err(Refusal::WriteFault(fault)),
     }
 }
 
-/// Serves as `serve` does, from a reader that was not called yet and is called at most 16,777,217 times.
+/// Serves as `serve` does, from a reader that was not called yet and is called at most 16,777,217 times. It ends for a failed read exactly where a
+/// call of the reader answered an error.
 pub fn serve_counted<T: Threads + Wait + Sync, R: Read, W: Write, E: Write>(
     rt: &T,
     alloc: Global,
     input: &mut Counted<R>,
-    output: &mut W,
-    errors: &mut E,
+    output: &mut Output<W>,
+    errors: &mut Output<E>,
     options: Options,
 ) -> u8
-    requires fresh { input.old.calls ≡ 0 }
+    requires fresh { (input.old.calls ≡ 0) × (input.old.has_failed ≡ false) }
     requires some { 1 ≤ options.workers }
     requires few { options.workers ≤ 64 }
     ensures called { input.new.calls ≤ 16777217 }
-    ensures served { (end : Result Bool Refusal) × (result ≡ status_of end)
-        × Serves options.order input.old.remaining (W.contents output.old) (W.contents output.new) end
-        × Reports (E.contents errors.old) (E.contents errors.new) end }
+    ensures served { (end : Result Bool Refusal) × (result ≡ status_of end) × ((end ≡ Err Refusal.ReadFault) ↔ (input.new.has_failed ≡ true))
+        × Serves options.order input.old.remaining output.old output.new end
+        × Reports errors.old errors.new end }
 {
     match run(rt, alloc, input, output, options) {
         Ok(true) => 0,
@@ -141,8 +144,8 @@ pub fn serve<T: Threads + Wait + Sync, R: Read, W: Write, E: Write>(
     rt: &T,
     alloc: Global,
     input: R,
-    output: &mut W,
-    errors: &mut E,
+    output: &mut Output<W>,
+    errors: &mut Output<E>,
     options: Options,
 ) -> u8
 where
@@ -150,8 +153,8 @@ where
     requires some { 1 ≤ options.workers }
     requires few { options.workers ≤ 64 }
     ensures { (end : Result Bool Refusal) × (result ≡ status_of end)
-        × Serves options.order (R.remaining input) (W.contents output.old) (W.contents output.new) end
-        × Reports (E.contents errors.old) (E.contents errors.new) end }
+        × Serves options.order (R.remaining input) output.old output.new end
+        × Reports errors.old errors.new end }
 {
     serve_counted(rt, alloc, &mut Counted::new(input), output, errors, options)
 }

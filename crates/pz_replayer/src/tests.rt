@@ -1,6 +1,8 @@
+use crate::command_line::serve_words;
 use crate::options::{Options, OptionsFault, read_options};
 use crate::serving::serve;
 use pz_record::order::Order;
+use pz_replay::output::Output;
 use std::io;
 use std::io::Read;
 use std::test::Fail;
@@ -81,21 +83,27 @@ const REFUSED: &str = r#"[["walk",["no game",[3],"",0]]]"#;
 const CLOSE: &str =
     "{\"cause\":\"Section:0\",\"close\":\"refused\",\"frames\":0,\"name\":\"walk\",\"session\":0}\n";
 
+/// A reader of these bytes that fails at this call.
+fn slow<'a>(bytes: &'a [u8], fails_at: usize) -> Slow<'a> {
+    Slow {
+        bytes,
+        calls: 0,
+        fails_at,
+    }
+}
+
 #[test]
 fn ends_at_a_read_that_fails(rt: HostRuntime) -> Result<(), Fail> {
     for fails_at in 0..REFUSED.len() + 2 {
-        let input = Slow {
-            bytes: REFUSED.as_bytes(),
-            calls: 0,
-            fails_at,
-        };
+        let input = slow(REFUSED.as_bytes(), fails_at);
         let options = Options {
             workers: 1,
             order: Order::Columns,
         };
-        let mut output: Vec<u8> = Vec::new(rt.alloc());
-        let mut errors: Vec<u8> = Vec::new(rt.alloc());
+        let mut output = Output::new(Vec::new(rt.alloc()));
+        let mut errors = Output::new(Vec::new(rt.alloc()));
         let status = serve(&rt, rt.alloc(), input, &mut output, &mut errors, options);
+        let (output, errors) = (output.into_writer(), errors.into_writer());
         let got = (status, output.as_slice(), errors.as_slice());
         let wanted = if fails_at > REFUSED.len() {
             (1, CLOSE.as_bytes(), b"".as_slice())
@@ -103,6 +111,39 @@ fn ends_at_a_read_that_fails(rt: HostRuntime) -> Result<(), Fail> {
             (2, b"".as_slice(), b"read-fault\n".as_slice())
         };
         assert!(rt; got == wanted);
+    }
+    Ok(())
+}
+
+#[test]
+fn serves_the_input_where_no_file_is_named(rt: HostRuntime) -> Result<(), Fail> {
+    let line = words(&rt, "p --workers 1 --order rows")?;
+    let input = slow(REFUSED.as_bytes(), usize::MAX);
+    let mut output = Output::new(Vec::new(rt.alloc()));
+    let mut errors = Output::new(Vec::new(rt.alloc()));
+    let status = serve_words(&rt, &line, input, &mut output, &mut errors);
+    let (output, errors) = (output.into_writer(), errors.into_writer());
+    assert!(rt;
+        (status, output.as_slice(), errors.as_slice()) == (1, CLOSE.as_bytes(), b"".as_slice())
+    );
+    Ok(())
+}
+
+#[test]
+fn says_why_a_file_is_not_served(rt: HostRuntime) -> Result<(), Fail> {
+    for (line, said) in [
+        ("p --workers 0", "bad command line\n"),
+        ("p no/such/file", "open-fault\n"),
+    ] {
+        let line = words(&rt, line)?;
+        let mut output = Output::new(Vec::new(rt.alloc()));
+        let mut errors = Output::new(Vec::new(rt.alloc()));
+        let input = slow(REFUSED.as_bytes(), usize::MAX);
+        let status = serve_words(&rt, &line, input, &mut output, &mut errors);
+        let (output, errors) = (output.into_writer(), errors.into_writer());
+        assert!(rt;
+            (status, output.as_slice(), errors.as_slice()) == (2, b"".as_slice(), said.as_bytes())
+        );
     }
     Ok(())
 }

@@ -1,5 +1,6 @@
 use crate::fault::ReplayFault;
 use crate::gate::{Always, Gate};
+use crate::output::Output;
 use crate::recording::{Record, Recording};
 use crate::replaying::{replay, replay_with};
 use crate::writing::write_recording;
@@ -53,9 +54,9 @@ fn one_by_one(alloc: Global, job: &Job) -> Result<Recording, AllocError> {
 }
 
 fn bytes_of(alloc: Global, recording: &Recording) -> Result<Vec<u8>, Fail> {
-    let mut bytes: Vec<u8> = Vec::new(alloc);
-    write_recording(alloc, recording, &mut bytes).map_err(|_| "not written whole")?;
-    Ok(bytes)
+    let mut output = Output::new(Vec::new(alloc));
+    write_recording(alloc, recording, &mut output).map_err(|_| "not written whole")?;
+    Ok(output.into_writer())
 }
 
 /// Whether so many workers record these bytes, over lanes of one message and of 64.

@@ -4,4 +4,4 @@ use Rattle.pz_replay.specs.Writing.{IsSent}
 use Rattle.pz_replay.proofs.writing.write_recording.Given as goal
 
 abbrev pub invariant-loop-session : goal.invariant-loop-session
-invariant-loop-session g l = IsSent (lines_from 0 (take l.session l.recording)) 0 l.written (g.W.Write.contents l.fn.output) (g.W.Write.contents l.output)
+invariant-loop-session g l = IsSent (lines_from 0 (take l.session l.recording)) 0 l.written l.fn.output l.output

@@ -4,4 +4,4 @@ use Rattle.pz_replay.specs.Writing.{IsSent}
 use Rattle.pz_replay.proofs.writing.write_session.Given as goal
 
 abbrev pub invariant-loop-item : goal.invariant-loop-item
-invariant-loop-item g l = IsSent (flat_map (item_line l.session l.shown.name l.frames) (take l.item-index l.items)) l.fn.written l.written (g.W.Write.contents l.fn.output) (g.W.Write.contents l.output)
+invariant-loop-item g l = IsSent (flat_map (item_line l.session l.shown.name l.frames) (take l.item-index l.items)) l.fn.written l.written l.fn.output l.output

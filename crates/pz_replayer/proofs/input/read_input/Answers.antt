@@ -1,4 +1,4 @@
-use Rattle.std.proofs.Common.{refl, rules, arith}
+use Rattle.std.proofs.Common.{refl, rules}
 use Rattle.pz_replayer.proofs.Ended.{ended}
 use Rattle.pz_replayer.proofs.input.read_input.Goals as goal
 

@@ -1,4 +1,4 @@
-use Rattle.std.proofs.Common.{◌≡◌, ◌≤◌, ◌<◌, length}
+use Rattle.std.proofs.Common.{◌≡◌, ◌≤◌, ◌<◌, false, length}
 use Rattle.std.specs.Io.KnownBytes.{Consumes}
 use Rattle.pz_replayer.proofs.input.read_input.Given as goal
 
@@ -8,4 +8,5 @@ invariant-loop-turn g l = record {
   size : length l.bytes.items < 16777217;
   taken : Consumes l.fn.input.remaining l.input.remaining l.bytes.items;
   called : l.input.calls ≡ l._turn;
+  sound : l.input.has_failed ≡ false;
 }

@@ -1,6 +1,0 @@
-use Rattle.pz_replayer.specs.Serving.{refusal_line}
-use Rattle.pz_replayer.proofs.Reported.{front_if_ok}
-use Rattle.pz_replayer.proofs.refusal.refuse.Goals as goal
-
-pub returns-clause-line : goal.returns-clause-line
-returns-clause-line g c = front_if_ok c.report.result (refusal_line c.args.refusal) _ _ c.report.ensures.ok c.report.ensures.err
