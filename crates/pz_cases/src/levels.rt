@@ -1,69 +1,153 @@
-//! A level, loaded, pushed and moved.
+//! A level, loaded, pushed and moved. No test owns a game or a level, and no function both: such a one is dear to prove.
 
-ghost use Rattle.std.specs.Prelude.{◌≡◌, IfOk, IfSome};
+ghost use Rattle.std.specs.Prelude.{◌≡◌, IfOk};
 ghost use Rattle.pz_grid.specs.Grid.{IsOfGame};
 
+use crate::game::{game_of, joined};
 use pz_grid::{Level, push_players, resolve};
 use pz_source::direction::Dir;
 use pz_source::game::Game;
-use pz_source::reading::read_game;
-use std::alloc::{AllocError, Global};
+use std::alloc::Global;
 use std::test::Fail;
 
-const SOURCE: &str =
-    "OBJECTS\nBackground .\nblack\nPlayer p\nwhite\nWall #\ngrey\nLEGEND\nCOLLISIONLAYERS\nBackground\nPlayer, Wall\nLEVELS\np.#\n";
+/// A game with the level `p.#`.
+const GAME: [&str; 13] = [
+    "OBJECTS",
+    "Background .",
+    "black",
+    "Player p",
+    "white",
+    "Wall #",
+    "grey",
+    "LEGEND",
+    "COLLISIONLAYERS",
+    "Background",
+    "Player, Wall",
+    "LEVELS",
+    "p.#",
+];
 
-/// The level of the first entry of LEVELS, if it is one.
-fn first_level(alloc: Global, game: &Game) -> Result<Option<Level>, AllocError>
-    ensures { IfOk result (λ level. IfSome level (λ level. IsOfGame game.now level.grid)) }
+fn small_game(alloc: Global) -> Result<Game, Fail> {
+    let text = joined(alloc, &GAME, 0, "")?;
+    game_of(alloc, text.as_str())
+}
+
+/// The level of the first entry of LEVELS.
+fn loaded(alloc: Global, game: &Game) -> Result<Level, Fail>
+    ensures { IfOk result (λ level. IsOfGame game.now level.grid) }
 {
     match game.levels() {
-        [entry, ..] if entry.playable() => Ok(Some(Level::load(alloc, game, 0)?)),
-        _ => Ok(None),
+        [entry, ..] if entry.playable() => {
+            Level::load(alloc, game, 0).map_err(|_| Fail::new("no memory"))
+        }
+        _ => Err(Fail::new("no level")),
     }
 }
 
-/// The level `p.#` as loaded, and after the player was pushed to the right, and after the movement.
-fn stages(alloc: Global) -> Result<(Level, Level, Level), Fail> {
-    let game = read_game(alloc, SOURCE).map_err(|_| "refused")?;
-    let mut level = first_level(alloc, &game)?.ok_or("no level")?;
-    let loaded = level.copy()?;
-    push_players(&game, &mut level, Dir::Right);
-    let pushed = level.copy()?;
-    resolve(&game, &mut level);
-    Ok((loaded, pushed, level))
+/// The level after the player was pushed to the right.
+fn pushed(alloc: Global, game: &Game) -> Result<Level, Fail>
+    ensures { IfOk result (λ level. IsOfGame game.now level.grid) }
+{
+    let mut level = loaded(alloc, game)?;
+    push_players(game, &mut level, Dir::Right);
+    Ok(level)
+}
+
+/// The level after that movement.
+fn moved(alloc: Global, game: &Game) -> Result<Level, Fail> {
+    let mut level = pushed(alloc, game)?;
+    resolve(game, &mut level);
+    Ok(level)
+}
+
+fn size_in(alloc: Global, game: &Game) -> Result<(u32, u32), Fail> {
+    let level = loaded(alloc, game)?;
+    Ok((level.width(), level.height()))
+}
+
+fn size(alloc: Global) -> Result<(u32, u32), Fail> {
+    let game = small_game(alloc)?;
+    size_in(alloc, &game)
 }
 
 #[test]
 fn tells_the_size(rt: HostRuntime) -> Result<(), Fail> {
-    let (loaded, _, _) = stages(rt.alloc())?;
-    assert_eq!(rt; (loaded.width(), loaded.height()), (3, 1));
+    let found = size(rt.alloc())?;
+    assert_eq!(rt; found, (3, 1));
     Ok(())
+}
+
+fn heads_right_in(alloc: Global, game: &Game) -> Result<bool, Fail> {
+    let level = pushed(alloc, game)?;
+    Ok(matches!(level.dir_of(0, 0, 1), Some(Dir::Right)))
+}
+
+fn heads_right(alloc: Global) -> Result<bool, Fail> {
+    let game = small_game(alloc)?;
+    heads_right_in(alloc, &game)
 }
 
 #[test]
 fn tells_where_the_player_heads(rt: HostRuntime) -> Result<(), Fail> {
-    let (_, pushed, moved) = stages(rt.alloc())?;
-    assert_eq!(rt;
-        (pushed.dir_of(0, 0, 1), moved.dir_of(1, 0, 1)),
-        (Some(Dir::Right), None)
-    );
+    let found = heads_right(rt.alloc())?;
+    assert_eq!(rt; found, true);
     Ok(())
+}
+
+fn is_stilled_in(alloc: Global, game: &Game) -> Result<bool, Fail> {
+    let level = moved(alloc, game)?;
+    Ok(level.dir_of(1, 0, 1).is_none())
+}
+
+fn is_stilled(alloc: Global) -> Result<bool, Fail> {
+    let game = small_game(alloc)?;
+    is_stilled_in(alloc, &game)
+}
+
+#[test]
+fn stills_the_player(rt: HostRuntime) -> Result<(), Fail> {
+    let found = is_stilled(rt.alloc())?;
+    assert_eq!(rt; found, true);
+    Ok(())
+}
+
+/// Whether the pushed level differs from this one.
+fn differs(alloc: Global, game: &Game, before: &Level) -> Result<bool, Fail> {
+    let after = pushed(alloc, game)?;
+    Ok(!after.same(before))
+}
+
+fn is_changed_in(alloc: Global, game: &Game) -> Result<bool, Fail> {
+    let before = loaded(alloc, game)?;
+    differs(alloc, game, &before)
+}
+
+fn is_changed(alloc: Global) -> Result<bool, Fail> {
+    let game = small_game(alloc)?;
+    is_changed_in(alloc, &game)
 }
 
 #[test]
 fn tells_levels_apart(rt: HostRuntime) -> Result<(), Fail> {
-    let (loaded, pushed, _) = stages(rt.alloc())?;
-    assert!(rt; !pushed.same(&loaded));
+    let found = is_changed(rt.alloc())?;
+    assert_eq!(rt; found, true);
     Ok(())
+}
+
+/// Whether the player stands where it stood, whether it stands beside, and whether the wall is there.
+fn standing_in(alloc: Global, game: &Game) -> Result<(bool, bool, bool), Fail> {
+    let level = moved(alloc, game)?;
+    Ok((level.has(0, 0, 1), level.has(1, 0, 1), level.has(2, 0, 2)))
+}
+
+fn standing(alloc: Global) -> Result<(bool, bool, bool), Fail> {
+    let game = small_game(alloc)?;
+    standing_in(alloc, &game)
 }
 
 #[test]
 fn moves_the_player(rt: HostRuntime) -> Result<(), Fail> {
-    let (_, _, moved) = stages(rt.alloc())?;
-    assert_eq!(rt;
-        (moved.has(0, 0, 1), moved.has(1, 0, 1), moved.has(2, 0, 2)),
-        (false, true, true)
-    );
+    let found = standing(rt.alloc())?;
+    assert_eq!(rt; found, (false, true, true));
     Ok(())
 }

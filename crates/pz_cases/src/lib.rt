@@ -2,6 +2,8 @@
 #![tactic(auto)]
 
 #[cfg(test)]
+mod game;
+#[cfg(test)]
 mod levels;
 #[cfg(test)]
 mod reading;

@@ -1,8 +1,8 @@
 //! Sources, read or refused: a small game, and what becomes of it where lines are changed.
 
+use crate::game::{game_of, joined, read};
 use pz_names::denotation::Kind;
 use pz_source::game::Game;
-use pz_source::reading::read_game;
 use pz_text::fault::{Code, SourceFault};
 use std::alloc::{AllocError, Global};
 use std::test::Fail;
@@ -40,77 +40,123 @@ const GAME: [&str; 27] = [
 
 /// The small game with a line replaced (none at 0), and these levels.
 fn game_with(alloc: Global, number: usize, line: &str, levels: &str) -> Result<String, AllocError> {
-    let mut text = String::new(alloc);
-    for (place, kept) in GAME.iter().enumerate() {
-        let shown = if place == number.wrapping_sub(1) {
-            line
-        } else {
-            *kept
-        };
-        text.push_str(shown)?;
-        text.push('\n')?;
-    }
+    let mut text = joined(alloc, &GAME, number, line)?;
     text.push_str(levels)?;
     Ok(text)
 }
 
 /// The fault of a text; None where it is read.
 fn fault_of(alloc: Global, text: &str) -> Option<SourceFault> {
-    match read_game(alloc, text) {
+    match read(alloc, text) {
         Ok(_) => None,
         Err(fault) => Some(fault),
     }
-}
-
-/// The fault of the small game with a line replaced.
-fn changed(
-    alloc: Global,
-    number: usize,
-    line: &str,
-    levels: &str,
-) -> Result<Option<SourceFault>, AllocError> {
-    let text = game_with(alloc, number, line, levels)?;
-    Ok(fault_of(alloc, text.as_str()))
 }
 
 fn at(code: Code, line: u32) -> Option<SourceFault> {
     Some(SourceFault { code, line })
 }
 
+/// Fails a test where a text has another fault. One function compares for all tests: each comparison is dear to prove.
+fn expect(alloc: Global, case: &str, text: &str, fault: Option<SourceFault>) -> Result<(), Fail> {
+    let found = fault_of(alloc, text);
+    if found == fault {
+        Ok(())
+    } else {
+        Err(Fail::new(format_args!("{case}: {found:?}")))
+    }
+}
+
+/// Fails a test where the small game with a line replaced has another fault.
+fn expect_changed(
+    alloc: Global,
+    number: usize,
+    line: &str,
+    levels: &str,
+    fault: Option<SourceFault>,
+) -> Result<(), Fail> {
+    let text = game_with(alloc, number, line, levels)?;
+    expect(alloc, line, text.as_str(), fault)
+}
+
+/// Fails a test where the small game with these levels has another fault.
+fn expect_levels(alloc: Global, levels: &str, fault: Option<SourceFault>) -> Result<(), Fail> {
+    let text = game_with(alloc, 1, "title ( x", levels)?;
+    expect(alloc, levels, text.as_str(), fault)
+}
+
 /// The small game, with a level and a message.
 fn small_game(alloc: Global) -> Result<Game, Fail> {
     let text = game_with(alloc, 0, "", "#p.#\n\nmessage on\n")?;
-    let game = read_game(alloc, text.as_str()).map_err(|_| "refused")?;
-    Ok(game)
+    game_of(alloc, text.as_str())
+}
+
+fn counts_in(game: &Game) -> (usize, usize, usize) {
+    (game.objects().len(), game.depth(), game.levels().len())
+}
+
+fn counts(alloc: Global) -> Result<(usize, usize, usize), Fail> {
+    let game = small_game(alloc)?;
+    Ok(counts_in(&game))
 }
 
 #[test]
 fn counts_objects_layers_and_entries(rt: HostRuntime) -> Result<(), Fail> {
-    let game = small_game(rt.alloc())?;
-    let counts = (game.objects().len(), game.depth(), game.levels().len());
-    assert_eq!(rt; counts, (7, 4, 2));
+    let found = counts(rt.alloc())?;
+    assert_eq!(rt; found, (7, 4, 2));
     Ok(())
+}
+
+fn is_laid_in(game: &Game) -> bool {
+    matches!(game.layers(), [0, 1, 2, 2, 2, 2, 3])
+}
+
+fn is_laid(alloc: Global) -> Result<bool, Fail> {
+    let game = small_game(alloc)?;
+    Ok(is_laid_in(&game))
 }
 
 #[test]
 fn lays_each_object(rt: HostRuntime) -> Result<(), Fail> {
-    let game = small_game(rt.alloc())?;
-    assert_eq!(rt; game.layers(), [0, 1, 2, 2, 2, 2, 3].as_slice());
+    let found = is_laid(rt.alloc())?;
+    assert_eq!(rt; found, true);
     Ok(())
+}
+
+/// Whether an object, no name, and a property are what they are.
+fn kinds_in(game: &Game) -> (bool, bool, bool) {
+    (
+        matches!(game.kind("player"), Some(Kind::Object)),
+        game.kind("Player").is_none(),
+        matches!(game.kind("thing"), Some(Kind::Property)),
+    )
+}
+
+fn kinds(alloc: Global) -> Result<(bool, bool, bool), Fail> {
+    let game = small_game(alloc)?;
+    Ok(kinds_in(&game))
 }
 
 #[test]
 fn tells_kinds_apart(rt: HostRuntime) -> Result<(), Fail> {
-    let game = small_game(rt.alloc())?;
-    let kinds = (game.kind("player"), game.kind("Player"), game.kind("thing"));
-    assert_eq!(rt; kinds, (Some(Kind::Object), None, Some(Kind::Property)));
+    let found = kinds(rt.alloc())?;
+    assert_eq!(rt; found, (true, true, true));
     Ok(())
+}
+
+fn has_members_in(game: &Game) -> bool {
+    matches!(game.members("@"), Some([4, 1]))
+}
+
+fn has_members(alloc: Global) -> Result<bool, Fail> {
+    let game = small_game(alloc)?;
+    Ok(has_members_in(&game))
 }
 
 #[test]
 fn lists_members_in_the_order_of_the_line(rt: HostRuntime) -> Result<(), Fail> {
-    let game = small_game(rt.alloc())?;
-    assert_eq!(rt; game.members("@").ok_or("no name")?, [4, 1].as_slice());
+    let found = has_members(rt.alloc())?;
+    assert_eq!(rt; found, true);
     Ok(())
 }
 
@@ -130,11 +176,7 @@ fn names_the_first_fault_of_a_changed_line(rt: HostRuntime) -> Result<(), Fail> 
         (26, "WINCONDITIONS\nSome Ghost", Code::Unknown, 27),
     ];
     for (number, line, code, fault_line) in changes {
-        assert_eq!(rt;
-            changed(rt.alloc(), number, line, "p")?,
-            at(code, fault_line),
-            "{line}"
-        );
+        expect_changed(rt.alloc(), number, line, "p", at(code, fault_line))?;
     }
     Ok(())
 }
@@ -149,11 +191,7 @@ fn names_the_first_fault_of_levels(rt: HostRuntime) -> Result<(), Fail> {
         ("##P\n#", None),
     ];
     for (levels, fault) in faults {
-        assert_eq!(rt;
-            changed(rt.alloc(), 1, "title ( x", levels)?,
-            fault,
-            "{levels}"
-        );
+        expect_levels(rt.alloc(), levels, fault)?;
     }
     Ok(())
 }
@@ -180,11 +218,7 @@ fn keeps_the_limits_of_levels(rt: HostRuntime) -> Result<(), Fail> {
     ];
     for (width, height, fault) in sizes {
         let levels = rows(rt.alloc(), width, height)?;
-        assert_eq!(rt;
-            changed(rt.alloc(), 0, "", levels.as_str())?,
-            fault,
-            "{width}"
-        );
+        expect_levels(rt.alloc(), levels.as_str(), fault)?;
     }
     Ok(())
 }
@@ -203,11 +237,7 @@ fn messages(alloc: Global, count: usize) -> Result<String, AllocError> {
 fn keeps_the_limit_of_entries(rt: HostRuntime) -> Result<(), Fail> {
     for (count, fault) in [(1023, None), (1024, at(Code::TooLarge, 1052))] {
         let levels = messages(rt.alloc(), count)?;
-        assert_eq!(rt;
-            changed(rt.alloc(), 0, "", levels.as_str())?,
-            fault,
-            "{count}"
-        );
+        expect_levels(rt.alloc(), levels.as_str(), fault)?;
     }
     Ok(())
 }
@@ -225,7 +255,7 @@ fn filled_up(alloc: Global, bytes: usize) -> Result<String, AllocError> {
 fn keeps_the_limit_of_bytes(rt: HostRuntime) -> Result<(), Fail> {
     for (bytes, fault) in [(1_048_576, None), (1_048_577, at(Code::TooLong, 0))] {
         let text = filled_up(rt.alloc(), bytes)?;
-        assert_eq!(rt; fault_of(rt.alloc(), text.as_str()), fault, "{bytes}");
+        expect(rt.alloc(), "bytes", text.as_str(), fault)?;
     }
     Ok(())
 }
@@ -251,7 +281,7 @@ fn objects(alloc: Global, count: usize) -> Result<String, AllocError> {
 fn keeps_the_limit_of_objects(rt: HostRuntime) -> Result<(), Fail> {
     for (count, fault) in [(128, None), (129, at(Code::TooLarge, 258))] {
         let text = objects(rt.alloc(), count)?;
-        assert_eq!(rt; fault_of(rt.alloc(), text.as_str()), fault, "{count}");
+        expect(rt.alloc(), "objects", text.as_str(), fault)?;
     }
     Ok(())
 }
@@ -263,13 +293,19 @@ fn keeps_the_limit_of_layers(rt: HostRuntime) -> Result<(), Fail> {
         for _layer in 0..further {
             line.push_str("\nMark")?;
         }
-        assert_eq!(rt;
-            changed(rt.alloc(), 24, line.as_str(), "p")?,
-            fault,
-            "{further}"
-        );
+        expect_changed(rt.alloc(), 24, line.as_str(), "p", fault)?;
     }
     Ok(())
+}
+
+fn lacks_memory(fault: Option<SourceFault>) -> bool {
+    matches!(
+        fault,
+        Some(SourceFault {
+            code: Code::Memory,
+            ..
+        },)
+    )
 }
 
 /// Each text that begins a source is read or refused, and never for want of memory.
@@ -279,7 +315,7 @@ fn reads_or_refuses_each_beginning(rt: HostRuntime) -> Result<(), Fail> {
     let mut beginning = String::new(rt.alloc());
     for character in text.as_str().chars() {
         let fault = fault_of(rt.alloc(), beginning.as_str());
-        assert!(rt; fault.map(|fault| fault.code) != Some(Code::Memory));
+        assert_eq!(rt; lacks_memory(fault), false);
         beginning.push(character)?;
     }
     Ok(())
@@ -288,6 +324,5 @@ fn reads_or_refuses_each_beginning(rt: HostRuntime) -> Result<(), Fail> {
 #[test]
 fn reads_the_whole_of_it(rt: HostRuntime) -> Result<(), Fail> {
     let text = game_with(rt.alloc(), 0, "", "#p.#\n")?;
-    assert_eq!(rt; fault_of(rt.alloc(), text.as_str()), None);
-    Ok(())
+    expect(rt.alloc(), "whole", text.as_str(), None)
 }

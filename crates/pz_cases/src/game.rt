@@ -1,0 +1,39 @@
+//! The texts of sources, and the games that they are.
+
+use pz_source::game::Game;
+use pz_source::reading::read_game;
+use pz_text::fault::SourceFault;
+use std::alloc::{AllocError, Global};
+use std::test::Fail;
+
+/// These lines, with one replaced (none at 0).
+pub fn joined(
+    alloc: Global,
+    lines: &[&str],
+    number: usize,
+    line: &str,
+) -> Result<String, AllocError> {
+    let mut text = String::new(alloc);
+    for (place, kept) in lines.iter().enumerate() {
+        let shown = if place == number.wrapping_sub(1) {
+            line
+        } else {
+            *kept
+        };
+        text.push_str(shown)?;
+        text.push('\n')?;
+    }
+    Ok(text)
+}
+
+/// Reads a text. It promises nothing, so that what calls it needn't prove over the meaning of a source.
+pub fn read(alloc: Global, text: &str) -> Result<Game, SourceFault> {
+    read_game(alloc, text)
+}
+
+pub fn game_of(alloc: Global, text: &str) -> Result<Game, Fail> {
+    match read(alloc, text) {
+        Ok(game) => Ok(game),
+        Err(_) => Err(Fail::new("refused")),
+    }
+}
