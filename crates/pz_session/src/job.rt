@@ -1,6 +1,6 @@
 //! The job that a list of entries makes.
 
-ghost use Rattle.std.specs.Prelude.{◌≡◌, ◌≢◌, ◌<◌, ◌≤◌, length, slice_get, Some, IfOk};
+ghost use Rattle.std.specs.Prelude.{◌≡◌, ◌≢◌, ◌<◌, ◌≤◌, length, slice_get, Some, IfOk, IfErr};
 ghost use Rattle.pz_session.specs.Job.{plan_of, case_of, job_of};
 
 use crate::case::Case;
@@ -57,7 +57,8 @@ impl Job {
 
 /// The refusal by a fault of a source; that memory was refused is no fault of the source.
 fn refusal_of(fault: SourceFault) -> Result<Refusal, AllocError>
-    ensures { IfOk result (λ refusal. (refusal ≡ Refusal.Source fault) × (fault.code ≢ Code.Memory)) }
+    ensures refusal { IfOk result (λ refusal. (refusal ≡ Refusal.Source fault) × (fault.code ≢ Code.Memory)) }
+    ensures wanted { IfErr result (λ _. fault.code ≡ Code.Memory) }
 {
     match fault.code {
         Code::Memory => Err(AllocError),

@@ -1,6 +1,6 @@
 //! A session, one item at a time.
 
-ghost use Rattle.std.specs.Prelude.{◌≡◌, ◌<◌, ◌≤◌, ◌+◌, ◌^◌, List, OnOk, IfOk, None, MatchOption, false, true, ℕ, drop, Result, Ok};
+ghost use Rattle.std.specs.Prelude.{◌≡◌, ◌≢◌, ◌<◌, ◌≤◌, ◌+◌, ◌^◌, List, OnOk, IfOk, IfErr, Err, None, MatchOption, false, true, ℕ, drop, Result, Ok};
 ghost use Rattle.pz_session.specs.Session.{ticks_after};
 
 use crate::chain::{Machine, PlayFault, Shown};
@@ -146,6 +146,7 @@ impl<'a, M: Machine> Player<'a, M> {
         ensures left { OnOk result ((link : Result (Link M) Stop) → GivesLink link self.old.machine outcome →
             left M.links self.new
             ≡ left_with M.links allowed self.old.number self.old.taken (drop self.old.taken self.old.inputs) link) }
+        ensures stop { IfErr result (λ _. (stop : Stop) → outcome ≢ Err (PlayFault.Stopped stop)) }
         ensures rank { OnOk result (rank self.new.phase ≤ allowed + 1) }
         ensures inputs { self.new.inputs ≡ self.old.inputs }
         ensures taken { self.new.taken ≡ self.old.taken }
