@@ -7,7 +7,7 @@ use std::alloc::{AllocError, Global};
 use std::test::Fail;
 
 /// These lines, with one replaced (none at 0).
-pub fn joined(
+pub(crate) fn joined(
     alloc: Global,
     lines: &[&str],
     number: usize,
@@ -27,11 +27,11 @@ pub fn joined(
 }
 
 /// Reads a text. It promises nothing, so that what calls it needn't prove over the meaning of a source.
-pub fn read(alloc: Global, text: &str) -> Result<Game, SourceFault> {
+pub(crate) fn read(alloc: Global, text: &str) -> Result<Game, SourceFault> {
     read_game(alloc, text)
 }
 
-pub fn game_of(alloc: Global, text: &str) -> Result<Game, Fail> {
+pub(crate) fn game_of(alloc: Global, text: &str) -> Result<Game, Fail> {
     match read(alloc, text) {
         Ok(game) => Ok(game),
         Err(_) => Err(Fail::new("refused")),
