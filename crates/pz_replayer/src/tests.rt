@@ -84,7 +84,7 @@ const CLOSE: &str =
     "{\"cause\":\"Section:0\",\"close\":\"refused\",\"frames\":0,\"name\":\"walk\",\"session\":0}\n";
 
 /// A reader of these bytes that fails at this call.
-fn slow<'a>(bytes: &'a [u8], fails_at: usize) -> Slow<'a> {
+fn reader_of<'a>(bytes: &'a [u8], fails_at: usize) -> Slow<'a> {
     Slow {
         bytes,
         calls: 0,
@@ -95,7 +95,7 @@ fn slow<'a>(bytes: &'a [u8], fails_at: usize) -> Slow<'a> {
 #[test]
 fn ends_at_a_read_that_fails(rt: HostRuntime) -> Result<(), Fail> {
     for fails_at in 0..REFUSED.len() + 2 {
-        let input = slow(REFUSED.as_bytes(), fails_at);
+        let input = reader_of(REFUSED.as_bytes(), fails_at);
         let options = Options {
             workers: 1,
             order: Order::Columns,
@@ -118,7 +118,7 @@ fn ends_at_a_read_that_fails(rt: HostRuntime) -> Result<(), Fail> {
 #[test]
 fn serves_the_input_where_no_file_is_named(rt: HostRuntime) -> Result<(), Fail> {
     let line = words(&rt, "p --workers 1 --order rows")?;
-    let input = slow(REFUSED.as_bytes(), usize::MAX);
+    let input = reader_of(REFUSED.as_bytes(), usize::MAX);
     let mut output = Output::new(Vec::new(rt.alloc()));
     let mut errors = Output::new(Vec::new(rt.alloc()));
     let status = serve_words(&rt, &line, input, &mut output, &mut errors);
@@ -138,7 +138,7 @@ fn says_why_a_file_is_not_served(rt: HostRuntime) -> Result<(), Fail> {
         let line = words(&rt, line)?;
         let mut output = Output::new(Vec::new(rt.alloc()));
         let mut errors = Output::new(Vec::new(rt.alloc()));
-        let input = slow(REFUSED.as_bytes(), usize::MAX);
+        let input = reader_of(REFUSED.as_bytes(), usize::MAX);
         let status = serve_words(&rt, &line, input, &mut output, &mut errors);
         let (output, errors) = (output.into_writer(), errors.into_writer());
         assert!(rt;
