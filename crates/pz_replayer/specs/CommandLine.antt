@@ -8,7 +8,7 @@ use Rattle.pz_replayer.specs.declared.options.Chosen.{Chosen}
 use Rattle.pz_replayer.specs.declared.refusal.Refusal.{Refusal}
 use Rattle.pz_replayer.specs.declared.refusal.Refusal.TheVariants.{Memory, BadLine, OpenFault}
 
--- the sessions are those of FILE where the words name one, and of the input else
+-- the sessions are those of the input where the words name no FILE; of the bytes of a FILE nothing is said
 pub record ServesChosen (words : List Text) (input : Option (List ℕ)) (old new : Writes) (end : Result Bool Refusal) : Type 0 where
   pub chosen : Chosen
   pub said : options_of words ≡ Some chosen
