@@ -31,10 +31,11 @@ fn read_entries(alloc: Global, list: &[Value]) -> Result<Vec<Entry>, FileFault>
 }
 
 /// The entries of a file, or its first fault: that it is too long, that it is no JSON list, that it has too many entries, and then
-/// entry by entry that it is none, or that its level text is none. Memory may come in place of either.
+/// entry by entry that it is none, or that its level text is none. Memory may come in place of any but the first.
 pub fn read_sessions(alloc: Global, text: &str) -> Result<Vec<Entry>, FileFault>
     ensures read { IfOk result (λ entries. entries_of text.now ≡ Ok entries.items) }
     ensures refused { IfErr result (λ fault. fault ≢ Memory → entries_of text.now ≡ Err fault) }
+    ensures long { IfErr result (λ fault. fault ≡ Memory → length text.now ≤ MOST_BYTES) }
     ensures few { IfOk result (λ entries. length entries.items ≤ MOST_ENTRIES) }
 {
     if text.len() > MOST_BYTES {

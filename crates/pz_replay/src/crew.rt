@@ -19,6 +19,17 @@ use std::snapshot::Snapshot;
 use std::sync::Wait;
 use std::thread::{Promise, PromisedHandle, Scope, Threads};
 
+/// What the workers of a replay share. Each has a lane of its own, of the same capacity.
+#[derive(Drop)]
+pub(crate) struct Shared<'e, R, G> {
+    pub rt: &'e R,
+    pub alloc: Global,
+    pub claims: &'e Claims,
+    pub job: &'e Job,
+    pub gate: &'e G,
+    pub capacity: usize,
+}
+
 /// What is promised of a worker.
 #[derive(Drop)]
 struct Task<'a, G> {
@@ -35,19 +46,17 @@ impl<'a, G: Gate> Promise<Worked> for Task<'a, G> {
 /// Starts a worker, if a thread can be made.
 fn start<'s, 'e, R: Threads + Wait + Sync, G: Gate + Sync>(
     scope: &'s Scope<'s, &'e ()>,
-    rt: &'e R,
-    alloc: Global,
-    claims: &'e Claims,
+    shared: &Shared<'e, R, G>,
     seat: Seat,
     sender: Sender,
-    job: &'e Job,
-    gate: &'e G,
 ) -> Option<PromisedHandle<Worked, Task<'e, G>>>
-    requires seat { (seat.of ≡ claims.now) × (seat.numbers ≡ []) }
+    requires seat { (seat.of ≡ shared.now.claims.now) × (seat.numbers ≡ []) }
     requires sender { sender.sent ≡ [] }
-    requires job { claims.now.total ≡ length job.now }
-    ensures { IfSome result (λ h. (h.promise.claims.now ≡ claims.now) × (h.promise.job.now ≡ job.now) × (h.promise.gate.now ≡ gate.now) × (h.promise.lane.value.lane ≡ sender.lane)) }
+    requires job { shared.now.claims.now.total ≡ length shared.now.job.now }
+    ensures { IfSome result (λ h. (h.promise.claims.now ≡ shared.now.claims.now) × (h.promise.job.now ≡ shared.now.job.now) × (h.promise.gate.now ≡ shared.now.gate.now) × (h.promise.lane.value.lane ≡ sender.lane)) }
 {
+    let (rt, alloc) = (shared.rt, shared.alloc);
+    let (claims, job, gate) = (shared.claims, shared.job, shared.gate);
     let task = Task {
         claims,
         job,
@@ -147,94 +156,61 @@ fn open_lane(alloc: Global, capacity: usize, desks: &mut Vec<Desk>) -> Option<Se
 /// started is not waited for: those that run are, and the answer is `Memory`.
 fn crew<'s, 'e, R: Threads + Wait + Sync, G: Gate + Sync>(
     scope: &'s Scope<'s, &'e ()>,
-    rt: &'e R,
-    alloc: Global,
-    claims: &'e Claims,
+    shared: &Shared<'e, R, G>,
     maker: Maker,
-    job: &'e Job,
-    gate: &'e G,
     left: usize,
-    capacity: usize,
     desks: &mut Vec<Desk>,
     sessions: Option<Sessions>,
 ) -> Result<(Maker, Sessions), ReplayFault>
-    requires capacity { 1 ≤ capacity }
-    requires maker { (maker.of ≡ claims.now) × (maker.made + left ≤ 64) }
-    requires job { claims.now.total ≡ length job.now }
-    requires recorded { IsRecorded desks.old.items sessions × IfSome sessions (λ s. length s ≡ length job.now) }
+    requires capacity { 1 ≤ shared.now.capacity }
+    requires maker { (maker.of ≡ shared.now.claims.now) × (maker.made + left ≤ 64) }
+    requires job { shared.now.claims.now.total ≡ length shared.now.job.now }
+    requires recorded { IsRecorded desks.old.items sessions × IfSome sessions (λ s. length s ≡ length shared.now.job.now) }
     ensures lanes { map lane_of desks.new.items ≡ map lane_of desks.old.items }
     ensures ended { All IsHonest desks.new.items × All HasEnded desks.new.items }
-    ensures whole { IfOk result (λ made. IsDone (sessions_of job.now) maker left desks.new.items made.0 made.1) }
+    ensures whole { IfOk result (λ made. IsDone (sessions_of shared.now.job.now) maker left desks.new.items made.0 made.1) }
     ensures workers { result ≢ Err ReplayFault.Workers }
-    ensures opened { G.lets_all_pass gate.now → result ≢ Err ReplayFault.GateClosed }
+    ensures opened { G.lets_all_pass shared.now.gate.now → result ≢ Err ReplayFault.GateClosed }
 {
+    let rt = shared.rt;
     if left == 0 {
         return gather(rt, maker, desks, sessions);
     }
-    let Some(sender) = open_lane(alloc, capacity, desks) else {
+    let Some(sender) = open_lane(shared.alloc, shared.capacity, desks) else {
         let _ = gather(rt, maker, desks, sessions);
         return Err(ReplayFault::Memory);
     };
-    let (maker, seat) = claims.split(maker);
-    let Some(worker) = start(scope, rt, alloc, claims, seat, sender, job, gate) else {
+    let (maker, seat) = shared.claims.split(maker);
+    let Some(worker) = start(scope, shared, seat, sender) else {
         let _ = desks.pop();
         let _ = gather(rt, maker, desks, sessions);
         return Err(ReplayFault::Memory);
     };
-    let below = crew(
-        scope,
-        rt,
-        alloc,
-        claims,
-        maker,
-        job,
-        gate,
-        left - 1,
-        capacity,
-        desks,
-        sessions,
-    );
+    let below = crew(scope, shared, maker, left - 1, desks, sessions);
     let worked = worker.join(rt);
     let Some(desk) = desks.pop() else {
         unreachable!()
     };
-    settle(claims, job, below, worked, desk)
+    settle(shared.claims, shared.job, below, worked, desk)
 }
 
 /// Plays a job with so many workers: the maker that has joined them all, and the items of each session.
 pub(crate) fn all_started<'s, 'e, R: Threads + Wait + Sync, G: Gate + Sync>(
     scope: &'s Scope<'s, &'e ()>,
-    rt: &'e R,
-    alloc: Global,
-    claims: &'e Claims,
+    shared: &Shared<'e, R, G>,
     maker: Maker,
-    job: &'e Job,
-    gate: &'e G,
     workers: usize,
-    capacity: usize,
     blank: Sessions,
 ) -> Result<(Maker, Sessions), ReplayFault>
-    requires capacity { 1 ≤ capacity }
+    requires capacity { 1 ≤ shared.now.capacity }
     requires workers { (1 ≤ workers) × (workers ≤ 64) }
-    requires maker { (maker.of ≡ claims.now) × (maker.made ≡ 0) × (maker.joined ≡ 0) × (maker.numbers ≡ []) }
-    requires job { claims.now.total ≡ length job.now }
-    requires blank { blank ≡ replicate (length job.now) [] }
+    requires maker { (maker.of ≡ shared.now.claims.now) × (maker.made ≡ 0) × (maker.joined ≡ 0) × (maker.numbers ≡ []) }
+    requires job { shared.now.claims.now.total ≡ length shared.now.job.now }
+    requires blank { blank ≡ replicate (length shared.now.job.now) [] }
     ensures workers { result ≢ Err ReplayFault.Workers }
-    ensures all { IfOk result (λ made. IsAll (sessions_of job.now) claims.now workers made.0 made.1) }
-    ensures opened { G.lets_all_pass gate.now → result ≢ Err ReplayFault.GateClosed }
+    ensures all { IfOk result (λ made. IsAll (sessions_of shared.now.job.now) shared.now.claims.now workers made.0 made.1) }
+    ensures opened { G.lets_all_pass shared.now.gate.now → result ≢ Err ReplayFault.GateClosed }
 {
-    let mut desks = Vec::new(alloc);
-    crew(
-        scope,
-        rt,
-        alloc,
-        claims,
-        maker,
-        job,
-        gate,
-        workers,
-        capacity,
-        &mut desks,
-        Some(blank),
-    )
+    let mut desks = Vec::new(shared.alloc);
+    crew(scope, shared, maker, workers, &mut desks, Some(blank))
 }

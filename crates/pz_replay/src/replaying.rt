@@ -5,7 +5,7 @@ ghost use Rattle.pz_replay.specs.Crew.{IsAll};
 ghost use Rattle.pz_replay.specs.Pieces.{sessions_of};
 ghost use Rattle.pz_replay.specs.Recording.{recording};
 
-use crate::crew::all_started;
+use crate::crew::{Shared, all_started};
 use crate::fault::ReplayFault;
 use crate::gate::Gate;
 use crate::recorder::Sessions;
@@ -42,13 +42,13 @@ fn named(alloc: Global, job: &Job, sessions: Sessions) -> Result<Recording, Allo
 }
 
 /// What every session of a job shows, by session number. So many workers play the sessions, each over a lane that holds `capacity` messages.
-pub fn replay_with<R: Threads + Wait + Sync, G: Gate + Sync>(
-    rt: &R,
+pub fn replay_with<'a, R: Threads + Wait + Sync, G: Gate + Sync>(
+    rt: &'a R,
     alloc: Global,
-    job: &Job,
+    job: &'a Job,
     workers: usize,
     capacity: usize,
-    gate: &G,
+    gate: &'a G,
 ) -> Result<Recording, ReplayFault>
     requires capacity { 1 ≤ capacity }
     ensures workers { (result ≡ Err ReplayFault.Workers) ↔ ((workers ≡ 0) ⊎ (64 < workers)) }
@@ -72,9 +72,15 @@ pub fn replay_with<R: Threads + Wait + Sync, G: Gate + Sync>(
             requires { (1 ≤ capacity) × (1 ≤ workers) × (workers ≤ 64) × (maker.of ≡ table.now) × (maker.made ≡ 0) × (maker.joined ≡ 0) × (maker.numbers ≡ []) × (table.now.total ≡ length job.now) × (blank ≡ replicate (length job.now) []) }
             ensures { IfOk result (λ made. IsAll (sessions_of job.entry.now) table.entry.now workers made.0 made.1) × (G.lets_all_pass gate.entry.now → result ≢ Err ReplayFault.GateClosed) × (result ≢ Err ReplayFault.Workers) }
         {
-            all_started(
-                scope, rt, alloc, table, maker, job, gate, workers, capacity, blank,
-            )
+            let shared = Shared {
+                rt,
+                alloc,
+                claims: table,
+                job,
+                gate,
+                capacity,
+            };
+            all_started(scope, &shared, maker, workers, blank)
         },
     );
     let (maker, sessions) = all?;
@@ -83,12 +89,12 @@ pub fn replay_with<R: Threads + Wait + Sync, G: Gate + Sync>(
 }
 
 /// What every session of a job shows, by session number, played by so many workers.
-pub fn replay<R: Threads + Wait + Sync, G: Gate + Sync>(
-    rt: &R,
+pub fn replay<'a, R: Threads + Wait + Sync, G: Gate + Sync>(
+    rt: &'a R,
     alloc: Global,
-    job: &Job,
+    job: &'a Job,
     workers: usize,
-    gate: &G,
+    gate: &'a G,
 ) -> Result<Recording, ReplayFault>
     ensures workers { (result ≡ Err ReplayFault.Workers) ↔ ((workers ≡ 0) ⊎ (64 < workers)) }
     ensures recording { IfOk result (λ r. r ≡ recording job.now) }

@@ -6,6 +6,7 @@ use Rattle.std.specs.Io.KnownBytes.{Appends}
 use Rattle.pz_record.specs.declared.entry.Entry.{Entry}
 use Rattle.pz_record.specs.declared.fault.FileFault.{FileFault}
 use Rattle.pz_record.specs.declared.fault.FileFault.TheVariants as fault
+use Rattle.pz_record.specs.declared.file.TheConstants.{MOST_BYTES}
 use Rattle.pz_record.specs.declared.order.Order.{Order}
 use Rattle.pz_record.specs.File.{entries_of}
 use Rattle.pz_session.specs.declared.item.Item.{Item}
@@ -22,7 +23,7 @@ use Rattle.pz_replayer.specs.declared.refusal.Refusal.TheVariants as refusal
 
 -- the entries that the bytes of a file hold, or its first fault: its length, that it is UTF-8, what it says
 unfoldable pub sessions_in : List ℕ → Result (List Entry) FileFault
-sessions_in bytes = if nat_lt 16777216 (length bytes) then Err fault.TooMany else (if is_utf8 bytes then entries_of bytes else Err fault.NotJson)
+sessions_in bytes = if nat_lt MOST_BYTES (length bytes) then Err fault.TooMany else (if is_utf8 bytes then entries_of bytes else Err fault.NotJson)
 
 -- what the sessions of the entries show, the cells of each level in this order
 abbrev pub shown_of : Order → List Entry → List Record

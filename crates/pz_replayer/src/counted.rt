@@ -1,9 +1,10 @@
 //! A reader whose calls are counted, and whose errors are kept in mind.
 
-ghost use Rattle.std.specs.Prelude.{◌≡◌, ◌+◌, ◌<◌, ◌||◌, false, is_err};
+ghost use Rattle.std.specs.Prelude.{◌≡◌, ◌+◌, ◌≤◌, ◌||◌, false, is_err};
 ghost use Rattle.std.specs.Io.{ReadsAtMost};
 ghost use Rattle.std.specs.Io.KnownBytes.{ReadConsumes};
 
+use pz_record::file::MOST_BYTES;
 use std::io::{self, Read};
 use std::marker::Model;
 
@@ -37,7 +38,7 @@ impl<R: Read> Counted<R> {
 
     /// Calls the reader once. It may be called once for each byte that a file may have, and once more: 16,777,217 times.
     pub fn read(&mut self, buffer: &mut [u8]) -> io::Result<usize>
-        requires { self.old.calls < 16777217 }
+        requires { self.old.calls ≤ MOST_BYTES }
         ensures counted { self.new.calls ≡ self.old.calls + 1 }
         ensures failed { self.new.has_failed ≡ (self.old.has_failed || is_err result) }
         ensures bound { ReadsAtMost result buffer.new }

@@ -1,8 +1,9 @@
 //! The reading of a file.
 
-ghost use Rattle.std.specs.Prelude.{◌≡◌, ◌≤◌, ◌+◌, ◌↔◌, true, false, Err, IfOk, IfErr, IfSome, length};
+ghost use Rattle.std.specs.Prelude.{◌≡◌, ◌≤◌, ◌<◌, ◌+◌, ◌↔◌, true, false, Err, IfOk, IfErr, IfSome, length};
 
 use crate::counted::Counted;
+use pz_record::file::MOST_BYTES;
 use std::alloc::Global;
 use std::io::Read;
 
@@ -15,7 +16,7 @@ pub enum InputFault {
 }
 
 /// One byte more than an input may have.
-const MOST: usize = 16_777_217;
+const MOST: usize = MOST_BYTES + 1;
 
 /// Reads to the end, or to one byte past the longest input. A read that answers an error ends it at once.
 pub(crate) fn read_input<R: Read>(
@@ -24,10 +25,10 @@ pub(crate) fn read_input<R: Read>(
 ) -> Result<Vec<u8>, InputFault>
     requires fresh { (input.old.calls ≡ 0) × (input.old.has_failed ≡ false) }
     ensures whole { IfOk result (λ bytes. IfSome input.old.remaining (λ all. bytes.items ≡ all)) }
-    ensures size { IfOk result (λ bytes. length bytes.items ≤ 16777216) }
-    ensures called { input.new.calls ≤ 16777217 }
+    ensures size { IfOk result (λ bytes. length bytes.items ≤ MOST_BYTES) }
+    ensures called { input.new.calls ≤ MOST_BYTES + 1 }
     ensures failed { (result ≡ Err InputFault.Device) ↔ (input.new.has_failed ≡ true) }
-    ensures long { IfErr result (λ fault. fault ≡ InputFault.TooLong → IfSome input.old.remaining (λ all. 16777217 ≤ length all)) }
+    ensures long { IfErr result (λ fault. fault ≡ InputFault.TooLong → IfSome input.old.remaining (λ all. MOST_BYTES < length all)) }
 {
     let mut bytes = Vec::new(alloc);
     let mut buffer = [0u8; 4096];

@@ -1,6 +1,6 @@
 //! The serving of a file of sessions.
 
-ghost use Rattle.std.specs.Prelude.{◌≡◌, ◌≢◌, ◌≤◌, ◌⊎◌, ◌↔◌, Bool, true, false, Result, Ok, Err, IfOk, IfErr, length};
+ghost use Rattle.std.specs.Prelude.{◌≡◌, ◌≢◌, ◌≤◌, ◌+◌, ◌⊎◌, ◌↔◌, Bool, true, false, Result, Ok, Err, IfOk, IfErr, length};
 ghost use Rattle.pz_record.specs.declared.fault.FileFault.TheVariants as fault;
 ghost use Rattle.pz_replayer.specs.declared.refusal.Refusal.{Refusal};
 ghost use Rattle.pz_replayer.specs.Serving.{Reports, Serves, all_passed, has_passed, sessions_in, shown_of, status_of};
@@ -11,7 +11,7 @@ use crate::options::Options;
 use crate::refusal::{Refusal, refuse};
 use pz_record::entry::Entry;
 use pz_record::fault::FileFault;
-use pz_record::file::read_sessions;
+use pz_record::file::{MOST_BYTES, MOST_ENTRIES, read_sessions};
 use pz_record::order::Order;
 use pz_replay::fault::ReplayFault;
 use pz_replay::gate::Always;
@@ -28,9 +28,9 @@ use std::thread::Threads;
 
 /// The entries that the bytes of a file hold, or its first fault.
 fn decode(alloc: Global, bytes: &[u8]) -> Result<Vec<Entry>, FileFault>
-    requires { length bytes.now ≤ 16777216 }
+    requires { length bytes.now ≤ MOST_BYTES }
     ensures read { IfOk result (λ entries. sessions_in bytes.now ≡ Ok entries.items) }
-    ensures few { IfOk result (λ entries. length entries.items ≤ 65536) }
+    ensures few { IfOk result (λ entries. length entries.items ≤ MOST_ENTRIES) }
     ensures refused { IfErr result (λ cause. cause ≢ fault.Memory → sessions_in bytes.now ≡ Err cause) }
 {
     let Ok(text) = str::from_utf8(bytes) else {
@@ -46,7 +46,7 @@ fn record<T: Threads + Wait + Sync>(
     entries: Vec<Entry>,
     options: Options,
 ) -> Result<Recording, Refusal>
-    requires entries { length entries.items ≤ 65536 }
+    requires entries { length entries.items ≤ MOST_ENTRIES }
     requires some { 1 ≤ options.workers }
     requires few { options.workers ≤ 64 }
     ensures shown { IfOk result (λ shown. shown ≡ shown_of options.order entries.items) }
@@ -90,7 +90,7 @@ fn run<T: Threads + Wait + Sync, R: Read, W: Write>(
     requires fresh { (input.old.calls ≡ 0) × (input.old.has_failed ≡ false) }
     requires some { 1 ≤ options.workers }
     requires few { options.workers ≤ 64 }
-    ensures called { input.new.calls ≤ 16777217 }
+    ensures called { input.new.calls ≤ MOST_BYTES + 1 }
     ensures failed { (result ≡ Err Refusal.ReadFault) ↔ (input.new.has_failed ≡ true) }
     ensures served { Serves options.order input.old.remaining output.old output.new result }
 {
@@ -124,7 +124,7 @@ pub fn serve_counted<T: Threads + Wait + Sync, R: Read, W: Write, E: Write>(
     requires fresh { (input.old.calls ≡ 0) × (input.old.has_failed ≡ false) }
     requires some { 1 ≤ options.workers }
     requires few { options.workers ≤ 64 }
-    ensures called { input.new.calls ≤ 16777217 }
+    ensures called { input.new.calls ≤ MOST_BYTES + 1 }
     ensures served { (end : Result Bool Refusal) × (result ≡ status_of end) × ((end ≡ Err Refusal.ReadFault) ↔ (input.new.has_failed ≡ true))
         × Serves options.order input.old.remaining output.old output.new end
         × Reports errors.old errors.new end }

@@ -88,91 +88,78 @@ loop_sizes (Ok program) = flat_map loop_size program.early ∷ flat_map loop_siz
 loop_sizes (Err fault) = []
 
 -- `[ > Player | Crate ] -> [ > Player | > Crate ]`
-pushes : early_scans (program_of (game (line 26 (codes "[" ∷ codes ">" ∷ codes "player" ∷ codes "|" ∷ codes "crate" ∷ codes "]" ∷ codes "->" ∷ codes "[" ∷ codes ">" ∷ codes "player" ∷ codes "|" ∷ codes ">" ∷ codes "crate" ∷ codes "]" ∷ []) ∷ []))) ≡ ((dir.Up ∷ dir.Down ∷ dir.Left ∷ dir.Right ∷ []) ∷ [])
-unfolding of_checks.has_more_gaps of_checks.is_long of_checks.is_large of_checks.is_unknown of_checks.is_mixed of_checks.is_moving of_checks.in_cell of_checks.in_row of_checks.in_rows of_checks.in_rule of_checks.has_loose_gap of_checks.same_shape of_checks.shapes_agree of_checks.is_other_shape of_checks.is_misshapen of_checks.fault_of of_clash.has_clash of_commands.commands_given of_counting.size_of of_counting.pair_count of_deciding.is_member of_deciding.is_direction of_deciding.is_direction_on of_deciding.is_here of_deciding.the_only of_deciding.member_choice of_deciding.direction_choice of_deciding.decided_word of_deciding.decided_name of_deciding.decided_term of_deciding.decided_terms of_deciding.decided_cells of_deciding.decided_row of_deciding.decided_rows of_drafts.placed of_drafts.settled of_drafts.opened of_drafts.closed of_drafts.is_misplaced of_drafts.lateness of_drafts.joins of_drafts.before of_drafts.extended of_drafts.rule_added of_drafts.loop_added of_drafts.line_added of_drafts.finished of_drafts.program_from of_drafts.nothing of_drafts.program_of of_equal.same_item of_equal.has_item of_equal.within_cell of_equal.same_cell of_equal.cells_agree of_equal.same_row of_equal.rows_agree of_equal.same_rows of_equal.same_instance of_expansion.unless_clash of_expansion.expansion_within of_expansion.expanded of_instances.options_of of_instances.item_of of_instances.cell_of of_instances.row_of of_instances.rows_of of_instances.scan_of of_instances.instance_of of_exclusion.excludes of_exclusion.excludes_some of_exclusion.is_impossible of_exclusion.has_impossible of_instances.is_possible of_instances.picks_of of_instances.possible_of of_instances.instances_of of_instances.considered of_loop.loop_word of_loop.next_loop of_numbering.asked_by of_numbering.choices_at of_numbering.choices_in_cells of_numbering.choices_in_rows of_numbering.term_of of_numbering.terms_of of_numbering.asked_in of_numbering.asked_count of_numbering.cells_of of_numbering.rows_of of_parsed.commands_of of_parsed.prefixes_of of_parsed.after_prefixes of_parsed.parsed of_parsed.inside of_planning.with_right of_planning.planned of_planning.plan_of of_prefix.is_late_rule of_prefix.mentioned_directions of_prefix.directions_of of_same.same_mention of_same.says_the_same of_sides.side_added of_spelling.mentions_of of_spelling.denoted of_spelling.mentions_at of_spelling.spelled_out of_spelling.cell_of of_spelling.is_gap of_spelling.gap_of of_spelling.row_spelled_out of_spelling.rows_spelled_out of_words.lead_of of_words.command_of_word of_words.mark_of of_words.rule_word of_words.token_of of_words.tokens_from of_words.tokens_of
-pushes = refl
+abbrev pushes : Type 0
+pushes = early_scans (program_of (game (line 26 (codes "[" ∷ codes ">" ∷ codes "player" ∷ codes "|" ∷ codes "crate" ∷ codes "]" ∷ codes "->" ∷ codes "[" ∷ codes ">" ∷ codes "player" ∷ codes "|" ∷ codes ">" ∷ codes "crate" ∷ codes "]" ∷ []) ∷ []))) ≡ ((dir.Up ∷ dir.Down ∷ dir.Left ∷ dir.Right ∷ []) ∷ [])
 
 -- `[ > Player ] -> [ < Player ]`: rows of one cell are scanned upwards
-turns-back : early_scans (program_of (game (line 26 (codes "[" ∷ codes ">" ∷ codes "player" ∷ codes "]" ∷ codes "->" ∷ codes "[" ∷ codes "<" ∷ codes "player" ∷ codes "]" ∷ []) ∷ []))) ≡ ((dir.Up ∷ dir.Up ∷ dir.Up ∷ dir.Up ∷ []) ∷ [])
-unfolding of_checks.has_more_gaps of_checks.is_long of_checks.is_large of_checks.is_unknown of_checks.is_mixed of_checks.is_moving of_checks.in_cell of_checks.in_row of_checks.in_rows of_checks.in_rule of_checks.has_loose_gap of_checks.same_shape of_checks.shapes_agree of_checks.is_other_shape of_checks.is_misshapen of_checks.fault_of of_clash.has_clash of_commands.commands_given of_counting.size_of of_counting.pair_count of_deciding.is_member of_deciding.is_direction of_deciding.is_direction_on of_deciding.is_here of_deciding.the_only of_deciding.member_choice of_deciding.direction_choice of_deciding.decided_word of_deciding.decided_name of_deciding.decided_term of_deciding.decided_terms of_deciding.decided_cells of_deciding.decided_row of_deciding.decided_rows of_drafts.placed of_drafts.settled of_drafts.opened of_drafts.closed of_drafts.is_misplaced of_drafts.lateness of_drafts.joins of_drafts.before of_drafts.extended of_drafts.rule_added of_drafts.loop_added of_drafts.line_added of_drafts.finished of_drafts.program_from of_drafts.nothing of_drafts.program_of of_equal.same_item of_equal.has_item of_equal.within_cell of_equal.same_cell of_equal.cells_agree of_equal.same_row of_equal.rows_agree of_equal.same_rows of_equal.same_instance of_expansion.unless_clash of_expansion.expansion_within of_expansion.expanded of_instances.options_of of_instances.item_of of_instances.cell_of of_instances.row_of of_instances.rows_of of_instances.scan_of of_instances.instance_of of_exclusion.excludes of_exclusion.excludes_some of_exclusion.is_impossible of_exclusion.has_impossible of_instances.is_possible of_instances.picks_of of_instances.possible_of of_instances.instances_of of_instances.considered of_loop.loop_word of_loop.next_loop of_numbering.asked_by of_numbering.choices_at of_numbering.choices_in_cells of_numbering.choices_in_rows of_numbering.term_of of_numbering.terms_of of_numbering.asked_in of_numbering.asked_count of_numbering.cells_of of_numbering.rows_of of_parsed.commands_of of_parsed.prefixes_of of_parsed.after_prefixes of_parsed.parsed of_parsed.inside of_planning.with_right of_planning.planned of_planning.plan_of of_prefix.is_late_rule of_prefix.mentioned_directions of_prefix.directions_of of_same.same_mention of_same.says_the_same of_sides.side_added of_spelling.mentions_of of_spelling.denoted of_spelling.mentions_at of_spelling.spelled_out of_spelling.cell_of of_spelling.is_gap of_spelling.gap_of of_spelling.row_spelled_out of_spelling.rows_spelled_out of_words.lead_of of_words.command_of_word of_words.mark_of of_words.rule_word of_words.token_of of_words.tokens_from of_words.tokens_of
-turns-back = refl
+abbrev turns-back : Type 0
+turns-back = early_scans (program_of (game (line 26 (codes "[" ∷ codes ">" ∷ codes "player" ∷ codes "]" ∷ codes "->" ∷ codes "[" ∷ codes "<" ∷ codes "player" ∷ codes "]" ∷ []) ∷ []))) ≡ ((dir.Up ∷ dir.Up ∷ dir.Up ∷ dir.Up ∷ []) ∷ [])
 
 -- `[ Player ] -> [ Player Mark ]`: equal instances are kept once
-marks : early_scans (program_of (game (line 26 (codes "[" ∷ codes "player" ∷ codes "]" ∷ codes "->" ∷ codes "[" ∷ codes "player" ∷ codes "mark" ∷ codes "]" ∷ []) ∷ []))) ≡ ((dir.Up ∷ []) ∷ [])
-unfolding of_checks.has_more_gaps of_checks.is_long of_checks.is_large of_checks.is_unknown of_checks.is_mixed of_checks.is_moving of_checks.in_cell of_checks.in_row of_checks.in_rows of_checks.in_rule of_checks.has_loose_gap of_checks.same_shape of_checks.shapes_agree of_checks.is_other_shape of_checks.is_misshapen of_checks.fault_of of_clash.has_clash of_commands.commands_given of_counting.size_of of_counting.pair_count of_deciding.is_member of_deciding.is_direction of_deciding.is_direction_on of_deciding.is_here of_deciding.the_only of_deciding.member_choice of_deciding.direction_choice of_deciding.decided_word of_deciding.decided_name of_deciding.decided_term of_deciding.decided_terms of_deciding.decided_cells of_deciding.decided_row of_deciding.decided_rows of_drafts.placed of_drafts.settled of_drafts.opened of_drafts.closed of_drafts.is_misplaced of_drafts.lateness of_drafts.joins of_drafts.before of_drafts.extended of_drafts.rule_added of_drafts.loop_added of_drafts.line_added of_drafts.finished of_drafts.program_from of_drafts.nothing of_drafts.program_of of_equal.same_item of_equal.has_item of_equal.within_cell of_equal.same_cell of_equal.cells_agree of_equal.same_row of_equal.rows_agree of_equal.same_rows of_equal.same_instance of_expansion.unless_clash of_expansion.expansion_within of_expansion.expanded of_instances.options_of of_instances.item_of of_instances.cell_of of_instances.row_of of_instances.rows_of of_instances.scan_of of_instances.instance_of of_exclusion.excludes of_exclusion.excludes_some of_exclusion.is_impossible of_exclusion.has_impossible of_instances.is_possible of_instances.picks_of of_instances.possible_of of_instances.instances_of of_instances.considered of_loop.loop_word of_loop.next_loop of_numbering.asked_by of_numbering.choices_at of_numbering.choices_in_cells of_numbering.choices_in_rows of_numbering.term_of of_numbering.terms_of of_numbering.asked_in of_numbering.asked_count of_numbering.cells_of of_numbering.rows_of of_parsed.commands_of of_parsed.prefixes_of of_parsed.after_prefixes of_parsed.parsed of_parsed.inside of_planning.with_right of_planning.planned of_planning.plan_of of_prefix.is_late_rule of_prefix.mentioned_directions of_prefix.directions_of of_same.same_mention of_same.says_the_same of_sides.side_added of_spelling.mentions_of of_spelling.denoted of_spelling.mentions_at of_spelling.spelled_out of_spelling.cell_of of_spelling.is_gap of_spelling.gap_of of_spelling.row_spelled_out of_spelling.rows_spelled_out of_words.lead_of of_words.command_of_word of_words.mark_of of_words.rule_word of_words.token_of of_words.tokens_from of_words.tokens_of
-marks = refl
+abbrev marks : Type 0
+marks = early_scans (program_of (game (line 26 (codes "[" ∷ codes "player" ∷ codes "]" ∷ codes "->" ∷ codes "[" ∷ codes "player" ∷ codes "mark" ∷ codes "]" ∷ []) ∷ []))) ≡ ((dir.Up ∷ []) ∷ [])
 
 -- `[ moving Player ] -> [ moving Player ]`: the words of the left, in order
-moves : left_words (program_of (game (line 26 (codes "[" ∷ codes "moving" ∷ codes "player" ∷ codes "]" ∷ codes "->" ∷ codes "[" ∷ codes "moving" ∷ codes "player" ∷ codes "]" ∷ []) ∷ []))) ≡ (word.Toward dir.Up ∷ word.Toward dir.Down ∷ word.Toward dir.Left ∷ word.Toward dir.Right ∷ word.Toward dir.Action ∷ [])
-unfolding of_checks.has_more_gaps of_checks.is_long of_checks.is_large of_checks.is_unknown of_checks.is_mixed of_checks.is_moving of_checks.in_cell of_checks.in_row of_checks.in_rows of_checks.in_rule of_checks.has_loose_gap of_checks.same_shape of_checks.shapes_agree of_checks.is_other_shape of_checks.is_misshapen of_checks.fault_of of_clash.has_clash of_commands.commands_given of_counting.size_of of_counting.pair_count of_deciding.is_member of_deciding.is_direction of_deciding.is_direction_on of_deciding.is_here of_deciding.the_only of_deciding.member_choice of_deciding.direction_choice of_deciding.decided_word of_deciding.decided_name of_deciding.decided_term of_deciding.decided_terms of_deciding.decided_cells of_deciding.decided_row of_deciding.decided_rows of_drafts.placed of_drafts.settled of_drafts.opened of_drafts.closed of_drafts.is_misplaced of_drafts.lateness of_drafts.joins of_drafts.before of_drafts.extended of_drafts.rule_added of_drafts.loop_added of_drafts.line_added of_drafts.finished of_drafts.program_from of_drafts.nothing of_drafts.program_of of_equal.same_item of_equal.has_item of_equal.within_cell of_equal.same_cell of_equal.cells_agree of_equal.same_row of_equal.rows_agree of_equal.same_rows of_equal.same_instance of_expansion.unless_clash of_expansion.expansion_within of_expansion.expanded of_instances.options_of of_instances.item_of of_instances.cell_of of_instances.row_of of_instances.rows_of of_instances.scan_of of_instances.instance_of of_exclusion.excludes of_exclusion.excludes_some of_exclusion.is_impossible of_exclusion.has_impossible of_instances.is_possible of_instances.picks_of of_instances.possible_of of_instances.instances_of of_instances.considered of_loop.loop_word of_loop.next_loop of_numbering.asked_by of_numbering.choices_at of_numbering.choices_in_cells of_numbering.choices_in_rows of_numbering.term_of of_numbering.terms_of of_numbering.asked_in of_numbering.asked_count of_numbering.cells_of of_numbering.rows_of of_parsed.commands_of of_parsed.prefixes_of of_parsed.after_prefixes of_parsed.parsed of_parsed.inside of_planning.with_right of_planning.planned of_planning.plan_of of_prefix.is_late_rule of_prefix.mentioned_directions of_prefix.directions_of of_same.same_mention of_same.says_the_same of_sides.side_added of_spelling.mentions_of of_spelling.denoted of_spelling.mentions_at of_spelling.spelled_out of_spelling.cell_of of_spelling.is_gap of_spelling.gap_of of_spelling.row_spelled_out of_spelling.rows_spelled_out of_words.lead_of of_words.command_of_word of_words.mark_of of_words.rule_word of_words.token_of of_words.tokens_from of_words.tokens_of
-moves = refl
+abbrev moves : Type 0
+moves = left_words (program_of (game (line 26 (codes "[" ∷ codes "moving" ∷ codes "player" ∷ codes "]" ∷ codes "->" ∷ codes "[" ∷ codes "moving" ∷ codes "player" ∷ codes "]" ∷ []) ∷ []))) ≡ (word.Toward dir.Up ∷ word.Toward dir.Down ∷ word.Toward dir.Left ∷ word.Toward dir.Right ∷ word.Toward dir.Action ∷ [])
 
 -- `horizontal [ Player | Thing ] -> [ | ]`: directions vary slower than members
-chooses : left_objects (program_of (game (line 26 (codes "horizontal" ∷ codes "[" ∷ codes "player" ∷ codes "|" ∷ codes "thing" ∷ codes "]" ∷ codes "->" ∷ codes "[" ∷ codes "|" ∷ codes "]" ∷ []) ∷ []))) ≡ (2 ∷ 4 ∷ 2 ∷ 3 ∷ 2 ∷ 4 ∷ 2 ∷ 3 ∷ [])
-unfolding of_checks.has_more_gaps of_checks.is_long of_checks.is_large of_checks.is_unknown of_checks.is_mixed of_checks.is_moving of_checks.in_cell of_checks.in_row of_checks.in_rows of_checks.in_rule of_checks.has_loose_gap of_checks.same_shape of_checks.shapes_agree of_checks.is_other_shape of_checks.is_misshapen of_checks.fault_of of_clash.has_clash of_commands.commands_given of_counting.size_of of_counting.pair_count of_deciding.is_member of_deciding.is_direction of_deciding.is_direction_on of_deciding.is_here of_deciding.the_only of_deciding.member_choice of_deciding.direction_choice of_deciding.decided_word of_deciding.decided_name of_deciding.decided_term of_deciding.decided_terms of_deciding.decided_cells of_deciding.decided_row of_deciding.decided_rows of_drafts.placed of_drafts.settled of_drafts.opened of_drafts.closed of_drafts.is_misplaced of_drafts.lateness of_drafts.joins of_drafts.before of_drafts.extended of_drafts.rule_added of_drafts.loop_added of_drafts.line_added of_drafts.finished of_drafts.program_from of_drafts.nothing of_drafts.program_of of_equal.same_item of_equal.has_item of_equal.within_cell of_equal.same_cell of_equal.cells_agree of_equal.same_row of_equal.rows_agree of_equal.same_rows of_equal.same_instance of_expansion.unless_clash of_expansion.expansion_within of_expansion.expanded of_instances.options_of of_instances.item_of of_instances.cell_of of_instances.row_of of_instances.rows_of of_instances.scan_of of_instances.instance_of of_exclusion.excludes of_exclusion.excludes_some of_exclusion.is_impossible of_exclusion.has_impossible of_instances.is_possible of_instances.picks_of of_instances.possible_of of_instances.instances_of of_instances.considered of_loop.loop_word of_loop.next_loop of_numbering.asked_by of_numbering.choices_at of_numbering.choices_in_cells of_numbering.choices_in_rows of_numbering.term_of of_numbering.terms_of of_numbering.asked_in of_numbering.asked_count of_numbering.cells_of of_numbering.rows_of of_parsed.commands_of of_parsed.prefixes_of of_parsed.after_prefixes of_parsed.parsed of_parsed.inside of_planning.with_right of_planning.planned of_planning.plan_of of_prefix.is_late_rule of_prefix.mentioned_directions of_prefix.directions_of of_same.same_mention of_same.says_the_same of_sides.side_added of_spelling.mentions_of of_spelling.denoted of_spelling.mentions_at of_spelling.spelled_out of_spelling.cell_of of_spelling.is_gap of_spelling.gap_of of_spelling.row_spelled_out of_spelling.rows_spelled_out of_words.lead_of of_words.command_of_word of_words.mark_of of_words.rule_word of_words.token_of of_words.tokens_from of_words.tokens_of
-chooses = refl
+abbrev chooses : Type 0
+chooses = left_objects (program_of (game (line 26 (codes "horizontal" ∷ codes "[" ∷ codes "player" ∷ codes "|" ∷ codes "thing" ∷ codes "]" ∷ codes "->" ∷ codes "[" ∷ codes "|" ∷ codes "]" ∷ []) ∷ []))) ≡ (2 ∷ 4 ∷ 2 ∷ 3 ∷ 2 ∷ 4 ∷ 2 ∷ 3 ∷ [])
 
 -- `[ Player Wall ] -> [ Player Wall ]`: a group without instances
-impossible : early_scans (program_of (game (line 26 (codes "[" ∷ codes "player" ∷ codes "wall" ∷ codes "]" ∷ codes "->" ∷ codes "[" ∷ codes "player" ∷ codes "wall" ∷ codes "]" ∷ []) ∷ []))) ≡ ([] ∷ [])
-unfolding of_checks.has_more_gaps of_checks.is_long of_checks.is_large of_checks.is_unknown of_checks.is_mixed of_checks.is_moving of_checks.in_cell of_checks.in_row of_checks.in_rows of_checks.in_rule of_checks.has_loose_gap of_checks.same_shape of_checks.shapes_agree of_checks.is_other_shape of_checks.is_misshapen of_checks.fault_of of_clash.has_clash of_commands.commands_given of_counting.size_of of_counting.pair_count of_deciding.is_member of_deciding.is_direction of_deciding.is_direction_on of_deciding.is_here of_deciding.the_only of_deciding.member_choice of_deciding.direction_choice of_deciding.decided_word of_deciding.decided_name of_deciding.decided_term of_deciding.decided_terms of_deciding.decided_cells of_deciding.decided_row of_deciding.decided_rows of_drafts.placed of_drafts.settled of_drafts.opened of_drafts.closed of_drafts.is_misplaced of_drafts.lateness of_drafts.joins of_drafts.before of_drafts.extended of_drafts.rule_added of_drafts.loop_added of_drafts.line_added of_drafts.finished of_drafts.program_from of_drafts.nothing of_drafts.program_of of_equal.same_item of_equal.has_item of_equal.within_cell of_equal.same_cell of_equal.cells_agree of_equal.same_row of_equal.rows_agree of_equal.same_rows of_equal.same_instance of_expansion.unless_clash of_expansion.expansion_within of_expansion.expanded of_instances.options_of of_instances.item_of of_instances.cell_of of_instances.row_of of_instances.rows_of of_instances.scan_of of_instances.instance_of of_exclusion.excludes of_exclusion.excludes_some of_exclusion.is_impossible of_exclusion.has_impossible of_instances.is_possible of_instances.picks_of of_instances.possible_of of_instances.instances_of of_instances.considered of_loop.loop_word of_loop.next_loop of_numbering.asked_by of_numbering.choices_at of_numbering.choices_in_cells of_numbering.choices_in_rows of_numbering.term_of of_numbering.terms_of of_numbering.asked_in of_numbering.asked_count of_numbering.cells_of of_numbering.rows_of of_parsed.commands_of of_parsed.prefixes_of of_parsed.after_prefixes of_parsed.parsed of_parsed.inside of_planning.with_right of_planning.planned of_planning.plan_of of_prefix.is_late_rule of_prefix.mentioned_directions of_prefix.directions_of of_same.same_mention of_same.says_the_same of_sides.side_added of_spelling.mentions_of of_spelling.denoted of_spelling.mentions_at of_spelling.spelled_out of_spelling.cell_of of_spelling.is_gap of_spelling.gap_of of_spelling.row_spelled_out of_spelling.rows_spelled_out of_words.lead_of of_words.command_of_word of_words.mark_of of_words.rule_word of_words.token_of of_words.tokens_from of_words.tokens_of
-impossible = refl
+abbrev impossible : Type 0
+impossible = early_scans (program_of (game (line 26 (codes "[" ∷ codes "player" ∷ codes "wall" ∷ codes "]" ∷ codes "->" ∷ codes "[" ∷ codes "player" ∷ codes "wall" ∷ codes "]" ∷ []) ∷ []))) ≡ ([] ∷ [])
 
 -- two gaps in a row
-two-gaps : program_of (game (line 26 (codes "[" ∷ codes "player" ∷ codes "|" ∷ codes "..." ∷ codes "|" ∷ codes "wall" ∷ codes "|" ∷ codes "..." ∷ codes "|" ∷ codes "crate" ∷ codes "]" ∷ codes "->" ∷ codes "[" ∷ codes "player" ∷ codes "|" ∷ codes "..." ∷ codes "|" ∷ codes "wall" ∷ codes "|" ∷ codes "..." ∷ codes "|" ∷ codes "crate" ∷ codes "]" ∷ []) ∷ [])) ≡ Err (record { code = code.OutsideProfile; line = 26 })
-unfolding of_checks.has_more_gaps of_checks.is_long of_checks.is_large of_checks.is_unknown of_checks.is_mixed of_checks.is_moving of_checks.in_cell of_checks.in_row of_checks.in_rows of_checks.in_rule of_checks.has_loose_gap of_checks.same_shape of_checks.shapes_agree of_checks.is_other_shape of_checks.is_misshapen of_checks.fault_of of_clash.has_clash of_commands.commands_given of_counting.size_of of_counting.pair_count of_deciding.is_member of_deciding.is_direction of_deciding.is_direction_on of_deciding.is_here of_deciding.the_only of_deciding.member_choice of_deciding.direction_choice of_deciding.decided_word of_deciding.decided_name of_deciding.decided_term of_deciding.decided_terms of_deciding.decided_cells of_deciding.decided_row of_deciding.decided_rows of_drafts.placed of_drafts.settled of_drafts.opened of_drafts.closed of_drafts.is_misplaced of_drafts.lateness of_drafts.joins of_drafts.before of_drafts.extended of_drafts.rule_added of_drafts.loop_added of_drafts.line_added of_drafts.finished of_drafts.program_from of_drafts.nothing of_drafts.program_of of_equal.same_item of_equal.has_item of_equal.within_cell of_equal.same_cell of_equal.cells_agree of_equal.same_row of_equal.rows_agree of_equal.same_rows of_equal.same_instance of_expansion.unless_clash of_expansion.expansion_within of_expansion.expanded of_instances.options_of of_instances.item_of of_instances.cell_of of_instances.row_of of_instances.rows_of of_instances.scan_of of_instances.instance_of of_exclusion.excludes of_exclusion.excludes_some of_exclusion.is_impossible of_exclusion.has_impossible of_instances.is_possible of_instances.picks_of of_instances.possible_of of_instances.instances_of of_instances.considered of_loop.loop_word of_loop.next_loop of_numbering.asked_by of_numbering.choices_at of_numbering.choices_in_cells of_numbering.choices_in_rows of_numbering.term_of of_numbering.terms_of of_numbering.asked_in of_numbering.asked_count of_numbering.cells_of of_numbering.rows_of of_parsed.commands_of of_parsed.prefixes_of of_parsed.after_prefixes of_parsed.parsed of_parsed.inside of_planning.with_right of_planning.planned of_planning.plan_of of_prefix.is_late_rule of_prefix.mentioned_directions of_prefix.directions_of of_same.same_mention of_same.says_the_same of_sides.side_added of_spelling.mentions_of of_spelling.denoted of_spelling.mentions_at of_spelling.spelled_out of_spelling.cell_of of_spelling.is_gap of_spelling.gap_of of_spelling.row_spelled_out of_spelling.rows_spelled_out of_words.lead_of of_words.command_of_word of_words.mark_of of_words.rule_word of_words.token_of of_words.tokens_from of_words.tokens_of
-two-gaps = refl
+abbrev two-gaps : Type 0
+two-gaps = program_of (game (line 26 (codes "[" ∷ codes "player" ∷ codes "|" ∷ codes "..." ∷ codes "|" ∷ codes "wall" ∷ codes "|" ∷ codes "..." ∷ codes "|" ∷ codes "crate" ∷ codes "]" ∷ codes "->" ∷ codes "[" ∷ codes "player" ∷ codes "|" ∷ codes "..." ∷ codes "|" ∷ codes "wall" ∷ codes "|" ∷ codes "..." ∷ codes "|" ∷ codes "crate" ∷ codes "]" ∷ []) ∷ [])) ≡ Err (record { code = code.OutsideProfile; line = 26 })
 
 -- a gap at the end of a row
-last-gap : program_of (game (line 26 (codes "[" ∷ codes "player" ∷ codes "|" ∷ codes "..." ∷ codes "]" ∷ codes "->" ∷ codes "[" ∷ codes "player" ∷ codes "|" ∷ codes "..." ∷ codes "]" ∷ []) ∷ [])) ≡ Err (record { code = code.Shape; line = 26 })
-unfolding of_checks.has_more_gaps of_checks.is_long of_checks.is_large of_checks.is_unknown of_checks.is_mixed of_checks.is_moving of_checks.in_cell of_checks.in_row of_checks.in_rows of_checks.in_rule of_checks.has_loose_gap of_checks.same_shape of_checks.shapes_agree of_checks.is_other_shape of_checks.is_misshapen of_checks.fault_of of_clash.has_clash of_commands.commands_given of_counting.size_of of_counting.pair_count of_deciding.is_member of_deciding.is_direction of_deciding.is_direction_on of_deciding.is_here of_deciding.the_only of_deciding.member_choice of_deciding.direction_choice of_deciding.decided_word of_deciding.decided_name of_deciding.decided_term of_deciding.decided_terms of_deciding.decided_cells of_deciding.decided_row of_deciding.decided_rows of_drafts.placed of_drafts.settled of_drafts.opened of_drafts.closed of_drafts.is_misplaced of_drafts.lateness of_drafts.joins of_drafts.before of_drafts.extended of_drafts.rule_added of_drafts.loop_added of_drafts.line_added of_drafts.finished of_drafts.program_from of_drafts.nothing of_drafts.program_of of_equal.same_item of_equal.has_item of_equal.within_cell of_equal.same_cell of_equal.cells_agree of_equal.same_row of_equal.rows_agree of_equal.same_rows of_equal.same_instance of_expansion.unless_clash of_expansion.expansion_within of_expansion.expanded of_instances.options_of of_instances.item_of of_instances.cell_of of_instances.row_of of_instances.rows_of of_instances.scan_of of_instances.instance_of of_exclusion.excludes of_exclusion.excludes_some of_exclusion.is_impossible of_exclusion.has_impossible of_instances.is_possible of_instances.picks_of of_instances.possible_of of_instances.instances_of of_instances.considered of_loop.loop_word of_loop.next_loop of_numbering.asked_by of_numbering.choices_at of_numbering.choices_in_cells of_numbering.choices_in_rows of_numbering.term_of of_numbering.terms_of of_numbering.asked_in of_numbering.asked_count of_numbering.cells_of of_numbering.rows_of of_parsed.commands_of of_parsed.prefixes_of of_parsed.after_prefixes of_parsed.parsed of_parsed.inside of_planning.with_right of_planning.planned of_planning.plan_of of_prefix.is_late_rule of_prefix.mentioned_directions of_prefix.directions_of of_same.same_mention of_same.says_the_same of_sides.side_added of_spelling.mentions_of of_spelling.denoted of_spelling.mentions_at of_spelling.spelled_out of_spelling.cell_of of_spelling.is_gap of_spelling.gap_of of_spelling.row_spelled_out of_spelling.rows_spelled_out of_words.lead_of of_words.command_of_word of_words.mark_of of_words.rule_word of_words.token_of of_words.tokens_from of_words.tokens_of
-last-gap = refl
+abbrev last-gap : Type 0
+last-gap = program_of (game (line 26 (codes "[" ∷ codes "player" ∷ codes "|" ∷ codes "..." ∷ codes "]" ∷ codes "->" ∷ codes "[" ∷ codes "player" ∷ codes "|" ∷ codes "..." ∷ codes "]" ∷ []) ∷ [])) ≡ Err (record { code = code.Shape; line = 26 })
 
 -- `+` on the first rule
-joins-nothing : program_of (game (line 26 (codes "+" ∷ codes "[" ∷ codes "player" ∷ codes "]" ∷ codes "->" ∷ codes "[" ∷ codes "]" ∷ []) ∷ [])) ≡ Err (record { code = code.BadRule; line = 26 })
-unfolding of_checks.has_more_gaps of_checks.is_long of_checks.is_large of_checks.is_unknown of_checks.is_mixed of_checks.is_moving of_checks.in_cell of_checks.in_row of_checks.in_rows of_checks.in_rule of_checks.has_loose_gap of_checks.same_shape of_checks.shapes_agree of_checks.is_other_shape of_checks.is_misshapen of_checks.fault_of of_clash.has_clash of_commands.commands_given of_counting.size_of of_counting.pair_count of_deciding.is_member of_deciding.is_direction of_deciding.is_direction_on of_deciding.is_here of_deciding.the_only of_deciding.member_choice of_deciding.direction_choice of_deciding.decided_word of_deciding.decided_name of_deciding.decided_term of_deciding.decided_terms of_deciding.decided_cells of_deciding.decided_row of_deciding.decided_rows of_drafts.placed of_drafts.settled of_drafts.opened of_drafts.closed of_drafts.is_misplaced of_drafts.lateness of_drafts.joins of_drafts.before of_drafts.extended of_drafts.rule_added of_drafts.loop_added of_drafts.line_added of_drafts.finished of_drafts.program_from of_drafts.nothing of_drafts.program_of of_equal.same_item of_equal.has_item of_equal.within_cell of_equal.same_cell of_equal.cells_agree of_equal.same_row of_equal.rows_agree of_equal.same_rows of_equal.same_instance of_expansion.unless_clash of_expansion.expansion_within of_expansion.expanded of_instances.options_of of_instances.item_of of_instances.cell_of of_instances.row_of of_instances.rows_of of_instances.scan_of of_instances.instance_of of_exclusion.excludes of_exclusion.excludes_some of_exclusion.is_impossible of_exclusion.has_impossible of_instances.is_possible of_instances.picks_of of_instances.possible_of of_instances.instances_of of_instances.considered of_loop.loop_word of_loop.next_loop of_numbering.asked_by of_numbering.choices_at of_numbering.choices_in_cells of_numbering.choices_in_rows of_numbering.term_of of_numbering.terms_of of_numbering.asked_in of_numbering.asked_count of_numbering.cells_of of_numbering.rows_of of_parsed.commands_of of_parsed.prefixes_of of_parsed.after_prefixes of_parsed.parsed of_parsed.inside of_planning.with_right of_planning.planned of_planning.plan_of of_prefix.is_late_rule of_prefix.mentioned_directions of_prefix.directions_of of_same.same_mention of_same.says_the_same of_sides.side_added of_spelling.mentions_of of_spelling.denoted of_spelling.mentions_at of_spelling.spelled_out of_spelling.cell_of of_spelling.is_gap of_spelling.gap_of of_spelling.row_spelled_out of_spelling.rows_spelled_out of_words.lead_of of_words.command_of_word of_words.mark_of of_words.rule_word of_words.token_of of_words.tokens_from of_words.tokens_of
-joins-nothing = refl
+abbrev joins-nothing : Type 0
+joins-nothing = program_of (game (line 26 (codes "+" ∷ codes "[" ∷ codes "player" ∷ codes "]" ∷ codes "->" ∷ codes "[" ∷ codes "]" ∷ []) ∷ [])) ≡ Err (record { code = code.BadRule; line = 26 })
 
 -- an unknown command
-no-command : program_of (game (line 26 (codes "[" ∷ codes "player" ∷ codes "]" ∷ codes "->" ∷ codes "[" ∷ codes "]" ∷ codes "fly" ∷ []) ∷ [])) ≡ Err (record { code = code.BadRule; line = 26 })
-unfolding of_checks.has_more_gaps of_checks.is_long of_checks.is_large of_checks.is_unknown of_checks.is_mixed of_checks.is_moving of_checks.in_cell of_checks.in_row of_checks.in_rows of_checks.in_rule of_checks.has_loose_gap of_checks.same_shape of_checks.shapes_agree of_checks.is_other_shape of_checks.is_misshapen of_checks.fault_of of_clash.has_clash of_commands.commands_given of_counting.size_of of_counting.pair_count of_deciding.is_member of_deciding.is_direction of_deciding.is_direction_on of_deciding.is_here of_deciding.the_only of_deciding.member_choice of_deciding.direction_choice of_deciding.decided_word of_deciding.decided_name of_deciding.decided_term of_deciding.decided_terms of_deciding.decided_cells of_deciding.decided_row of_deciding.decided_rows of_drafts.placed of_drafts.settled of_drafts.opened of_drafts.closed of_drafts.is_misplaced of_drafts.lateness of_drafts.joins of_drafts.before of_drafts.extended of_drafts.rule_added of_drafts.loop_added of_drafts.line_added of_drafts.finished of_drafts.program_from of_drafts.nothing of_drafts.program_of of_equal.same_item of_equal.has_item of_equal.within_cell of_equal.same_cell of_equal.cells_agree of_equal.same_row of_equal.rows_agree of_equal.same_rows of_equal.same_instance of_expansion.unless_clash of_expansion.expansion_within of_expansion.expanded of_instances.options_of of_instances.item_of of_instances.cell_of of_instances.row_of of_instances.rows_of of_instances.scan_of of_instances.instance_of of_exclusion.excludes of_exclusion.excludes_some of_exclusion.is_impossible of_exclusion.has_impossible of_instances.is_possible of_instances.picks_of of_instances.possible_of of_instances.instances_of of_instances.considered of_loop.loop_word of_loop.next_loop of_numbering.asked_by of_numbering.choices_at of_numbering.choices_in_cells of_numbering.choices_in_rows of_numbering.term_of of_numbering.terms_of of_numbering.asked_in of_numbering.asked_count of_numbering.cells_of of_numbering.rows_of of_parsed.commands_of of_parsed.prefixes_of of_parsed.after_prefixes of_parsed.parsed of_parsed.inside of_planning.with_right of_planning.planned of_planning.plan_of of_prefix.is_late_rule of_prefix.mentioned_directions of_prefix.directions_of of_same.same_mention of_same.says_the_same of_sides.side_added of_spelling.mentions_of of_spelling.denoted of_spelling.mentions_at of_spelling.spelled_out of_spelling.cell_of of_spelling.is_gap of_spelling.gap_of of_spelling.row_spelled_out of_spelling.rows_spelled_out of_words.lead_of of_words.command_of_word of_words.mark_of of_words.rule_word of_words.token_of of_words.tokens_from of_words.tokens_of
-no-command = refl
+abbrev no-command : Type 0
+no-command = program_of (game (line 26 (codes "[" ∷ codes "player" ∷ codes "]" ∷ codes "->" ∷ codes "[" ∷ codes "]" ∷ codes "fly" ∷ []) ∷ [])) ≡ Err (record { code = code.BadRule; line = 26 })
 
 -- `no` before an aggregate
-no-aggregate : program_of (game (line 26 (codes "[" ∷ codes "no" ∷ codes "@" ∷ codes "]" ∷ codes "->" ∷ codes "[" ∷ codes "mark" ∷ codes "]" ∷ []) ∷ [])) ≡ Err (record { code = code.Mixed; line = 26 })
-unfolding of_checks.has_more_gaps of_checks.is_long of_checks.is_large of_checks.is_unknown of_checks.is_mixed of_checks.is_moving of_checks.in_cell of_checks.in_row of_checks.in_rows of_checks.in_rule of_checks.has_loose_gap of_checks.same_shape of_checks.shapes_agree of_checks.is_other_shape of_checks.is_misshapen of_checks.fault_of of_clash.has_clash of_commands.commands_given of_counting.size_of of_counting.pair_count of_deciding.is_member of_deciding.is_direction of_deciding.is_direction_on of_deciding.is_here of_deciding.the_only of_deciding.member_choice of_deciding.direction_choice of_deciding.decided_word of_deciding.decided_name of_deciding.decided_term of_deciding.decided_terms of_deciding.decided_cells of_deciding.decided_row of_deciding.decided_rows of_drafts.placed of_drafts.settled of_drafts.opened of_drafts.closed of_drafts.is_misplaced of_drafts.lateness of_drafts.joins of_drafts.before of_drafts.extended of_drafts.rule_added of_drafts.loop_added of_drafts.line_added of_drafts.finished of_drafts.program_from of_drafts.nothing of_drafts.program_of of_equal.same_item of_equal.has_item of_equal.within_cell of_equal.same_cell of_equal.cells_agree of_equal.same_row of_equal.rows_agree of_equal.same_rows of_equal.same_instance of_expansion.unless_clash of_expansion.expansion_within of_expansion.expanded of_instances.options_of of_instances.item_of of_instances.cell_of of_instances.row_of of_instances.rows_of of_instances.scan_of of_instances.instance_of of_exclusion.excludes of_exclusion.excludes_some of_exclusion.is_impossible of_exclusion.has_impossible of_instances.is_possible of_instances.picks_of of_instances.possible_of of_instances.instances_of of_instances.considered of_loop.loop_word of_loop.next_loop of_numbering.asked_by of_numbering.choices_at of_numbering.choices_in_cells of_numbering.choices_in_rows of_numbering.term_of of_numbering.terms_of of_numbering.asked_in of_numbering.asked_count of_numbering.cells_of of_numbering.rows_of of_parsed.commands_of of_parsed.prefixes_of of_parsed.after_prefixes of_parsed.parsed of_parsed.inside of_planning.with_right of_planning.planned of_planning.plan_of of_prefix.is_late_rule of_prefix.mentioned_directions of_prefix.directions_of of_same.same_mention of_same.says_the_same of_sides.side_added of_spelling.mentions_of of_spelling.denoted of_spelling.mentions_at of_spelling.spelled_out of_spelling.cell_of of_spelling.is_gap of_spelling.gap_of of_spelling.row_spelled_out of_spelling.rows_spelled_out of_words.lead_of of_words.command_of_word of_words.mark_of of_words.rule_word of_words.token_of of_words.tokens_from of_words.tokens_of
-no-aggregate = refl
+abbrev no-aggregate : Type 0
+no-aggregate = program_of (game (line 26 (codes "[" ∷ codes "no" ∷ codes "@" ∷ codes "]" ∷ codes "->" ∷ codes "[" ∷ codes "mark" ∷ codes "]" ∷ []) ∷ [])) ≡ Err (record { code = code.Mixed; line = 26 })
 
 -- an unknown name
-no-name : program_of (game (line 26 (codes "[" ∷ codes "ghost" ∷ codes "]" ∷ codes "->" ∷ codes "[" ∷ codes "]" ∷ []) ∷ [])) ≡ Err (record { code = code.Unknown; line = 26 })
-unfolding of_checks.has_more_gaps of_checks.is_long of_checks.is_large of_checks.is_unknown of_checks.is_mixed of_checks.is_moving of_checks.in_cell of_checks.in_row of_checks.in_rows of_checks.in_rule of_checks.has_loose_gap of_checks.same_shape of_checks.shapes_agree of_checks.is_other_shape of_checks.is_misshapen of_checks.fault_of of_clash.has_clash of_commands.commands_given of_counting.size_of of_counting.pair_count of_deciding.is_member of_deciding.is_direction of_deciding.is_direction_on of_deciding.is_here of_deciding.the_only of_deciding.member_choice of_deciding.direction_choice of_deciding.decided_word of_deciding.decided_name of_deciding.decided_term of_deciding.decided_terms of_deciding.decided_cells of_deciding.decided_row of_deciding.decided_rows of_drafts.placed of_drafts.settled of_drafts.opened of_drafts.closed of_drafts.is_misplaced of_drafts.lateness of_drafts.joins of_drafts.before of_drafts.extended of_drafts.rule_added of_drafts.loop_added of_drafts.line_added of_drafts.finished of_drafts.program_from of_drafts.nothing of_drafts.program_of of_equal.same_item of_equal.has_item of_equal.within_cell of_equal.same_cell of_equal.cells_agree of_equal.same_row of_equal.rows_agree of_equal.same_rows of_equal.same_instance of_expansion.unless_clash of_expansion.expansion_within of_expansion.expanded of_instances.options_of of_instances.item_of of_instances.cell_of of_instances.row_of of_instances.rows_of of_instances.scan_of of_instances.instance_of of_exclusion.excludes of_exclusion.excludes_some of_exclusion.is_impossible of_exclusion.has_impossible of_instances.is_possible of_instances.picks_of of_instances.possible_of of_instances.instances_of of_instances.considered of_loop.loop_word of_loop.next_loop of_numbering.asked_by of_numbering.choices_at of_numbering.choices_in_cells of_numbering.choices_in_rows of_numbering.term_of of_numbering.terms_of of_numbering.asked_in of_numbering.asked_count of_numbering.cells_of of_numbering.rows_of of_parsed.commands_of of_parsed.prefixes_of of_parsed.after_prefixes of_parsed.parsed of_parsed.inside of_planning.with_right of_planning.planned of_planning.plan_of of_prefix.is_late_rule of_prefix.mentioned_directions of_prefix.directions_of of_same.same_mention of_same.says_the_same of_sides.side_added of_spelling.mentions_of of_spelling.denoted of_spelling.mentions_at of_spelling.spelled_out of_spelling.cell_of of_spelling.is_gap of_spelling.gap_of of_spelling.row_spelled_out of_spelling.rows_spelled_out of_words.lead_of of_words.command_of_word of_words.mark_of of_words.rule_word of_words.token_of of_words.tokens_from of_words.tokens_of
-no-name = refl
+abbrev no-name : Type 0
+no-name = program_of (game (line 26 (codes "[" ∷ codes "ghost" ∷ codes "]" ∷ codes "->" ∷ codes "[" ∷ codes "]" ∷ []) ∷ [])) ≡ Err (record { code = code.Unknown; line = 26 })
 
 -- a property that only the right names
-ambiguous : program_of (game (line 26 (codes "[" ∷ codes "mark" ∷ codes "]" ∷ codes "->" ∷ codes "[" ∷ codes "mark" ∷ codes "thing" ∷ codes "]" ∷ []) ∷ [])) ≡ Err (record { code = code.AmbiguousRight; line = 26 })
-unfolding of_checks.has_more_gaps of_checks.is_long of_checks.is_large of_checks.is_unknown of_checks.is_mixed of_checks.is_moving of_checks.in_cell of_checks.in_row of_checks.in_rows of_checks.in_rule of_checks.has_loose_gap of_checks.same_shape of_checks.shapes_agree of_checks.is_other_shape of_checks.is_misshapen of_checks.fault_of of_clash.has_clash of_commands.commands_given of_counting.size_of of_counting.pair_count of_deciding.is_member of_deciding.is_direction of_deciding.is_direction_on of_deciding.is_here of_deciding.the_only of_deciding.member_choice of_deciding.direction_choice of_deciding.decided_word of_deciding.decided_name of_deciding.decided_term of_deciding.decided_terms of_deciding.decided_cells of_deciding.decided_row of_deciding.decided_rows of_drafts.placed of_drafts.settled of_drafts.opened of_drafts.closed of_drafts.is_misplaced of_drafts.lateness of_drafts.joins of_drafts.before of_drafts.extended of_drafts.rule_added of_drafts.loop_added of_drafts.line_added of_drafts.finished of_drafts.program_from of_drafts.nothing of_drafts.program_of of_equal.same_item of_equal.has_item of_equal.within_cell of_equal.same_cell of_equal.cells_agree of_equal.same_row of_equal.rows_agree of_equal.same_rows of_equal.same_instance of_expansion.unless_clash of_expansion.expansion_within of_expansion.expanded of_instances.options_of of_instances.item_of of_instances.cell_of of_instances.row_of of_instances.rows_of of_instances.scan_of of_instances.instance_of of_exclusion.excludes of_exclusion.excludes_some of_exclusion.is_impossible of_exclusion.has_impossible of_instances.is_possible of_instances.picks_of of_instances.possible_of of_instances.instances_of of_instances.considered of_loop.loop_word of_loop.next_loop of_numbering.asked_by of_numbering.choices_at of_numbering.choices_in_cells of_numbering.choices_in_rows of_numbering.term_of of_numbering.terms_of of_numbering.asked_in of_numbering.asked_count of_numbering.cells_of of_numbering.rows_of of_parsed.commands_of of_parsed.prefixes_of of_parsed.after_prefixes of_parsed.parsed of_parsed.inside of_planning.with_right of_planning.planned of_planning.plan_of of_prefix.is_late_rule of_prefix.mentioned_directions of_prefix.directions_of of_same.same_mention of_same.says_the_same of_sides.side_added of_spelling.mentions_of of_spelling.denoted of_spelling.mentions_at of_spelling.spelled_out of_spelling.cell_of of_spelling.is_gap of_spelling.gap_of of_spelling.row_spelled_out of_spelling.rows_spelled_out of_words.lead_of of_words.command_of_word of_words.mark_of of_words.rule_word of_words.token_of of_words.tokens_from of_words.tokens_of
-ambiguous = refl
+abbrev ambiguous : Type 0
+ambiguous = program_of (game (line 26 (codes "[" ∷ codes "mark" ∷ codes "]" ∷ codes "->" ∷ codes "[" ∷ codes "mark" ∷ codes "thing" ∷ codes "]" ∷ []) ∷ [])) ≡ Err (record { code = code.AmbiguousRight; line = 26 })
 
 -- two objects of one layer on the right, below another rule
-clash : program_of (game (line 26 (codes "[" ∷ codes "player" ∷ codes "]" ∷ codes "->" ∷ codes "[" ∷ codes "]" ∷ []) ∷ line 27 (codes "[" ∷ codes "mark" ∷ codes "]" ∷ codes "->" ∷ codes "[" ∷ codes "wall" ∷ codes "crate" ∷ codes "]" ∷ []) ∷ [])) ≡ Err (record { code = code.RightClash; line = 27 })
-unfolding of_checks.has_more_gaps of_checks.is_long of_checks.is_large of_checks.is_unknown of_checks.is_mixed of_checks.is_moving of_checks.in_cell of_checks.in_row of_checks.in_rows of_checks.in_rule of_checks.has_loose_gap of_checks.same_shape of_checks.shapes_agree of_checks.is_other_shape of_checks.is_misshapen of_checks.fault_of of_clash.has_clash of_commands.commands_given of_counting.size_of of_counting.pair_count of_deciding.is_member of_deciding.is_direction of_deciding.is_direction_on of_deciding.is_here of_deciding.the_only of_deciding.member_choice of_deciding.direction_choice of_deciding.decided_word of_deciding.decided_name of_deciding.decided_term of_deciding.decided_terms of_deciding.decided_cells of_deciding.decided_row of_deciding.decided_rows of_drafts.placed of_drafts.settled of_drafts.opened of_drafts.closed of_drafts.is_misplaced of_drafts.lateness of_drafts.joins of_drafts.before of_drafts.extended of_drafts.rule_added of_drafts.loop_added of_drafts.line_added of_drafts.finished of_drafts.program_from of_drafts.nothing of_drafts.program_of of_equal.same_item of_equal.has_item of_equal.within_cell of_equal.same_cell of_equal.cells_agree of_equal.same_row of_equal.rows_agree of_equal.same_rows of_equal.same_instance of_expansion.unless_clash of_expansion.expansion_within of_expansion.expanded of_instances.options_of of_instances.item_of of_instances.cell_of of_instances.row_of of_instances.rows_of of_instances.scan_of of_instances.instance_of of_exclusion.excludes of_exclusion.excludes_some of_exclusion.is_impossible of_exclusion.has_impossible of_instances.is_possible of_instances.picks_of of_instances.possible_of of_instances.instances_of of_instances.considered of_loop.loop_word of_loop.next_loop of_numbering.asked_by of_numbering.choices_at of_numbering.choices_in_cells of_numbering.choices_in_rows of_numbering.term_of of_numbering.terms_of of_numbering.asked_in of_numbering.asked_count of_numbering.cells_of of_numbering.rows_of of_parsed.commands_of of_parsed.prefixes_of of_parsed.after_prefixes of_parsed.parsed of_parsed.inside of_planning.with_right of_planning.planned of_planning.plan_of of_prefix.is_late_rule of_prefix.mentioned_directions of_prefix.directions_of of_same.same_mention of_same.says_the_same of_sides.side_added of_spelling.mentions_of of_spelling.denoted of_spelling.mentions_at of_spelling.spelled_out of_spelling.cell_of of_spelling.is_gap of_spelling.gap_of of_spelling.row_spelled_out of_spelling.rows_spelled_out of_words.lead_of of_words.command_of_word of_words.mark_of of_words.rule_word of_words.token_of of_words.tokens_from of_words.tokens_of
-clash = refl
+abbrev clash : Type 0
+clash = program_of (game (line 26 (codes "[" ∷ codes "player" ∷ codes "]" ∷ codes "->" ∷ codes "[" ∷ codes "]" ∷ []) ∷ line 27 (codes "[" ∷ codes "mark" ∷ codes "]" ∷ codes "->" ∷ codes "[" ∷ codes "wall" ∷ codes "crate" ∷ codes "]" ∷ []) ∷ [])) ≡ Err (record { code = code.RightClash; line = 27 })
 
 -- a movement word in a `+` rule of a late group
-late-movement : program_of (game (line 26 (codes "late" ∷ codes "[" ∷ codes "player" ∷ codes "]" ∷ codes "->" ∷ codes "[" ∷ codes "]" ∷ []) ∷ line 27 (codes "+" ∷ codes "[" ∷ codes "player" ∷ codes "]" ∷ codes "->" ∷ codes "[" ∷ codes ">" ∷ codes "player" ∷ codes "]" ∷ []) ∷ [])) ≡ Err (record { code = code.LateMovement; line = 27 })
-unfolding of_checks.has_more_gaps of_checks.is_long of_checks.is_large of_checks.is_unknown of_checks.is_mixed of_checks.is_moving of_checks.in_cell of_checks.in_row of_checks.in_rows of_checks.in_rule of_checks.has_loose_gap of_checks.same_shape of_checks.shapes_agree of_checks.is_other_shape of_checks.is_misshapen of_checks.fault_of of_clash.has_clash of_commands.commands_given of_counting.size_of of_counting.pair_count of_deciding.is_member of_deciding.is_direction of_deciding.is_direction_on of_deciding.is_here of_deciding.the_only of_deciding.member_choice of_deciding.direction_choice of_deciding.decided_word of_deciding.decided_name of_deciding.decided_term of_deciding.decided_terms of_deciding.decided_cells of_deciding.decided_row of_deciding.decided_rows of_drafts.placed of_drafts.settled of_drafts.opened of_drafts.closed of_drafts.is_misplaced of_drafts.lateness of_drafts.joins of_drafts.before of_drafts.extended of_drafts.rule_added of_drafts.loop_added of_drafts.line_added of_drafts.finished of_drafts.program_from of_drafts.nothing of_drafts.program_of of_equal.same_item of_equal.has_item of_equal.within_cell of_equal.same_cell of_equal.cells_agree of_equal.same_row of_equal.rows_agree of_equal.same_rows of_equal.same_instance of_expansion.unless_clash of_expansion.expansion_within of_expansion.expanded of_instances.options_of of_instances.item_of of_instances.cell_of of_instances.row_of of_instances.rows_of of_instances.scan_of of_instances.instance_of of_exclusion.excludes of_exclusion.excludes_some of_exclusion.is_impossible of_exclusion.has_impossible of_instances.is_possible of_instances.picks_of of_instances.possible_of of_instances.instances_of of_instances.considered of_loop.loop_word of_loop.next_loop of_numbering.asked_by of_numbering.choices_at of_numbering.choices_in_cells of_numbering.choices_in_rows of_numbering.term_of of_numbering.terms_of of_numbering.asked_in of_numbering.asked_count of_numbering.cells_of of_numbering.rows_of of_parsed.commands_of of_parsed.prefixes_of of_parsed.after_prefixes of_parsed.parsed of_parsed.inside of_planning.with_right of_planning.planned of_planning.plan_of of_prefix.is_late_rule of_prefix.mentioned_directions of_prefix.directions_of of_same.same_mention of_same.says_the_same of_sides.side_added of_spelling.mentions_of of_spelling.denoted of_spelling.mentions_at of_spelling.spelled_out of_spelling.cell_of of_spelling.is_gap of_spelling.gap_of of_spelling.row_spelled_out of_spelling.rows_spelled_out of_words.lead_of of_words.command_of_word of_words.mark_of of_words.rule_word of_words.token_of of_words.tokens_from of_words.tokens_of
-late-movement = refl
+abbrev late-movement : Type 0
+late-movement = program_of (game (line 26 (codes "late" ∷ codes "[" ∷ codes "player" ∷ codes "]" ∷ codes "->" ∷ codes "[" ∷ codes "]" ∷ []) ∷ line 27 (codes "+" ∷ codes "[" ∷ codes "player" ∷ codes "]" ∷ codes "->" ∷ codes "[" ∷ codes ">" ∷ codes "player" ∷ codes "]" ∷ []) ∷ [])) ≡ Err (record { code = code.LateMovement; line = 27 })
 
 -- a loop that no line ends
-half-a-loop : program_of (game (line 26 (codes "startloop" ∷ []) ∷ line 27 (codes "[" ∷ codes "player" ∷ codes "]" ∷ codes "->" ∷ codes "[" ∷ codes "]" ∷ []) ∷ [])) ≡ Err (record { code = code.BadRule; line = 26 })
-unfolding of_checks.has_more_gaps of_checks.is_long of_checks.is_large of_checks.is_unknown of_checks.is_mixed of_checks.is_moving of_checks.in_cell of_checks.in_row of_checks.in_rows of_checks.in_rule of_checks.has_loose_gap of_checks.same_shape of_checks.shapes_agree of_checks.is_other_shape of_checks.is_misshapen of_checks.fault_of of_clash.has_clash of_commands.commands_given of_counting.size_of of_counting.pair_count of_deciding.is_member of_deciding.is_direction of_deciding.is_direction_on of_deciding.is_here of_deciding.the_only of_deciding.member_choice of_deciding.direction_choice of_deciding.decided_word of_deciding.decided_name of_deciding.decided_term of_deciding.decided_terms of_deciding.decided_cells of_deciding.decided_row of_deciding.decided_rows of_drafts.placed of_drafts.settled of_drafts.opened of_drafts.closed of_drafts.is_misplaced of_drafts.lateness of_drafts.joins of_drafts.before of_drafts.extended of_drafts.rule_added of_drafts.loop_added of_drafts.line_added of_drafts.finished of_drafts.program_from of_drafts.nothing of_drafts.program_of of_equal.same_item of_equal.has_item of_equal.within_cell of_equal.same_cell of_equal.cells_agree of_equal.same_row of_equal.rows_agree of_equal.same_rows of_equal.same_instance of_expansion.unless_clash of_expansion.expansion_within of_expansion.expanded of_instances.options_of of_instances.item_of of_instances.cell_of of_instances.row_of of_instances.rows_of of_instances.scan_of of_instances.instance_of of_exclusion.excludes of_exclusion.excludes_some of_exclusion.is_impossible of_exclusion.has_impossible of_instances.is_possible of_instances.picks_of of_instances.possible_of of_instances.instances_of of_instances.considered of_loop.loop_word of_loop.next_loop of_numbering.asked_by of_numbering.choices_at of_numbering.choices_in_cells of_numbering.choices_in_rows of_numbering.term_of of_numbering.terms_of of_numbering.asked_in of_numbering.asked_count of_numbering.cells_of of_numbering.rows_of of_parsed.commands_of of_parsed.prefixes_of of_parsed.after_prefixes of_parsed.parsed of_parsed.inside of_planning.with_right of_planning.planned of_planning.plan_of of_prefix.is_late_rule of_prefix.mentioned_directions of_prefix.directions_of of_same.same_mention of_same.says_the_same of_sides.side_added of_spelling.mentions_of of_spelling.denoted of_spelling.mentions_at of_spelling.spelled_out of_spelling.cell_of of_spelling.is_gap of_spelling.gap_of of_spelling.row_spelled_out of_spelling.rows_spelled_out of_words.lead_of of_words.command_of_word of_words.mark_of of_words.rule_word of_words.token_of of_words.tokens_from of_words.tokens_of
-half-a-loop = refl
+abbrev half-a-loop : Type 0
+half-a-loop = program_of (game (line 26 (codes "startloop" ∷ []) ∷ line 27 (codes "[" ∷ codes "player" ∷ codes "]" ∷ codes "->" ∷ codes "[" ∷ codes "]" ∷ []) ∷ [])) ≡ Err (record { code = code.BadRule; line = 26 })
 
 -- `+` below a loop line
-joins-a-loop : program_of (game (line 26 (codes "[" ∷ codes "mark" ∷ codes "]" ∷ codes "->" ∷ codes "[" ∷ codes "target" ∷ codes "]" ∷ []) ∷ line 27 (codes "startloop" ∷ []) ∷ line 28 (codes "+" ∷ codes "[" ∷ codes "target" ∷ codes "]" ∷ codes "->" ∷ codes "[" ∷ codes "mark" ∷ codes "]" ∷ []) ∷ line 29 (codes "endloop" ∷ []) ∷ [])) ≡ Err (record { code = code.BadRule; line = 28 })
-unfolding of_checks.has_more_gaps of_checks.is_long of_checks.is_large of_checks.is_unknown of_checks.is_mixed of_checks.is_moving of_checks.in_cell of_checks.in_row of_checks.in_rows of_checks.in_rule of_checks.has_loose_gap of_checks.same_shape of_checks.shapes_agree of_checks.is_other_shape of_checks.is_misshapen of_checks.fault_of of_clash.has_clash of_commands.commands_given of_counting.size_of of_counting.pair_count of_deciding.is_member of_deciding.is_direction of_deciding.is_direction_on of_deciding.is_here of_deciding.the_only of_deciding.member_choice of_deciding.direction_choice of_deciding.decided_word of_deciding.decided_name of_deciding.decided_term of_deciding.decided_terms of_deciding.decided_cells of_deciding.decided_row of_deciding.decided_rows of_drafts.placed of_drafts.settled of_drafts.opened of_drafts.closed of_drafts.is_misplaced of_drafts.lateness of_drafts.joins of_drafts.before of_drafts.extended of_drafts.rule_added of_drafts.loop_added of_drafts.line_added of_drafts.finished of_drafts.program_from of_drafts.nothing of_drafts.program_of of_equal.same_item of_equal.has_item of_equal.within_cell of_equal.same_cell of_equal.cells_agree of_equal.same_row of_equal.rows_agree of_equal.same_rows of_equal.same_instance of_expansion.unless_clash of_expansion.expansion_within of_expansion.expanded of_instances.options_of of_instances.item_of of_instances.cell_of of_instances.row_of of_instances.rows_of of_instances.scan_of of_instances.instance_of of_exclusion.excludes of_exclusion.excludes_some of_exclusion.is_impossible of_exclusion.has_impossible of_instances.is_possible of_instances.picks_of of_instances.possible_of of_instances.instances_of of_instances.considered of_loop.loop_word of_loop.next_loop of_numbering.asked_by of_numbering.choices_at of_numbering.choices_in_cells of_numbering.choices_in_rows of_numbering.term_of of_numbering.terms_of of_numbering.asked_in of_numbering.asked_count of_numbering.cells_of of_numbering.rows_of of_parsed.commands_of of_parsed.prefixes_of of_parsed.after_prefixes of_parsed.parsed of_parsed.inside of_planning.with_right of_planning.planned of_planning.plan_of of_prefix.is_late_rule of_prefix.mentioned_directions of_prefix.directions_of of_same.same_mention of_same.says_the_same of_sides.side_added of_spelling.mentions_of of_spelling.denoted of_spelling.mentions_at of_spelling.spelled_out of_spelling.cell_of of_spelling.is_gap of_spelling.gap_of of_spelling.row_spelled_out of_spelling.rows_spelled_out of_words.lead_of of_words.command_of_word of_words.mark_of of_words.rule_word of_words.token_of of_words.tokens_from of_words.tokens_of
-joins-a-loop = refl
+abbrev joins-a-loop : Type 0
+joins-a-loop = program_of (game (line 26 (codes "[" ∷ codes "mark" ∷ codes "]" ∷ codes "->" ∷ codes "[" ∷ codes "target" ∷ codes "]" ∷ []) ∷ line 27 (codes "startloop" ∷ []) ∷ line 28 (codes "+" ∷ codes "[" ∷ codes "target" ∷ codes "]" ∷ codes "->" ∷ codes "[" ∷ codes "mark" ∷ codes "]" ∷ []) ∷ line 29 (codes "endloop" ∷ []) ∷ [])) ≡ Err (record { code = code.BadRule; line = 28 })
 
 -- a loop of an early and a late group
-loops : loop_sizes (program_of (game (line 26 (codes "startloop" ∷ []) ∷ line 27 (codes "[" ∷ codes "mark" ∷ codes "]" ∷ codes "->" ∷ codes "[" ∷ codes "target" ∷ codes "]" ∷ []) ∷ line 28 (codes "late" ∷ codes "[" ∷ codes "target" ∷ codes "]" ∷ codes "->" ∷ codes "[" ∷ codes "target" ∷ codes "mark" ∷ codes "]" ∷ []) ∷ line 29 (codes "endloop" ∷ []) ∷ []))) ≡ (1 ∷ []) ∷ (1 ∷ []) ∷ []
+abbrev loops : Type 0
+loops = loop_sizes (program_of (game (line 26 (codes "startloop" ∷ []) ∷ line 27 (codes "[" ∷ codes "mark" ∷ codes "]" ∷ codes "->" ∷ codes "[" ∷ codes "target" ∷ codes "]" ∷ []) ∷ line 28 (codes "late" ∷ codes "[" ∷ codes "target" ∷ codes "]" ∷ codes "->" ∷ codes "[" ∷ codes "target" ∷ codes "mark" ∷ codes "]" ∷ []) ∷ line 29 (codes "endloop" ∷ []) ∷ []))) ≡ (1 ∷ []) ∷ (1 ∷ []) ∷ []
+
+-- each of them holds
+all_hold : pushes × turns-back × marks × moves × chooses × impossible × two-gaps × last-gap × joins-nothing × no-command × no-aggregate × no-name × ambiguous × clash × late-movement × half-a-loop × joins-a-loop × loops
 unfolding of_checks.has_more_gaps of_checks.is_long of_checks.is_large of_checks.is_unknown of_checks.is_mixed of_checks.is_moving of_checks.in_cell of_checks.in_row of_checks.in_rows of_checks.in_rule of_checks.has_loose_gap of_checks.same_shape of_checks.shapes_agree of_checks.is_other_shape of_checks.is_misshapen of_checks.fault_of of_clash.has_clash of_commands.commands_given of_counting.size_of of_counting.pair_count of_deciding.is_member of_deciding.is_direction of_deciding.is_direction_on of_deciding.is_here of_deciding.the_only of_deciding.member_choice of_deciding.direction_choice of_deciding.decided_word of_deciding.decided_name of_deciding.decided_term of_deciding.decided_terms of_deciding.decided_cells of_deciding.decided_row of_deciding.decided_rows of_drafts.placed of_drafts.settled of_drafts.opened of_drafts.closed of_drafts.is_misplaced of_drafts.lateness of_drafts.joins of_drafts.before of_drafts.extended of_drafts.rule_added of_drafts.loop_added of_drafts.line_added of_drafts.finished of_drafts.program_from of_drafts.nothing of_drafts.program_of of_equal.same_item of_equal.has_item of_equal.within_cell of_equal.same_cell of_equal.cells_agree of_equal.same_row of_equal.rows_agree of_equal.same_rows of_equal.same_instance of_expansion.unless_clash of_expansion.expansion_within of_expansion.expanded of_instances.options_of of_instances.item_of of_instances.cell_of of_instances.row_of of_instances.rows_of of_instances.scan_of of_instances.instance_of of_exclusion.excludes of_exclusion.excludes_some of_exclusion.is_impossible of_exclusion.has_impossible of_instances.is_possible of_instances.picks_of of_instances.possible_of of_instances.instances_of of_instances.considered of_loop.loop_word of_loop.next_loop of_numbering.asked_by of_numbering.choices_at of_numbering.choices_in_cells of_numbering.choices_in_rows of_numbering.term_of of_numbering.terms_of of_numbering.asked_in of_numbering.asked_count of_numbering.cells_of of_numbering.rows_of of_parsed.commands_of of_parsed.prefixes_of of_parsed.after_prefixes of_parsed.parsed of_parsed.inside of_planning.with_right of_planning.planned of_planning.plan_of of_prefix.is_late_rule of_prefix.mentioned_directions of_prefix.directions_of of_same.same_mention of_same.says_the_same of_sides.side_added of_spelling.mentions_of of_spelling.denoted of_spelling.mentions_at of_spelling.spelled_out of_spelling.cell_of of_spelling.is_gap of_spelling.gap_of of_spelling.row_spelled_out of_spelling.rows_spelled_out of_words.lead_of of_words.command_of_word of_words.mark_of of_words.rule_word of_words.token_of of_words.tokens_from of_words.tokens_of
-loops = refl
+all_hold = (refl, refl, refl, refl, refl, refl, refl, refl, refl, refl, refl, refl, refl, refl, refl, refl, refl, refl)

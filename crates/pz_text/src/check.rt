@@ -1,6 +1,6 @@
 //! The checks of a text: its length, and its headings.
 
-ghost use Rattle.std.specs.Prelude.{◌≡◌, ◌≢◌, IfOk, IfErr, IfSome, Ok, Err};
+ghost use Rattle.std.specs.Prelude.{◌≡◌, ◌≢◌, IfOk, IfErr, IfSome, None, Ok, Err};
 ghost use Rattle.pz_text.specs.Check.{too_long, misplaced_heading, has_section, missing_section, lines_of};
 ghost use Rattle.pz_text.specs.declared.fault.Code.TheVariants as code;
 
@@ -73,11 +73,12 @@ pub fn missing_section(lines: &[Line]) -> Option<SourceFault>
     }
 }
 
-/// The lines of a text, or its first fault: TooLong, then Section. Memory, with line 0, may come in place of either.
+/// The lines of a text, or its first fault: TooLong, then Section. Memory, with line 0, may come in place of Section.
 pub fn read_lines(alloc: Global, text: &str) -> Result<Vec<Line>, SourceFault>
     ensures read { IfOk result (λ lines. lines_of text.now ≡ Ok lines.items) }
     ensures refused { IfErr result (λ fault. fault.code ≢ code.Memory → lines_of text.now ≡ Err fault) }
     ensures whole { IfErr result (λ fault. fault.code ≡ code.Memory → fault.line ≡ 0) }
+    ensures short { IfErr result (λ fault. fault.code ≡ code.Memory → too_long text.now ≡ None) }
 {
     if let Some(fault) = too_long(text) {
         return Err(fault);

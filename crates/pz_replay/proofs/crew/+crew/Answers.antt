@@ -6,7 +6,7 @@ use Rattle.pz_replay.proofs.Crewing.{opens, last_lane, moved_worked, none_left, 
 use Rattle.pz_replay.proofs.crew.+crew.Goals as goal
 
 pub returns-then-left-eq0-clause-whole : goal.returns-then-left-eq0-clause-whole
-returns-then-left-eq0-clause-whole g t c = none_left c.args.job.now c.args.maker c.args.left c.gather.new.desks.items c.args.sessions c.gather.result c.if-left-eq0.true c.gather.ensures.done c.requires.recorded.1
+returns-then-left-eq0-clause-whole g t c = none_left c.args.shared.now.job.now c.args.maker c.args.left c.gather.new.desks.items c.args.sessions c.gather.result c.if-left-eq0.true c.gather.ensures.done c.requires.recorded.1
 
 pub crew-below-requires-clause-recorded : goal.crew-below-requires-clause-recorded
 crew-below-requires-clause-recorded g t c κs within =
@@ -25,5 +25,5 @@ returns-clause-ended g t c =
 
 pub returns-clause-whole : goal.returns-clause-whole
 returns-clause-whole g t c =
-    settles (sessions_of c.args.job.now) c.args.maker c.split-maker.result.0 c.args.left c.crew-below.new.desks.items c.pop-2.new.self.items c.in-Some-pop.desk c.crew-below.result c.settle.result c.split-maker.ensures.maker (omega arith) c.in-Some-pop.ensures.items
+    settles (sessions_of c.args.shared.now.job.now) c.args.maker c.split-maker.result.0 c.args.left c.crew-below.new.desks.items c.pop-2.new.self.items c.in-Some-pop.desk c.crew-below.result c.settle.result c.split-maker.ensures.maker (omega arith) c.in-Some-pop.ensures.items
     c.crew-below.ensures.whole c.settle.ensures.settled c.settle.ensures.below

@@ -7,4 +7,4 @@ use Rattle.pz_replay.proofs.crew.all_started.Goals as goal
 pub returns-clause-all : goal.returns-clause-all
 returns-clause-all g c =
     let m = c.requires.maker in
-    finishes c.args.job.now c.args.claims.now c.args.workers c.args.maker c.crew.new.desks.items c.crew.result (c.crew.ensures.lanes ∙ ap (map lane_of) c.new-desks.ensures.items) m.0 m.1 m.2 m.3 c.requires.job c.crew.ensures.whole
+    finishes c.args.shared.now.job.now c.args.shared.now.claims.now c.args.workers c.args.maker c.crew.new.desks.items c.crew.result (c.crew.ensures.lanes ∙ ap (map lane_of) c.new-desks.ensures.items) m.0 m.1 m.2 m.3 c.requires.job c.crew.ensures.whole
