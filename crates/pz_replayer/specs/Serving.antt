@@ -85,9 +85,13 @@ refusal_line (refusal.File cause) = file_line cause
 refusal_line refusal.LaneLost = codes "lane-lost\n"
 refusal_line (refusal.WriteFault cut) = codes "write-fault " ++ decimal cut.written ++ codes "\n"
 
+-- a front of a line goes out, and then a write fails
+abbrev pub IsCut : List ℕ → Writes → Writes → Type 0
+IsCut line old new = (new.has_failed ≡ true) × (count : ℕ) × Appends old.contents new.contents (take count line)
+
 -- a line goes out whole, or a front of it before a write fails
 abbrev pub IsReported : List ℕ → Writes → Writes → Type 0
-IsReported line old new = HasWritten line old new ⊎ ((new.has_failed ≡ true) × (count : ℕ) × Appends old.contents new.contents (take count line))
+IsReported line old new = HasWritten line old new ⊎ IsCut line old new
 
 -- a refusal has its line, and nothing else has one
 abbrev pub Reports : Writes → Writes → Result Bool Refusal → Type 0

@@ -1,7 +1,8 @@
 //! Why the program ends without a whole recording, and the line that says so.
 
-ghost use Rattle.std.specs.Prelude.{◌≡◌, ◌++◌};
-ghost use Rattle.pz_replayer.specs.Serving.{IsReported, file_line, refusal_line};
+ghost use Rattle.std.specs.Prelude.{◌≡◌, ◌++◌, IfErr, OnOk};
+ghost use Rattle.pz_replay.specs.Writing.{HasWritten};
+ghost use Rattle.pz_replayer.specs.Serving.{IsCut, IsReported, file_line, refusal_line};
 ghost use Rattle.pz_replayer.specs.declared.refusal.Refusal.TheVariants.{Memory};
 
 use itoa::Buffer;
@@ -39,7 +40,8 @@ fn write_parts<E: Write>(
     third: &str,
     errors: &mut Output<E>,
 ) -> Result<(), WriteFault>
-    ensures { IsReported (first.now ++ second.now ++ third.now) errors.old errors.new }
+    ensures whole { OnOk result (HasWritten (first.now ++ second.now ++ third.now) errors.old errors.new) }
+    ensures cut { IfErr result (λ _. IsCut (first.now ++ second.now ++ third.now) errors.old errors.new) }
 {
     errors.write_whole(first.as_bytes())?;
     errors.write_whole(second.as_bytes())?;
@@ -48,7 +50,8 @@ fn write_parts<E: Write>(
 
 /// Writes the line of a fault of the file.
 fn report_file<E: Write>(fault: FileFault, errors: &mut Output<E>) -> Result<(), WriteFault>
-    ensures { IsReported (file_line fault) errors.old errors.new }
+    ensures whole { OnOk result (HasWritten (file_line fault) errors.old errors.new) }
+    ensures cut { IfErr result (λ _. IsCut (file_line fault) errors.old errors.new) }
 {
     let mut digits = Buffer::new();
     match fault {
@@ -70,9 +73,10 @@ fn report_file<E: Write>(fault: FileFault, errors: &mut Output<E>) -> Result<(),
     }
 }
 
-/// Writes the line of a refusal. Where that writer fails too, the line ends early.
+/// Writes the line of a refusal. Where that writer fails too, the line ends early, and the answer is that fault.
 fn report<E: Write>(refusal: Refusal, errors: &mut Output<E>) -> Result<(), WriteFault>
-    ensures { IsReported (refusal_line refusal) errors.old errors.new }
+    ensures whole { OnOk result (HasWritten (refusal_line refusal) errors.old errors.new) }
+    ensures cut { IfErr result (λ _. IsCut (refusal_line refusal) errors.old errors.new) }
 {
     let mut digits = Buffer::new();
     match refusal {
