@@ -17,6 +17,7 @@ pub fn resolve(game: &Game, level: &mut Level)
     ensures size { SameSize level.old.grid level.new.grid }
     ensures lawful { IsLawful level.new.grid }
 {
+    // (the contract alone speaks of the game)
     let _ = game;
     level.settle();
     level.still_all();

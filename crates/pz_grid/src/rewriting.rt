@@ -297,8 +297,10 @@ pub fn rewrite(game: &Game, level: &mut Level, instance: &Instance, places: &[Pl
     ensures size { SameSize level.old.grid level.new.grid }
     ensures lawful { IsLawful level.new.grid }
 {
+    // (the contract alone speaks of the game)
     let _ = game;
     let changed = level.rewrite_all(instance, places, false);
+    // (brings the proof the law of levels)
     let _ = level.width();
     changed
 }

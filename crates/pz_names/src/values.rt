@@ -48,6 +48,7 @@ fn denoted(
     if let Some(fault) = unknown_part(names, definitions) {
         return Err(fault);
     }
+    // (brings the proof that the names are few)
     let _count = names.len();
     let meanings = meanings(alloc, objects, names, definitions)?;
     let meanings = meanings.as_slice();

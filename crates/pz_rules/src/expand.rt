@@ -87,6 +87,7 @@ pub fn expand(alloc: Global, game: &Game) -> Result<Program, SourceFault>
     ensures whole { IfErr result (λ fault. fault.code ≡ Memory → fault.line ≡ 0) }
     ensures lined { IfErr result (λ fault. fault.code ≢ Memory → Contains (map (λ line. line.number) game.now.rules) fault.line) }
 {
+    // (brings the proof the law of games)
     let _layers = game.layers();
     read_program(alloc, game)
 }

@@ -40,6 +40,7 @@ pub(crate) fn level_after(game: &Game, entry: usize) -> Option<usize>
     ensures playable { IfSome result (λ next. is_playable (entry_at game.now next) ≡ true) }
     ensures within { IfSome result (λ next. next < length game.now.levels) }
 {
+    // (brings the proof that a game has few levels)
     let _levels = game.levels();
     level_from(game, entry as u64 + 1)
 }

@@ -50,6 +50,7 @@ impl Plan {
         requires within { first < length game.levels }
         ensures { result ≡ record { game = game; program = program; first = first; inputs = inputs; recorded = recorded; order = order } }
     {
+        // (brings the proof that the inputs are few)
         let _ = inputs.items();
         Plan {
             game,

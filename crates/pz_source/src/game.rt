@@ -120,6 +120,7 @@ impl Game {
         ensures members { option_copied result ≡ option_map (λ d. d.members) (denotation_in self.now name.now) }
         ensures game { IsGame self.now }
     {
+        // (brings the proof the law of games)
         let _ = &self.objects;
         match self.denotation(name) {
             Some(denotation) => Some(denotation.members.items()),

@@ -101,8 +101,10 @@ pub fn rest(
     ensures size { SameSize level.old.grid level.new.grid }
     ensures lawful { IsLawful level.new.grid }
 {
+    // (the contract alone speaks of the game)
     let _ = game;
     let given = to_rest(alloc, level, group.items());
+    // (brings the proof the law of levels)
     let _ = level.width();
     match given {
         Ok(given) => Ok((given.commands, given.changed)),

@@ -177,6 +177,7 @@ fn end_of(before: &Level, after: Level, commands: Commands) -> Result<StepEnd, S
     ensures lawful { IfOk result (λ end. IsLawful end.level.grid) }
     ensures fault { IfErr result (λ fault. fault ≡ Memory) }
 {
+    // (brings the proof the law of both levels)
     let _ = (before.width(), after.width());
     if commands.contains(Commands::CANCEL) {
         match copy_of(before) {
