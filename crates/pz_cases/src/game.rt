@@ -1,5 +1,9 @@
-//! The texts of sources, and the games that they are.
+//! The texts of sources, the games that they are, and their levels.
 
+ghost use Rattle.std.specs.Prelude.{◌≡◌, IfOk};
+ghost use Rattle.pz_grid.specs.Grid.{IsOfGame};
+
+use pz_grid::Level;
 use pz_source::game::Game;
 use pz_source::reading::read_game;
 use pz_text::fault::SourceFault;
@@ -35,5 +39,17 @@ pub(crate) fn game_of(alloc: Global, text: &str) -> Result<Game, Fail> {
     match read(alloc, text) {
         Ok(game) => Ok(game),
         Err(_) => Err(Fail::new("refused")),
+    }
+}
+
+/// The level of the first entry of LEVELS.
+pub(crate) fn loaded(alloc: Global, game: &Game) -> Result<Level, Fail>
+    ensures { IfOk result (λ level. IsOfGame game.now level.grid) }
+{
+    match game.levels() {
+        [entry, ..] if entry.playable() => {
+            Level::load(alloc, game, 0).map_err(|_| Fail::new("no memory"))
+        }
+        _ => Err(Fail::new("no level")),
     }
 }

@@ -3,7 +3,7 @@
 ghost use Rattle.std.specs.Prelude.{◌≡◌, IfOk};
 ghost use Rattle.pz_grid.specs.Grid.{IsOfGame};
 
-use crate::game::{game_of, joined};
+use crate::game::{game_of, joined, loaded};
 use pz_grid::{Level, push_players, resolve};
 use pz_source::direction::Dir;
 use pz_source::game::Game;
@@ -30,18 +30,6 @@ const GAME: [&str; 13] = [
 fn small_game(alloc: Global) -> Result<Game, Fail> {
     let text = joined(alloc, &GAME, 0, "")?;
     game_of(alloc, text.as_str())
-}
-
-/// The level of the first entry of LEVELS.
-fn loaded(alloc: Global, game: &Game) -> Result<Level, Fail>
-    ensures { IfOk result (λ level. IsOfGame game.now level.grid) }
-{
-    match game.levels() {
-        [entry, ..] if entry.playable() => {
-            Level::load(alloc, game, 0).map_err(|_| Fail::new("no memory"))
-        }
-        _ => Err(Fail::new("no level")),
-    }
 }
 
 /// The level after the player was pushed to the right.

@@ -6,4 +6,6 @@ mod game;
 #[cfg(test)]
 mod levels;
 #[cfg(test)]
+mod marks;
+#[cfg(test)]
 mod reading;

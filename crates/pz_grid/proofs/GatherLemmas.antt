@@ -12,7 +12,7 @@ range_suc : (a n : ℕ) → range_with_len a (suc n) ≡ range_with_len a n ++ (
 range_suc a zero = ap (λ k. k ∷ []) (omega arith)
 range_suc a (suc n) = ap (λ xs. a ∷ xs) (range_suc (a + 1) n ∙ ap (λ k. range_with_len (a + 1) n ++ k ∷ []) (omega arith))
 
-range_more : (a n : ℕ) → range_with_len a (n + 1) ≡ range_with_len a n ++ (a + n) ∷ []
+pub range_more : (a n : ℕ) → range_with_len a (n + 1) ≡ range_with_len a n ++ (a + n) ∷ []
 range_more a n = ap (range_with_len a) (let e : n + 1 ≡ suc n = omega arith in e) ∙ range_suc a n
 
 pub gather_more : {X : Type 0} (h : ℕ → List X) (n : ℕ) → gather h (n + 1) ≡ gather h n ++ h n

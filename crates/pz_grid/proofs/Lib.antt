@@ -5,6 +5,9 @@ pub mod GatherLemmas
 pub mod MovementLemmas
 pub mod SizeLemmas
 pub mod SettleLemmas
+pub mod StayLemmas
+pub mod MarkLemmas
+pub mod MoveLemmas
 pub mod LawfulLemmas
 pub mod LoadingLemmas
 pub mod Rows
@@ -12,5 +15,8 @@ pub mod FoldLemmas
 pub mod FoundLemmas
 pub mod RewritingLemmas
 pub mod PlaceLemmas
+pub mod SkipLemmas
+pub mod CountLemmas
 pub mod WorkedPlaces
+pub mod WorkedMarks
 pub mod WorkedLevels

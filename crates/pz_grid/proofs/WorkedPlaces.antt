@@ -22,34 +22,34 @@ piece object heading = Some (record { object = object; heading = heading })
 abbrev cell : Option Piece → Option Piece → List (Option Piece)
 cell here mark = piece 0 None ∷ None ∷ here ∷ mark ∷ []
 
-abbrev bare : List (Option Piece)
+abbrev pub bare : List (Option Piece)
 bare = cell None None
 
 abbrev crate : List (Option Piece)
 crate = cell (piece 4 None) None
 
-abbrev player : List (Option Piece)
+abbrev pub player : List (Option Piece)
 player = cell (piece 2 None) None
 
-abbrev wall : List (Option Piece)
+abbrev pub wall : List (Option Piece)
 wall = cell (piece 3 None) None
 
 abbrev layers : List ℕ
 layers = 0 ∷ 1 ∷ 2 ∷ 2 ∷ 2 ∷ 2 ∷ 3 ∷ []
 
-abbrev level : ℕ → ℕ → List (List (Option Piece)) → Grid
+abbrev pub level : ℕ → ℕ → List (List (Option Piece)) → Grid
 level width height cells = record { width = width; height = height; depth = 4; layers = layers; cells = cells }
 
-abbrev item : ℕ → Word → Item
+abbrev pub item : ℕ → Word → Item
 item object word = record { object = object; layer = get_or layers object 0; word = word }
 
-abbrev only : ℕ → List Item
+abbrev pub only : ℕ → List Item
 only object = item object Present ∷ []
 
-abbrev at : ℕ → ℕ → ℕ → Place
+abbrev pub at : ℕ → ℕ → ℕ → Place
 at x y gap = record { x = x; y = y; gap = gap }
 
-abbrev row : List (List Item) → RuleRow
+abbrev pub row : List (List Item) → RuleRow
 row cells = record { cells = cells; gap_at = None }
 
 -- the level c.c/cc.

@@ -16,9 +16,16 @@ pub record Grid : Type 0 where
   -- row by row, the cells: for each layer nothing, or what stands there
   pub cells : List (List (Option Piece))
 
--- what a level is to its callers
+-- a level without its marks
+pub record BareState : Type 0 where
+  pub grid : Grid
+
+-- what a level is to its callers: a grid, and a set of objects for each row, for each column and for the whole
 pub record LevelState : Type 0 where
   pub grid : Grid
+  pub row_marks : List (List ℕ)
+  pub column_marks : List (List ℕ)
+  pub level_marks : List ℕ
 
 -- the cell at a position of the map
 abbrev pub cell_at : Grid → ℕ → ℕ → List (Option Piece)

@@ -11,3 +11,6 @@ pub mod Presence
 pub mod Places
 pub mod Rewriting
 pub mod RuleLaws
+pub mod Marks
+pub mod Staying
+pub mod Admitted

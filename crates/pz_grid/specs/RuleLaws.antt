@@ -1,13 +1,15 @@
--- Laws of places and of rewriting.
-use Rattle.std.specs.Prelude.{ℕ, List, IsTrue, Contains, ◌↔◌, Option}
+-- Laws of places, of the lines in which they start, and of rewriting.
+use Rattle.std.specs.Prelude.{ℕ, ◌≡◌, ◌≤◌, ◌*◌, false, List, IsTrue, Contains, ◌↔◌, Option, None, Ok}
 use Rattle.pz_source.specs.declared.direction.Dir.{Dir}
 use Rattle.pz_rules.specs.declared.pattern.Item.{Item}
 use Rattle.pz_rules.specs.Pattern.{RuleRow, IsRow, AreOf}
 use Rattle.pz_grid.specs.declared.cell.Piece.{Piece}
 use Rattle.pz_grid.specs.declared.places.Place.{Place}
 use Rattle.pz_grid.specs.Cell.{IsCell}
-use Rattle.pz_grid.specs.Grid.{Grid}
-use Rattle.pz_grid.specs.Places.{places, still_holds}
+use Rattle.pz_grid.specs.Grid.{Grid, LevelState, IsLawful}
+use Rattle.pz_grid.specs.Places.{places, searched, still_holds, row_holds, line_length}
+use Rattle.pz_grid.specs.Marks.{IsMarked}
+use Rattle.pz_grid.specs.Admitted.{admits_line, admitted, line_of, start_count}
 use Rattle.pz_grid.specs.Rewriting.{rewritten_cell}
 
 -- a pair of a start and a gap is a place of a row exactly if the row holds there, with the gap 0 where the row has none
@@ -17,3 +19,15 @@ ArePlaces = (grid : Grid) (row : RuleRow) (dir : Dir) (place : Place) → IsRow 
 -- a cell of a game is one after it is rewritten with objects of the game: each object stands on its own layer
 abbrev pub RewritesLawfully : Type 0
 RewritesLawfully = (depth : ℕ) (layers : List ℕ) (left right : List Item) (cell : List (Option Piece)) → AreOf layers right → IsCell depth layers cell → IsCell depth layers (rewritten_cell left right cell)
+
+-- a row holds at no place of a line that is not admitted
+abbrev pub HoldsInAdmitted : Type 0
+HoldsInAdmitted = (state : LevelState) (row : RuleRow) (dir : Dir) (place : Place) → IsMarked state → admits_line state row dir (line_of dir place) ≡ false → row_holds state.grid row dir place ≡ false
+
+-- there are no more different start cells among the places of a row than cells in the admitted lines
+abbrev pub StartsAreBounded : Type 0
+StartsAreBounded = (state : LevelState) (row : RuleRow) (dir : Dir) → IsMarked state → start_count state.grid dir (places state.grid row dir) ≤ admitted state row dir * line_length state.grid dir
+
+-- a row without a gap never has more places than the limit
+abbrev pub GaplessIsWithin : Type 0
+GaplessIsWithin = (grid : Grid) (row : RuleRow) (dir : Dir) → IsLawful grid → row.gap_at ≡ None → searched grid row dir ≡ Ok (places grid row dir)

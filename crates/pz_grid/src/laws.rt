@@ -1,6 +1,9 @@
-//! Laws of levels, each proved as what a function without a body ensures.
+//! Laws of levels, each proved as what a function without a body of its own ensures.
 
+ghost use Rattle.pz_grid.specs.Marks.{IsMarked};
 ghost use Rattle.pz_grid.specs.Laws.{Decides, MovesStill, Settles, Rests, StaysLawful, CellsAreWhatStands};
+
+use crate::Level;
 
 /// The test of two levels decides whether they are equal.
 pub fn sameness_decides()
@@ -27,3 +30,12 @@ pub fn levels_stay_lawful()
 pub fn cells_are_what_stands()
     ensures { CellsAreWhatStands }
 {}
+
+/// The marks of a level hold every object in their line, after whatever list of calls made the level: it was loaded or copied, given the
+/// input, moved and rewritten, in any order and any number of times.
+pub fn marks_hold(level: &Level)
+    ensures { IsMarked level.now }
+{
+    // (brings the proof the law of levels)
+    let _ = level.width();
+}

@@ -3,15 +3,19 @@
 
 ghost use Rattle.std.specs.Prelude.{◌≡◌, Some, None, MatchOption, IfOk};
 ghost use Rattle.pz_grid.specs.Grid.{IsLawful};
+ghost use Rattle.pz_grid.specs.Marks.{IsMarked};
 ghost use Rattle.pz_grid.specs.Standing.{standing_at, stands, heading_at};
 
+use pz_sets::set::NumberSet;
 use pz_source::direction::Dir;
 use std::alloc::{AllocError, Global};
 use std::marker::Model;
 
+mod admitted;
 pub mod cell;
 pub mod laws;
 mod loading;
+mod marks;
 mod movement;
 mod pattern;
 pub mod places;
@@ -25,9 +29,9 @@ use cell::{Cell, Piece};
 pub use movement::resolve;
 pub use pushing::push_players;
 
-/// A level: what stands on the collision layers of each cell of a rectangle.
+/// A level without its marks: what stands on the collision layers of each cell of a rectangle.
 #[derive(Drop)]
-pub struct Level {
+pub(crate) struct BareLevel {
     width: u32,
     height: u32,
     depth: usize,
@@ -35,25 +39,45 @@ pub struct Level {
     cells: Vec<Cell>,
 }
 
-impl Model for Level {
-    ghost use Rattle.pz_grid.specs.Grid.{LevelState, IsLawful};
+impl Model for BareLevel {
+    ghost use Rattle.pz_grid.specs.Grid.{BareState, IsLawful};
 
-    ghost Value = { LevelState };
+    ghost Value = { BareState };
 
     ghost view = { λ a. record { grid = record { width = a.width; height = a.height; depth = a.depth; layers = a.layers.items; cells = a.cells.items } } };
 
     ghost invariant = { λ a. IsLawful (record { width = a.width; height = a.height; depth = a.depth; layers = a.layers.items; cells = a.cells.items }) };
 }
 
-impl Level {
-    /// The same level once more. Err: memory was refused.
-    pub fn copy(&self) -> Result<Level, AllocError>
-        ensures copied { IfOk result (λ level. level.grid ≡ self.now.grid) }
-        ensures lawful { IfOk result (λ level. IsLawful level.grid) }
+/// A level: what stands in its cells, and its marks: for each row, for each column and for the whole a set of objects that holds at least
+/// those that stand there.
+#[derive(Drop)]
+pub struct Level {
+    bare: BareLevel,
+    row_marks: Vec<NumberSet>,
+    column_marks: Vec<NumberSet>,
+    level_marks: NumberSet,
+}
+
+impl Model for Level {
+    ghost use Rattle.pz_grid.specs.Grid.{LevelState};
+    ghost use Rattle.pz_grid.specs.Marks.{IsMarked};
+
+    ghost Value = { LevelState };
+
+    ghost view = { λ a. record { grid = a.bare.grid; row_marks = a.row_marks.items; column_marks = a.column_marks.items; level_marks = a.level_marks } };
+
+    ghost invariant = { λ a. IsMarked (record { grid = a.bare.grid; row_marks = a.row_marks.items; column_marks = a.column_marks.items; level_marks = a.level_marks }) };
+}
+
+impl BareLevel {
+    /// The same cells once more. Err: memory was refused.
+    fn copy(&self) -> Result<BareLevel, AllocError>
+        ensures copied { IfOk result (λ bare. bare.grid ≡ self.now.grid) }
     {
         let layers = self.layers.clone()?;
         let cells = self.cells.clone()?;
-        let copy = Level {
+        let copy = BareLevel {
             width: self.width,
             height: self.height,
             depth: self.depth,
@@ -63,20 +87,51 @@ impl Level {
         Ok(copy)
     }
 
-    /// The number of columns.
-    pub fn width(&self) -> u32
+    fn width(&self) -> u32
         ensures width { result ≡ self.now.grid.width }
         ensures lawful { IsLawful self.now.grid }
     {
         self.width
     }
 
-    /// The number of rows.
-    pub fn height(&self) -> u32
+    fn height(&self) -> u32
         ensures height { result ≡ self.now.grid.height }
         ensures lawful { IsLawful self.now.grid }
     {
         self.height
+    }
+
+    fn piece(&self, x: u32, y: u32, object: usize) -> Option<Piece>
+        ensures { MatchOption result (standing_at self.now.grid x y object ≡ None) (λ piece. standing_at self.now.grid x y object ≡ Some piece.heading) }
+    {
+        if x < self.width && y < self.height {
+            let cell = &self.cells[y as usize * self.width as usize + x as usize];
+            cell.piece_of(self.depth, &self.layers, object)
+        } else {
+            None
+        }
+    }
+}
+
+impl Level {
+    /// The number of columns.
+    pub fn width(&self) -> u32
+        ensures width { result ≡ self.now.grid.width }
+        ensures lawful { IsLawful self.now.grid }
+        ensures marked { IsMarked self.now }
+    {
+        let _ = &self.row_marks;
+        self.bare.width()
+    }
+
+    /// The number of rows.
+    pub fn height(&self) -> u32
+        ensures height { result ≡ self.now.grid.height }
+        ensures lawful { IsLawful self.now.grid }
+        ensures marked { IsMarked self.now }
+    {
+        let _ = &self.row_marks;
+        self.bare.height()
     }
 
     /// Whether the object, by its place among the game's objects, stands at the position. Off the map, and for no object of the
@@ -103,11 +158,6 @@ impl Level {
     fn piece(&self, x: u32, y: u32, object: usize) -> Option<Piece>
         ensures { MatchOption result (standing_at self.now.grid x y object ≡ None) (λ piece. standing_at self.now.grid x y object ≡ Some piece.heading) }
     {
-        if x < self.width && y < self.height {
-            let cell = &self.cells[y as usize * self.width as usize + x as usize];
-            cell.piece_of(self.depth, &self.layers, object)
-        } else {
-            None
-        }
+        self.bare.piece(x, y, object)
     }
 }

@@ -5,10 +5,11 @@ ghost use Rattle.pz_source.specs.Level.{is_playable};
 ghost use Rattle.pz_source.specs.Game.{background_of};
 ghost use Rattle.pz_grid.specs.Cell.{IsOnLayer};
 ghost use Rattle.pz_grid.specs.Grid.{IsLawful};
+ghost use Rattle.pz_grid.specs.Marks.{IsExact};
 ghost use Rattle.pz_grid.specs.Loading.{with_object, glyph_cell, drawn, first_in_column, first_on, filled_cell, filled, with_background, entry_at, loaded_from, loaded};
 
-use crate::Level;
 use crate::cell::{Cell, Piece};
+use crate::{BareLevel, Level};
 use pz_source::game::Game;
 use pz_source::level::{DrawnLevel, LevelEntry};
 use std::alloc::{AllocError, Global};
@@ -19,33 +20,46 @@ impl Level {
         requires { is_playable (entry_at game.now index) ≡ true }
         ensures loaded { IfOk result (λ level. level.grid ≡ loaded game.now index) }
         ensures lawful { IfOk result (λ level. IsLawful level.grid) }
+        ensures exact { IfOk result IsExact }
+    {
+        let bare = BareLevel::load(alloc, game, index)?;
+        Level::marked(alloc, bare)
+    }
+}
+
+impl BareLevel {
+    /// The level, without marks, of the entry of LEVELS of a number, which is not a message.
+    fn load(alloc: Global, game: &Game, index: usize) -> Result<BareLevel, AllocError>
+        requires { is_playable (entry_at game.now index) ≡ true }
+        ensures loaded { IfOk result (λ bare. bare.grid ≡ loaded game.now index) }
+        ensures lawful { IfOk result (λ bare. IsLawful bare.grid) }
     {
         match &game.levels()[index] {
             LevelEntry::Message => unreachable!(),
-            LevelEntry::Level(drawing) => Level::load_from(alloc, game, drawing),
+            LevelEntry::Level(drawing) => BareLevel::load_from(alloc, game, drawing),
         }
     }
 
-    fn load_from(alloc: Global, game: &Game, drawing: &DrawnLevel) -> Result<Level, AllocError>
+    fn load_from(alloc: Global, game: &Game, drawing: &DrawnLevel) -> Result<BareLevel, AllocError>
         requires { All (λ number. number < length game.now.values) drawing.now.cells }
-        ensures loaded { IfOk result (λ level. level.grid ≡ loaded_from game.now drawing.now) }
-        ensures lawful { IfOk result (λ level. IsLawful level.grid) }
+        ensures loaded { IfOk result (λ bare. bare.grid ≡ loaded_from game.now drawing.now) }
+        ensures lawful { IfOk result (λ bare. IsLawful bare.grid) }
     {
         let object = background(game);
         let layer = game.layers()[object];
-        let mut level = Level::drawn(alloc, game, drawing)?;
-        level.lay_background(layer, object as u16);
-        Ok(level)
+        let mut bare = BareLevel::drawn(alloc, game, drawing)?;
+        bare.lay_background(layer, object as u16);
+        Ok(bare)
     }
 
     /// The level as it is drawn, before the background is laid.
-    fn drawn(alloc: Global, game: &Game, drawing: &DrawnLevel) -> Result<Level, AllocError>
+    fn drawn(alloc: Global, game: &Game, drawing: &DrawnLevel) -> Result<BareLevel, AllocError>
         requires { All (λ number. number < length game.now.values) drawing.now.cells }
-        ensures { IfOk result (λ level. level.grid ≡ drawn game.now drawing.now) }
+        ensures { IfOk result (λ bare. bare.grid ≡ drawn game.now drawing.now) }
     {
         let layers = Vec::from_slice(alloc, game.layers())?;
         let cells = glyph_cells(alloc, game, drawing.cells())?;
-        Ok(Level {
+        Ok(BareLevel {
             width: drawing.width(),
             height: drawing.height(),
             depth: game.depth(),

@@ -1,12 +1,15 @@
 // The movement of pieces that head somewhere.
 
-ghost use Rattle.std.specs.Prelude.{◌≡◌, ◌<◌, IfSome, fold, map};
+ghost use Rattle.std.specs.Prelude.{◌≡◌, ◌<◌, IfSome, fold, map, nat_eq};
 ghost use Rattle.pz_grid.specs.Cell.{IsOnLayer, still_place};
+ghost use Rattle.pz_sets.specs.declared.set.TheConstants.{CAPACITY};
 ghost use Rattle.pz_grid.specs.Grid.{IsLawful, IsOfGame, SameSize, place_at, with_place};
+ghost use Rattle.pz_grid.specs.Marks.{in_row, in_column, IsMarked, IsMarkedAt, IsWidened};
+ghost use Rattle.pz_grid.specs.Staying.{IsMove};
 ghost use Rattle.pz_grid.specs.Movement.{neighbour, heading_goal, spot, in_pass, move_at, spots_at, spots_in, pass_of, moving, settle, resolved, stilled};
 
-use crate::Level;
 use crate::cell::{Cell, Piece};
+use crate::{BareLevel, Level};
 use pz_source::direction::Dir;
 use pz_source::game::Game;
 
@@ -16,6 +19,8 @@ pub fn resolve(game: &Game, level: &mut Level)
     ensures resolved { level.new.grid ≡ resolved level.old.grid }
     ensures size { SameSize level.old.grid level.new.grid }
     ensures lawful { IsLawful level.new.grid }
+    ensures marked { IsMarked level.new }
+    ensures widened { IsWidened level.old level.new (in_row level.new.grid) (in_column level.new.grid) }
 {
     // (the contract alone speaks of the game)
     let _ = game;
@@ -23,7 +28,14 @@ pub fn resolve(game: &Game, level: &mut Level)
     level.still_all();
 }
 
-impl Level {
+impl BareLevel {
+    /// The number of layers.
+    pub(crate) fn depth(&self) -> usize
+        ensures { result ≡ self.now.grid.depth }
+    {
+        self.depth
+    }
+
     /// What stands on a layer of a position of the map.
     pub(crate) fn place(&self, x: u32, y: u32, layer: usize) -> Option<Piece>
         requires x_in { x < self.now.grid.width }
@@ -31,6 +43,7 @@ impl Level {
         requires layer_in { layer < self.now.grid.depth }
         ensures place { result ≡ place_at self.now.grid x y layer }
         ensures on_layer { IsOnLayer self.now.grid.layers layer result }
+        ensures low { IfSome result (λ piece. piece.object < CAPACITY) }
     {
         self.cells[y as usize * self.width as usize + x as usize].place(layer)
     }
@@ -41,7 +54,8 @@ impl Level {
         requires y_in { y < self.old.grid.height }
         requires layer_in { layer < self.old.grid.depth }
         requires on_layer { IsOnLayer self.old.grid.layers layer place }
-        ensures { self.new.grid ≡ with_place self.old.grid x y layer place }
+        ensures put { self.new.grid ≡ with_place self.old.grid x y layer place }
+        ensures there { place_at self.new.grid x y layer ≡ place }
     {
         self.cells[y as usize * self.width as usize + x as usize].put(layer, place);
     }
@@ -82,6 +96,69 @@ impl Level {
         }
     }
 
+    /// Stills every piece.
+    fn still_all(&mut self)
+        ensures stilled { self.new.grid ≡ stilled self.old.grid }
+        ensures lawful { IsLawful self.new.grid }
+    {
+        still_cells(&mut self.cells);
+    }
+}
+
+impl Level {
+    fn depth(&self) -> usize
+        ensures { result ≡ self.now.grid.depth }
+    {
+        self.bare.depth()
+    }
+
+    fn place(&self, x: u32, y: u32, layer: usize) -> Option<Piece>
+        requires x_in { x < self.now.grid.width }
+        requires y_in { y < self.now.grid.height }
+        requires layer_in { layer < self.now.grid.depth }
+        ensures place { result ≡ place_at self.now.grid x y layer }
+        ensures on_layer { IsOnLayer self.now.grid.layers layer result }
+        ensures low { IfSome result (λ piece. piece.object < CAPACITY) }
+    {
+        self.bare.place(x, y, layer)
+    }
+
+    fn goal(&self, x: u32, y: u32, layer: usize, heading: Option<Dir>) -> Option<(u32, u32)>
+        requires x_in { x < self.now.grid.width }
+        requires y_in { y < self.now.grid.height }
+        requires layer_in { layer < self.now.grid.depth }
+        ensures goal { result ≡ heading_goal self.now.grid (spot x y layer) heading }
+        ensures on_map { IfSome result (λ next. (next.0 < self.now.grid.width) × (next.1 < self.now.grid.height)) }
+    {
+        self.bare.goal(x, y, layer, heading)
+    }
+
+    /// Puts a piece that is marked, or nothing, on a layer of a position of the map.
+    fn put(&mut self, x: u32, y: u32, layer: usize, place: Option<Piece>)
+        requires x_in { x < self.old.grid.width }
+        requires y_in { y < self.old.grid.height }
+        requires layer_in { layer < self.old.grid.depth }
+        requires on_layer { IsOnLayer self.old.grid.layers layer place }
+        requires marked { IfSome place (λ piece. IsMarkedAt self.old x y (nat_eq piece.object)) }
+        ensures put { self.new.grid ≡ with_place self.old.grid x y layer place }
+        ensures there { place_at self.new.grid x y layer ≡ place }
+        ensures row_marks { self.new.row_marks ≡ self.old.row_marks }
+        ensures column_marks { self.new.column_marks ≡ self.old.column_marks }
+    {
+        self.bare.put(x, y, layer, place);
+    }
+
+    /// Stills every piece.
+    fn still_all(&mut self)
+        ensures stilled { self.new.grid ≡ stilled self.old.grid }
+        ensures lawful { IsLawful self.new.grid }
+        ensures marked { IsMarked self.new }
+        ensures row_marks { self.new.row_marks ≡ self.old.row_marks }
+        ensures column_marks { self.new.column_marks ≡ self.old.column_marks }
+    {
+        self.bare.still_all();
+    }
+
     /// Moves what stands at a spot, if it can, and says whether something moved so far.
     fn move_at(&mut self, x: u32, y: u32, layer: usize, moved: bool) -> bool
         requires x_in { x < self.old.grid.width }
@@ -89,6 +166,7 @@ impl Level {
         requires layer_in { layer < self.old.grid.depth }
         ensures pass { in_pass self.new.grid result ≡ move_at (in_pass self.old.grid moved) (spot x y layer) }
         ensures size { SameSize self.old.grid self.new.grid }
+        ensures marks { IsMove self.old self.new }
     {
         match self.place(x, y, layer) {
             None => moved,
@@ -96,6 +174,7 @@ impl Level {
                 None => moved,
                 Some((next_x, next_y)) => {
                     self.put(x, y, layer, None);
+                    self.mark(next_x, next_y, piece.object as usize);
                     self.put(next_x, next_y, layer, Some(Piece::still(piece.object)));
                     true
                 }
@@ -108,9 +187,10 @@ impl Level {
         requires y_in { y < self.old.grid.height }
         ensures pass { in_pass self.new.grid result ≡ fold move_at (in_pass self.old.grid moved_before) (spots_at self.old.grid.depth x y) }
         ensures size { SameSize self.old.grid self.new.grid }
+        ensures marks { IsMove self.old self.new }
     {
         let mut moved = moved_before;
-        for layer in 0..self.depth {
+        for layer in 0..self.depth() {
             moved = self.move_at(x, y, layer, moved);
         }
         moved
@@ -120,6 +200,7 @@ impl Level {
         requires x_in { x < self.old.grid.width }
         ensures pass { in_pass self.new.grid result ≡ fold move_at (in_pass self.old.grid moved_before) (spots_in self.old.grid.depth self.old.grid.height x) }
         ensures size { SameSize self.old.grid self.new.grid }
+        ensures marks { IsMove self.old self.new }
     {
         let mut moved = moved_before;
         for y in 0..self.height() {
@@ -132,6 +213,7 @@ impl Level {
     fn pass(&mut self) -> bool
         ensures pass { in_pass self.new.grid result ≡ pass_of self.old.grid }
         ensures size { SameSize self.old.grid self.new.grid }
+        ensures marks { IsMove self.old self.new }
     {
         let mut moved = false;
         for x in 0..self.width() {
@@ -144,20 +226,13 @@ impl Level {
     fn settle(&mut self)
         ensures settled { self.new.grid ≡ settle (moving self.old.grid) self.old.grid }
         ensures size { SameSize self.old.grid self.new.grid }
+        ensures marks { IsMove self.old self.new }
     {
         loop {
             if !self.pass() {
                 break;
             }
         }
-    }
-
-    /// Stills every piece.
-    fn still_all(&mut self)
-        ensures stilled { self.new.grid ≡ stilled self.old.grid }
-        ensures lawful { IsLawful self.new.grid }
-    {
-        still_cells(&mut self.cells);
     }
 }
 

@@ -1,10 +1,11 @@
 //! The places of a row of a rule: where it holds.
 
-ghost use Rattle.std.specs.Prelude.{◌≡◌, ◌≢◌, ℕ, ◌+◌, ◌<◌, ◌≤◌, [], ◌∷◌, ◌++◌, ◌^◌, filter, length, OnOk, IfOk, IfErr, IfSome, Ok, Err};
+ghost use Rattle.std.specs.Prelude.{◌≡◌, ◌≢◌, ℕ, ◌+◌, ◌*◌, ◌<◌, ◌≤◌, cond, [], ◌∷◌, ◌++◌, ◌^◌, filter, length, OnOk, IfOk, IfErr, IfSome, Ok, Err};
+ghost use Rattle.pz_grid.specs.Admitted.{admitted, searches_line, start_count};
 ghost use Rattle.pz_grid.specs.Places.{on_map, along, holds_at, position_of, distance, row_holds, line_count, line_length, place_in, gap_count, pairs_at, pairs_in, places, searched, still_holds, still_matches};
 
-use crate::Level;
 use crate::pattern::pattern_holds;
+use crate::{BareLevel, Level};
 use pz_rules::instance::Instance;
 use pz_rules::pattern::{Pattern, Row};
 use pz_source::direction::Dir;
@@ -28,7 +29,7 @@ pub enum GridFault {
     MatchLimit,
 }
 
-impl Level {
+impl BareLevel {
     fn on_map(&self, x: usize, y: usize) -> Option<(u32, u32)>
         ensures position { result ≡ on_map self.now.grid x y }
         ensures inside { IfSome result (λ at. (at.0 < self.now.grid.width) × (at.1 < self.now.grid.height)) }
@@ -65,7 +66,7 @@ impl Level {
     }
 
     /// Where the cell of a number of a row stands that starts at a place, if that is on the map.
-    pub fn position_of(
+    fn position_of(
         &self,
         dir: Dir,
         gap_at: Option<u32>,
@@ -93,6 +94,23 @@ impl Level {
     }
 }
 
+impl Level {
+    /// Where the cell of a number of a row stands that starts at a place, if that is on the map.
+    pub fn position_of(
+        &self,
+        dir: Dir,
+        gap_at: Option<u32>,
+        place: Place,
+        index: usize,
+    ) -> Option<(u32, u32)>
+        requires near { index < 2 ^ 32 }
+        ensures position { result ≡ position_of self.now.grid dir gap_at place index }
+        ensures inside { IfSome result (λ at. (at.0 < self.now.grid.width) × (at.1 < self.now.grid.height)) }
+    {
+        self.bare.position_of(dir, gap_at, place, index)
+    }
+}
+
 /// How far a row's cell is from its start.
 fn distance(gap_at: Option<u32>, gap: u32, index: usize) -> usize
     requires { index < 2 ^ 32 }
@@ -106,35 +124,35 @@ fn distance(gap_at: Option<u32>, gap: u32, index: usize) -> usize
 }
 
 /// Whether all cells of a row are on the map and hold, where it starts at a place.
-fn row_holds(level: &Level, row: &Row, dir: Dir, place: Place) -> bool
-    ensures { result ≡ row_holds level.now.grid row.now dir place }
+fn row_holds(bare: &BareLevel, row: &Row, dir: Dir, place: Place) -> bool
+    ensures { result ≡ row_holds bare.now.grid row.now dir place }
 {
     for (index, pattern) in row.cells().iter().enumerate() {
-        let position = level.position_of(dir, row.gap_at(), place, index);
-        if !level.holds_at(pattern, position) {
+        let position = bare.position_of(dir, row.gap_at(), place, index);
+        if !bare.holds_at(pattern, position) {
             return false;
         }
     }
     true
 }
 
-fn line_count(level: &Level, dir: Dir) -> u32
-    ensures value { result ≡ line_count level.now.grid dir }
+fn line_count(bare: &BareLevel, dir: Dir) -> u32
+    ensures value { result ≡ line_count bare.now.grid dir }
     ensures small { result ≤ 255 }
 {
     match dir {
-        Dir::Up | Dir::Down => level.width,
-        Dir::Left | Dir::Right | Dir::Action => level.height,
+        Dir::Up | Dir::Down => bare.width,
+        Dir::Left | Dir::Right | Dir::Action => bare.height,
     }
 }
 
-fn line_length(level: &Level, dir: Dir) -> u32
-    ensures value { result ≡ line_length level.now.grid dir }
+fn line_length(bare: &BareLevel, dir: Dir) -> u32
+    ensures value { result ≡ line_length bare.now.grid dir }
     ensures small { result ≤ 255 }
 {
     match dir {
-        Dir::Up | Dir::Down => level.height,
-        Dir::Left | Dir::Right | Dir::Action => level.width,
+        Dir::Up | Dir::Down => bare.height,
+        Dir::Left | Dir::Right | Dir::Action => bare.width,
     }
 }
 
@@ -156,12 +174,12 @@ fn place_in(dir: Dir, line: u32, start: u32, gap: u32) -> Place
 }
 
 /// How many gaps a row may span.
-fn gap_count(level: &Level, row: &Row, dir: Dir) -> u32
-    ensures value { result ≡ gap_count level.now.grid row.now dir }
+fn gap_count(bare: &BareLevel, row: &Row, dir: Dir) -> u32
+    ensures value { result ≡ gap_count bare.now.grid row.now dir }
     ensures small { result ≤ 255 }
 {
     if row.gap_at().is_some() {
-        line_length(level, dir)
+        line_length(bare, dir)
     } else {
         1
     }
@@ -169,18 +187,18 @@ fn gap_count(level: &Level, row: &Row, dir: Dir) -> u32
 
 /// Adds the place if the row holds there.
 fn add_place(
-    level: &Level,
+    bare: &BareLevel,
     row: &Row,
     dir: Dir,
     place: Place,
     found: &mut Vec<Place>,
 ) -> Result<(), GridFault>
     requires room { length found.old.items ≤ MATCH_LIMIT }
-    ensures added { OnOk result (found.new.items ≡ found.old.items ++ filter (row_holds level.now.grid row.now dir) (place ∷ [])) }
+    ensures added { OnOk result (found.new.items ≡ found.old.items ++ filter (row_holds bare.now.grid row.now dir) (place ∷ [])) }
     ensures room { OnOk result (length found.new.items ≤ MATCH_LIMIT) }
-    ensures limit { result ≡ Err GridFault.MatchLimit → MATCH_LIMIT < length (found.old.items ++ filter (row_holds level.now.grid row.now dir) (place ∷ [])) }
+    ensures limit { result ≡ Err GridFault.MatchLimit → MATCH_LIMIT < length (found.old.items ++ filter (row_holds bare.now.grid row.now dir) (place ∷ [])) }
 {
-    if row_holds(level, row, dir, place) {
+    if row_holds(bare, row, dir, place) {
         if found.len() == MATCH_LIMIT {
             return Err(GridFault::MatchLimit);
         }
@@ -193,7 +211,7 @@ fn add_place(
 
 /// Adds the places that start in a cell.
 fn add_places_at(
-    level: &Level,
+    bare: &BareLevel,
     row: &Row,
     dir: Dir,
     line: u32,
@@ -201,33 +219,74 @@ fn add_places_at(
     found: &mut Vec<Place>,
 ) -> Result<(), GridFault>
     requires room { length found.old.items ≤ MATCH_LIMIT }
-    ensures added { OnOk result (found.new.items ≡ found.old.items ++ filter (row_holds level.now.grid row.now dir) (pairs_at level.now.grid row.now dir line start)) }
+    ensures added { OnOk result (found.new.items ≡ found.old.items ++ filter (row_holds bare.now.grid row.now dir) (pairs_at bare.now.grid row.now dir line start)) }
     ensures room { OnOk result (length found.new.items ≤ MATCH_LIMIT) }
-    ensures limit { result ≡ Err GridFault.MatchLimit → MATCH_LIMIT < length (found.old.items ++ filter (row_holds level.now.grid row.now dir) (pairs_at level.now.grid row.now dir line start)) }
+    ensures limit { result ≡ Err GridFault.MatchLimit → MATCH_LIMIT < length (found.old.items ++ filter (row_holds bare.now.grid row.now dir) (pairs_at bare.now.grid row.now dir line start)) }
 {
-    for gap in 0..gap_count(level, row, dir) {
-        add_place(level, row, dir, place_in(dir, line, start, gap), found)?;
+    for gap in 0..gap_count(bare, row, dir) {
+        add_place(bare, row, dir, place_in(dir, line, start, gap), found)?;
     }
     Ok(())
 }
 
-/// Adds the places that start in a line.
+/// Adds the places that start in a line, and counts the start cells that it tests.
 fn add_places_in(
-    level: &Level,
+    bare: &BareLevel,
     row: &Row,
     dir: Dir,
     line: u32,
     found: &mut Vec<Place>,
-) -> Result<(), GridFault>
+    tested: u64,
+) -> Result<u64, GridFault>
     requires room { length found.old.items ≤ MATCH_LIMIT }
-    ensures added { OnOk result (found.new.items ≡ found.old.items ++ filter (row_holds level.now.grid row.now dir) (pairs_in level.now.grid row.now dir line)) }
+    requires few { tested ≤ 65536 }
+    ensures added { OnOk result (found.new.items ≡ found.old.items ++ filter (row_holds bare.now.grid row.now dir) (pairs_in bare.now.grid row.now dir line)) }
+    ensures count { IfOk result (λ count. count ≡ tested + line_length bare.now.grid dir) }
+    ensures few { IfOk result (λ count. count ≤ tested + 255) }
     ensures room { OnOk result (length found.new.items ≤ MATCH_LIMIT) }
-    ensures limit { result ≡ Err GridFault.MatchLimit → MATCH_LIMIT < length (found.old.items ++ filter (row_holds level.now.grid row.now dir) (pairs_in level.now.grid row.now dir line)) }
+    ensures limit { result ≡ Err GridFault.MatchLimit → MATCH_LIMIT < length (found.old.items ++ filter (row_holds bare.now.grid row.now dir) (pairs_in bare.now.grid row.now dir line)) }
 {
-    for start in 0..line_length(level, dir) {
-        add_places_at(level, row, dir, line, start, found)?;
+    let mut count = tested;
+    for start in 0..line_length(bare, dir) {
+        count += 1;
+        add_places_at(bare, row, dir, line, start, found)?;
     }
-    Ok(())
+    Ok(count)
+}
+
+impl Level {
+    fn line_count(&self, dir: Dir) -> u32
+        ensures value { result ≡ line_count self.now.grid dir }
+        ensures small { result ≤ 255 }
+    {
+        line_count(&self.bare, dir)
+    }
+
+    /// Adds the places that start in a line, if the line is searched, and counts the start cells that it tests.
+    fn add_searched(
+        &self,
+        row: &Row,
+        dir: Dir,
+        line: u32,
+        found: &mut Vec<Place>,
+        tested: u64,
+    ) -> Result<u64, GridFault>
+        requires line_in { line < line_count self.now.grid dir }
+        requires room { length found.old.items ≤ MATCH_LIMIT }
+        requires few { tested ≤ 65536 }
+        ensures added { OnOk result (found.new.items ≡ found.old.items ++ filter (row_holds self.now.grid row.now dir) (pairs_in self.now.grid row.now dir line)) }
+        ensures count { IfOk result (λ count. count ≡ tested + cond (searches_line self.now row.now dir line) (line_length self.now.grid dir) 0) }
+        ensures few { IfOk result (λ count. count ≤ tested + 255) }
+        ensures room { OnOk result (length found.new.items ≤ MATCH_LIMIT) }
+        ensures limit { result ≡ Err GridFault.MatchLimit → MATCH_LIMIT < length (found.old.items ++ filter (row_holds self.now.grid row.now dir) (pairs_in self.now.grid row.now dir line)) }
+    {
+        let _ = &self.bare;
+        if self.searches_line(row, dir, line) {
+            add_places_in(&self.bare, row, dir, line, found, tested)
+        } else {
+            Ok(tested)
+        }
+    }
 }
 
 /// The places of a row in a level, in the order of the scan: by rows from the top for left and right, by columns from the left for
@@ -236,18 +295,55 @@ pub fn places(alloc: Global, level: &Level, row: &Row, dir: Dir) -> Result<Vec<P
     ensures found { IfOk result (λ found. searched level.now.grid row.now dir ≡ Ok found.items) }
     ensures fault { IfErr result (λ fault. fault ≢ GridFault.Memory → searched level.now.grid row.now dir ≡ Err fault) }
 {
-    let mut found = Vec::new(alloc);
-    for line in 0..line_count(level, dir) {
-        add_places_in(level, row, dir, line, &mut found)?;
-    }
+    let (found, _) = places_counted(alloc, level, row, dir)?;
     Ok(found)
+}
+
+/// The places of a row as `places` gives them, and how many start cells were tested for them. Tested are only cells of lines (rows for left
+/// and right, columns for up and down) that `admitted` counts, each once, and each is counted before its test.
+pub fn places_counted(
+    alloc: Global,
+    level: &Level,
+    row: &Row,
+    dir: Dir,
+) -> Result<(Vec<Place>, u64), GridFault>
+    ensures found { IfOk result (λ r. searched level.now.grid row.now dir ≡ Ok r.0.items) }
+    ensures fault { IfErr result (λ fault. fault ≢ GridFault.Memory → searched level.now.grid row.now dir ≡ Err fault) }
+    ensures low { IfOk result (λ r. start_count level.now.grid dir r.0.items ≤ r.1) }
+    ensures high { IfOk result (λ r. r.1 ≤ admitted level.now row.now dir * line_length level.now.grid dir) }
+{
+    // (brings the proof the law of levels)
+    let _ = level.width();
+    if !level.is_searched_for(row) {
+        return Ok((Vec::new(alloc), 0));
+    }
+    let mut found = Vec::new(alloc);
+    let mut tested = 0;
+    for line in 0..level.line_count(dir) {
+        tested = level.add_searched(row, dir, line, &mut found, tested)?;
+    }
+    Ok((found, tested))
+}
+
+/// The number of lines that are admitted for a row: those whose set of objects has every object that the row's first cell names as
+/// present. A line is a row of the level for left and right, a column for up and down. No place starts in another line.
+pub fn admitted(level: &Level, row: &Row, dir: Dir) -> u32
+    ensures { result ≡ admitted level.now row.now dir }
+{
+    let mut count = 0;
+    for line in 0..level.line_count(dir) {
+        if level.admits_line(row, dir, line) {
+            count += 1;
+        }
+    }
+    count
 }
 
 /// Whether a row still holds at a place, whose gap is 0 where the row has none.
 fn still_holds(level: &Level, dir: Dir, row: &Row, place: Place) -> bool
     ensures { result ≡ still_holds level.now.grid dir (row.now, place) }
 {
-    (row.gap_at().is_some() || place.gap == 0) && row_holds(level, row, dir, place)
+    (row.gap_at().is_some() || place.gap == 0) && row_holds(&level.bare, row, dir, place)
 }
 
 /// Whether the rows of an instance's left all hold at these places, one for each: false for another number of places, for a cell

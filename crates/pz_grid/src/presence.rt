@@ -3,11 +3,10 @@
 ghost use Rattle.std.specs.Prelude.{◌≡◌, ◌<◌, length};
 ghost use Rattle.pz_grid.specs.Presence.{is_in, holds_one, holds_each, cell_of};
 
-use crate::Level;
+use crate::{BareLevel, Level};
 
-impl Level {
-    /// The number of cells.
-    pub fn cell_count(&self) -> usize
+impl BareLevel {
+    fn cell_count(&self) -> usize
         ensures { result ≡ length self.now.grid.cells }
     {
         self.cells.len()
@@ -21,6 +20,22 @@ impl Level {
             Some(_) => true,
             None => false,
         }
+    }
+}
+
+impl Level {
+    /// The number of cells.
+    pub fn cell_count(&self) -> usize
+        ensures { result ≡ length self.now.grid.cells }
+    {
+        self.bare.cell_count()
+    }
+
+    fn is_in(&self, index: usize, object: usize) -> bool
+        requires { index < length self.now.grid.cells }
+        ensures { result ≡ is_in (cell_of self.now.grid index) object }
+    {
+        self.bare.is_in(index, object)
     }
 
     /// Whether one of the objects, by their places among the game's objects, is in the cell of a number, counted row by row.

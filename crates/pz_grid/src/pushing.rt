@@ -3,10 +3,11 @@
 ghost use Rattle.std.specs.Prelude.{◌≡◌, map};
 ghost use Rattle.pz_source.specs.Game.{players_of};
 ghost use Rattle.pz_grid.specs.Grid.{IsLawful, IsOfGame, SameSize};
+ghost use Rattle.pz_grid.specs.Marks.{IsMarked};
 ghost use Rattle.pz_grid.specs.Pushing.{is_one_of, pushed_place, pushed};
 
-use crate::Level;
 use crate::cell::{Cell, Piece};
+use crate::{BareLevel, Level};
 use pz_source::direction::Dir;
 use pz_source::game::Game;
 
@@ -16,6 +17,9 @@ pub fn push_players(game: &Game, level: &mut Level, dir: Dir)
     ensures pushed { level.new.grid ≡ pushed (players_of game.now) dir level.old.grid }
     ensures size { SameSize level.old.grid level.new.grid }
     ensures lawful { IsLawful level.new.grid }
+    ensures marked { IsMarked level.new }
+    ensures row_marks { level.new.row_marks ≡ level.old.row_marks }
+    ensures column_marks { level.new.column_marks ≡ level.old.column_marks }
 {
     level.push_all(players(game), dir);
 }
@@ -30,12 +34,24 @@ fn players(game: &Game) -> &[usize]
     }
 }
 
-impl Level {
+impl BareLevel {
     fn push_all(&mut self, players: &[usize], dir: Dir)
         ensures pushed { self.new.grid ≡ pushed players.now dir self.old.grid }
         ensures lawful { IsLawful self.new.grid }
     {
         push_cells(&mut self.cells, players, dir);
+    }
+}
+
+impl Level {
+    fn push_all(&mut self, players: &[usize], dir: Dir)
+        ensures pushed { self.new.grid ≡ pushed players.now dir self.old.grid }
+        ensures lawful { IsLawful self.new.grid }
+        ensures marked { IsMarked self.new }
+        ensures row_marks { self.new.row_marks ≡ self.old.row_marks }
+        ensures column_marks { self.new.column_marks ≡ self.old.column_marks }
+    {
+        self.bare.push_all(players, dir);
     }
 }
 

@@ -5,19 +5,20 @@ ghost use Rattle.pz_source.specs.Game.{IsGame};
 ghost use Rattle.pz_rules.specs.Instance.{IsInstanceOf};
 ghost use Rattle.pz_rules.specs.Pattern.{AreOf, IsRowOf, AreRowsOf};
 ghost use Rattle.pz_grid.specs.Grid.{IsLawful, IsOfGame, SameSize};
+ghost use Rattle.pz_grid.specs.Marks.{IsMarked, IsMarkedAt, IsWidenedBy, row_places, places_object};
 ghost use Rattle.pz_grid.specs.Rewriting.{names, tells_movement, is_on, places_on, placed_on, tells_of, names_object, forbids_object, new_heading, kept, rewritten_place, rewritten_cell, with_rewritten, changes, in_rewrite, rewritten_at, rewritten_along, rewritten_row, rewritten};
 ghost use Rattle.pz_grid.specs.Sameness.{same_place, same_cell};
 
-use crate::Level;
 use crate::cell::{Cell, Piece};
 use crate::places::Place;
+use crate::{BareLevel, Level};
 use pz_rules::instance::Instance;
 use pz_rules::pattern::{Item, Pattern, Row, Word};
 use pz_source::direction::Dir;
 use pz_source::game::Game;
 
 /// Whether an item under this word names its object as present.
-fn names(word: Word) -> bool
+pub(crate) fn names(word: Word) -> bool
     ensures { result ≡ names word }
 {
     match word {
@@ -174,7 +175,7 @@ fn rewrite_in(cells: &mut Vec<Cell>, index: usize, left: &Pattern, right: &Patte
     rewrite_cell(&mut cells[index], left, right)
 }
 
-impl Level {
+impl BareLevel {
     /// Rewrites the cell at a position, and says whether that gave another one.
     fn rewrite_position(&mut self, x: u32, y: u32, left: &Pattern, right: &Pattern) -> bool
         requires x_in { x < self.old.grid.width }
@@ -185,6 +186,37 @@ impl Level {
     {
         let index = y as usize * self.width as usize + x as usize;
         rewrite_in(&mut self.cells, index, left, right)
+    }
+}
+
+impl Level {
+    /// Rewrites the cell at a position, whose row and column are marked with what the right places.
+    fn rewrite_marked(&mut self, x: u32, y: u32, left: &Pattern, right: &Pattern) -> bool
+        requires x_in { x < self.old.grid.width }
+        requires y_in { y < self.old.grid.height }
+        requires right_of { AreOf self.old.grid.layers right.now }
+        requires marked { IsMarkedAt self.old x y (λ object. names_object object right.now) }
+        ensures level { self.new.grid ≡ with_rewritten self.old.grid x y left.now right.now }
+        ensures changed { result ≡ changes self.old.grid x y left.now right.now }
+        ensures row_marks { self.new.row_marks ≡ self.old.row_marks }
+        ensures column_marks { self.new.column_marks ≡ self.old.column_marks }
+    {
+        self.bare.rewrite_position(x, y, left, right)
+    }
+
+    /// Rewrites the cell at a position, and says whether that gave another one.
+    fn rewrite_position(&mut self, x: u32, y: u32, left: &Pattern, right: &Pattern) -> bool
+        requires x_in { x < self.old.grid.width }
+        requires y_in { y < self.old.grid.height }
+        requires right_of { AreOf self.old.grid.layers right.now }
+        ensures level { self.new.grid ≡ with_rewritten self.old.grid x y left.now right.now }
+        ensures changed { result ≡ changes self.old.grid x y left.now right.now }
+        ensures marks { IsWidenedBy self.old self.new (λ object. names_object object right.now) }
+    {
+        // (brings the proof the law of levels)
+        let _ = self.width();
+        self.mark_placed(x, y, right);
+        self.rewrite_marked(x, y, left, right)
     }
 
     /// Rewrites the cell at a position, if there is one, and says whether some rewriting gave another cell so far.
@@ -199,6 +231,7 @@ impl Level {
         requires right_of { AreOf self.old.grid.layers right.now }
         ensures rewritten { in_rewrite self.new.grid result ≡ rewritten_at (in_rewrite self.old.grid changed) left.now right.now position }
         ensures size { SameSize self.old.grid self.new.grid }
+        ensures marks { IsWidenedBy self.old self.new (λ object. names_object object right.now) }
     {
         match position {
             None => changed,
@@ -224,6 +257,7 @@ impl Level {
         requires right_of { AreOf self.old.grid.layers right.now }
         ensures rewritten { in_rewrite self.new.grid result ≡ rewritten_along dir gap_at place (in_rewrite self.old.grid changed) (index, (left.now, right.now)) }
         ensures size { SameSize self.old.grid self.new.grid }
+        ensures marks { IsWidenedBy self.old self.new (λ object. names_object object right.now) }
     {
         let position = self.position_of(dir, gap_at, place, index);
         self.rewrite_at(left, right, position, changed)
@@ -241,6 +275,7 @@ impl Level {
         requires right_of { IsRowOf self.old.grid.layers right.now }
         ensures rewritten { in_rewrite self.new.grid result ≡ rewritten_row dir (in_rewrite self.old.grid changed_before) (place, (left.now, right.now)) }
         ensures size { SameSize self.old.grid self.new.grid }
+        ensures marks { IsWidenedBy self.old self.new (λ object. row_places object right.now) }
     {
         let gap_at = left.gap_at();
         let left = left.cells();
@@ -271,6 +306,7 @@ impl Level {
         requires right_of { AreRowsOf self.old.grid.layers instance.now.right }
         ensures rewritten { in_rewrite self.new.grid result ≡ rewritten instance.now places.now (in_rewrite self.old.grid changed_before) }
         ensures size { SameSize self.old.grid self.new.grid }
+        ensures marks { IsWidenedBy self.old self.new (places_object instance.now.right) }
     {
         let left = instance.left.items();
         let right = instance.right.items();
@@ -295,7 +331,9 @@ pub fn rewrite(game: &Game, level: &mut Level, instance: &Instance, places: &[Pl
     requires right_of { IsInstanceOf game.now.layers instance.now }
     ensures rewritten { in_rewrite level.new.grid result ≡ rewritten instance.now places.now (in_rewrite level.old.grid false) }
     ensures size { SameSize level.old.grid level.new.grid }
+    ensures marks { IsWidenedBy level.old level.new (places_object instance.now.right) }
     ensures lawful { IsLawful level.new.grid }
+    ensures marked { IsMarked level.new }
 {
     // (the contract alone speaks of the game)
     let _ = game;

@@ -3,8 +3,8 @@
 ghost use Rattle.std.specs.Prelude.{◌≡◌, ◌↔◌, IsTrue};
 ghost use Rattle.pz_grid.specs.Sameness.{same_grid};
 
-use crate::Level;
 use crate::cell::{Cell, Piece};
+use crate::{BareLevel, Level};
 
 impl Level {
     /// Whether two levels are the same: in their size, their layers, and each place of each cell.
@@ -16,6 +16,14 @@ impl Level {
     }
 
     fn equals(&self, other: &Level) -> bool
+        ensures { IsTrue result ↔ (self.now.grid ≡ other.now.grid) }
+    {
+        self.bare.equals(&other.bare)
+    }
+}
+
+impl BareLevel {
+    fn equals(&self, other: &BareLevel) -> bool
         ensures { IsTrue result ↔ (self.now.grid ≡ other.now.grid) }
     {
         self.width == other.width

@@ -5,6 +5,7 @@ pub mod Limits
 pub mod Passes
 pub mod Resting
 pub mod Taking
+pub mod Skipping
 pub mod Unchanged
 pub mod Stops
 pub mod Stepping

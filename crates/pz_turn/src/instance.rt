@@ -1,13 +1,13 @@
 //! An instance of a rule, applied at all combinations of the places of its rows.
 
-ghost use Rattle.std.specs.Prelude.{◌≡◌, ◌≢◌, ◌≤◌, ◌<◌, ◌+◌, ◌++◌, IfOk, IfErr, Ok, Err, length, drop, map, fold, min};
+ghost use Rattle.std.specs.Prelude.{◌≡◌, ◌≢◌, ◌≤◌, ◌<◌, ◌+◌, ◌++◌, IfOk, IfErr, Ok, Err, true, length, drop, map, fold, min};
 ghost use Rattle.pz_grid.specs.Grid.{SameSize};
 ghost use Rattle.pz_grid.specs.Places.{searched};
 ghost use Rattle.pz_grid.specs.Rewriting.{in_rewrite};
 ghost use Rattle.pz_turn.specs.Belonging.{PlacesObjectsOf};
 ghost use Rattle.pz_turn.specs.Combinations.{combinations};
 ghost use Rattle.pz_turn.specs.Instance.{found_or_stop, taken, applied_at, applied, given};
-ghost use Rattle.pz_turn.specs.Outcome.{GivesOutcome};
+ghost use Rattle.pz_turn.specs.Outcome.{GivesOutcome, untouched};
 ghost use Rattle.pz_turn.specs.declared.outcome.StepFault.TheVariants.{Memory};
 
 use crate::outcome::{Given, StepFault};
@@ -35,6 +35,24 @@ fn search(alloc: Global, level: &Level, row: &Row, dir: Dir) -> Result<Listed<Pl
         Err(GridFault::Memory) => Err(StepFault::Memory),
         Err(GridFault::MatchLimit) => Err(StepFault::MatchLimit),
     }
+}
+
+/// Whether the marks of a level tell at once that an instance has no combination: some row has no place, and none of those before it has a
+/// gap. (One with a gap could have too many places, and that is answered first.)
+fn is_left_out(level: &Level, instance: &Instance) -> bool
+    ensures { result ≡ true → applied instance.now level.now.grid ≡ Ok (untouched level.now.grid) }
+{
+    // (brings the proof the law of levels)
+    let _ = level.width();
+    for row in instance.left.items() {
+        if !level.is_searched_for(row) {
+            return true;
+        }
+        if row.gap_at().is_some() {
+            return false;
+        }
+    }
+    false
 }
 
 /// The places of each row, up to the first row without one.
@@ -145,6 +163,9 @@ pub fn apply(alloc: Global, level: &mut Level, instance: &Instance) -> Result<Gi
     ensures outcome { GivesOutcome (applied instance.now level.old.grid) level.new.grid result }
     ensures size { SameSize level.old.grid level.new.grid }
 {
+    if is_left_out(level, instance) {
+        return Ok(Given::nothing());
+    }
     let lists = take_places(alloc, level, instance)?;
     if combination_count(&lists) > COMBINATION_LIMIT {
         return Err(StepFault::MatchLimit);

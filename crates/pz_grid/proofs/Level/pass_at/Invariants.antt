@@ -3,10 +3,12 @@ use Rattle.std.specs.Prelude.{fold}
 use Rattle.std.specs.List.{range_with_len}
 use Rattle.pz_grid.specs.Movement.{in_pass, move_at, spot}
 use Rattle.pz_grid.specs.Grid.{SameSize}
+use Rattle.pz_grid.specs.Staying.{IsMove}
 use Rattle.pz_grid.proofs.Level.pass_at.Given as goal
 
 abbrev pub invariant-loop-layer : goal.invariant-loop-layer
 invariant-loop-layer l = record {
   so_far : in_pass l.self.grid l.moved ≡ fold move_at (in_pass l.initial.self.grid l.initial.moved) (map (spot l.x l.y) (range_with_len 0 l.layer));
   size : SameSize l.initial.self.grid l.self.grid;
+  marks : IsMove l.initial.self l.self;
 }

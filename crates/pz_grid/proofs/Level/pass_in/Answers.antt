@@ -1,6 +1,7 @@
 use Rattle.std.proofs.Common.{ℕ, ◌≡◌, ap, sym, ◌∙◌}
 use Rattle.std.specs.Prelude.{fold}
 use Rattle.pz_grid.specs.Movement.{Pass, in_pass, move_at, spots_at}
+use Rattle.pz_grid.proofs.MoveLemmas.{moves_on}
 use Rattle.pz_grid.proofs.MovementLemmas.{fold_gather_more, same_size_on}
 use Rattle.pz_grid.proofs.Level.pass_in.Goals as goal
 
@@ -14,4 +15,5 @@ loop-y-preserved c =
     record {
       so_far = c.pass_at-moved.ensures.pass ∙ ap (fold move_at (in_pass c.loop-y.self.grid c.loop-y.moved)) same ∙ ap (λ (p : Pass). fold move_at p (cell c.loop-y.y)) c.loop-y.invariant.so_far ∙ sym (fold_gather_more move_at start cell c.loop-y.y);
       size = same_size_on _ _ _ size c.pass_at-moved.ensures.size;
+      marks = moves_on _ _ _ c.loop-y.invariant.marks c.pass_at-moved.ensures.marks;
     }

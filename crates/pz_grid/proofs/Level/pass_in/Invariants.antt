@@ -2,6 +2,7 @@ use Rattle.std.proofs.Common.{◌≡◌}
 use Rattle.std.specs.Prelude.{fold}
 use Rattle.pz_grid.specs.Movement.{in_pass, move_at, spots_at}
 use Rattle.pz_grid.specs.Grid.{SameSize}
+use Rattle.pz_grid.specs.Staying.{IsMove}
 use Rattle.pz_grid.proofs.GatherLemmas.{gather}
 use Rattle.pz_grid.proofs.Level.pass_in.Given as goal
 
@@ -9,4 +10,5 @@ abbrev pub invariant-loop-y : goal.invariant-loop-y
 invariant-loop-y l = record {
   so_far : in_pass l.self.grid l.moved ≡ fold move_at (in_pass l.initial.self.grid l.initial.moved) (gather (spots_at l.initial.self.grid.depth l.x) l.y);
   size : SameSize l.initial.self.grid l.self.grid;
+  marks : IsMove l.initial.self l.self;
 }

@@ -1,8 +1,12 @@
-use Rattle.pz_grid.proofs.LawfulLemmas.{lawful-pushed}
+use Rattle.pz_grid.specs.Grid.{LevelState}
+use Rattle.pz_grid.proofs.MarkLemmas.{marked_pushed}
 use Rattle.pz_grid.proofs.Level.push_all.Goals as goal
 
 pub invariant_of-self : goal.invariant_of-self
-invariant_of-self c = rw c.push_cells.ensures (lawful-pushed _ _ _ c.self.invariant)
+invariant_of-self c =
+    let a = c.self.inside in
+    let state : LevelState = record { grid = a.bare.grid; row_marks = a.row_marks.items; column_marks = a.column_marks.items; level_marks = a.level_marks } in
+    rw c.push_all.ensures.pushed (marked_pushed state _ _ c.self.invariant)
 
-pub returns-clause-lawful : goal.returns-clause-lawful
-returns-clause-lawful c = rw c.push_cells.ensures (lawful-pushed _ _ _ c.self.invariant)
+pub returns-clause-marked : goal.returns-clause-marked
+returns-clause-marked c = invariant_of-self c

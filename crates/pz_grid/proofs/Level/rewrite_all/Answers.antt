@@ -1,11 +1,14 @@
-use Rattle.std.proofs.Common.{◌≤◌, ◌≡◌, List, length, get_or, arith, ap, sym, ◌∙◌, min}
+use Rattle.std.proofs.Common.{◌≤◌, ◌≡◌, List, length, get_or, arith, ap, sym, ◌∙◌, min, subst}
 use Rattle.std.specs.Prelude.{fold}
 use Rattle.std.specs.List.{zip}
+use Rattle.std.proofs.lemmas.List.Folds.{list_any_at}
 use Rattle.std.proofs.lemmas.List.{get_or_default}
 use Rattle.std.proofs.lemmas.Slice.Zip.{length-zip}
 use Rattle.pz_rules.specs.Pattern.{RuleRow}
 use Rattle.pz_grid.specs.declared.places.Place.{Place}
 use Rattle.pz_grid.specs.Rewriting.{Rewriting, in_rewrite, rewritten_row}
+use Rattle.pz_grid.specs.Marks.{IsWidenedBy, places_object, row_places}
+use Rattle.pz_grid.proofs.MoveLemmas.{widened_on}
 use Rattle.pz_grid.proofs.MovementLemmas.{same_size_on}
 use Rattle.pz_grid.proofs.FoldLemmas.{zip_at, fold_zip_more, fold_zip_all}
 use Rattle.pz_grid.proofs.Level.rewrite_all.Goals as goal
@@ -28,6 +31,7 @@ loop-index-preserved c =
     record {
       so_far = c.rewrite_row-changed.ensures.rewritten ∙ ap (λ (r : Rewriting). f r (place, pair)) c.loop-index.invariant.so_far ∙ sym (fold_zip_more f start places (zip lefts rights) i place pair (omega arith) (omega (arith, length-zip lefts rights)) at_place at_pair);
       size = same_size_on _ _ _ c.loop-index.invariant.size c.rewrite_row-changed.ensures.size;
+      marks = widened_on _ _ _ (places_object rights) (λ object. row_places object right) (λ object e. list_any_at (row_places object) rights i right (omega arith) (ap (row_places object) (sym c.index-right-index.is) ∙ e)) c.loop-index.invariant.marks c.rewrite_row-changed.ensures.marks;
     }
 
 pub returns-clause-rewritten : goal.returns-clause-rewritten
@@ -42,3 +46,7 @@ returns-clause-rewritten c =
     ∙ fold_zip_all f start c.args.places.now (zip lefts rights) c.loop-index.index past
     ∙ ap (λ l. run l rights) c.items-left.ensures
     ∙ ap (run c.args.instance.now.left) c.items-right.ensures
+
+pub returns-clause-marks : goal.returns-clause-marks
+returns-clause-marks c =
+    subst (λ (rows : List RuleRow). IsWidenedBy c.args.self.now c.loop-index.self (places_object rows)) c.items-right.ensures c.loop-index.invariant.marks

@@ -2,6 +2,7 @@ use Rattle.std.proofs.Common.{◌≡◌, take}
 use Rattle.std.specs.Prelude.{fold}
 use Rattle.std.specs.List.{zip}
 use Rattle.pz_grid.specs.Grid.{SameSize}
+use Rattle.pz_grid.specs.Marks.{IsWidenedBy, places_object}
 use Rattle.pz_grid.specs.Rewriting.{in_rewrite, rewritten_row}
 use Rattle.pz_grid.proofs.Level.rewrite_all.Given as goal
 
@@ -9,4 +10,5 @@ abbrev pub invariant-loop-index : goal.invariant-loop-index
 invariant-loop-index l = record {
   so_far : in_rewrite l.self.grid l.changed ≡ fold (rewritten_row l.instance.scan) (in_rewrite l.initial.self.grid l.initial.changed) (take l.index (zip l.places (zip l.left l.right)));
   size : SameSize l.initial.self.grid l.self.grid;
+  marks : IsWidenedBy l.initial.self l.self (places_object l.right);
 }

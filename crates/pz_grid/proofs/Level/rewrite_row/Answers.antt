@@ -1,8 +1,11 @@
-use Rattle.std.proofs.Common.{ℕ, ◌≤◌, List, length, arith, ap, sym, ◌∙◌, min}
+use Rattle.std.proofs.Common.{ℕ, ◌≤◌, List, length, arith, ap, sym, ◌∙◌, min, subst}
 use Rattle.std.specs.Prelude.{fold, Option}
-use Rattle.std.specs.List.{enumerate_from, zip}
+use Rattle.std.specs.List.{enumerate_from, zip, list_any}
+use Rattle.std.proofs.lemmas.List.Folds.{list_any_at}
 use Rattle.pz_rules.specs.declared.pattern.Item.{Item}
-use Rattle.pz_grid.specs.Rewriting.{Rewriting, in_rewrite, rewritten_along}
+use Rattle.pz_grid.specs.Rewriting.{Rewriting, in_rewrite, rewritten_along, names_object}
+use Rattle.pz_grid.specs.Marks.{IsWidenedBy}
+use Rattle.pz_grid.proofs.MoveLemmas.{widened_on}
 use Rattle.pz_grid.proofs.MovementLemmas.{same_size_on}
 use Rattle.pz_grid.proofs.FoldLemmas.{fold_numbered_more, fold_numbered_all}
 use Rattle.pz_grid.proofs.Level.rewrite_row.Goals as goal
@@ -17,6 +20,7 @@ loop-index-preserved c =
     record {
       so_far = c.rewrite_along-changed.ensures.rewritten ∙ ap (λ (r : Rewriting). f r (i, (left, right))) c.loop-index.invariant.so_far ∙ sym (fold_numbered_more f start c.cells-left.result.now c.cells-right.result.now i left right (omega arith) (omega arith) c.index-left-index.is c.index-right-index.is);
       size = same_size_on _ _ _ c.loop-index.invariant.size c.rewrite_along-changed.ensures.size;
+      marks = widened_on _ _ _ (λ object. list_any (names_object object) c.cells-right.result.now) (λ object. names_object object right) (λ object e. list_any_at (names_object object) c.cells-right.result.now i right (omega arith) (ap (names_object object) (sym c.index-right-index.is) ∙ e)) c.loop-index.invariant.marks c.rewrite_along-changed.ensures.marks;
     }
 
 pub returns-clause-rewritten : goal.returns-clause-rewritten
@@ -29,3 +33,7 @@ returns-clause-rewritten c =
     ∙ ap (λ g. run g c.cells-left.result.now c.cells-right.result.now) c.gap_at-gap_at.ensures
     ∙ ap (λ l. run c.args.left.now.gap_at l c.cells-right.result.now) c.cells-left.ensures.cells
     ∙ ap (run c.args.left.now.gap_at c.args.left.now.cells) c.cells-right.ensures.cells
+
+pub returns-clause-marks : goal.returns-clause-marks
+returns-clause-marks c =
+    subst (λ (cells : List (List Item)). IsWidenedBy c.args.self.now c.loop-index.self (λ object. list_any (names_object object) cells)) c.cells-right.ensures.cells c.loop-index.invariant.marks

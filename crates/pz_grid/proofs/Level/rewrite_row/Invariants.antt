@@ -1,12 +1,14 @@
 use Rattle.std.proofs.Common.{◌≡◌, take}
 use Rattle.std.specs.Prelude.{fold}
-use Rattle.std.specs.List.{enumerate_from, zip}
+use Rattle.std.specs.List.{enumerate_from, zip, list_any}
 use Rattle.pz_grid.specs.Grid.{SameSize}
-use Rattle.pz_grid.specs.Rewriting.{in_rewrite, rewritten_along}
+use Rattle.pz_grid.specs.Marks.{IsWidenedBy}
+use Rattle.pz_grid.specs.Rewriting.{in_rewrite, rewritten_along, names_object}
 use Rattle.pz_grid.proofs.Level.rewrite_row.Given as goal
 
 abbrev pub invariant-loop-index : goal.invariant-loop-index
 invariant-loop-index l = record {
   so_far : in_rewrite l.self.grid l.changed ≡ fold (rewritten_along l.dir l.gap_at l.place) (in_rewrite l.initial.self.grid l.initial.changed) (take l.index (enumerate_from 0 (zip l.left l.right)));
   size : SameSize l.initial.self.grid l.self.grid;
+  marks : IsWidenedBy l.initial.self l.self (λ object. list_any (names_object object) l.right);
 }

@@ -1,6 +1,7 @@
 use Rattle.std.proofs.Common.{◌≡◌, ◌<◌, ℕ, true, false, ap, sym, ◌∙◌, subst}
 use Rattle.pz_grid.specs.Movement.{Pass, pass_of, moving, settle}
 use Rattle.pz_grid.proofs.SettleLemmas.{fewer_from_moved, settle_moved, settle_done}
+use Rattle.pz_grid.proofs.MoveLemmas.{moves_on}
 use Rattle.pz_grid.proofs.MovementLemmas.{same_size_on}
 use Rattle.pz_grid.proofs.Level.settle.Goals as goal
 
@@ -18,6 +19,7 @@ loop-preserved c =
     record {
       settles = ap (λ (p : Pass). settle (moving p.grid) p.grid) e ∙ sym (settle_moved c.loop.self.grid moved) ∙ c.loop.invariant.settles;
       size = same_size_on _ _ _ c.loop.invariant.size c.pass.ensures.size;
+      marks = moves_on _ _ _ c.loop.invariant.marks c.pass.ensures.marks;
     }
 
 pub returns-clause-settled : goal.returns-clause-settled
@@ -28,3 +30,6 @@ returns-clause-settled c =
 
 pub returns-clause-size : goal.returns-clause-size
 returns-clause-size c = same_size_on _ _ _ c.loop.invariant.size c.pass.ensures.size
+
+pub returns-clause-marks : goal.returns-clause-marks
+returns-clause-marks c = moves_on _ _ _ c.loop.invariant.marks c.pass.ensures.marks

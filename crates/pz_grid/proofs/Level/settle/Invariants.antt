@@ -1,5 +1,6 @@
 use Rattle.std.proofs.Common.{◌≡◌}
 use Rattle.pz_grid.specs.Grid.{SameSize}
+use Rattle.pz_grid.specs.Staying.{IsMove}
 use Rattle.pz_grid.specs.Movement.{moving, settle}
 use Rattle.pz_grid.proofs.Level.settle.Given as goal
 
@@ -7,6 +8,7 @@ abbrev pub invariant-loop : goal.invariant-loop
 invariant-loop l = record {
   settles : settle (moving l.self.grid) l.self.grid ≡ settle (moving l.initial.self.grid) l.initial.self.grid;
   size : SameSize l.initial.self.grid l.self.grid;
+  marks : IsMove l.initial.self l.self;
 }
 
 abbrev pub decreases-loop : goal.decreases-loop

@@ -11,7 +11,7 @@ use Rattle.pz_grid.proofs.places.add_places_at.Goals as goal
 pub returns-in_err-add_place-clause-limit : goal.returns-in_err-add_place-clause-limit
 returns-in_err-add_place-clause-limit c = λ is.
     let p = err_from_is_err_and c.from_residual.result c.from_residual.ensures.1 in
-    let grid = c.args.level.now.grid in
+    let grid = c.args.bare.now.grid in
     let h = found_with grid c.args.row.now c.args.dir c.args.line c.args.start in
     let raw = c.in_err-add_place.ensures.limit (ap Err (sym p.2) ∙ sym p.1 ∙ is) in
     let too_long : MATCH_LIMIT < length (c.loop-gap.found.items ++ h c.loop-gap.gap) =
@@ -22,9 +22,9 @@ returns-in_err-add_place-clause-limit c = λ is.
 
 pub loop-gap-preserved : goal.loop-gap-preserved
 loop-gap-preserved c =
-    let h = found_with c.args.level.now.grid c.args.row.now c.args.dir c.args.line c.args.start in
+    let h = found_with c.args.bare.now.grid c.args.row.now c.args.dir c.args.line c.args.start in
     let next : c.add_place.new.found.items ≡ c.loop-gap.found.items ++ h c.loop-gap.gap =
-    c.in_ok-add_place.ensures.added ∙ ap (λ (p : Place). c.loop-gap.found.items ++ filter (row_holds c.args.level.now.grid c.args.row.now c.args.dir) (p ∷ [])) c.place_in.ensures in
+    c.in_ok-add_place.ensures.added ∙ ap (λ (p : Place). c.loop-gap.found.items ++ filter (row_holds c.args.bare.now.grid c.args.row.now c.args.dir) (p ∷ [])) c.place_in.ensures in
     record {
       added = gather_step h c.loop-gap.gap c.args.found.now.items c.loop-gap.found.items c.add_place.new.found.items c.loop-gap.invariant.added next;
       room = c.in_ok-add_place.ensures.room;
@@ -32,7 +32,7 @@ loop-gap-preserved c =
 
 pub returns-clause-added : goal.returns-clause-added
 returns-clause-added c =
-    let grid = c.args.level.now.grid in
+    let grid = c.args.bare.now.grid in
     let h = found_with grid c.args.row.now c.args.dir c.args.line c.args.start in
     let last : c.loop-gap.gap ≡ gap_count grid c.args.row.now c.args.dir = omega arith in
     c.loop-gap.invariant.added ∙ ap (λ (n : ℕ). c.args.found.now.items ++ gather h n) last ∙ ap (λ (xs : List Place). c.args.found.now.items ++ xs) (found_at_all grid c.args.row.now c.args.dir c.args.line c.args.start)

@@ -6,6 +6,6 @@ use Rattle.pz_grid.proofs.places.add_places_at.Given as goal
 
 abbrev pub invariant-loop-gap : goal.invariant-loop-gap
 invariant-loop-gap l = record {
-  added : l.found.items ≡ l.initial.found.items ++ gather (found_with l.level.grid l.row l.dir l.line l.start) l.gap;
+  added : l.found.items ≡ l.initial.found.items ++ gather (found_with l.bare.grid l.row l.dir l.line l.start) l.gap;
   room : length l.found.items ≤ MATCH_LIMIT;
 }

@@ -7,7 +7,7 @@ use Rattle.pz_grid.proofs.places.row_holds.Goals as goal
 pub returns-then-not-holds_at : goal.returns-then-not-holds_at
 returns-then-not-holds_at c =
     let cells = c.args.row.now.cells in
-    let grid = c.args.level.now.grid in
+    let grid = c.args.bare.now.grid in
     let pattern = c.pattern-item.result in
     let i = c.loop-index.index in
     let position = c.position_of-position.ensures.position ∙ ap (λ (g : Option ℕ). position_of grid c.args.dir g c.args.place i) c.gap_at.ensures in
@@ -20,7 +20,7 @@ returns-then-not-holds_at c =
 pub loop-index-preserved : goal.loop-index-preserved
 loop-index-preserved c =
     let cells = c.args.row.now.cells in
-    let grid = c.args.level.now.grid in
+    let grid = c.args.bare.now.grid in
     let pattern = c.pattern-item.result in
     let i = c.loop-index.index in
     let position = c.position_of-position.ensures.position ∙ ap (λ (g : Option ℕ). position_of grid c.args.dir g c.args.place i) c.gap_at.ensures in
@@ -34,4 +34,4 @@ pub returns : goal.returns
 returns c =
     let cells = c.args.row.now.cells in
     let past : length cells ≤ c.loop-index.index = omega (arith, ap length c.cells-pattern-items.ensures.cells) in
-    sym (enumerate_all (cell_holds c.args.level.now.grid c.args.row.now c.args.dir c.args.place) cells c.loop-index.index past c.loop-index.invariant)
+    sym (enumerate_all (cell_holds c.args.bare.now.grid c.args.row.now c.args.dir c.args.place) cells c.loop-index.index past c.loop-index.invariant)

@@ -4,4 +4,4 @@ use Rattle.pz_grid.specs.Places.{cell_holds}
 use Rattle.pz_grid.proofs.places.row_holds.Given as goal
 
 abbrev pub invariant-loop-index : goal.invariant-loop-index
-invariant-loop-index l = list_all (cell_holds l.level.grid l.row l.dir l.place) (take l.index (enumerate_from 0 l.row.cells)) ≡ true
+invariant-loop-index l = list_all (cell_holds l.bare.grid l.row l.dir l.place) (take l.index (enumerate_from 0 l.row.cells)) ≡ true

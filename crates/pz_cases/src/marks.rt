@@ -1,0 +1,213 @@
+//! The lines in which a row of a rule is searched for, and the start cells that are tested. No test owns a game or a level, and no function both.
+
+use crate::game::{game_of, joined, loaded};
+use pz_grid::places::{admitted, places_counted};
+use pz_grid::{Level, push_players, resolve};
+use pz_rules::pattern::{Item, Pattern, Row, Word};
+use pz_source::direction::Dir;
+use pz_source::game::Game;
+use std::alloc::{AllocError, Global};
+use std::test::Fail;
+
+/// A game with five objects, but for its levels.
+const GAME: [&str; 16] = [
+    "OBJECTS",
+    "Background .",
+    "black",
+    "Player p",
+    "white",
+    "Wall #",
+    "grey",
+    "Crate c",
+    "brown",
+    "Mark m",
+    "pink",
+    "LEGEND",
+    "COLLISIONLAYERS",
+    "Background",
+    "Player, Wall, Crate",
+    "Mark",
+];
+
+const PLAYER: Item = Item {
+    object: 1,
+    layer: 1,
+    word: Word::Present,
+};
+
+const WALL: Item = Item {
+    object: 2,
+    layer: 1,
+    word: Word::Present,
+};
+
+const CRATE: Item = Item {
+    object: 3,
+    layer: 1,
+    word: Word::Present,
+};
+
+const NO_MARK: Item = Item {
+    object: 4,
+    layer: 2,
+    word: Word::Absent,
+};
+
+/// What a search tells: how many lines are admitted, how many places there are, how many start cells were tested.
+#[derive(Clone, Copy, PartialEq, Eq, Debug)]
+struct Search {
+    admitted: u32,
+    places: usize,
+    tested: u64,
+}
+
+/// The game with one level of these rows.
+fn game_with(alloc: Global, rows: &str) -> Result<Game, Fail> {
+    let mut text = joined(alloc, &GAME, 0, "")?;
+    text.push_str("LEVELS\n")?;
+    text.push_str(rows)?;
+    game_of(alloc, text.as_str())
+}
+
+/// The rows of a square level of the background, but for what stands in its first cell.
+fn square(alloc: Global, first: char, side: usize) -> Result<String, AllocError> {
+    let mut rows = String::new(alloc);
+    add_row(&mut rows, first, side)?;
+    for _ in 1..side {
+        add_row(&mut rows, '.', side)?;
+    }
+    Ok(rows)
+}
+
+fn add_row(rows: &mut String, first: char, side: usize) -> Result<(), AllocError> {
+    rows.push(first)?;
+    for _ in 1..side {
+        rows.push('.')?;
+    }
+    rows.push('\n')
+}
+
+fn cell(alloc: Global, items: &[Item]) -> Result<Pattern, AllocError> {
+    let items = Vec::from_slice(alloc, items)?;
+    Ok(Pattern::new(items))
+}
+
+/// A row of one cell.
+fn row_of(alloc: Global, items: &[Item]) -> Result<Row, AllocError> {
+    let cells = vec![in alloc; cell(alloc, items)?]?;
+    Ok(Row::new(cells, None))
+}
+
+/// The row of two cells with a gap between them.
+fn row_with_gap(alloc: Global, first: &[Item], second: &[Item]) -> Result<Row, AllocError> {
+    let cells = vec![in alloc; cell(alloc, first)?, cell(alloc, second)?]?;
+    Ok(Row::new(cells, Some(1)))
+}
+
+fn search_level(alloc: Global, level: &Level, row: &Row, dir: Dir) -> Result<Search, Fail> {
+    match places_counted(alloc, level, row, dir) {
+        Ok((found, tested)) => Ok(Search {
+            admitted: admitted(level, row, dir),
+            places: found.len(),
+            tested,
+        }),
+        Err(_) => Err(Fail::new("too many places, or no memory")),
+    }
+}
+
+/// The first level of a game after the player was pushed down and moved.
+fn moved_down(alloc: Global, game: &Game) -> Result<Level, Fail> {
+    let mut level = loaded(alloc, game)?;
+    push_players(game, &mut level, Dir::Down);
+    resolve(game, &mut level);
+    Ok(level)
+}
+
+fn search_in(alloc: Global, game: &Game, row: &Row, dir: Dir) -> Result<Search, Fail> {
+    let level = loaded(alloc, game)?;
+    search_level(alloc, &level, row, dir)
+}
+
+fn search_moved(alloc: Global, game: &Game, row: &Row, dir: Dir) -> Result<Search, Fail> {
+    let level = moved_down(alloc, game)?;
+    search_level(alloc, &level, row, dir)
+}
+
+/// What the search of a row tells in a level of these rows.
+fn search_rows(alloc: Global, rows: &str, row: &Row, dir: Dir) -> Result<Search, Fail> {
+    let game = game_with(alloc, rows)?;
+    search_in(alloc, &game, row, dir)
+}
+
+fn search_square(
+    alloc: Global,
+    first: char,
+    side: usize,
+    items: &[Item],
+    dir: Dir,
+) -> Result<Search, Fail> {
+    let rows = square(alloc, first, side)?;
+    let row = row_of(alloc, items)?;
+    search_rows(alloc, rows.as_str(), &row, dir)
+}
+
+#[test]
+fn a_cell_without_items_is_searched_for_everywhere(rt: HostRuntime) -> Result<(), Fail> {
+    let all = Search {
+        admitted: 32,
+        places: 1024,
+        tested: 1024,
+    };
+    for dir in [Dir::Up, Dir::Down, Dir::Left, Dir::Right] {
+        let found = search_square(rt.alloc(), '.', 32, &[], dir)?;
+        assert_eq!(rt; found, all);
+    }
+    Ok(())
+}
+
+fn search_with_gap(alloc: Global) -> Result<Search, Fail> {
+    let row = row_with_gap(alloc, &[PLAYER, NO_MARK], &[WALL])?;
+    search_rows(alloc, "p#.#", &row, Dir::Right)
+}
+
+#[test]
+fn what_a_cell_forbids_rules_out_no_line(rt: HostRuntime) -> Result<(), Fail> {
+    let found = search_with_gap(rt.alloc())?;
+    assert_eq!(rt; (found.admitted, found.places), (1, 2));
+    assert!(rt; 1 <= found.tested && found.tested <= 4);
+    Ok(())
+}
+
+#[test]
+fn one_line_is_searched_for_what_stands_in_one(rt: HostRuntime) -> Result<(), Fail> {
+    let found = search_square(rt.alloc(), 'p', 128, &[PLAYER], Dir::Right)?;
+    assert_eq!(rt; (found.admitted, found.places), (1, 1));
+    assert!(rt; 1 <= found.tested && found.tested <= 128);
+    Ok(())
+}
+
+#[test]
+fn nothing_is_tested_for_what_stands_nowhere(rt: HostRuntime) -> Result<(), Fail> {
+    let found = search_square(rt.alloc(), 'p', 128, &[CRATE], Dir::Right)?;
+    let none = Search {
+        admitted: 0,
+        places: 0,
+        tested: 0,
+    };
+    assert_eq!(rt; found, none);
+    Ok(())
+}
+
+fn search_after_a_move(alloc: Global) -> Result<Search, Fail> {
+    let game = game_with(alloc, "p..\n...")?;
+    let row = row_of(alloc, &[PLAYER])?;
+    search_moved(alloc, &game, &row, Dir::Right)
+}
+
+#[test]
+fn what_moved_is_found_where_it_went(rt: HostRuntime) -> Result<(), Fail> {
+    let found = search_after_a_move(rt.alloc())?;
+    assert_eq!(rt; found.places, 1);
+    assert!(rt; found.admitted == 1 || found.admitted == 2);
+    Ok(())
+}

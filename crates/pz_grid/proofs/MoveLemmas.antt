@@ -1,0 +1,149 @@
+-- What a movement marks: what has landed stays, so in the end each line holds what was marked for it.
+use Rattle.std.proofs.Common.{◌≡◌, ◌⊎◌, inl, inr, ℕ, ◌+◌, ◌*◌, ◌<◌, List, [], Option, Some, None, Bool, true, false, ◌&&◌, ◌||◌, nat_eq, ◌∷◌, length, get_or, take, map, arith, ap, sym, ◌∙◌, refl, subst}
+use Rattle.std.proofs.lemmas.List.Folds.{list_any_more}
+use Rattle.std.proofs.lemmas.Bool.{and_parts, eqb-true, or_cases}
+use Rattle.pz_rules.specs.declared.pattern.Item.{Item}
+use Rattle.pz_grid.specs.declared.cell.Piece.{Piece}
+use Rattle.pz_grid.specs.Cell.{still_piece, still_place}
+use Rattle.pz_grid.specs.Presence.{is_in}
+use Rattle.pz_grid.specs.Grid.{Grid, LevelState, place_at, with_place}
+use Rattle.pz_grid.specs.Movement.{in_pass, spot, heading_goal, stilled}
+use Rattle.pz_grid.specs.Rewriting.{names, names_object}
+use Rattle.pz_grid.specs.Marks.{in_row, in_column, is_marked, IsMore, IsWidened, IsWidenedBy}
+use Rattle.pz_grid.specs.Staying.{IsStill, KeepsStill, IsMove}
+use Rattle.pz_grid.proofs.StayLemmas.{still-moved_to}
+use Rattle.pz_grid.proofs.MarkLemmas.{in_row_from, in_column_from, is_in_at, is_in_cells, piece_is_in, still_same}
+
+pub moves_none : (state : LevelState) → IsMove state state
+moves_none state = record {
+  width = refl;
+  height = refl;
+  still = λ index layer object h. h;
+  rows = λ line object e. inl e;
+  columns = λ line object e. inl e;
+}
+
+-- one part of a movement after another
+pub moves_on : (a b d : LevelState) → IsMove a b → IsMove b d → IsMove a d
+moves_on a b d p q = record {
+  width = q.width ∙ p.width;
+  height = q.height ∙ p.height;
+  still = λ index layer object h. q.still index layer object (p.still index layer object h);
+  rows = λ line object e. elim (q.rows line object e) [
+    | inr here ↦ inr here
+    | inl before ↦ elim (p.rows line object before) [
+      | inl old ↦ inl old
+      | inr s ↦ inr (record {
+        x = s.x;
+        layer = s.layer;
+        inside = omega (arith, s.inside, q.width);
+        there = subst (λ (w : ℕ). IsStill d.grid.cells (line * w + s.x) s.layer object) (sym q.width) (q.still (line * b.grid.width + s.x) s.layer object s.there);
+      })
+    ]
+  ];
+  columns = λ line object e. elim (q.columns line object e) [
+    | inr here ↦ inr here
+    | inl before ↦ elim (p.columns line object before) [
+      | inl old ↦ inl old
+      | inr s ↦ inr (record {
+        y = s.y;
+        layer = s.layer;
+        inside = omega (arith, s.inside, q.height);
+        there = subst (λ (w : ℕ). IsStill d.grid.cells (s.y * w + line) s.layer object) (sym q.width) (q.still (s.y * b.grid.width + line) s.layer object s.there);
+      })
+    ]
+  ];
+}
+
+-- what is new in a line's set that got one more object
+more_only : (old new : List (List ℕ)) (line added : ℕ) → IsMore old new line (nat_eq added) → (other object : ℕ) → is_marked new other object ≡ true → (is_marked old other object ≡ true) ⊎ ((other ≡ line) × (added ≡ object))
+more_only old new line added more other object e = elim (or_cases (nat_eq other line && nat_eq added object) (is_marked old other object) (sym (more other object) ∙ e)) [
+  | inr before ↦ inl before
+  | inl both ↦ (let parts = and_parts (nat_eq other line) (nat_eq added object) both in inr (eqb-true _ _ parts.0, eqb-true _ _ parts.1))
+]
+
+-- a piece is lifted, marked where it goes, and landed there
+pub moves_piece : (old lifted marked new : LevelState) (x y layer : ℕ) (piece : Piece) (next_x next_y : ℕ) → place_at old.grid x y layer ≡ Some piece → heading_goal old.grid (spot x y layer) piece.heading ≡ Some (next_x, next_y) → next_x < old.grid.width → next_y < old.grid.height
+    → lifted.grid ≡ with_place old.grid x y layer None → lifted.row_marks ≡ old.row_marks → lifted.column_marks ≡ old.column_marks
+    → marked.grid ≡ lifted.grid → IsMore lifted.row_marks marked.row_marks next_y (nat_eq piece.object) → IsMore lifted.column_marks marked.column_marks next_x (nat_eq piece.object)
+    → new.grid ≡ with_place marked.grid next_x next_y layer (Some (still_piece piece.object)) → new.row_marks ≡ marked.row_marks → new.column_marks ≡ marked.column_marks
+    → place_at new.grid next_x next_y layer ≡ Some (still_piece piece.object)
+    → IsMove old new
+moves_piece old lifted marked new x y layer piece next_x next_y here goes x_in y_in g1 r1 c1 g2 r2 c2 g3 r3 c3 there =
+    let made : new.grid ≡ with_place (with_place old.grid x y layer None) next_x next_y layer (Some (still_piece piece.object)) = g3 ∙ ap (λ (g : Grid). with_place g next_x next_y layer (Some (still_piece piece.object))) (g2 ∙ g1) in
+    let wide : new.grid.width ≡ old.grid.width = ap (λ (g : Grid). g.width) made in
+    let high : new.grid.height ≡ old.grid.height = ap (λ (g : Grid). g.height) made in
+    record {
+      width = wide;
+      height = high;
+      still = subst (KeepsStill old.grid) (sym made) (still-moved_to (in_pass old.grid false) (spot x y layer) piece (Some (next_x, next_y)) here goes);
+      rows = λ line object e. elim (more_only lifted.row_marks marked.row_marks next_y piece.object r2 line object (ap (λ (m : List (List ℕ)). is_marked m line object) (sym r3) ∙ e)) [
+        | inl before ↦ inl (ap (λ (m : List (List ℕ)). is_marked m line object) (sym r1) ∙ before)
+        | inr (same, is) ↦ inr (record {
+          x = next_x;
+          layer = layer;
+          inside = omega (arith, wide);
+          there = ap (λ (k : ℕ). place_at new.grid next_x k layer) same ∙ there ∙ ap (λ (o : ℕ). Some (still_piece o)) is;
+        })
+      ];
+      columns = λ line object e. elim (more_only lifted.column_marks marked.column_marks next_x piece.object c2 line object (ap (λ (m : List (List ℕ)). is_marked m line object) (sym c3) ∙ e)) [
+        | inl before ↦ inl (ap (λ (m : List (List ℕ)). is_marked m line object) (sym c1) ∙ before)
+        | inr (same, is) ↦ inr (record {
+          y = next_y;
+          layer = layer;
+          inside = omega (arith, high);
+          there = ap (λ (k : ℕ). place_at new.grid k next_y layer) same ∙ there ∙ ap (λ (o : ℕ). Some (still_piece o)) is;
+        })
+      ];
+    }
+
+-- what stands still is there once all is stilled
+still_is_in : (cells : List (List (Option Piece))) (index layer object : ℕ) → IsStill cells index layer object → is_in (get_or (map (map still_place) cells) index []) object ≡ true
+still_is_in cells index layer object h =
+    is_in_cells still_place still_same cells index object ∙ is_in_at (get_or cells index []) layer object (subst (λ (p : Option Piece). is_in (p ∷ []) object ≡ true) (sym h) (piece_is_in (still_piece object)))
+
+-- after a movement each set has nothing but what it had and what its line has now
+pub widened_move : (old settled new : LevelState) → IsMove old settled → new.grid ≡ stilled settled.grid → new.row_marks ≡ settled.row_marks → new.column_marks ≡ settled.column_marks → IsWidened old new (in_row new.grid) (in_column new.grid)
+widened_move old settled new h g r d = record {
+  rows = λ line object e. elim (h.rows line object (ap (λ (m : List (List ℕ)). is_marked m line object) (sym r) ∙ e)) [
+    | inl before ↦ inl before
+    | inr s ↦ inr (ap (λ (k : Grid). in_row k line object) g ∙ in_row_from (stilled settled.grid) s.x line object s.inside (still_is_in settled.grid.cells (line * settled.grid.width + s.x) s.layer object s.there))
+  ];
+  columns = λ line object e. elim (h.columns line object (ap (λ (m : List (List ℕ)). is_marked m line object) (sym d) ∙ e)) [
+    | inl before ↦ inl before
+    | inr s ↦ inr (ap (λ (k : Grid). in_column k line object) g ∙ in_column_from (stilled settled.grid) s.y line object s.inside (still_is_in settled.grid.cells (s.y * settled.grid.width + line) s.layer object s.there))
+  ];
+}
+
+-- ---- rewriting
+pub widened_none : (state : LevelState) (test : ℕ → Bool) → IsWidenedBy state state test
+widened_none state test = record { rows = λ line object e. inl e; columns = λ line object e. inl e }
+
+pub widened_on : (a b d : LevelState) (p q : ℕ → Bool) → ((object : ℕ) → q object ≡ true → p object ≡ true) → IsWidenedBy a b p → IsWidenedBy b d q → IsWidenedBy a d p
+widened_on a b d p q within h k = record {
+  rows = λ line object e. elim (k.rows line object e) [
+    | inr new ↦ inr (within object new)
+    | inl before ↦ h.rows line object before
+  ];
+  columns = λ line object e. elim (k.columns line object e) [
+    | inr new ↦ inr (within object new)
+    | inl before ↦ h.columns line object before
+  ];
+}
+
+-- ---- what the right of a rule places is marked
+more_bool : (l p q a : Bool) → ((l && q) || ((l && p) || a)) ≡ ((l && (p || q)) || a)
+more_bool false p q a = refl
+more_bool true true true a = refl
+more_bool true true false a = refl
+more_bool true false true a = refl
+more_bool true false false a = refl
+
+pub more_item : (old now new : List (List ℕ)) (line : ℕ) (items : List Item) (i : ℕ) (item : Item) → i < length items → get_or items i item ≡ item → IsMore old now line (λ object. names_object object (take i items)) → IsMore now new line (λ object. names item.word && nat_eq item.object object) → IsMore old new line (λ object. names_object object (take (i + 1) items))
+more_item old now new line items i item within is before more other object =
+    let test = λ (x : Item). names x.word && nat_eq x.object object in
+    let next : names_object object (take (i + 1) items) ≡ (names_object object (take i items) || test item) = list_any_more test items i item within ∙ ap (λ (x : Item). names_object object (take i items) || test x) is in
+    more other object
+    ∙ ap (λ (b : Bool). (nat_eq other line && test item) || b) (before other object)
+    ∙ more_bool (nat_eq other line) (names_object object (take i items)) (test item) (is_marked old other object)
+    ∙ ap (λ (b : Bool). (nat_eq other line && b) || is_marked old other object) (sym next)

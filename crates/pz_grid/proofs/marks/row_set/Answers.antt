@@ -1,0 +1,17 @@
+use Rattle.std.proofs.Common.{◌≡◌, ℕ, ◌||◌, Bool, true, false, ap, sym, ◌∙◌, refl}
+use Rattle.std.specs.List.{list_any, range_with_len}
+use Rattle.pz_grid.specs.Grid.{cell_at}
+use Rattle.pz_grid.specs.Presence.{is_in}
+use Rattle.pz_grid.proofs.MarkLemmas.{any_more}
+use Rattle.pz_grid.proofs.marks.row_set.Goals as goal
+
+or_turned : (a b : Bool) → (a || b) ≡ (b || a)
+or_turned true true = refl
+or_turned true false = refl
+or_turned false true = refl
+or_turned false false = refl
+
+pub loop-x-preserved : goal.loop-x-preserved
+loop-x-preserved c object =
+    let p = λ (x : ℕ). is_in (cell_at c.args.bare.now.grid x c.args.line) object in
+    c.add_cell.ensures object ∙ ap (λ (b : Bool). p c.loop-x.x || b) (c.loop-x.invariant object) ∙ or_turned (p c.loop-x.x) (list_any p (range_with_len 0 c.loop-x.x)) ∙ sym (any_more p c.loop-x.x)

@@ -1,0 +1,71 @@
+-- The lines in which a row of a rule may start. A line is admitted if its set has every object that the row's first cell names as
+-- present. The search leaves out more: each line whose set lacks an object that some cell of the row names.
+use Rattle.std.specs.Prelude.{ℕ, List, [], ◌∷◌, Bool, true, not, ◌&&◌, ◌||◌, nat_eq, slice_index_or}
+use Rattle.std.specs.List.{list_all, list_any, count_by, sum_by, range_with_len}
+use Rattle.pz_sets.specs.Sets.{member}
+use Rattle.pz_source.specs.declared.direction.Dir.{Dir}
+use Rattle.pz_source.specs.declared.direction.Dir.TheVariants.{Up, Down}
+use Rattle.pz_rules.specs.declared.pattern.Item.{Item}
+use Rattle.pz_rules.specs.Pattern.{RuleRow}
+use Rattle.pz_grid.specs.declared.places.Place.{Place}
+use Rattle.pz_grid.specs.Grid.{Grid, LevelState}
+use Rattle.pz_grid.specs.Rewriting.{names}
+use Rattle.pz_grid.specs.Places.{line_count, line_length}
+
+-- the set of a line: of a column for up and down, else of a row
+abbrev pub marks_of : LevelState → Dir → ℕ → List ℕ
+marks_of state Up line = slice_index_or state.column_marks line []
+marks_of state Down line = slice_index_or state.column_marks line []
+marks_of state _ line = slice_index_or state.row_marks line []
+
+-- a set has an item's object, if the item names it as present
+abbrev pub marks_item : List ℕ → Item → Bool
+marks_item marks item = not (names item.word) || member marks item.object
+
+-- a set has every object that a cell of a rule names
+abbrev pub marks_cell : List ℕ → List Item → Bool
+marks_cell marks cell = list_all (marks_item marks) cell
+
+-- a set has every object that the first cell names
+abbrev pub admits : List ℕ → List (List Item) → Bool
+admits marks [] = true
+admits marks (first ∷ rest) = marks_cell marks first
+
+-- a line is admitted for a row
+abbrev pub admits_line : LevelState → RuleRow → Dir → ℕ → Bool
+admits_line state row dir line = admits (marks_of state dir line) row.cells
+
+-- the number of admitted lines
+abbrev pub admitted : LevelState → RuleRow → Dir → ℕ
+admitted state row dir = count_by (admits_line state row dir) (range_with_len 0 (line_count state.grid dir))
+
+-- a line is searched for a row: its set has every object that one of its cells names
+abbrev pub searches_line : LevelState → RuleRow → Dir → ℕ → Bool
+searches_line state row dir line = list_all (marks_cell (marks_of state dir line)) row.cells
+
+-- a level is searched for a row: its own set has every object that one of the row's cells names
+abbrev pub searches_level : LevelState → RuleRow → Bool
+searches_level state row = list_all (marks_cell state.level_marks) row.cells
+
+-- the line in which a place starts, and where in it
+abbrev pub line_of : Dir → Place → ℕ
+line_of Up place = place.x
+line_of Down place = place.x
+line_of _ place = place.y
+
+abbrev pub start_of : Dir → Place → ℕ
+start_of Up place = place.y
+start_of Down place = place.y
+start_of _ place = place.x
+
+-- a place starts in this cell
+abbrev pub starts_at : Dir → ℕ → ℕ → Place → Bool
+starts_at dir line start place = nat_eq (line_of dir place) line && nat_eq (start_of dir place) start
+
+-- how many cells of a line some place starts in
+abbrev pub starts_in : Dir → List Place → ℕ → ℕ → ℕ
+starts_in dir found size line = count_by (λ start. list_any (starts_at dir line start) found) (range_with_len 0 size)
+
+-- the number of different start cells among some places
+abbrev pub start_count : Grid → Dir → List Place → ℕ
+start_count grid dir found = sum_by (starts_in dir found (line_length grid dir)) (range_with_len 0 (line_count grid dir))

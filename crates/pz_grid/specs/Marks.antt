@@ -1,0 +1,60 @@
+-- The marks of a level: for each row and each column a set of objects that holds at least those that stand there.
+use Rattle.std.specs.Prelude.{◌≡◌, ℕ, ◌<◌, List, [], Bool, true, ◌&&◌, ◌||◌, ◌⊎◌, nat_eq, length, slice_index_or}
+use Rattle.std.specs.List.{list_any, range_with_len}
+use Rattle.pz_sets.specs.Sets.{member}
+use Rattle.pz_rules.specs.Pattern.{RuleRow}
+use Rattle.pz_grid.specs.Grid.{Grid, LevelState, cell_at}
+use Rattle.pz_grid.specs.Presence.{is_in}
+use Rattle.pz_grid.specs.Rewriting.{names_object}
+
+-- an object stands in a row
+abbrev pub in_row : Grid → ℕ → ℕ → Bool
+in_row grid line object = list_any (λ x. is_in (cell_at grid x line) object) (range_with_len 0 grid.width)
+
+-- an object stands in a column
+abbrev pub in_column : Grid → ℕ → ℕ → Bool
+in_column grid line object = list_any (λ y. is_in (cell_at grid line y) object) (range_with_len 0 grid.height)
+
+-- an object is in the set of a line
+abbrev pub is_marked : List (List ℕ) → ℕ → ℕ → Bool
+is_marked marks line object = member (slice_index_or marks line []) object
+
+-- what holds of every level: there is a set for each line, and it holds at least the objects in the line; the level's own set
+-- holds at least what the rows' sets do
+pub record IsMarked (state : LevelState) : Type 0 where
+  pub row_count : length state.row_marks ≡ state.grid.height
+  pub column_count : length state.column_marks ≡ state.grid.width
+  pub rows : (line object : ℕ) → line < state.grid.height → in_row state.grid line object ≡ true → is_marked state.row_marks line object ≡ true
+  pub columns : (line object : ℕ) → line < state.grid.width → in_column state.grid line object ≡ true → is_marked state.column_marks line object ≡ true
+  pub all : (line object : ℕ) → line < state.grid.height → is_marked state.row_marks line object ≡ true → member state.level_marks object ≡ true
+
+-- each set holds exactly the objects in its line
+pub record IsExact (state : LevelState) : Type 0 where
+  pub rows : (line object : ℕ) → line < state.grid.height → is_marked state.row_marks line object ≡ in_row state.grid line object
+  pub columns : (line object : ℕ) → line < state.grid.width → is_marked state.column_marks line object ≡ in_column state.grid line object
+
+-- the sets hold nothing but what they held before, and what these tests of a line and an object let in
+pub record IsWidened (old new : LevelState) (row_has column_has : ℕ → ℕ → Bool) : Type 0 where
+  pub rows : (line object : ℕ) → is_marked new.row_marks line object ≡ true → (is_marked old.row_marks line object ≡ true) ⊎ (row_has line object ≡ true)
+  pub columns : (line object : ℕ) → is_marked new.column_marks line object ≡ true → (is_marked old.column_marks line object ≡ true) ⊎ (column_has line object ≡ true)
+
+-- nothing but what they held before, and objects that pass a test
+abbrev pub IsWidenedBy : LevelState → LevelState → (ℕ → Bool) → Type 0
+IsWidenedBy old new test = IsWidened old new (λ line object. test object) (λ line object. test object)
+
+-- a right row of a rule places an object
+abbrev pub row_places : ℕ → RuleRow → Bool
+row_places object row = list_any (names_object object) row.cells
+
+-- the right of a rule places an object
+abbrev pub places_object : List RuleRow → ℕ → Bool
+places_object right object = list_any (row_places object) right
+
+-- the sets with more in one line: the objects that pass a test
+abbrev pub IsMore : List (List ℕ) → List (List ℕ) → ℕ → (ℕ → Bool) → Type 0
+IsMore old new line test = (other object : ℕ) → is_marked new other object ≡ ((nat_eq other line && test object) || is_marked old other object)
+
+-- the objects that pass a test are in the sets of a position's row and column
+pub record IsMarkedAt (state : LevelState) (x y : ℕ) (test : ℕ → Bool) : Type 0 where
+  pub row : (object : ℕ) → test object ≡ true → is_marked state.row_marks y object ≡ true
+  pub column : (object : ℕ) → test object ≡ true → is_marked state.column_marks x object ≡ true

@@ -1,0 +1,80 @@
+// The lines in which a row of a rule may start.
+
+ghost use Rattle.std.specs.Prelude.{◌≡◌, ◌<◌, false, []};
+ghost use Rattle.std.specs.List.{list_all};
+ghost use Rattle.pz_grid.specs.Admitted.{marks_of, marks_item, marks_cell, admits, admits_line, searches_level, searches_line};
+ghost use Rattle.pz_grid.specs.Places.{line_count, places};
+ghost use Rattle.pz_source.specs.declared.direction.Dir.{Dir};
+
+use crate::Level;
+use crate::rewriting::names;
+use pz_rules::pattern::{Item, Pattern, Row};
+use pz_sets::set::NumberSet;
+use pz_source::direction::Dir;
+
+/// Whether a set has an item's object, if the item names it as present.
+fn marks_item(marks: &NumberSet, item: Item) -> bool
+    ensures { result ≡ marks_item marks.now item }
+{
+    !names(item.word) || marks.contains(item.object)
+}
+
+/// Whether a set has every object that a cell of a rule names.
+fn marks_cell(marks: &NumberSet, cell: &Pattern) -> bool
+    ensures { result ≡ marks_cell marks.now cell.now }
+{
+    cell.items().iter().all(|item| marks_item(marks, *item))
+}
+
+/// Whether a set has every object that a row's first cell names.
+fn admits(marks: &NumberSet, row: &Row) -> bool
+    ensures { result ≡ admits marks.now row.now.cells }
+{
+    marks_cell(marks, &row.cells()[0])
+}
+
+/// Whether a set has every object that one of a row's cells names.
+fn marks_all(marks: &NumberSet, row: &Row) -> bool
+    ensures { result ≡ list_all (marks_cell marks.now) row.now.cells }
+{
+    row.cells().iter().all(|cell| marks_cell(marks, cell))
+}
+
+impl Level {
+    /// The set of a line.
+    fn marks_of(&self, dir: Dir, line: u32) -> &NumberSet
+        requires { line < line_count self.now.grid dir }
+        ensures { result.now ≡ marks_of self.now dir line }
+    {
+        match dir {
+            Dir::Up | Dir::Down => &self.column_marks[line as usize],
+            Dir::Left | Dir::Right | Dir::Action => &self.row_marks[line as usize],
+        }
+    }
+
+    /// Whether a place of the row may be in the level, as far as the level's own set tells: false says that none is, in no direction.
+    pub fn is_searched_for(&self, row: &Row) -> bool
+        ensures searched { result ≡ searches_level self.now row.now }
+        ensures none { result ≡ false → (dir : Dir) → places self.now.grid row.now dir ≡ [] }
+    {
+        // (brings the proof the law of levels)
+        let _ = self.width();
+        marks_all(&self.level_marks, row)
+    }
+
+    /// Whether a line is admitted for a row.
+    pub(crate) fn admits_line(&self, row: &Row, dir: Dir, line: u32) -> bool
+        requires { line < line_count self.now.grid dir }
+        ensures { result ≡ admits_line self.now row.now dir line }
+    {
+        admits(self.marks_of(dir, line), row)
+    }
+
+    /// Whether a place of the row may start in the line, as far as the line's set tells.
+    pub(crate) fn searches_line(&self, row: &Row, dir: Dir, line: u32) -> bool
+        requires { line < line_count self.now.grid dir }
+        ensures { result ≡ searches_line self.now row.now dir line }
+    {
+        marks_all(self.marks_of(dir, line), row)
+    }
+}

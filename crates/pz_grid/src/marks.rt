@@ -1,0 +1,180 @@
+//! The objects that each row and each column of a level may have.
+
+ghost use Rattle.std.specs.Prelude.{◌≡◌, ◌≤◌, ℕ, ◌<◌, ◌&&◌, ◌||◌, Bool, All, IfOk, true, length, nat_eq, Option, IfSome, [], ◌∷◌};
+ghost use Rattle.pz_sets.specs.Sets.{member};
+ghost use Rattle.pz_sets.specs.declared.set.TheConstants.{CAPACITY};
+ghost use Rattle.pz_grid.specs.Grid.{IsLawful, cell_at};
+ghost use Rattle.pz_grid.specs.Presence.{is_in};
+ghost use Rattle.pz_grid.specs.Rewriting.{names, names_object};
+ghost use Rattle.pz_grid.specs.Marks.{in_row, in_column, is_marked, IsExact, IsMore};
+
+use crate::cell::Piece;
+use crate::rewriting::names;
+use crate::{BareLevel, Level};
+use pz_rules::pattern::{Item, Pattern};
+use pz_sets::set::NumberSet;
+use std::alloc::{AllocError, Global};
+
+impl Level {
+    /// The same level once more, each set exactly what stands in its line. Err: memory was refused.
+    pub fn copy(&self) -> Result<Level, AllocError>
+        ensures copied { IfOk result (λ level. level.grid ≡ self.now.grid) }
+        ensures lawful { IfOk result (λ level. IsLawful level.grid) }
+        ensures exact { IfOk result IsExact }
+    {
+        let bare = self.bare.copy()?;
+        let mut row_marks = self.row_marks.clone()?;
+        let mut column_marks = self.column_marks.clone()?;
+        mark_rows(&bare, &mut row_marks);
+        mark_columns(&bare, &mut column_marks);
+        let level_marks = all_of(&row_marks);
+        Ok(Level {
+            bare,
+            row_marks,
+            column_marks,
+            level_marks,
+        })
+    }
+
+    /// A level with its marks, each set exactly what stands in its line. Err: memory was refused.
+    pub(crate) fn marked(alloc: Global, bare: BareLevel) -> Result<Level, AllocError>
+        ensures grid { IfOk result (λ level. level.grid ≡ bare.grid) }
+        ensures lawful { IfOk result (λ level. IsLawful level.grid) }
+        ensures exact { IfOk result IsExact }
+    {
+        let mut row_marks = vec![in alloc; NumberSet::empty(); bare.height() as usize]?;
+        let mut column_marks = vec![in alloc; NumberSet::empty(); bare.width() as usize]?;
+        mark_rows(&bare, &mut row_marks);
+        mark_columns(&bare, &mut column_marks);
+        let level_marks = all_of(&row_marks);
+        Ok(Level {
+            bare,
+            row_marks,
+            column_marks,
+            level_marks,
+        })
+    }
+
+    /// Marks an object in the row and the column of a position.
+    pub(crate) fn mark(&mut self, x: u32, y: u32, object: usize)
+        requires x_in { x < self.old.grid.width }
+        requires y_in { y < self.old.grid.height }
+        requires low { object < CAPACITY }
+        ensures grid { self.new.grid ≡ self.old.grid }
+        ensures rows { IsMore self.old.row_marks self.new.row_marks y (nat_eq object) }
+        ensures columns { IsMore self.old.column_marks self.new.column_marks x (nat_eq object) }
+    {
+        self.row_marks[y as usize].insert(object);
+        self.column_marks[x as usize].insert(object);
+        self.level_marks.insert(object);
+    }
+
+    /// Marks an item's object, if the item names it.
+    fn mark_item(&mut self, x: u32, y: u32, item: Item)
+        requires x_in { x < self.old.grid.width }
+        requires y_in { y < self.old.grid.height }
+        requires low { item.object < CAPACITY }
+        ensures grid { self.new.grid ≡ self.old.grid }
+        ensures rows { IsMore self.old.row_marks self.new.row_marks y (λ object. names item.word && nat_eq item.object object) }
+        ensures columns { IsMore self.old.column_marks self.new.column_marks x (λ object. names item.word && nat_eq item.object object) }
+    {
+        if names(item.word) {
+            self.mark(x, y, item.object);
+        }
+    }
+
+    /// Marks each object that a right cell of a rule places in the row and the column of a position.
+    pub(crate) fn mark_placed(&mut self, x: u32, y: u32, right: &Pattern)
+        requires x_in { x < self.old.grid.width }
+        requires y_in { y < self.old.grid.height }
+        requires low { All (λ item. item.object < CAPACITY) right.now }
+        ensures grid { self.new.grid ≡ self.old.grid }
+        ensures rows { IsMore self.old.row_marks self.new.row_marks y (λ object. names_object object right.now) }
+        ensures columns { IsMore self.old.column_marks self.new.column_marks x (λ object. names_object object right.now) }
+    {
+        for item in right.items() {
+            self.mark_item(x, y, *item);
+        }
+    }
+}
+
+/// Gives each row the set of the objects that stand there.
+fn mark_rows(bare: &BareLevel, marks: &mut Vec<NumberSet>)
+    requires { length marks.old.items ≡ bare.now.grid.height }
+    ensures count { length marks.new.items ≡ length marks.old.items }
+    ensures exact { (line object : ℕ) → line < bare.now.grid.height → is_marked marks.new.items line object ≡ in_row bare.now.grid line object }
+{
+    for line in 0..bare.height() {
+        marks[line as usize] = row_set(bare, line);
+    }
+}
+
+/// Gives each column the set of the objects that stand there.
+fn mark_columns(bare: &BareLevel, marks: &mut Vec<NumberSet>)
+    requires { length marks.old.items ≡ bare.now.grid.width }
+    ensures count { length marks.new.items ≡ length marks.old.items }
+    ensures exact { (line object : ℕ) → line < bare.now.grid.width → is_marked marks.new.items line object ≡ in_column bare.now.grid line object }
+{
+    for line in 0..bare.width() {
+        marks[line as usize] = column_set(bare, line);
+    }
+}
+
+/// The objects that stand in a row.
+fn row_set(bare: &BareLevel, line: u32) -> NumberSet
+    requires { line < bare.now.grid.height }
+    ensures { (object : ℕ) → member result object ≡ in_row bare.now.grid line object }
+{
+    let mut set = NumberSet::empty();
+    for x in 0..bare.width() {
+        add_cell(bare, x, line, &mut set);
+    }
+    set
+}
+
+/// The objects that stand in a column.
+fn column_set(bare: &BareLevel, line: u32) -> NumberSet
+    requires { line < bare.now.grid.width }
+    ensures { (object : ℕ) → member result object ≡ in_column bare.now.grid line object }
+{
+    let mut set = NumberSet::empty();
+    for y in 0..bare.height() {
+        add_cell(bare, line, y, &mut set);
+    }
+    set
+}
+
+/// Adds the objects of a cell.
+fn add_cell(bare: &BareLevel, x: u32, y: u32, set: &mut NumberSet)
+    requires x_in { x < bare.now.grid.width }
+    requires y_in { y < bare.now.grid.height }
+    ensures { (object : ℕ) → member set.new object ≡ (is_in (cell_at bare.now.grid x y) object || member set.old object) }
+{
+    // (brings the proof the law of levels)
+    let _ = bare.width();
+    for layer in 0..bare.depth() {
+        add_piece(bare.place(x, y, layer), set);
+    }
+}
+
+/// Adds the object of a piece.
+fn add_piece(place: Option<Piece>, set: &mut NumberSet)
+    requires { IfSome place (λ piece. piece.object < CAPACITY) }
+    ensures { (object : ℕ) → member set.new object ≡ (is_in (place ∷ []) object || member set.old object) }
+{
+    match place {
+        None => {}
+        Some(piece) => set.insert(piece.object as usize),
+    }
+}
+
+/// The objects of some sets.
+fn all_of(marks: &[NumberSet]) -> NumberSet
+    ensures { (line object : ℕ) → line < length marks.now → is_marked marks.now line object ≡ true → member result object ≡ true }
+{
+    let mut set = NumberSet::empty();
+    for line in 0..marks.len() {
+        set = set.union(&marks[line]);
+    }
+    set
+}

@@ -1,0 +1,11 @@
+-- A set of numbers is words of 128 bits: the number n is in it if bit n % 128 of word n / 128 is set. A word that is missing has none.
+use Rattle.std.specs.Prelude.{ℕ, ◌/◌, ◌%◌, List, Bool, nat_eq, slice_index}
+use Rattle.std.specs.Int.{bit_at}
+
+-- a bit of a word is set
+abbrev pub in_word : ℕ → ℕ → Bool
+in_word word bit = nat_eq (bit_at word bit) 1
+
+-- a number is in a set
+abbrev pub member : List ℕ → ℕ → Bool
+member words number = in_word (slice_index words (number / 128)) (number % 128)

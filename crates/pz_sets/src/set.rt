@@ -1,0 +1,78 @@
+//! Sets of numbers.
+
+ghost use Rattle.std.specs.Prelude.{◌≡◌, ℕ, ◌<◌, false, ◌||◌, nat_eq};
+ghost use Rattle.pz_sets.specs.Sets.{member};
+
+use crate::word;
+use std::marker::Model;
+
+/// The numbers of a set are below this one.
+pub const CAPACITY: usize = 512;
+
+/// A set of numbers: four words of 128 bits, the least numbers first. Contracts see it as the list of these words, and read it by `member`
+/// alone.
+#[derive(Clone, Copy)]
+pub struct NumberSet {
+    words: [u128; 4],
+}
+
+impl Model for NumberSet {
+    ghost use Rattle.std.specs.Prelude.{List, ℕ};
+
+    ghost Value = { List ℕ };
+
+    ghost view = { λ s. s.words };
+
+    ghost inverse = { λ words. record { words = words } };
+}
+
+impl NumberSet {
+    /// No number at all.
+    pub fn empty() -> Self
+        ensures { (number : ℕ) → member result number ≡ false }
+    {
+        NumberSet { words: [0; 4] }
+    }
+
+    /// Whether a number that a set may have is in it.
+    fn has_bit(&self, number: usize) -> bool
+        requires { number < CAPACITY }
+        ensures { result ≡ member self.now number }
+    {
+        word::has(self.words[number / 128], number % 128)
+    }
+
+    /// Whether the number is in the set. From `CAPACITY` on no number is.
+    pub fn contains(&self, number: usize) -> bool
+        ensures { result ≡ member self.now number }
+    {
+        let _ = &self.words;
+        if number < CAPACITY {
+            self.has_bit(number)
+        } else {
+            false
+        }
+    }
+
+    /// Adds a number.
+    pub fn insert(&mut self, number: usize)
+        requires { number < CAPACITY }
+        ensures { (other : ℕ) → member self.new other ≡ (nat_eq other number || member self.old other) }
+    {
+        self.words[number / 128] = word::with(self.words[number / 128], number % 128);
+    }
+
+    /// The numbers of either set.
+    pub fn union(&self, added: &NumberSet) -> NumberSet
+        ensures { (number : ℕ) → member result number ≡ (member self.now number || member added.now number) }
+    {
+        NumberSet {
+            words: [
+                word::union(self.words[0], added.words[0]),
+                word::union(self.words[1], added.words[1]),
+                word::union(self.words[2], added.words[2]),
+                word::union(self.words[3], added.words[3]),
+            ],
+        }
+    }
+}

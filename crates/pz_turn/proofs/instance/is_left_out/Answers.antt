@@ -1,0 +1,18 @@
+use Rattle.std.proofs.Common.{arith, sym, ◌∙◌}
+use Rattle.pz_turn.proofs.Skipping.{none_first, none_after, none_more, applied_none, gapless}
+use Rattle.pz_turn.proofs.instance.is_left_out.Goals as goal
+
+pub returns-then-not-is_searched_for : goal.returns-then-not-is_searched_for
+returns-then-not-is_searched_for c _ =
+    let grid = c.args.level.now.grid in
+    let instance = c.args.instance.now in
+    let none = c.is_searched_for.ensures.none c.if-not-is_searched_for.true instance.scan in
+    applied_none instance grid (c.loop-row.invariant (none_more grid instance.scan c.items-row-items.result.now c.loop-row.row-index c.row-item.result (omega arith) (sym c.row-item.is) (none_first grid instance.scan c.row-item.result _ none)))
+
+pub loop-row-preserved : goal.loop-row-preserved
+loop-row-preserved c rest =
+    let grid = c.args.level.now.grid in
+    let scan = c.args.instance.now.scan in
+    let row = c.row-item.result in
+    let plain = gapless row c.gap_at.result c.gap_at.ensures (sym c.is_some.ensures ∙ c.if-is_some.false) in
+    c.loop-row.invariant (none_more grid scan c.items-row-items.result.now c.loop-row.row-index row (omega arith) (sym c.row-item.is) (none_after grid scan row _ c.width.ensures.lawful plain rest))
