@@ -3,10 +3,10 @@
 ghost use Rattle.std.specs.Prelude.{◌≡◌, IfOk};
 ghost use Rattle.pz_grid.specs.Grid.{IsOfGame};
 
+use pz_base::fault::SourceFault;
+use pz_game::game::Game;
 use pz_grid::Level;
-use pz_source::game::Game;
 use pz_source::reading::read_game;
-use pz_text::fault::SourceFault;
 use std::alloc::{AllocError, Global};
 use std::test::Fail;
 

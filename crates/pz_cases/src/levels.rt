@@ -4,9 +4,9 @@ ghost use Rattle.std.specs.Prelude.{◌≡◌, IfOk};
 ghost use Rattle.pz_grid.specs.Grid.{IsOfGame};
 
 use crate::game::{game_of, joined, loaded};
+use pz_game::direction::Dir;
+use pz_game::game::Game;
 use pz_grid::{Level, push_players, resolve};
-use pz_source::direction::Dir;
-use pz_source::game::Game;
 use std::alloc::Global;
 use std::test::Fail;
 

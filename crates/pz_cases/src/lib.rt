@@ -4,8 +4,18 @@
 #[cfg(test)]
 mod game;
 #[cfg(test)]
+mod lane;
+#[cfg(test)]
 mod levels;
 #[cfg(test)]
 mod marks;
 #[cfg(test)]
 mod reading;
+#[cfg(test)]
+mod replaying;
+#[cfg(test)]
+mod sessions;
+#[cfg(test)]
+mod work;
+#[cfg(test)]
+mod writing;

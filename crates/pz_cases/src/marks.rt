@@ -1,11 +1,11 @@
 //! The lines in which a row of a rule is searched for, and the start cells that are tested. No test owns a game or a level, and no function both.
 
 use crate::game::{game_of, joined, loaded};
+use pz_game::direction::Dir;
+use pz_game::game::Game;
+use pz_game::pattern::{Item, Pattern, Row, Word};
 use pz_grid::places::{admitted, places_counted};
 use pz_grid::{Level, push_players, resolve};
-use pz_rules::pattern::{Item, Pattern, Row, Word};
-use pz_source::direction::Dir;
-use pz_source::game::Game;
 use std::alloc::{AllocError, Global};
 use std::test::Fail;
 

@@ -1,9 +1,9 @@
 //! Sources, read or refused: a small game, and what becomes of it where lines are changed.
 
 use crate::game::{game_of, joined, read};
-use pz_names::denotation::Kind;
-use pz_source::game::Game;
-use pz_text::fault::{Code, SourceFault};
+use pz_base::fault::{Code, SourceFault};
+use pz_game::denotation::Kind;
+use pz_game::game::Game;
 use std::alloc::{AllocError, Global};
 use std::test::Fail;
 

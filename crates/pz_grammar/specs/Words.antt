@@ -2,8 +2,8 @@
 use Rattle.std.specs.Prelude.{ℕ, List, [], ◌∷◌, Option, Some, None, codes, if◌then◌else◌}
 use Rattle.std.specs.Str.{bytes_eq}
 use Rattle.std.specs.Option.{option_or, option_map, option_map_or}
-use Rattle.pz_text.specs.NameSet.{number_in}
-use Rattle.pz_source.specs.declared.direction.Dir.TheVariants as dir
+use Rattle.pz_base.specs.NameSet.{number_in}
+use Rattle.pz_game.specs.declared.direction.Dir.TheVariants as dir
 use Rattle.pz_grammar.specs.declared.token.Turn.TheVariants as turn
 use Rattle.pz_grammar.specs.declared.token.Class.TheVariants as class
 use Rattle.pz_grammar.specs.declared.token.Lead.{Lead}

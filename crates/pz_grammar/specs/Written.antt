@@ -4,7 +4,7 @@ use Rattle.std.specs.List.{flat_map, list_all}
 use Rattle.pz_grammar.specs.declared.token.Lead.{Lead}
 use Rattle.pz_grammar.specs.declared.token.Lead.TheVariants as lead
 use Rattle.pz_grammar.specs.declared.token.Class.TheVariants as class
-use Rattle.pz_source.specs.declared.direction.Dir.TheVariants as dir
+use Rattle.pz_game.specs.declared.direction.Dir.TheVariants as dir
 use Rattle.pz_grammar.specs.declared.token.Token.{Token}
 use Rattle.pz_grammar.specs.declared.token.Token.TheVariants as token
 use Rattle.pz_grammar.specs.declared.rule.Phrase.{Phrase}

@@ -7,8 +7,8 @@ ghost use Rattle.pz_grammar.specs.Written.{is_direction, is_prefix, IsWritten, I
 use crate::rows::read_rows;
 use crate::rule::Rule;
 use crate::token::{Class, Command, Lead, Token};
-use pz_source::direction::Dir;
-use pz_text::listed::Listed;
+use pz_base::listed::Listed;
+use pz_game::direction::Dir;
 use std::alloc::{AllocError, Global};
 
 fn is_direction(lead: Lead) -> bool

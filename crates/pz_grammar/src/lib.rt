@@ -2,7 +2,6 @@
 #![tactic(auto)]
 
 pub mod grammar;
-pub mod listing;
 pub mod loops;
 pub mod rows;
 pub mod rule;

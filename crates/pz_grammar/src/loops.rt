@@ -3,8 +3,8 @@
 ghost use Rattle.std.specs.Prelude.{◌≡◌};
 ghost use Rattle.pz_grammar.specs.Loop.{loop_word, next_loop};
 
-use pz_source::rules::RuleLine;
-use pz_text::name::Name;
+use pz_base::name::Name;
+use pz_game::rule_line::RuleLine;
 
 /// A word that begins or ends a loop of groups.
 #[derive(Clone, Copy, PartialEq, Eq, Debug)]

@@ -5,10 +5,10 @@ ghost use Rattle.pz_grammar.specs.Parsed.{inside, led, outside, with_phrase, wit
 ghost use Rattle.pz_grammar.specs.Written.{has_cells};
 ghost use Rattle.pz_grammar.specs.Steps.{before, row_before, rows_before, StepIs, StepFits, after_open};
 
-use crate::listing::pushed;
 use crate::rule::{Cell, Phrase};
 use crate::token::{Lead, Token};
-use pz_text::listed::Listed;
+use pz_base::listed::Listed;
+use pz_base::listing::pushed;
 use std::alloc::{AllocError, Global};
 
 /// The cells of a row that are ended, and the one that isn't.

@@ -1,7 +1,7 @@
 //! A rule as it is written.
 
 use crate::token::{Command, Lead, Token};
-use pz_text::listed::Listed;
+use pz_base::listed::Listed;
 
 /// A name, by its number, with the word before it; None as a name: nothing has that name.
 #[derive(Clone, Copy, PartialEq, Eq, Debug)]

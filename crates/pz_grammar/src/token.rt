@@ -1,6 +1,6 @@
 //! The words of a rule line.
 
-use pz_source::direction::Dir;
+use pz_game::direction::Dir;
 
 /// A direction that turns with the rule: as if the rule looked to the right, up, down, back and ahead.
 #[derive(Clone, Copy, PartialEq, Eq, Debug)]

@@ -5,9 +5,9 @@ ghost use Rattle.std.specs.Str.{bytes_eq};
 ghost use Rattle.pz_grammar.specs.Words.{lead_of, command_of_word, mark_of, rule_word, token_of, tokens_from, tokens_of};
 
 use crate::token::{Class, Command, Lead, Token, Turn};
-use pz_source::direction::Dir;
-use pz_source::game::Game;
-use pz_text::name::Name;
+use pz_base::name::Name;
+use pz_game::direction::Dir;
+use pz_game::game::Game;
 use std::alloc::{AllocError, Global};
 
 #[tactic(auto, unfolding(crate::specs::Words::lead_of))]

@@ -1,9 +1,9 @@
 -- How many places a row can have: without a gap no more than the level has cells, which is within the limit of a search.
 use Rattle.std.proofs.Common.{◌≡◌, ℕ, zero, suc, ◌+◌, ◌*◌, ◌≤◌, List, [], ◌∷◌, filter, Bool, true, false, None, Ok, length, cond, arith, ap, refl, mul-le-mul_right}
 use Rattle.std.proofs.lemmas.List.{length-append}
-use Rattle.pz_source.specs.declared.direction.Dir.{Dir}
-use Rattle.pz_source.specs.declared.direction.Dir.TheVariants.{Up, Down, Left, Right, Action}
-use Rattle.pz_rules.specs.Pattern.{RuleRow}
+use Rattle.pz_game.specs.declared.direction.Dir.{Dir}
+use Rattle.pz_game.specs.declared.direction.Dir.TheVariants.{Up, Down, Left, Right, Action}
+use Rattle.pz_game.specs.Pattern.{RuleRow}
 use Rattle.pz_grid.specs.Grid.{Grid, IsLawful}
 use Rattle.pz_grid.specs.Places.{row_holds, gap_count, line_length, line_count, places, searched}
 use Rattle.pz_grid.proofs.GatherLemmas.{gather, gather_more}

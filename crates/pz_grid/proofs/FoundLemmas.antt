@@ -5,8 +5,8 @@ use Rattle.std.specs.Prelude.{Result, Ok, Err, nat_lt, if◌then◌else◌}
 use Rattle.std.proofs.lemmas.Bool.{ltb-true, ltb-false, false_from_ne_true, true_from_ne_false}
 use Rattle.std.proofs.lemmas.List.{length-append, append_assoc}
 use Rattle.std.proofs.lemmas.List.Elements.{filter-append}
-use Rattle.pz_source.specs.declared.direction.Dir.{Dir}
-use Rattle.pz_rules.specs.Pattern.{RuleRow}
+use Rattle.pz_game.specs.declared.direction.Dir.{Dir}
+use Rattle.pz_game.specs.Pattern.{RuleRow}
 use Rattle.pz_grid.specs.declared.places.GridFault.{GridFault}
 use Rattle.pz_grid.specs.declared.places.GridFault.TheVariants.{Memory, MatchLimit}
 use Rattle.pz_grid.specs.declared.places.Place.{Place}

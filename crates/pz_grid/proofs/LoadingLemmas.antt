@@ -7,12 +7,13 @@ use Rattle.std.proofs.lemmas.List.{length-map, length-replicate, get_or-map, get
 use Rattle.std.proofs.lemmas.List.Elements.{All-get_or, All-from_get_or}
 use Rattle.std.specs.Option.{option_map_or}
 use Rattle.std.proofs.lemmas.Option.{slice_get_cases}
-use Rattle.pz_names.specs.declared.denotation.Denotation.{Denotation}
-use Rattle.pz_source.specs.declared.level.LevelEntry.TheVariants.{Message}
-use Rattle.pz_source.specs.Level.{is_playable}
-use Rattle.pz_source.specs.Drawing.{Drawing, IsDrawing}
-use Rattle.pz_source.specs.Game.{GameView, IsGame, glyph_objects}
-use Rattle.pz_names.specs.Denotation.{IsDenoted}
+use Rattle.pz_game.specs.declared.denotation.Denotation.{Denotation}
+use Rattle.pz_game.specs.declared.level.LevelEntry.TheVariants.{Message}
+use Rattle.pz_game.specs.Level.{is_playable}
+use Rattle.pz_game.specs.Drawing.{Drawing, IsDrawing}
+use Rattle.pz_game.specs.Game.{IsGame, glyph_objects}
+use Rattle.pz_game.specs.declared.game.GameParts.{GameParts}
+use Rattle.pz_game.specs.Denotation.{IsDenoted}
 use Rattle.pz_grid.specs.declared.cell.Piece.{Piece}
 use Rattle.pz_grid.specs.Cell.{IsCell, IsOnLayer, still_piece, empty_cell}
 use Rattle.pz_grid.specs.Grid.{Grid, IsLawful}
@@ -59,7 +60,7 @@ is_cell-fold depth layers (object ∷ objects) cell named h =
     is_cell-fold depth layers objects (with_object layers cell object) (λ k d q. named (suc k) d (omega arith)) (is_cell-set depth layers cell (get_or layers object 0) (Some (still_piece object)) h (named 0 object (omega arith), refl))
 
 -- the objects that a glyph draws are objects of the game
-glyph-named : (game : GameView) (number : ℕ) → IsGame game → number < length game.values → All (λ object. object < length game.layers) (glyph_objects game number)
+glyph-named : (game : GameParts) (number : ℕ) → IsGame game → number < length game.values → All (λ object. object < length game.layers) (glyph_objects game number)
 glyph-named game number h within =
     elim (slice_get_cases game.values number).1 [
       | inl found ↦ (let denoted : IsDenoted (length game.objects) found.0 = subst (IsDenoted (length game.objects)) found.3 (All-get_or (IsDenoted (length game.objects)) game.values number found.0 found.1 h.members) in
@@ -67,7 +68,7 @@ glyph-named game number h within =
       | inr past ↦ absurd (omega (arith, past.0))
     ]
 
-pub lawful-drawn : (game : GameView) (drawing : Drawing) → IsGame game → IsDrawing drawing → All (λ number. number < length game.values) drawing.cells → IsLawful (drawn game drawing)
+pub lawful-drawn : (game : GameParts) (drawing : Drawing) → IsGame game → IsDrawing drawing → All (λ number. number < length game.values) drawing.cells → IsLawful (drawn game drawing)
 lawful-drawn game drawing h d numbers = record {
   covers = length-map drawing.cells (glyph_cell game) ∙ d.covers;
   size = d.size;
@@ -89,7 +90,7 @@ lawful-filled layer piece grid on h =
     lawful-map grid (filled_cell layer piece) (λ cell k. is_cell-set grid.depth grid.layers cell layer (Some (unwrap_or (get_or cell layer None) piece)) k (filled_on_layer grid.layers layer piece (get_or cell layer None) on (k.on_layers layer))) h
 
 -- an entry that is played is one of the game
-pub playable_within : (game : GameView) (index : ℕ) → is_playable (entry_at game index) ≡ true → index < length game.levels
+pub playable_within : (game : GameParts) (index : ℕ) → is_playable (entry_at game index) ≡ true → index < length game.levels
 playable_within game index playable = elim (cases_lt index (length game.levels)) [
   | inl within ↦ within
   | inr past ↦ absurd (let e : false ≡ true = ap is_playable (sym (get_or_past game.levels index Message past)) ∙ playable in cc)

@@ -8,10 +8,10 @@ use Rattle.std.proofs.lemmas.List.Elements.{All-filter, All-contains, All-contai
 use Rattle.std.proofs.lemmas.List.FromFn.{length-enumerate_from}
 use Rattle.std.proofs.lemmas.List.{get_or_default}
 use Rattle.std.proofs.lemmas.List.Sums.{AllPass-from_list_all}
-use Rattle.pz_source.specs.declared.direction.Dir.{Dir}
-use Rattle.pz_source.specs.declared.direction.Dir.TheVariants.{Up, Down, Left, Right, Action}
-use Rattle.pz_rules.specs.declared.pattern.Item.{Item}
-use Rattle.pz_rules.specs.Pattern.{RuleRow, IsRow}
+use Rattle.pz_game.specs.declared.direction.Dir.{Dir}
+use Rattle.pz_game.specs.declared.direction.Dir.TheVariants.{Up, Down, Left, Right, Action}
+use Rattle.pz_game.specs.declared.pattern.Item.{Item}
+use Rattle.pz_game.specs.Pattern.{RuleRow, IsRow}
 use Rattle.pz_grid.specs.declared.places.Place.{Place}
 use Rattle.pz_grid.specs.Grid.{Grid}
 use Rattle.pz_grid.specs.Places.{on_map, along, distance, holds_at, cell_holds, row_holds, line_count, line_length, place_in, gap_count, pairs_at, pairs_in, pairs, places, still_holds}

@@ -1,13 +1,14 @@
 -- Worked cases.
 use Rattle.std.proofs.Common.{◌≡◌, ℕ, List, [], ◌∷◌, Option, Some, None, true, false, refl}
 use Rattle.std.specs.Prelude.{codes}
-use Rattle.pz_names.specs.declared.denotation.Denotation.{Denotation}
-use Rattle.pz_names.specs.declared.denotation.Kind.TheVariants.{Object}
-use Rattle.pz_source.specs.declared.direction.Dir.{Dir}
-use Rattle.pz_source.specs.declared.direction.Dir.TheVariants.{Up, Left, Right, Action}
-use Rattle.pz_source.specs.declared.level.LevelEntry.TheVariants.{Message, Level}
-use Rattle.pz_source.specs.Game.{GameView, players_of}
-use Rattle.pz_source.specs.Drawing.{Drawing}
+use Rattle.pz_game.specs.declared.denotation.Denotation.{Denotation}
+use Rattle.pz_game.specs.declared.denotation.Kind.TheVariants.{Object}
+use Rattle.pz_game.specs.declared.direction.Dir.{Dir}
+use Rattle.pz_game.specs.declared.direction.Dir.TheVariants.{Up, Left, Right, Action}
+use Rattle.pz_game.specs.declared.level.LevelEntry.TheVariants.{Message, Level}
+use Rattle.pz_game.specs.Game.{players_of}
+use Rattle.pz_game.specs.declared.game.GameParts.{GameParts}
+use Rattle.pz_game.specs.Drawing.{Drawing}
 use Rattle.pz_grid.specs.declared.cell.Piece.{Piece}
 use Rattle.pz_grid.specs.Grid.{Grid}
 use Rattle.pz_grid.specs.Standing.{stands, heading_at}
@@ -76,7 +77,7 @@ named number members = record { kind = Object; members = members; number = numbe
 
 -- a game of these objects, of whose background two are members, with the glyphs "." for the first background, "," for the other, "p"
 -- for the player, "@" for the player with the other background, and "x" for a crate and then a wall
-abbrev game : Drawing → GameView
+abbrev game : Drawing → GameParts
 game drawing = record {
   objects = codes "ground" ∷ codes "grass" ∷ codes "player" ∷ codes "wall" ∷ codes "crate" ∷ codes "spike" ∷ [];
   names = codes "background" ∷ codes "player" ∷ codes "." ∷ codes "," ∷ codes "p" ∷ codes "@" ∷ codes "x" ∷ [];

@@ -3,10 +3,10 @@ use Rattle.std.proofs.Common.{◌≡◌, ℕ, List, [], ◌∷◌, Option, Some,
 use Rattle.std.specs.Prelude.{nat_eq, IsTrue, ◌↔◌}
 use Rattle.pz_grid.specs.Grid.{Grid}
 use Rattle.std.proofs.lemmas.Bool.{and_parts, and_from, eqb-true, eq-eqb}
-use Rattle.pz_source.specs.declared.direction.Dir.{Dir}
-use Rattle.pz_source.specs.declared.direction.Dir.TheVariants.{Up, Down, Left, Right, Action}
+use Rattle.pz_game.specs.declared.direction.Dir.{Dir}
+use Rattle.pz_game.specs.declared.direction.Dir.TheVariants.{Up, Down, Left, Right, Action}
 use Rattle.pz_grid.specs.declared.cell.Piece.{Piece}
-use Rattle.pz_source.specs.Direction.{same_dir}
+use Rattle.pz_game.specs.Direction.{same_dir}
 use Rattle.pz_grid.specs.Sameness.{same_heading, same_place, same_cell, same_cells, same_layers, same_size, same_grid}
 
 same_dir_is : (a b : Dir) → same_dir a b ≡ true → a ≡ b

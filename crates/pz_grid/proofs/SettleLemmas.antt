@@ -6,7 +6,7 @@ use Rattle.std.proofs.lemmas.Bool.{cases_lt}
 use Rattle.std.proofs.lemmas.List.{get_or_past, set_past}
 use Rattle.std.proofs.lemmas.List.Sums.{sum_by-cons, sum_by-set}
 use Rattle.pz_grid.specs.declared.cell.Piece.{Piece}
-use Rattle.pz_source.specs.declared.direction.Dir.{Dir}
+use Rattle.pz_game.specs.declared.direction.Dir.{Dir}
 use Rattle.pz_grid.specs.Grid.{Grid, cell_at, place_at, with_place}
 use Rattle.pz_grid.specs.Movement.{Pass, Spot, in_pass, move_at, move_place, moved_to, heading_goal, heads, heading_count, moving, pass_of, settle, resolved, spots}
 use Rattle.pz_grid.specs.Cell.{still_place}

@@ -6,12 +6,12 @@ use Rattle.std.proofs.lemmas.Bool.{and_parts, ltb-true, eqb-true}
 use Rattle.std.proofs.lemmas.List.Sums.{count_by-le-length, sum_by-append}
 use Rattle.std.proofs.lemmas.List.FromFn.{length-range_with_len}
 use Rattle.pz_sets.specs.Sets.{member}
-use Rattle.pz_source.specs.declared.direction.Dir.{Dir}
-use Rattle.pz_source.specs.declared.direction.Dir.TheVariants.{Up, Down, Left, Right, Action}
-use Rattle.pz_rules.specs.declared.pattern.Word.{Word}
-use Rattle.pz_rules.specs.declared.pattern.Word.TheVariants.{Present, Still, Toward, Absent}
-use Rattle.pz_rules.specs.declared.pattern.Item.{Item}
-use Rattle.pz_rules.specs.Pattern.{RuleRow}
+use Rattle.pz_game.specs.declared.direction.Dir.{Dir}
+use Rattle.pz_game.specs.declared.direction.Dir.TheVariants.{Up, Down, Left, Right, Action}
+use Rattle.pz_game.specs.declared.pattern.Word.{Word}
+use Rattle.pz_game.specs.declared.pattern.Word.TheVariants.{Present, Still, Toward, Absent}
+use Rattle.pz_game.specs.declared.pattern.Item.{Item}
+use Rattle.pz_game.specs.Pattern.{RuleRow}
 use Rattle.pz_grid.specs.declared.cell.Piece.{Piece}
 use Rattle.pz_grid.specs.declared.places.Place.{Place}
 use Rattle.pz_grid.specs.Standing.{standing}

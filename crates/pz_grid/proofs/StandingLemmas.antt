@@ -4,7 +4,7 @@ use Rattle.std.specs.Prelude.{IfSome}
 use Rattle.std.proofs.lemmas.List.{ext_get_or}
 use Rattle.std.proofs.lemmas.Bool.{cases_eq}
 use Rattle.pz_grid.specs.declared.cell.Piece.{Piece}
-use Rattle.pz_source.specs.declared.direction.Dir.{Dir}
+use Rattle.pz_game.specs.declared.direction.Dir.{Dir}
 use Rattle.pz_grid.specs.Standing.{standing}
 use Rattle.pz_grid.proofs.CellLemmas.{OnItsLayer, standing_on_layer, standing_off_layer}
 

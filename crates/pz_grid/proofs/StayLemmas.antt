@@ -4,7 +4,7 @@ use Rattle.std.specs.Prelude.{fold}
 use Rattle.std.proofs.lemmas.Bool.{cases_lt, cases_eq}
 use Rattle.std.proofs.lemmas.List.{get_or-set_same, get_or-set_other, set_past}
 use Rattle.pz_grid.specs.declared.cell.Piece.{Piece}
-use Rattle.pz_source.specs.declared.direction.Dir.{Dir}
+use Rattle.pz_game.specs.declared.direction.Dir.{Dir}
 use Rattle.pz_grid.specs.Cell.{still_piece}
 use Rattle.pz_grid.specs.Grid.{Grid, place_at}
 use Rattle.pz_grid.specs.Staying.{IsStill, KeepsStill}

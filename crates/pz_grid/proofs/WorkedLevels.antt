@@ -1,19 +1,19 @@
 -- Worked cases of levels: loading, the player's input, movement, what holds in a cell, rewriting, and sameness.
 use Rattle.std.proofs.Common.{◌≡◌, ℕ, List, [], ◌∷◌, length, Option, Some, None, Bool, true, false, get_or, refl}
 use Rattle.std.specs.Prelude.{codes, map}
-use Rattle.pz_names.specs.declared.denotation.Denotation.{Denotation}
-use Rattle.pz_names.specs.declared.denotation.Kind.{Kind}
-use Rattle.pz_names.specs.declared.denotation.Kind.TheVariants.{Object, Property, Aggregate}
-use Rattle.pz_source.specs.declared.direction.Dir.{Dir}
-use Rattle.pz_source.specs.declared.direction.Dir.TheVariants.{Up, Down, Left, Right, Action}
-use Rattle.pz_source.specs.Drawing.{Drawing}
-use Rattle.pz_source.specs.Game.{GameView}
-use Rattle.pz_rules.specs.declared.pattern.Item.{Item}
-use Rattle.pz_rules.specs.declared.pattern.Word.{Word}
-use Rattle.pz_rules.specs.declared.pattern.Word.TheVariants.{Present, Still, Toward, Absent}
-use Rattle.pz_plan.specs.declared.commands.Commands.{Commands}
-use Rattle.pz_rules.specs.declared.instance.Instance.{Instance}
-use Rattle.pz_rules.specs.Pattern.{RuleRow}
+use Rattle.pz_game.specs.declared.denotation.Denotation.{Denotation}
+use Rattle.pz_game.specs.declared.denotation.Kind.{Kind}
+use Rattle.pz_game.specs.declared.denotation.Kind.TheVariants.{Object, Property, Aggregate}
+use Rattle.pz_game.specs.declared.direction.Dir.{Dir}
+use Rattle.pz_game.specs.declared.direction.Dir.TheVariants.{Up, Down, Left, Right, Action}
+use Rattle.pz_game.specs.Drawing.{Drawing}
+use Rattle.pz_game.specs.declared.game.GameParts.{GameParts}
+use Rattle.pz_game.specs.declared.pattern.Item.{Item}
+use Rattle.pz_game.specs.declared.pattern.Word.{Word}
+use Rattle.pz_game.specs.declared.pattern.Word.TheVariants.{Present, Still, Toward, Absent}
+use Rattle.pz_game.specs.declared.commands.Commands.{Commands}
+use Rattle.pz_game.specs.declared.instance.Instance.{Instance}
+use Rattle.pz_game.specs.Pattern.{RuleRow}
 use Rattle.pz_grid.specs.declared.cell.Piece.{Piece}
 use Rattle.pz_grid.specs.declared.places.Place.{Place}
 use Rattle.pz_grid.specs.Grid.{Grid}
@@ -69,7 +69,7 @@ abbrev denotes : Kind → List ℕ → ℕ → Denotation
 denotes kind members number = record { kind = kind; members = members; number = number }
 
 -- `background` is sand or grass; @ is a crate and a mark, & the player and a crate
-abbrev game : GameView
+abbrev game : GameParts
 game = record {
   objects = codes "grass" ∷ codes "sand" ∷ codes "player" ∷ codes "crate" ∷ codes "wall" ∷ codes "mark" ∷ [];
   names = codes "grass" ∷ codes "sand" ∷ codes "player" ∷ codes "crate" ∷ codes "wall" ∷ codes "mark"

@@ -1,9 +1,9 @@
 -- Worked cases of marks and of the lines that are searched, on the level p#.# with its marks: object 0 is the background, 2 the player, 3 a
 -- wall, 4 a crate, 6 a mark.
 use Rattle.std.proofs.Common.{◌≡◌, [], ◌∷◌, Some, true, false, refl}
-use Rattle.pz_source.specs.declared.direction.Dir.TheVariants.{Up, Down, Right}
-use Rattle.pz_rules.specs.declared.pattern.Word.TheVariants.{Present, Absent}
-use Rattle.pz_rules.specs.Pattern.{RuleRow}
+use Rattle.pz_game.specs.declared.direction.Dir.TheVariants.{Up, Down, Right}
+use Rattle.pz_game.specs.declared.pattern.Word.TheVariants.{Present, Absent}
+use Rattle.pz_game.specs.Pattern.{RuleRow}
 use Rattle.pz_grid.specs.Grid.{LevelState}
 use Rattle.pz_grid.specs.Places.{places}
 use Rattle.pz_grid.specs.Marks.{in_row, in_column}

@@ -1,9 +1,8 @@
 -- A level: a grid of cells over a game's collision layers.
 use Rattle.std.specs.Prelude.{◌≡◌, ℕ, ◌+◌, ◌*◌, ◌<◌, ◌≤◌, List, [], Option, None, length, slice_index_or, slice_set, All}
-use Rattle.pz_names.specs.declared.objects.TheConstants.{MAX_OBJECTS}
-use Rattle.pz_source.specs.declared.layers.TheConstants.{MAX_LAYERS}
-use Rattle.pz_source.specs.Game.{GameView}
-use Rattle.pz_source.specs.Size.{IsSize}
+use Rattle.pz_game.specs.declared.limits.TheConstants.{MAX_OBJECTS, MAX_LAYERS}
+use Rattle.pz_game.specs.declared.game.GameParts.{GameParts}
+use Rattle.pz_game.specs.Size.{IsSize}
 use Rattle.pz_grid.specs.declared.cell.Piece.{Piece}
 use Rattle.pz_grid.specs.Cell.{IsCell}
 
@@ -57,6 +56,6 @@ pub record SameSize (old new : Grid) : Type 0 where
   pub layers : new.layers ≡ old.layers
 
 -- a level of the game's objects and layers
-pub record IsOfGame (game : GameView) (grid : Grid) : Type 0 where
+pub record IsOfGame (game : GameParts) (grid : Grid) : Type 0 where
   pub layers : grid.layers ≡ game.layers
   pub depth : grid.depth ≡ game.depth

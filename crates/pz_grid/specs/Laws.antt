@@ -1,6 +1,6 @@
 -- Laws of levels and their movement.
 use Rattle.std.specs.Prelude.{◌≡◌, ℕ, ◌<◌, List, true, false, Option, IsTrue, ◌↔◌}
-use Rattle.pz_source.specs.declared.direction.Dir.{Dir}
+use Rattle.pz_game.specs.declared.direction.Dir.{Dir}
 use Rattle.pz_grid.specs.declared.cell.Piece.{Piece}
 use Rattle.pz_grid.specs.Cell.{IsCell}
 use Rattle.pz_grid.specs.Grid.{Grid, IsLawful}

@@ -3,10 +3,11 @@
 -- to right, each from the top; if no cell has, the first object of the background.
 use Rattle.std.specs.Prelude.{ℕ, List, [], ◌∷◌, map, fold, Option, Some, None, unwrap_or, slice_index, slice_index_or, slice_set}
 use Rattle.std.specs.List.{range_with_len}
-use Rattle.pz_source.specs.Game.{GameView, glyph_objects, background_of}
-use Rattle.pz_source.specs.Drawing.{Drawing}
-use Rattle.pz_source.specs.declared.level.LevelEntry.{LevelEntry}
-use Rattle.pz_source.specs.declared.level.LevelEntry.TheVariants.{Message, Level}
+use Rattle.pz_game.specs.Game.{glyph_objects, background_of}
+use Rattle.pz_game.specs.declared.game.GameParts.{GameParts}
+use Rattle.pz_game.specs.Drawing.{Drawing}
+use Rattle.pz_game.specs.declared.level.LevelEntry.{LevelEntry}
+use Rattle.pz_game.specs.declared.level.LevelEntry.TheVariants.{Message, Level}
 use Rattle.pz_grid.specs.declared.cell.Piece.{Piece}
 use Rattle.pz_grid.specs.Cell.{still_piece, empty_cell}
 use Rattle.pz_grid.specs.Grid.{Grid, place_at}
@@ -16,11 +17,11 @@ abbrev pub with_object : List ℕ → List (Option Piece) → ℕ → List (Opti
 with_object layers cell object = slice_set cell (slice_index layers object) (Some (still_piece object))
 
 -- a cell with the objects of the glyph of a number, put one after another
-abbrev pub glyph_cell : GameView → ℕ → List (Option Piece)
+abbrev pub glyph_cell : GameParts → ℕ → List (Option Piece)
 glyph_cell game number = fold (with_object game.layers) (empty_cell game.depth) (glyph_objects game number)
 
 -- the level as it is drawn, before the background is laid
-abbrev pub drawn : GameView → Drawing → Grid
+abbrev pub drawn : GameParts → Drawing → Grid
 drawn game drawing = record {
   width = drawing.width;
   height = drawing.height;
@@ -59,12 +60,12 @@ drawing_of Message = record { width = 0; height = 0; cells = [] }
 drawing_of (Level drawing) = drawing
 
 -- the entry of LEVELS of a number
-abbrev pub entry_at : GameView → ℕ → LevelEntry
+abbrev pub entry_at : GameParts → ℕ → LevelEntry
 entry_at game index = slice_index_or game.levels index Message
 
-abbrev pub loaded_from : GameView → Drawing → Grid
+abbrev pub loaded_from : GameParts → Drawing → Grid
 loaded_from game drawing = with_background (slice_index game.layers (background_of game)) (background_of game) (drawn game drawing)
 
 -- the level of the entry of a number
-abbrev pub loaded : GameView → ℕ → Grid
+abbrev pub loaded : GameParts → ℕ → Grid
 loaded game index = loaded_from game (drawing_of (entry_at game index))

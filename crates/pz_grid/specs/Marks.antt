@@ -2,7 +2,7 @@
 use Rattle.std.specs.Prelude.{◌≡◌, ℕ, ◌<◌, List, [], Bool, true, ◌&&◌, ◌||◌, ◌⊎◌, nat_eq, length, slice_index_or}
 use Rattle.std.specs.List.{list_any, range_with_len}
 use Rattle.pz_sets.specs.Sets.{member}
-use Rattle.pz_rules.specs.Pattern.{RuleRow}
+use Rattle.pz_game.specs.Pattern.{RuleRow}
 use Rattle.pz_grid.specs.Grid.{Grid, LevelState, cell_at}
 use Rattle.pz_grid.specs.Presence.{is_in}
 use Rattle.pz_grid.specs.Rewriting.{names_object}

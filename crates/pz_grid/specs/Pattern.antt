@@ -2,13 +2,13 @@
 -- where it is and heads nowhere; a direction where it is and heads there. A cell of a rule holds where all its items hold.
 use Rattle.std.specs.Prelude.{List, Bool, true, false, Option, Some, None}
 use Rattle.std.specs.List.{list_all}
-use Rattle.pz_source.specs.declared.direction.Dir.{Dir}
-use Rattle.pz_rules.specs.declared.pattern.Item.{Item}
-use Rattle.pz_rules.specs.declared.pattern.Word.{Word}
-use Rattle.pz_rules.specs.declared.pattern.Word.TheVariants.{Present, Still, Toward, Absent}
+use Rattle.pz_game.specs.declared.direction.Dir.{Dir}
+use Rattle.pz_game.specs.declared.pattern.Item.{Item}
+use Rattle.pz_game.specs.declared.pattern.Word.{Word}
+use Rattle.pz_game.specs.declared.pattern.Word.TheVariants.{Present, Still, Toward, Absent}
 use Rattle.pz_grid.specs.declared.cell.Piece.{Piece}
 use Rattle.pz_grid.specs.Standing.{standing}
-use Rattle.pz_source.specs.Direction.{same_dir}
+use Rattle.pz_game.specs.Direction.{same_dir}
 
 -- what a word asks of its object
 abbrev pub word_holds : Word → Option (Option Dir) → Bool

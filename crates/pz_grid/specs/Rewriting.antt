@@ -4,12 +4,12 @@
 -- removed; what stays heads where it did.
 use Rattle.std.specs.Prelude.{ℕ, ◌+◌, ◌*◌, List, map, fold, find, Bool, true, false, not, ◌&&◌, ◌||◌, Option, Some, None, nat_eq, if◌then◌else◌, length, slice_index_or, slice_set}
 use Rattle.std.specs.List.{list_any, enumerate_from, range_with_len, zip}
-use Rattle.pz_source.specs.declared.direction.Dir.{Dir}
-use Rattle.pz_rules.specs.declared.instance.Instance.{Instance}
-use Rattle.pz_rules.specs.declared.pattern.Item.{Item}
-use Rattle.pz_rules.specs.declared.pattern.Word.{Word}
-use Rattle.pz_rules.specs.declared.pattern.Word.TheVariants.{Still, Toward, Absent}
-use Rattle.pz_rules.specs.Pattern.{RuleRow}
+use Rattle.pz_game.specs.declared.direction.Dir.{Dir}
+use Rattle.pz_game.specs.declared.instance.Instance.{Instance}
+use Rattle.pz_game.specs.declared.pattern.Item.{Item}
+use Rattle.pz_game.specs.declared.pattern.Word.{Word}
+use Rattle.pz_game.specs.declared.pattern.Word.TheVariants.{Still, Toward, Absent}
+use Rattle.pz_game.specs.Pattern.{RuleRow}
 use Rattle.pz_grid.specs.declared.cell.Piece.{Piece}
 use Rattle.pz_grid.specs.declared.places.Place.{Place}
 use Rattle.pz_grid.specs.Grid.{Grid, cell_at}

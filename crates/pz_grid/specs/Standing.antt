@@ -1,6 +1,6 @@
 -- Which objects stand in a cell, and where they head.
 use Rattle.std.specs.Prelude.{ℕ, List, [], ◌∷◌, Option, Some, None, Bool, nat_eq, nat_lt, ◌&&◌, if◌then◌else◌, is_some, unwrap_or}
-use Rattle.pz_source.specs.declared.direction.Dir.{Dir}
+use Rattle.pz_game.specs.declared.direction.Dir.{Dir}
 use Rattle.pz_grid.specs.declared.cell.Piece.{Piece}
 use Rattle.pz_grid.specs.Grid.{Grid, cell_at}
 

@@ -4,13 +4,13 @@ ghost use Rattle.std.specs.Prelude.{◌≡◌, ◌<◌, false, []};
 ghost use Rattle.std.specs.List.{list_all};
 ghost use Rattle.pz_grid.specs.Admitted.{marks_of, marks_item, marks_cell, admits, admits_line, searches_level, searches_line};
 ghost use Rattle.pz_grid.specs.Places.{line_count, places};
-ghost use Rattle.pz_source.specs.declared.direction.Dir.{Dir};
+ghost use Rattle.pz_game.specs.declared.direction.Dir.{Dir};
 
 use crate::Level;
 use crate::rewriting::names;
-use pz_rules::pattern::{Item, Pattern, Row};
+use pz_game::direction::Dir;
+use pz_game::pattern::{Item, Pattern, Row};
 use pz_sets::set::NumberSet;
-use pz_source::direction::Dir;
 
 /// Whether a set has an item's object, if the item names it as present.
 fn marks_item(marks: &NumberSet, item: Item) -> bool

@@ -4,7 +4,7 @@ ghost use Rattle.std.specs.Prelude.{◌≡◌, ◌<◌, length, slice_index_or, 
 ghost use Rattle.pz_grid.specs.Cell.{IsCell, empty_cell, still_piece};
 ghost use Rattle.pz_grid.specs.Standing.{standing};
 
-use pz_source::direction::Dir;
+use pz_game::direction::Dir;
 use std::alloc::{AllocError, Global};
 use std::marker::Model;
 

@@ -6,8 +6,8 @@ ghost use Rattle.pz_grid.specs.Grid.{IsLawful};
 ghost use Rattle.pz_grid.specs.Marks.{IsMarked};
 ghost use Rattle.pz_grid.specs.Standing.{standing_at, stands, heading_at};
 
+use pz_game::direction::Dir;
 use pz_sets::set::NumberSet;
-use pz_source::direction::Dir;
 use std::alloc::{AllocError, Global};
 use std::marker::Model;
 

@@ -1,8 +1,8 @@
 //! Levels, loaded from their drawings.
 
 ghost use Rattle.std.specs.Prelude.{◌≡◌, ◌<◌, IfOk, All, length, map, fold, slice_index, true};
-ghost use Rattle.pz_source.specs.Level.{is_playable};
-ghost use Rattle.pz_source.specs.Game.{background_of};
+ghost use Rattle.pz_game.specs.Level.{is_playable};
+ghost use Rattle.pz_game.specs.Game.{background_of};
 ghost use Rattle.pz_grid.specs.Cell.{IsOnLayer};
 ghost use Rattle.pz_grid.specs.Grid.{IsLawful};
 ghost use Rattle.pz_grid.specs.Marks.{IsExact};
@@ -10,8 +10,8 @@ ghost use Rattle.pz_grid.specs.Loading.{with_object, glyph_cell, drawn, first_in
 
 use crate::cell::{Cell, Piece};
 use crate::{BareLevel, Level};
-use pz_source::game::Game;
-use pz_source::level::{DrawnLevel, LevelEntry};
+use pz_game::game::Game;
+use pz_game::level::{DrawnLevel, LevelEntry};
 use std::alloc::{AllocError, Global};
 
 impl Level {

@@ -11,7 +11,7 @@ ghost use Rattle.pz_grid.specs.Marks.{in_row, in_column, is_marked, IsExact, IsM
 use crate::cell::Piece;
 use crate::rewriting::names;
 use crate::{BareLevel, Level};
-use pz_rules::pattern::{Item, Pattern};
+use pz_game::pattern::{Item, Pattern};
 use pz_sets::set::NumberSet;
 use std::alloc::{AllocError, Global};
 

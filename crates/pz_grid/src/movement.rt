@@ -10,8 +10,8 @@ ghost use Rattle.pz_grid.specs.Movement.{neighbour, heading_goal, spot, in_pass,
 
 use crate::cell::{Cell, Piece};
 use crate::{BareLevel, Level};
-use pz_source::direction::Dir;
-use pz_source::game::Game;
+use pz_game::direction::Dir;
+use pz_game::game::Game;
 
 /// Moves every piece that heads somewhere as far as the passes of a step's movement take it, and stills all.
 pub fn resolve(game: &Game, level: &mut Level)

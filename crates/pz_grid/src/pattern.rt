@@ -5,7 +5,7 @@ ghost use Rattle.pz_grid.specs.Cell.{IsCell};
 ghost use Rattle.pz_grid.specs.Pattern.{item_holds, pattern_holds};
 
 use crate::cell::Cell;
-use pz_rules::pattern::{Item, Pattern, Word};
+use pz_game::pattern::{Item, Pattern, Word};
 
 fn item_holds(cell: &Cell, depth: usize, layers: &[usize], item: Item) -> bool
     requires layered { All (λ layer. layer < depth) layers.now }

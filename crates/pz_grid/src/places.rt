@@ -6,9 +6,9 @@ ghost use Rattle.pz_grid.specs.Places.{on_map, along, holds_at, position_of, dis
 
 use crate::pattern::pattern_holds;
 use crate::{BareLevel, Level};
-use pz_rules::instance::Instance;
-use pz_rules::pattern::{Pattern, Row};
-use pz_source::direction::Dir;
+use pz_game::direction::Dir;
+use pz_game::instance::Instance;
+use pz_game::pattern::{Pattern, Row};
 use std::alloc::Global;
 
 /// The greatest number of places that a search gives.

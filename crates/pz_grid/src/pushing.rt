@@ -1,15 +1,15 @@
 // The direction of an input, given to the player.
 
 ghost use Rattle.std.specs.Prelude.{◌≡◌, map};
-ghost use Rattle.pz_source.specs.Game.{players_of};
+ghost use Rattle.pz_game.specs.Game.{players_of};
 ghost use Rattle.pz_grid.specs.Grid.{IsLawful, IsOfGame, SameSize};
 ghost use Rattle.pz_grid.specs.Marks.{IsMarked};
 ghost use Rattle.pz_grid.specs.Pushing.{is_one_of, pushed_place, pushed};
 
 use crate::cell::{Cell, Piece};
 use crate::{BareLevel, Level};
-use pz_source::direction::Dir;
-use pz_source::game::Game;
+use pz_game::direction::Dir;
+use pz_game::game::Game;
 
 /// Lets each object of the level that is the player of its game head in a direction.
 pub fn push_players(game: &Game, level: &mut Level, dir: Dir)

@@ -1,9 +1,9 @@
 //! The rewriting of cells by the instances of rules.
 
 ghost use Rattle.std.specs.Prelude.{not, false, ◌≡◌, ◌<◌, ◌^◌, [], length, All, IfSome, slice_index_or, slice_set};
-ghost use Rattle.pz_source.specs.Game.{IsGame};
-ghost use Rattle.pz_rules.specs.Instance.{IsInstanceOf};
-ghost use Rattle.pz_rules.specs.Pattern.{AreOf, IsRowOf, AreRowsOf};
+ghost use Rattle.pz_game.specs.Game.{IsGame};
+ghost use Rattle.pz_game.specs.Instance.{IsInstanceOf};
+ghost use Rattle.pz_game.specs.Pattern.{AreOf, IsRowOf, AreRowsOf};
 ghost use Rattle.pz_grid.specs.Grid.{IsLawful, IsOfGame, SameSize};
 ghost use Rattle.pz_grid.specs.Marks.{IsMarked, IsMarkedAt, IsWidenedBy, row_places, places_object};
 ghost use Rattle.pz_grid.specs.Rewriting.{names, tells_movement, is_on, places_on, placed_on, tells_of, names_object, forbids_object, new_heading, kept, rewritten_place, rewritten_cell, with_rewritten, changes, in_rewrite, rewritten_at, rewritten_along, rewritten_row, rewritten};
@@ -12,10 +12,10 @@ ghost use Rattle.pz_grid.specs.Sameness.{same_place, same_cell};
 use crate::cell::{Cell, Piece};
 use crate::places::Place;
 use crate::{BareLevel, Level};
-use pz_rules::instance::Instance;
-use pz_rules::pattern::{Item, Pattern, Row, Word};
-use pz_source::direction::Dir;
-use pz_source::game::Game;
+use pz_game::direction::Dir;
+use pz_game::game::Game;
+use pz_game::instance::Instance;
+use pz_game::pattern::{Item, Pattern, Row, Word};
 
 /// Whether an item under this word names its object as present.
 pub(crate) fn names(word: Word) -> bool

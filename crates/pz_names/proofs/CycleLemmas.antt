@@ -9,11 +9,11 @@ use Rattle.std.specs.List.{list_any, IsDistinct, AllByRecursion}
 use Rattle.pz_names.specs.Cycles.{reaches, is_on_cycle, IsChain}
 use Rattle.pz_names.specs.Denotation.{value_at, denotation_of, gathered, with_mentions}
 use Rattle.pz_names.specs.Meaning.{parts_of, parts_at}
-use Rattle.pz_names.specs.declared.denotation.Kind.{Kind}
-use Rattle.pz_names.specs.declared.denotation.Kind.TheVariants.{Property, Aggregate}
+use Rattle.pz_game.specs.declared.denotation.Kind.{Kind}
+use Rattle.pz_game.specs.declared.denotation.Kind.TheVariants.{Property, Aggregate}
 use Rattle.pz_names.specs.declared.meaning.Meaning.{Meaning}
 use Rattle.pz_names.specs.declared.meaning.Meaning.TheVariants.{Itself, Same, AllOf, AnyOf}
-use Rattle.pz_names.specs.declared.denotation.Denotation.{Denotation}
+use Rattle.pz_game.specs.declared.denotation.Denotation.{Denotation}
 
 -- a part that is not known
 pub record Unknown (f : ℕ → Option Denotation) (parts : List ℕ) : Type 0 where

@@ -12,16 +12,16 @@ use Rattle.pz_names.specs.Legend.{joined, said_by, defined_by, definition_of, de
 use Rattle.pz_names.specs.Meaning.{number_or_end, meaning_by, object_meanings}
 use Rattle.pz_names.specs.Denotation.{with_mention, with_mentions, gathered, denotation_of, value_at, values_of}
 use Rattle.pz_names.specs.Values.{names_of_source, meanings_of_source}
-use Rattle.pz_names.specs.Denotation.{IsDenoted}
+use Rattle.pz_game.specs.Denotation.{IsDenoted}
 use Rattle.pz_names.specs.declared.name_line.NameLine.{NameLine}
 use Rattle.pz_names.specs.declared.legend.Said.{Said}
 use Rattle.pz_names.specs.declared.legend.Said.TheVariants as said
 use Rattle.pz_names.specs.declared.legend.Definition.{Definition}
 use Rattle.pz_names.specs.declared.meaning.Meaning.{Meaning}
 use Rattle.pz_names.specs.declared.meaning.Meaning.TheVariants.{Itself, Same, AllOf, AnyOf}
-use Rattle.pz_names.specs.declared.denotation.Denotation.{Denotation}
-use Rattle.pz_names.specs.declared.denotation.Kind.{Kind}
-use Rattle.pz_names.specs.declared.denotation.Kind.TheVariants.{Aggregate, Property}
+use Rattle.pz_game.specs.declared.denotation.Denotation.{Denotation}
+use Rattle.pz_game.specs.declared.denotation.Kind.{Kind}
+use Rattle.pz_game.specs.declared.denotation.Kind.TheVariants.{Aggregate, Property}
 
 -- a line of which the name can denote objects: an object of the game, or parts of which there is one
 abbrev IsMeant : ℕ → Meaning → Type 0

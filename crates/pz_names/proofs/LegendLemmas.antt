@@ -8,8 +8,8 @@ use Rattle.std.proofs.lemmas.List.{append-nil}
 use Rattle.pz_names.specs.Objects.{is_blank}
 use Rattle.std.proofs.lemmas.List.Elements.{filter_map-append}
 use Rattle.pz_names.specs.Legend.{definition_of, definitions_of, misnames, misnames_by, is_full, defined, sides}
-use Rattle.pz_text.proofs.ListLemmas.{take-next}
-use Rattle.pz_text.specs.NameSet.{is_name_of}
+use Rattle.pz_base.proofs.ListLemmas.{take-next}
+use Rattle.pz_base.specs.NameSet.{is_name_of}
 use Rattle.pz_text.specs.declared.line.Line.{Line}
 use Rattle.pz_names.specs.declared.legend.Definition.{Definition}
 

@@ -2,11 +2,11 @@
 use Rattle.std.proofs.Common.{◌≡◌, ℕ, ◌+◌, zero, suc, List, [], ◌∷◌, refl, ap, sym, ◌∙◌, add-one}
 use Rattle.std.specs.Prelude.{Option, Some, None, option_and_then, option_map, slice_get}
 use Rattle.pz_names.specs.Denotation.{value_at, denotation_next, denotation_of, gathered, with_mentions}
-use Rattle.pz_names.specs.declared.denotation.Kind.{Kind}
-use Rattle.pz_names.specs.declared.denotation.Kind.TheVariants.{Property, Aggregate}
+use Rattle.pz_game.specs.declared.denotation.Kind.{Kind}
+use Rattle.pz_game.specs.declared.denotation.Kind.TheVariants.{Property, Aggregate}
 use Rattle.pz_names.specs.declared.meaning.Meaning.TheVariants.{Itself, Same, AllOf, AnyOf}
 use Rattle.pz_names.specs.declared.meaning.Meaning.{Meaning}
-use Rattle.pz_names.specs.declared.denotation.Denotation.{Denotation}
+use Rattle.pz_game.specs.declared.denotation.Denotation.{Denotation}
 
 -- a round over what chains of n lines give is what chains of one line more give
 pub value_at-round : (known : ℕ → Option Denotation) (n : ℕ) (meanings : List Meaning) → ((k : ℕ) → known k ≡ value_at n meanings k)

@@ -2,14 +2,14 @@
 use Rattle.std.proofs.Common.{◌≡◌, ℕ, ◌<◌, ◌≤◌, ◌+◌, ◌-◌, zero, suc, Bool, true, false, not, ◌||◌, List, [], ◌∷◌, ◌++◌, length, refl, ap, sym, ◌∙◌, arith, append-nil, append_assoc}
 use Rattle.std.specs.Prelude.{Option, Some, None, Ok, Err, All, if◌then◌else◌, cond, option_to_list, nat_le, nat_lt, map}
 use Rattle.std.proofs.lemmas.List.{length-append, length-map}
-use Rattle.pz_text.specs.Fault.{first_fault}
-use Rattle.pz_text.specs.declared.fault.Code.{Code}
-use Rattle.pz_text.specs.declared.fault.SourceFault.{SourceFault}
+use Rattle.pz_base.specs.Fault.{first_fault}
+use Rattle.pz_base.specs.declared.fault.Code.{Code}
+use Rattle.pz_base.specs.declared.fault.SourceFault.{SourceFault}
 use Rattle.pz_text.specs.declared.line.Line.{Line}
 use Rattle.pz_names.specs.Objects.{object_names, is_blank, block_of, behind_block, blocks_within, blocks_of, name_line_of, has_repeat, block_at, misnames, objects_of, IsNamed}
 use Rattle.pz_names.specs.declared.objects.Block.{Block}
 use Rattle.pz_names.specs.declared.name_line.NameLine.{NameLine}
-use Rattle.pz_text.specs.declared.fault.Code.TheVariants as code
+use Rattle.pz_base.specs.declared.fault.Code.TheVariants as code
 use Rattle.pz_names.proofs.WordLemmas.{IsWord-names_of, names_of-some}
 use Rattle.std.proofs.lemmas.Bool.Decides.{nat_tests}
 use Rattle.std.proofs.lemmas.List.Elements.{All-nil, All-cons, All-map, All-same}

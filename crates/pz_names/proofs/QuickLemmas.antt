@@ -10,7 +10,7 @@ use Rattle.pz_names.specs.Denotation.{value_at, denotation_next, denotation_of, 
 use Rattle.pz_names.specs.Meaning.{parts_of, parts_at}
 use Rattle.pz_names.specs.declared.meaning.Meaning.{Meaning}
 use Rattle.pz_names.specs.declared.meaning.Meaning.TheVariants.{Itself, Same, AllOf, AnyOf}
-use Rattle.pz_names.specs.declared.denotation.Denotation.{Denotation}
+use Rattle.pz_game.specs.declared.denotation.Denotation.{Denotation}
 
 -- where one round more changes nothing, no further round does
 pub value_at-settled : (meanings : List Meaning) (n : ℕ) → ((k : ℕ) → value_at (suc n) meanings k ≡ value_at n meanings k)

@@ -10,7 +10,7 @@ use Rattle.pz_names.specs.Meaning.{parts_of, StaysInside}
 use Rattle.pz_names.specs.Denotation.{AreMarked, value_at, gathered, with_mentions, denotation_of, denotation_next, known_at, IsBelow, settled, IsRound}
 use Rattle.pz_names.specs.declared.meaning.Meaning.{Meaning}
 use Rattle.pz_names.specs.declared.meaning.Meaning.TheVariants.{Itself, Same, AllOf, AnyOf}
-use Rattle.pz_names.specs.declared.denotation.Denotation.{Denotation}
+use Rattle.pz_game.specs.declared.denotation.Denotation.{Denotation}
 use Rattle.pz_names.proofs.MemberLemmas.{Below, value_at-more, denotation_next-mono}
 use Rattle.pz_names.proofs.SettledLemmas.{saturated}
 

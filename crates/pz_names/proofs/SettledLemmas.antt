@@ -10,7 +10,7 @@ use Rattle.pz_names.specs.Meaning.{parts_of, parts_at, StaysInside}
 use Rattle.pz_names.specs.Denotation.{value_at, denotation_of, denotation_next}
 use Rattle.pz_names.specs.Cycles.{IsChain, LeadsTo}
 use Rattle.pz_names.specs.declared.meaning.Meaning.{Meaning}
-use Rattle.pz_names.specs.declared.denotation.Denotation.{Denotation}
+use Rattle.pz_game.specs.declared.denotation.Denotation.{Denotation}
 use Rattle.pz_names.proofs.MemberLemmas.{value_at-more}
 use Rattle.pz_names.proofs.CycleLemmas.{chain, path_reaches, path_tail, none_equal}
 use Rattle.pz_names.proofs.ChainLemmas.{leads_from_reaches}

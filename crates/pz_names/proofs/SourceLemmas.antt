@@ -2,8 +2,8 @@
 use Rattle.std.proofs.Common.{◌≡◌, ℕ, List, [], length, ap, sym, subst, ◌∙◌, false, arith}
 use Rattle.std.specs.Prelude.{Option, Some, None}
 use Rattle.std.specs.List.{filter_map}
-use Rattle.pz_text.specs.Fault.{first_fault, or_else}
-use Rattle.pz_text.specs.declared.fault.SourceFault.{SourceFault}
+use Rattle.pz_base.specs.Fault.{first_fault, or_else}
+use Rattle.pz_base.specs.declared.fault.SourceFault.{SourceFault}
 use Rattle.pz_names.specs.Objects.{object_names}
 use Rattle.pz_names.specs.Legend.{line_at, speaks_of_unknown}
 use Rattle.pz_names.specs.Meaning.{meanings_of, StaysInside}
@@ -13,8 +13,8 @@ use Rattle.pz_names.specs.Kinds.{kind_in, mixes}
 use Rattle.pz_names.specs.Values.{names_of_source, meanings_of_source, fault_of_definitions}
 use Rattle.pz_names.specs.declared.name_line.NameLine.{NameLine}
 use Rattle.pz_names.specs.declared.legend.Definition.{Definition}
-use Rattle.pz_names.specs.declared.denotation.Denotation.{Denotation}
-use Rattle.pz_text.proofs.FaultLemmas.{or_else-first, or_else-later}
+use Rattle.pz_game.specs.declared.denotation.Denotation.{Denotation}
+use Rattle.pz_base.proofs.FaultLemmas.{or_else-first, or_else-later}
 use Rattle.pz_names.proofs.ValueLemmas.{stays_inside, no_circle, length-meanings, values-known, values-length}
 
 module _ (objects : List NameLine) (definitions : List Definition) (names : List (List ℕ)) (named : names ≡ names_of_source objects definitions) (first : ℕ) (counted : first ≡ length (object_names objects)) where

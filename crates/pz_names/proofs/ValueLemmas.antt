@@ -14,16 +14,16 @@ use Rattle.pz_names.specs.Legend.{line_at, speaks_of_unknown, names_in}
 use Rattle.pz_names.specs.Meaning.{parts_of, parts_at, StaysInside, number_or_end, meaning_by, object_meanings}
 use Rattle.pz_names.specs.Values.{names_of_source, meanings_of_source}
 use Rattle.pz_names.specs.Objects.{object_names}
-use Rattle.pz_text.specs.Fault.{first_fault}
-use Rattle.pz_text.specs.NameSet.{is_name_of}
+use Rattle.pz_base.specs.Fault.{first_fault}
+use Rattle.pz_base.specs.NameSet.{is_name_of}
 use Rattle.pz_names.specs.declared.meaning.Meaning.{Meaning}
 use Rattle.pz_names.specs.declared.meaning.Meaning.TheVariants.{Itself}
-use Rattle.pz_names.specs.declared.denotation.Denotation.{Denotation}
+use Rattle.pz_game.specs.declared.denotation.Denotation.{Denotation}
 use Rattle.pz_names.specs.declared.name_line.NameLine.{NameLine}
 use Rattle.pz_names.specs.declared.legend.Definition.{Definition}
 use Rattle.pz_names.specs.declared.legend.Said.{Said}
 use Rattle.pz_names.specs.declared.legend.Said.TheVariants.{Same, AllOf, AnyOf}
-use Rattle.pz_text.specs.declared.fault.Code.TheVariants as code
+use Rattle.pz_base.specs.declared.fault.Code.TheVariants as code
 use borrow.Author.Tests.{ltb-true, ltb-false}
 
 -- a name that is there has a number

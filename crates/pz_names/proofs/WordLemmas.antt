@@ -7,9 +7,9 @@ use Rattle.std.proofs.lemmas.Bool.{cond-true, cond-false, cases_lt}
 use Rattle.std.proofs.lemmas.Bool.Decides.{nat_tests}
 use Rattle.std.proofs.lemmas.List.{length-append, length-map}
 use Rattle.std.proofs.lemmas.List.Elements.{All-nil, All-cons, All-head, All-tail, All-append, All-weaker, All-filter, filter_passes}
-use Rattle.pz_text.specs.Name.{folded, name_of}
+use Rattle.pz_base.specs.Name.{folded, name_of}
 use Rattle.pz_text.specs.Words.{words, names_of}
-use Rattle.pz_names.specs.Word.{IsWord}
+use Rattle.pz_game.specs.Word.{IsWord}
 
 -- ---- the bytes of a character
 

@@ -6,8 +6,8 @@ use Rattle.pz_names.specs.Meaning.{parts_at}
 use Rattle.pz_names.specs.Denotation.{with_mentions}
 use Rattle.pz_names.specs.declared.meaning.Meaning.{Meaning}
 use Rattle.pz_names.specs.declared.legend.Definition.{Definition}
-use Rattle.pz_text.specs.declared.fault.Code.{Code}
-use Rattle.pz_text.specs.declared.fault.Code.TheVariants as code
+use Rattle.pz_base.specs.declared.fault.Code.{Code}
+use Rattle.pz_base.specs.declared.fault.Code.TheVariants as code
 
 -- the lines lead from a name to another, in at least one step and at most this many
 unfoldable pub reaches : ℕ → List Meaning → ℕ → ℕ → Bool

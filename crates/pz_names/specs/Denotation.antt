@@ -1,8 +1,8 @@
 -- What names denote: the least assignment of kinds and members that satisfies each line of OBJECTS and LEGEND.
-use Rattle.std.specs.Prelude.{unwrap_or, ◌≡◌, ◌<◌, ◌≤◌, Bool, false, is_some, ℕ, zero, suc, ◌==◌, if◌then◌else◌, List, [], ◌∷◌, ◌++◌, length, fold, All, Option, Some, None, option_and_then, option_map, slice_get}
+use Rattle.std.specs.Prelude.{unwrap_or, ◌≡◌, ◌<◌, ◌≤◌, Bool, false, is_some, ℕ, zero, suc, ◌==◌, if◌then◌else◌, List, [], ◌∷◌, ◌++◌, length, fold, Option, Some, None, option_and_then, option_map, slice_get}
 use Rattle.std.specs.List.{list_any, filter_map, range_with_len}
-use Rattle.pz_names.specs.declared.denotation.Kind.TheVariants.{Object, Property, Aggregate}
-use Rattle.pz_names.specs.declared.denotation.Denotation.{Denotation}
+use Rattle.pz_game.specs.declared.denotation.Kind.TheVariants.{Object, Property, Aggregate}
+use Rattle.pz_game.specs.declared.denotation.Denotation.{Denotation}
 use Rattle.pz_names.specs.declared.meaning.Meaning.{Meaning}
 use Rattle.pz_names.specs.declared.meaning.Meaning.TheVariants.{Itself, Same, AllOf, AnyOf}
 
@@ -65,8 +65,3 @@ pub record IsRound (meanings : List Meaning) (old new : ℕ → Option Denotatio
   pub later : (k : ℕ) → count ≤ k → new k ≡ old k
   pub same : found ≡ false → (k : ℕ) → new k ≡ old k
   pub still : found ≡ false → (k : ℕ) → k < count → old k ≡ None → denotation_next old meanings k ≡ None
-
--- a name denotes objects of the game, at least one
-pub record IsDenoted (objects : ℕ) (denotation : Denotation) : Type 0 where
-  pub some : 0 < length denotation.members
-  pub all : All (λ object. object < objects) denotation.members

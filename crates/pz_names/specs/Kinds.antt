@@ -1,12 +1,12 @@
 -- The kinds of names, and where they don't fit together.
 use Rattle.std.specs.Prelude.{ℕ, Bool, true, false, if◌then◌else◌, List, Option, Some, None, option_map, slice_get}
 use Rattle.std.specs.List.{list_any}
-use Rattle.pz_text.specs.declared.fault.Code.{Code}
-use Rattle.pz_text.specs.declared.fault.Code.TheVariants as code
+use Rattle.pz_base.specs.declared.fault.Code.{Code}
+use Rattle.pz_base.specs.declared.fault.Code.TheVariants as code
 use Rattle.pz_names.specs.Meaning.{number_or_end}
-use Rattle.pz_names.specs.declared.denotation.Kind.{Kind}
-use Rattle.pz_names.specs.declared.denotation.Kind.TheVariants.{Object, Property, Aggregate}
-use Rattle.pz_names.specs.declared.denotation.Denotation.{Denotation}
+use Rattle.pz_game.specs.declared.denotation.Kind.{Kind}
+use Rattle.pz_game.specs.declared.denotation.Kind.TheVariants.{Object, Property, Aggregate}
+use Rattle.pz_game.specs.declared.denotation.Denotation.{Denotation}
 use Rattle.pz_names.specs.declared.legend.Said.{Said}
 use Rattle.pz_names.specs.declared.legend.Said.TheVariants.{Same, AllOf, AnyOf}
 use Rattle.pz_names.specs.declared.legend.Definition.{Definition}

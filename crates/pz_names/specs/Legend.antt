@@ -2,11 +2,11 @@
 use Rattle.std.specs.Prelude.{ℕ, ◌+◌, ◌==◌, if◌then◌else◌, nat_le, not, Bool, List, [], ◌∷◌, ◌++◌, length, map, take, drop, Option, Some, None, option_map, option_and_then, position, codes}
 use Rattle.std.specs.List.{list_any, filter_map}
 use Rattle.std.specs.Str.{bytes_eq}
-use Rattle.pz_text.specs.NameSet.{is_name_of}
+use Rattle.pz_base.specs.NameSet.{is_name_of}
 use Rattle.pz_text.specs.Words.{names_of}
 use Rattle.pz_text.specs.declared.line.Line.{Line}
-use Rattle.pz_text.specs.declared.fault.Code.{Code}
-use Rattle.pz_text.specs.declared.fault.Code.TheVariants as code
+use Rattle.pz_base.specs.declared.fault.Code.{Code}
+use Rattle.pz_base.specs.declared.fault.Code.TheVariants as code
 use Rattle.pz_names.specs.Objects.{is_blank}
 use Rattle.pz_names.specs.declared.objects.TheConstants.{MAX_NAMES}
 use Rattle.pz_names.specs.declared.legend.Said.{Said}

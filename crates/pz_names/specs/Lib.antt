@@ -1,4 +1,3 @@
-pub mod Word
 pub mod Objects
 pub mod Legend
 pub mod Meaning

@@ -2,7 +2,7 @@
 use Rattle.std.specs.Prelude.{◌≡◌, ℕ, ◌+◌, ◌<◌, ◌==◌, true, List, [], ◌∷◌, ◌++◌, length, map, slice_get, unwrap_or}
 use Rattle.std.specs.List.{list_any}
 use Rattle.std.specs.Option.{option_map_or}
-use Rattle.pz_text.specs.NameSet.{number_in}
+use Rattle.pz_base.specs.NameSet.{number_in}
 use Rattle.pz_names.specs.declared.legend.Said.{Said}
 use Rattle.pz_names.specs.declared.legend.Said.TheVariants.{Same, AllOf, AnyOf}
 use Rattle.pz_names.specs.declared.legend.Definition.{Definition}

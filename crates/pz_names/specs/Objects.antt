@@ -2,17 +2,18 @@
 use Rattle.std.specs.Prelude.{ℕ, zero, suc, ◌-◌, Bool, true, false, not, ◌&&◌, ◌||◌, ◌==◌, if◌then◌else◌, nat_lt, nat_le, List, [], ◌∷◌, ◌++◌, length, drop, map, Option, Some, None, Result, Ok, All, ◌<◌}
 use Rattle.std.specs.List.{flat_map, list_all}
 use Rattle.std.specs.Char.{is_ascii_digit, is_whitespace}
-use Rattle.pz_text.specs.Fault.{first_fault, unless}
-use Rattle.pz_text.specs.NameSet.{is_name_of}
+use Rattle.pz_base.specs.Fault.{first_fault, unless}
+use Rattle.pz_base.specs.NameSet.{is_name_of}
 use Rattle.pz_text.specs.Words.{names_of}
 use Rattle.pz_text.specs.declared.line.Line.{Line}
-use Rattle.pz_text.specs.declared.fault.Code.{Code}
-use Rattle.pz_text.specs.declared.fault.Code.TheVariants as code
-use Rattle.pz_text.specs.declared.fault.SourceFault.{SourceFault}
-use Rattle.pz_names.specs.Word.{IsWord}
+use Rattle.pz_base.specs.declared.fault.Code.{Code}
+use Rattle.pz_base.specs.declared.fault.Code.TheVariants as code
+use Rattle.pz_base.specs.declared.fault.SourceFault.{SourceFault}
+use Rattle.pz_game.specs.Word.{IsWord}
 use Rattle.pz_names.specs.declared.name_line.NameLine.{NameLine}
 use Rattle.pz_names.specs.declared.objects.Block.{Block}
-use Rattle.pz_names.specs.declared.objects.TheConstants.{MAX_OBJECTS, MAX_NAMES}
+use Rattle.pz_game.specs.declared.limits.TheConstants.{MAX_OBJECTS}
+use Rattle.pz_names.specs.declared.objects.TheConstants.{MAX_NAMES}
 
 -- the names that OBJECTS gives, in the order of first mention
 abbrev pub object_names : List NameLine → List (List ℕ)

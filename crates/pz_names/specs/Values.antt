@@ -1,8 +1,8 @@
 -- The names of a source and what they denote, or the fault of its legend.
 use Rattle.std.specs.Prelude.{ℕ, List, [], ◌++◌, length, map, Option}
-use Rattle.pz_text.specs.Fault.{first_fault, or_else}
+use Rattle.pz_base.specs.Fault.{first_fault, or_else}
 use Rattle.pz_text.specs.declared.line.Line.{Line}
-use Rattle.pz_text.specs.declared.fault.SourceFault.{SourceFault}
+use Rattle.pz_base.specs.declared.fault.SourceFault.{SourceFault}
 use Rattle.pz_names.specs.Objects.{object_names}
 use Rattle.pz_names.specs.Legend.{line_number, line_at, misnames, definitions_of, speaks_of_unknown}
 use Rattle.pz_names.specs.Meaning.{meanings_of}

@@ -2,17 +2,18 @@
 
 ghost use Rattle.std.specs.Prelude.{◌≡◌, ◌≢◌, ◌<◌, ◌+◌, ◌^◌, ◌==◌, ◌||◌, ℕ, length, [], None, OnOk, IfOk, IfSome, true, false};
 ghost use Rattle.std.specs.List.{list_any};
-ghost use Rattle.pz_text.specs.Fault.{first_fault};
-ghost use Rattle.pz_text.specs.declared.fault.Code.TheVariants as code;
+ghost use Rattle.pz_base.specs.Fault.{first_fault};
+ghost use Rattle.pz_base.specs.declared.fault.Code.TheVariants as code;
 ghost use Rattle.pz_names.specs.Legend.{line_at};
 ghost use Rattle.pz_names.specs.Meaning.{parts_at, StaysInside};
 ghost use Rattle.pz_names.specs.Denotation.{AreMarked, known_at, value_at};
 ghost use Rattle.pz_names.specs.Cycles.{looked, is_on_cycle, LeadsTo, reaches_itself};
 
-use crate::denotation::{Denotation, add_mentions, entry, is_mentioned, no_marks};
+use crate::denotation::{add_mentions, entry, is_mentioned, no_marks};
 use crate::legend::Definition;
 use crate::meaning::Meaning;
-use pz_text::fault::{Code, SourceFault};
+use pz_base::fault::{Code, SourceFault};
+use pz_game::denotation::Denotation;
 use std::alloc::{AllocError, Global};
 
 /// The parts of a name, none where there is no such name.

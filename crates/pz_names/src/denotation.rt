@@ -6,26 +6,10 @@ ghost use Rattle.pz_names.specs.Meaning.{parts_of, StaysInside};
 ghost use Rattle.pz_names.specs.Denotation.{AreMarked, with_mention, with_mentions, gathered, known_at, IsBelow, denotation_of, denotation_next, value_at, settled, IsRound};
 
 use crate::meaning::Meaning;
-use crate::objects::MAX_OBJECTS;
-use pz_text::listed::Listed;
+use pz_base::listed::Listed;
+use pz_game::denotation::{Denotation, Kind};
+use pz_game::limits::MAX_OBJECTS;
 use std::alloc::{AllocError, Global};
-
-/// The kind of a name: a synonym has the kind of what it names.
-#[derive(Clone, Copy, Debug, PartialEq, Eq)]
-pub enum Kind {
-    Object,
-    Property,
-    Aggregate,
-}
-
-/// What a name denotes: its kind, its members by their places among the game's objects in the order of first mention, and the
-/// number of the name that it goes back to (a synonym has that of the name that it stands for).
-#[derive(Drop, Debug)]
-pub struct Denotation {
-    pub kind: Kind,
-    pub members: Listed<usize>,
-    pub number: usize,
-}
 
 /// Whether a number is mentioned; the marks answer it for those below their count.
 pub fn is_mentioned(mentions: &[usize], marks: &[bool], number: usize) -> bool

@@ -2,17 +2,17 @@
 
 ghost use Rattle.std.specs.Prelude.{◌≡◌, [], IfSome};
 ghost use Rattle.std.specs.List.{list_any};
-ghost use Rattle.pz_text.specs.Fault.{first_fault};
-ghost use Rattle.pz_text.specs.declared.fault.Code.TheVariants as code;
+ghost use Rattle.pz_base.specs.Fault.{first_fault};
+ghost use Rattle.pz_base.specs.declared.fault.Code.TheVariants as code;
 ghost use Rattle.pz_names.specs.Legend.{line_at};
 ghost use Rattle.pz_names.specs.Kinds.{kind_in, is_of_kind, is_mixed, mixes};
 
-use crate::denotation::{Denotation, Kind};
 use crate::legend::{Definition, Said};
 use crate::meaning::number_or_end;
-use pz_text::fault::{Code, SourceFault};
-use pz_text::name::Name;
-use pz_text::name_set::NameSet;
+use pz_base::fault::{Code, SourceFault};
+use pz_base::name::Name;
+use pz_base::name_set::NameSet;
+use pz_game::denotation::{Denotation, Kind};
 
 fn kind_in(names: &NameSet, values: &[Denotation], name: &Name) -> Option<Kind>
     ensures { result ≡ kind_in names.now values.now name.now }

@@ -2,17 +2,17 @@
 
 ghost use Rattle.std.specs.Prelude.{◌≡◌, ◌≢◌, ◌==◌, ◌++◌, [], IfOk, IfErr, IfSome, None, Some, option_map, map, position, not};
 ghost use Rattle.std.specs.List.{list_any};
-ghost use Rattle.pz_text.specs.Fault.{first_fault};
-ghost use Rattle.pz_text.specs.NameSet.{is_name_of};
-ghost use Rattle.pz_text.specs.declared.fault.Code.TheVariants as code;
+ghost use Rattle.pz_base.specs.Fault.{first_fault};
+ghost use Rattle.pz_base.specs.NameSet.{is_name_of};
+ghost use Rattle.pz_base.specs.declared.fault.Code.TheVariants as code;
 ghost use Rattle.pz_names.specs.Legend.{sides, joined, said_by, definition_of, definitions_of, line_number, line_at, misnames, speaks_of_unknown, names_in};
 
 use crate::objects::{MAX_NAMES, is_blank};
-use pz_text::fault::{Code, SourceFault};
+use pz_base::fault::{Code, SourceFault};
+use pz_base::listed::Listed;
+use pz_base::name::Name;
+use pz_base::name_set::NameSet;
 use pz_text::line::Line;
-use pz_text::listed::Listed;
-use pz_text::name::Name;
-use pz_text::name_set::NameSet;
 use pz_text::words::names_of;
 use std::alloc::{AllocError, Global};
 

@@ -6,9 +6,9 @@ ghost use Rattle.pz_names.specs.Meaning.{number_or_end, parts_of, meaning_by, me
 
 use crate::legend::{Definition, Said};
 use crate::name_line::NameLine;
-use pz_text::listed::Listed;
-use pz_text::name::Name;
-use pz_text::name_set::NameSet;
+use pz_base::listed::Listed;
+use pz_base::name::Name;
+use pz_base::name_set::NameSet;
 use std::alloc::{AllocError, Global};
 
 /// What a line says of its name: that it is the object at a place, of which the first name has a number, or what it stands for,

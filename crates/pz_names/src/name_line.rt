@@ -1,7 +1,7 @@
 //! Lines of names.
 
-use pz_text::listed::Listed;
-use pz_text::name::Name;
+use pz_base::listed::Listed;
+use pz_base::name::Name;
 
 /// The number of a line, and the names on it: those that a line of OBJECTS gives to one object, or those of a layer.
 #[derive(Drop, Debug)]

@@ -1,21 +1,19 @@
 //! OBJECTS: its objects, and the names that they have.
 
 ghost use Rattle.std.specs.Prelude.{◌≡◌, ◌≢◌, ◌≤◌, ◌++◌, ◌∷◌, [], ℕ, suc, length, map, option_to_list, IfOk, IfErr, IfSome, OnOk, Ok, Err, Some, None, false, All};
-ghost use Rattle.pz_text.specs.Fault.{first_fault};
-ghost use Rattle.pz_text.specs.declared.fault.Code.TheVariants as code;
+ghost use Rattle.pz_base.specs.Fault.{first_fault};
+ghost use Rattle.pz_base.specs.declared.fault.Code.TheVariants as code;
 ghost use Rattle.pz_names.specs.Objects.{object_names, is_blank, are_pixels, is_sprite_row, sprite_rows, are_wide, is_sprite, is_whole, behind_block, block_of, blocks_within, blocks_of, name_line_of, has_repeat, block_at, misnamed, misnames, objects_of, IsNamed};
 
 use crate::name_line::NameLine;
-use pz_text::fault::{Code, SourceFault};
+use pz_base::fault::{Code, SourceFault};
+use pz_base::listed::Listed;
+use pz_base::name::Name;
+use pz_base::name_set::NameSet;
+use pz_game::limits::MAX_OBJECTS;
 use pz_text::line::Line;
-use pz_text::listed::Listed;
-use pz_text::name::Name;
-use pz_text::name_set::NameSet;
 use pz_text::words::names_of;
 use std::alloc::{AllocError, Global};
-
-/// The most objects that a source may have.
-pub const MAX_OBJECTS: usize = 128;
 
 /// The most names that a source may have, all names of OBJECTS and LEGEND together.
 pub const MAX_NAMES: usize = 1024;

@@ -2,21 +2,22 @@
 
 ghost use Rattle.std.specs.Prelude.{◌≡◌, ◌≢◌, length, IfOk, IfErr, None, Some, OnOk};
 ghost use Rattle.std.specs.List.{filter_map};
-ghost use Rattle.pz_text.specs.declared.fault.Code.TheVariants as code;
+ghost use Rattle.pz_base.specs.declared.fault.Code.TheVariants as code;
 ghost use Rattle.pz_names.specs.Objects.{object_names};
 ghost use Rattle.pz_names.specs.Legend.{definitions_of};
 ghost use Rattle.pz_names.specs.Denotation.{values_of};
 ghost use Rattle.pz_names.specs.Values.{names_of_source, meanings_of_source, fault_of_definitions, fault_of_legend};
 
 use crate::cycles::circle;
-use crate::denotation::{Denotation, denotations};
+use crate::denotation::denotations;
 use crate::kinds::mixture;
 use crate::legend::{Definition, definitions, unknown_part};
 use crate::meaning::meanings;
 use crate::name_line::NameLine;
-use pz_text::fault::SourceFault;
+use pz_base::fault::SourceFault;
+use pz_base::name_set::NameSet;
+use pz_game::denotation::Denotation;
 use pz_text::line::Line;
-use pz_text::name_set::NameSet;
 use std::alloc::{AllocError, Global};
 
 fn known_values(

@@ -1,10 +1,10 @@
 -- Directions that are mentioned, one after the other.
 use Rattle.std.proofs.Common.{◌≡◌, true, List, [], ◌++◌, refl}
 use Rattle.std.proofs.lemmas.Grind.{fold-append}
-use Rattle.pz_source.specs.declared.direction.Dir.{Dir}
-use Rattle.pz_source.specs.declared.direction.Dir.TheVariants.{Up, Down, Left, Right, Action}
-use Rattle.pz_plan.specs.Lists.{firsts, added, added_all}
-use Rattle.pz_source.specs.Direction.{same_dir}
+use Rattle.pz_game.specs.declared.direction.Dir.{Dir}
+use Rattle.pz_game.specs.declared.direction.Dir.TheVariants.{Up, Down, Left, Right, Action}
+use Rattle.pz_base.specs.Lists.{firsts, added, added_all}
+use Rattle.pz_game.specs.Direction.{same_dir}
 use Rattle.pz_plan.proofs.Firsts.{firsts-append}
 
 pub same_dir_is : (a b : Dir) → same_dir a b ≡ true → a ≡ b

@@ -3,7 +3,7 @@ use Rattle.std.proofs.Common.{◌≡◌, Bool, true, false, not, ◌||◌, List,
 use Rattle.std.proofs.lemmas.Bool.{or_cases, or_left, or_right, or_parts, or_from, cases_Bool, not_from_true, not_from_false, cond-true, cond-false, false≢true, false_from_ne_true}
 use Rattle.std.proofs.lemmas.List.{append_assoc, append-nil}
 use Rattle.std.specs.List.{list_any}
-use Rattle.pz_plan.specs.Lists.{firsts, added}
+use Rattle.pz_base.specs.Lists.{firsts, added}
 
 abbrev pub IsTransitive : {X : Type 0} → (X → X → Bool) → Type 0
 IsTransitive {X} same = (a b c : X) → same a b ≡ true → same b c ≡ true → same a c ≡ true

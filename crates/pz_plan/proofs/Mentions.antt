@@ -13,7 +13,7 @@ use Rattle.pz_plan.specs.declared.plan.Subject.TheVariants as subject
 use Rattle.pz_plan.specs.declared.plan.Mention.{Mention}
 use Rattle.pz_plan.specs.declared.spelling.Side.{Side}
 use Rattle.pz_plan.specs.declared.spelling.Side.TheVariants as side
-use Rattle.pz_plan.specs.Lists.{firsts, added, added_all}
+use Rattle.pz_base.specs.Lists.{firsts, added, added_all}
 use Rattle.pz_plan.specs.Same.{same_turn, same_class, same_word, same_lead, same_subject, same_mention, is_class, is_some_member, says_the_same}
 use Rattle.pz_plan.proofs.Directions.{same_dir_is}
 use Rattle.pz_plan.proofs.Firsts.{firsts-append}

@@ -4,7 +4,7 @@ use Rattle.std.specs.List.{flat_map}
 use Rattle.std.proofs.lemmas.List.{take_more, append-nil, map-append}
 use Rattle.std.proofs.lemmas.List.Concat.{flat_map-append}
 use Rattle.std.proofs.lemmas.Grind.{fold-append}
-use Rattle.pz_plan.specs.Lists.{product}
+use Rattle.pz_base.specs.Lists.{product}
 
 -- the lists of a product that begin with one of these elements
 abbrev pub headed : {X : Type 0} → List (List X) → List X → List (List X)

@@ -1,29 +1,17 @@
--- Sets of commands.
-use Rattle.std.specs.Prelude.{Bool, ◌==◌, List, fold}
-use Rattle.std.specs.Int.RustNames.{bit_and, bit_or}
-use Rattle.pz_plan.specs.declared.commands.Commands.{Commands}
+-- The commands of a rule, as a set.
+use Rattle.std.specs.Prelude.{List, fold}
+use Rattle.pz_game.specs.Commands.{no_commands, again, cancel, checkpoint, restart, win, either}
+use Rattle.pz_game.specs.declared.commands.Commands.{Commands}
 use Rattle.pz_grammar.specs.declared.token.Command.{Command}
 use Rattle.pz_grammar.specs.declared.token.Command.TheVariants as command
 
--- whether a set of commands has all of another
-abbrev pub has : Commands → Commands → Bool
-has commands command = bit_and commands.0 command.0 == command.0
-
--- no command
-abbrev pub no_commands : Commands
-no_commands = record { 0 = 0 }
-
--- the commands of either
-abbrev pub either : Commands → Commands → Commands
-either a b = record { 0 = bit_or a.0 b.0 }
-
 -- the set of one command; sounds and messages have no effect
 abbrev pub flag_of : Command → Commands
-flag_of command.Again = record { 0 = 1 }
-flag_of command.Cancel = record { 0 = 2 }
-flag_of command.Checkpoint = record { 0 = 4 }
-flag_of command.Restart = record { 0 = 8 }
-flag_of command.Win = record { 0 = 16 }
+flag_of command.Again = again
+flag_of command.Cancel = cancel
+flag_of command.Checkpoint = checkpoint
+flag_of command.Restart = restart
+flag_of command.Win = win
 flag_of _ = no_commands
 
 -- the commands of a list

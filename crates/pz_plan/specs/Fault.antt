@@ -1,6 +1,6 @@
 -- The code by which a source is refused, for what is wrong with one of its rule lines.
-use Rattle.pz_text.specs.declared.fault.Code.{Code}
-use Rattle.pz_text.specs.declared.fault.Code.TheVariants as code
+use Rattle.pz_base.specs.declared.fault.Code.{Code}
+use Rattle.pz_base.specs.declared.fault.Code.TheVariants as code
 use Rattle.pz_plan.specs.declared.fault.RuleFault.{RuleFault}
 use Rattle.pz_plan.specs.declared.fault.RuleFault.TheVariants as fault
 

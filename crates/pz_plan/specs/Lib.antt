@@ -1,4 +1,3 @@
-pub mod Lists
 pub mod Commands
 pub mod Laws
 pub mod Fault

@@ -1,6 +1,6 @@
 -- The plan of a rule, or its first fault.
 use Rattle.std.specs.Prelude.{Bool, List, Option, Some, None, Result, Ok, Err}
-use Rattle.pz_names.specs.declared.denotation.Denotation.{Denotation}
+use Rattle.pz_game.specs.declared.denotation.Denotation.{Denotation}
 use Rattle.pz_plan.specs.declared.fault.RuleFault.{RuleFault}
 use Rattle.pz_plan.specs.declared.fault.RuleFault.TheVariants as fault
 use Rattle.pz_plan.specs.declared.plan.Mention.{Mention}

@@ -1,15 +1,15 @@
 -- The prefixes of a rule.
 use Rattle.std.specs.Prelude.{Bool, true, false, List, [], ◌∷◌}
 use Rattle.std.specs.List.{list_any, flat_map}
-use Rattle.pz_source.specs.declared.direction.Dir.{Dir}
-use Rattle.pz_source.specs.declared.direction.Dir.TheVariants.{Up, Down, Left, Right}
+use Rattle.pz_game.specs.declared.direction.Dir.{Dir}
+use Rattle.pz_game.specs.declared.direction.Dir.TheVariants.{Up, Down, Left, Right}
 use Rattle.pz_grammar.specs.declared.token.Class.TheVariants as class
 use Rattle.pz_grammar.specs.declared.token.Lead.TheVariants as lead
 use Rattle.pz_grammar.specs.declared.token.Token.{Token}
 use Rattle.pz_grammar.specs.declared.token.Token.TheVariants as token
 use Rattle.pz_grammar.specs.declared.rule.Rule.{Rule}
-use Rattle.pz_plan.specs.Lists.{firsts}
-use Rattle.pz_source.specs.Direction.{same_dir}
+use Rattle.pz_base.specs.Lists.{firsts}
+use Rattle.pz_game.specs.Direction.{same_dir}
 
 abbrev pub is_late_word : Token → Bool
 is_late_word token.Late = true

@@ -1,6 +1,6 @@
 -- When two words, names or mentions of a rule are the same.
 use Rattle.std.specs.Prelude.{Bool, true, false, not, ◌&&◌, ◌||◌, ◌==◌, Option, Some, None}
-use Rattle.pz_source.specs.Direction.{same_dir}
+use Rattle.pz_game.specs.Direction.{same_dir}
 use Rattle.pz_grammar.specs.declared.token.Turn.{Turn}
 use Rattle.pz_grammar.specs.declared.token.Turn.TheVariants as turn
 use Rattle.pz_grammar.specs.declared.token.Class.{Class}

@@ -4,17 +4,17 @@ use Rattle.std.specs.List.{flat_map}
 use Rattle.std.specs.Option.{option_map_or}
 use Rattle.pz_grammar.specs.declared.token.Lead.{Lead}
 use Rattle.pz_grammar.specs.declared.token.Lead.TheVariants as lead
-use Rattle.pz_names.specs.declared.denotation.Kind.{Kind}
-use Rattle.pz_names.specs.declared.denotation.Kind.TheVariants as kind
+use Rattle.pz_game.specs.declared.denotation.Kind.{Kind}
+use Rattle.pz_game.specs.declared.denotation.Kind.TheVariants as kind
 use Rattle.pz_plan.specs.declared.plan.Subject.TheVariants as subject
 use Rattle.pz_grammar.specs.declared.rule.Phrase.{Phrase}
 use Rattle.pz_plan.specs.declared.plan.Mention.{Mention}
-use Rattle.pz_names.specs.declared.denotation.Denotation.{Denotation}
+use Rattle.pz_game.specs.declared.denotation.Denotation.{Denotation}
 use Rattle.pz_plan.specs.declared.plan.PlanRow.{PlanRow}
 use Rattle.pz_grammar.specs.declared.rule.Cell.{Cell}
 use Rattle.pz_grammar.specs.declared.rule.Cell.TheVariants as cell
 use Rattle.pz_plan.specs.declared.spelling.Side.{Side}
-use Rattle.pz_plan.specs.Lists.{firsts}
+use Rattle.pz_base.specs.Lists.{firsts}
 use Rattle.pz_plan.specs.Same.{says_the_same}
 
 abbrev pub is_no : Option Lead → Bool

@@ -6,10 +6,10 @@ ghost use Rattle.pz_plan.specs.Checks.{has_more_gaps, is_long, is_large, is_unkn
 
 use crate::fault::RuleFault;
 use crate::spelling::{denoted, gap_of, is_gap};
+use pz_base::listed::Listed;
+use pz_game::denotation::{Denotation, Kind};
 use pz_grammar::rule::{Cell, Phrase, Rule};
 use pz_grammar::token::Lead;
-use pz_names::denotation::{Denotation, Kind};
-use pz_text::listed::Listed;
 
 #[tactic(auto, unfolding(crate::specs::Checks::has_more_gaps))]
 fn has_more_gaps(row: &[Cell]) -> bool

@@ -1,60 +1,11 @@
-//! The set of commands that rules may give.
+//! The commands of a rule, as a set.
 
-ghost use Rattle.std.specs.Prelude.{⊤, ◌≡◌, [], ◌∷◌, codes};
-ghost use Rattle.pz_plan.specs.Commands.{has, either, flag_of, commands_given};
+ghost use Rattle.std.specs.Prelude.{◌≡◌};
+ghost use Rattle.pz_plan.specs.Commands.{flag_of, commands_given};
 
-use bitflags::{Flag, Flags, bitflag_items};
+use bitflags::Flags;
+use pz_game::commands::{Commands, either};
 use pz_grammar::token::Command;
-
-/// A set of commands.
-#[derive(Clone, Copy, PartialEq, Eq, Debug)]
-pub struct Commands(u8);
-
-bitflag_items! {
-    impl Commands: u8 {
-        const AGAIN = 1;
-        const CANCEL = 2;
-        const CHECKPOINT = 4;
-        const RESTART = 8;
-        const WIN = 16;
-    }
-}
-
-impl Flags for Commands {
-    type Bits = u8;
-
-    ghost exact = { ⊤ };
-
-    ghost table = { (codes "AGAIN", 1) ∷ (codes "CANCEL", 2) ∷ (codes "CHECKPOINT", 4) ∷ (codes "RESTART", 8) ∷ (codes "WIN", 16) ∷ [] };
-
-    ghost set_of = { λ c. c.0 };
-
-    fn flags<'a>() -> &'a [Flag<Commands>] {
-        Commands::FLAGS
-    }
-
-    fn bits(&self) -> u8 {
-        self.0
-    }
-
-    fn from_bits_retain(bits: u8) -> Commands {
-        Commands(bits)
-    }
-}
-
-/// Whether a command is in the set.
-pub fn gives(commands: Commands, command: Commands) -> bool
-    ensures { result ≡ has commands command }
-{
-    commands.contains(command)
-}
-
-/// The commands of either set.
-pub fn either(a: Commands, b: Commands) -> Commands
-    ensures { result ≡ either a b }
-{
-    a.union(b)
-}
 
 /// The set of one command; sounds and messages have no effect.
 fn flag_of(command: Command) -> Commands

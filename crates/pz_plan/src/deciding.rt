@@ -5,8 +5,8 @@ ghost use Rattle.pz_plan.specs.Deciding.{same_spot, is_member, is_direction, is_
 
 use crate::numbering::{name_of, word_of};
 use crate::plan::{Asked, Choice, Mention, PlanRow, Spot, Subject, Term, TermName, TermWord};
+use pz_base::listed::Listed;
 use pz_grammar::token::{Class, Lead};
-use pz_text::listed::Listed;
 use std::alloc::{AllocError, Global};
 
 /// What choice is looked for.

@@ -4,7 +4,7 @@ ghost use Rattle.std.specs.Prelude.{◌≡◌};
 ghost use Rattle.pz_plan.specs.Fault.{code_of};
 ghost use Rattle.pz_plan.specs.declared.fault.RuleFault.TheVariants.{Memory};
 
-use pz_text::fault::Code;
+use pz_base::fault::Code;
 use std::alloc::{AllocError, AllocFailed};
 
 /// What is wrong with a rule line.

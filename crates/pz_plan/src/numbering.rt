@@ -5,8 +5,8 @@ ghost use Rattle.std.specs.List.{flat_map};
 ghost use Rattle.pz_plan.specs.Numbering.{asked_by_mark, asked_by_subject, asked_by, choices_at, choices_in_cells, choices_in_rows, word_of, name_of, term_of, terms_of, cells_of, asked_in, asked_count, rows_of};
 
 use crate::plan::{Asked, Choice, Mention, PlanRow, Spot, Subject, Term, TermName, TermWord};
+use pz_base::listed::Listed;
 use pz_grammar::token::Lead;
-use pz_text::listed::Listed;
 use std::alloc::{AllocError, Global};
 
 /// The word of a term, if the choice of its direction has this number.

@@ -14,9 +14,9 @@ use crate::numbering::number_rows;
 use crate::plan::{Mention, Plan, PlanRow};
 use crate::prefix::directions_of;
 use crate::spelling::{Side, rows_spelled_out};
+use pz_base::listed::Listed;
+use pz_game::denotation::Denotation;
 use pz_grammar::rule::Rule;
-use pz_names::denotation::Denotation;
-use pz_text::listed::Listed;
 use std::alloc::Global;
 
 /// The plan of a rule whose names are spelled out.

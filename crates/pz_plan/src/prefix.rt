@@ -3,13 +3,13 @@
 ghost use Rattle.std.specs.Prelude.{◌≡◌, IfOk, ◌++◌, OnOk};
 ghost use Rattle.std.specs.List.{list_any, flat_map};
 ghost use Rattle.pz_plan.specs.Prefix.{is_late_word, is_late_rule, prefix_directions, mentioned_directions, or_all, directions_of};
-ghost use Rattle.pz_source.specs.Direction.{same_dir};
-ghost use Rattle.pz_plan.specs.Lists.{firsts, added_all};
+ghost use Rattle.pz_game.specs.Direction.{same_dir};
+ghost use Rattle.pz_base.specs.Lists.{firsts, added_all};
 
+use pz_base::listed::Listed;
+use pz_game::direction::Dir;
 use pz_grammar::rule::Rule;
 use pz_grammar::token::{Class, Lead, Token};
-use pz_source::direction::Dir;
-use pz_text::listed::Listed;
 use std::alloc::{AllocError, Global};
 
 fn is_late_word(token: &Token) -> bool

@@ -2,15 +2,15 @@
 
 ghost use Rattle.std.specs.Prelude.{◌≡◌, ◌||◌, ◌++◌, OnOk, IfOk, option_copied, slice_get};
 ghost use Rattle.std.specs.List.{flat_map, list_any};
-ghost use Rattle.pz_plan.specs.Lists.{added, added_all};
+ghost use Rattle.pz_base.specs.Lists.{added, added_all};
 ghost use Rattle.pz_plan.specs.Same.{is_class, is_some_member, same_mention, says_the_same};
 ghost use Rattle.pz_plan.specs.Spelling.{is_chosen, mentions_of, mentions_at, denoted, spelled_out, cell_of, is_gap, gap_of, row_spelled_out, rows_spelled_out};
 
 use crate::plan::{Mention, PlanRow, Subject};
+use pz_base::listed::Listed;
+use pz_game::denotation::{Denotation, Kind};
 use pz_grammar::rule::{Cell, Phrase};
 use pz_grammar::token::Lead;
-use pz_names::denotation::{Denotation, Kind};
-use pz_text::listed::Listed;
 use std::alloc::{AllocError, Global};
 
 /// A side of a rule.

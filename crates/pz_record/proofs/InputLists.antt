@@ -6,7 +6,7 @@ use Rattle.serde_json.specs.Data.{Data}
 use Rattle.serde_json.specs.declared.value.Value.{Value}
 use Rattle.serde_json.specs.Find.{as_array}
 use Rattle.serde_json.specs.View.{items_view, view as data_of}
-use Rattle.pz_source.specs.Each.{all_some}
+use Rattle.pz_base.specs.Each.{all_some}
 use Rattle.pz_record.specs.Input.{input_of, inputs_of}
 use Rattle.pz_record.proofs.Gather.{list_of-array, list_of-none, map-map}
 

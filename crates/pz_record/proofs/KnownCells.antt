@@ -6,7 +6,7 @@ use Rattle.std.proofs.lemmas.Grind.{flat_map-append}
 use Rattle.std.proofs.lemmas.List.FromFn.{map-range_with_len_more}
 use Rattle.std.specs.List.{position_or_len, range_with_len}
 use Rattle.std.specs.Str.{bytes_eq}
-use Rattle.pz_text.specs.NameSet.{number_in, is_name_of}
+use Rattle.pz_base.specs.NameSet.{number_in, is_name_of}
 use Rattle.pz_record.specs.LevelText.{piece, with_cell, known_of, cell_text, line_end, text_of_cells}
 use Rattle.pz_record.proofs.Cuts.{none_chosen, nothing_first}
 

@@ -3,8 +3,9 @@ use Rattle.std.proofs.Common.{◌≡◌, ◌≢◌, ℕ, suc, ◌<◌, ◌^◌, 
 use Rattle.std.specs.List.{list_all}
 use Rattle.std.proofs.lemmas.List.Elements.{All-head, All-tail}
 use Rattle.std.proofs.lemmas.Bool.{ne_eqb, and_parts}
-use Rattle.pz_source.specs.Game.{GameView, IsGame}
-use Rattle.pz_names.specs.Word.{IsWord}
+use Rattle.pz_game.specs.Game.{IsGame}
+use Rattle.pz_game.specs.declared.game.GameParts.{GameParts}
+use Rattle.pz_game.specs.Word.{IsWord}
 use Rattle.pz_grid.specs.Grid.{Grid}
 use Rattle.pz_grid.specs.Standing.{stands}
 use Rattle.pz_record.specs.declared.order.Order.{Order}
@@ -92,7 +93,7 @@ sets_read objects grid [] g = refl
 sets_read objects grid (position ∷ positions) g =
     ap₂ (λ x xs. x ∷ xs) (set_reads (standing_names objects grid position) (standing_game objects grid position g)) (sets_read objects grid positions g)
 
-pub level_reads : (game : GameView) (order : Order) (grid : Grid) (width : ℕ) → IsGame game → HasNoComma game → length (texts_in game order grid) < 2 ^ 64
+pub level_reads : (game : GameParts) (order : Order) (grid : Grid) (width : ℕ) → IsGame game → HasNoComma game → length (texts_in game order grid) < 2 ^ 64
     → reading (text_of_cells width (texts_in game order grid)) ≡ Some (sets_in game order grid)
 level_reads game order grid width lawful no_comma small =
     round_trip width (texts_in game order grid) small (texts_plain game.objects grid (cells_in order grid) (plain_names game.objects lawful.worded no_comma))

@@ -2,7 +2,7 @@
 use Rattle.std.proofs.Common.{◌≡◌, ℕ, Bool, suc, ◌+◌, ◌*◌, ◌<◌, ◌≤◌, ◌&&◌, List, [], ◌∷◌, length, drop, get_or, map, true, false, refl, ap, sym, ◌∙◌, arith}
 use Rattle.std.proofs.lemmas.List.{length-map, get_or-map, drop_more, drop_all}
 use Rattle.std.proofs.lemmas.List.FromFn.{length-map-range_with_len, get_or-map-range_with_len}
-use Rattle.pz_source.specs.Game.{GameView}
+use Rattle.pz_game.specs.declared.game.GameParts.{GameParts}
 use Rattle.pz_grid.specs.Grid.{Grid}
 use Rattle.pz_record.specs.declared.order.Order.{Order}
 use Rattle.pz_record.specs.CellNames.{set_of, same_set}
@@ -11,12 +11,12 @@ use Rattle.pz_record.specs.LevelNames.{standing_names, sets_in}
 use Rattle.pz_record.specs.LevelText.{joined}
 use Rattle.pz_record.specs.Equality.{same_sets, equals_recorded}
 
-pub length-sets_in : (game : GameView) (order : Order) (grid : Grid) → length (sets_in game order grid) ≡ grid.width * grid.height
+pub length-sets_in : (game : GameParts) (order : Order) (grid : Grid) → length (sets_in game order grid) ≡ grid.width * grid.height
 length-sets_in game order grid =
     length-map (cells_in order grid) (λ position. set_of (standing_names game.objects grid position)) ∙ length-map-range_with_len (position_of order grid) 0 (grid.width * grid.height)
 
 -- the set of the cell of a number
-pub set_at : (game : GameView) (order : Order) (grid : Grid) (k x y : ℕ) → k < grid.width * grid.height → x ≡ column_of order grid k → y ≡ row_of order grid k
+pub set_at : (game : GameParts) (order : Order) (grid : Grid) (k x y : ℕ) → k < grid.width * grid.height → x ≡ column_of order grid k → y ≡ row_of order grid k
     → get_or (sets_in game order grid) k [] ≡ set_of (standing_names game.objects grid (x, y))
 set_at game order grid k x y h e f =
     let set = λ (position : ℕ × ℕ). set_of (standing_names game.objects grid position) in
@@ -34,20 +34,20 @@ other_length (x ∷ xs) (y ∷ ys) d = rw (other_length xs ys (λ e. d (ap suc e
     and_false false = refl
 
 -- as many cells as were recorded
-pub other_size : (game : GameView) (order : Order) (grid : Grid) (recorded : List (List (List ℕ))) → (length recorded ≡ grid.width * grid.height → ⊥) → equals_recorded game order grid recorded ≡ false
+pub other_size : (game : GameParts) (order : Order) (grid : Grid) (recorded : List (List (List ℕ))) → (length recorded ≡ grid.width * grid.height → ⊥) → equals_recorded game order grid recorded ≡ false
 unfolding equals_recorded
 other_size game order grid recorded d = other_length (sets_in game order grid) recorded (λ e. d (sym e ∙ length-sets_in game order grid))
 
 -- the cells from a number on
-abbrev pub same_from : GameView → Order → Grid → List (List (List ℕ)) → ℕ → Bool
+abbrev pub same_from : GameParts → Order → Grid → List (List (List ℕ)) → ℕ → Bool
 same_from game order grid recorded k = same_sets (drop k (sets_in game order grid)) (drop k recorded)
 
-pub same_start : (game : GameView) (order : Order) (grid : Grid) (recorded : List (List (List ℕ))) → same_from game order grid recorded 0 ≡ equals_recorded game order grid recorded
+pub same_start : (game : GameParts) (order : Order) (grid : Grid) (recorded : List (List (List ℕ))) → same_from game order grid recorded 0 ≡ equals_recorded game order grid recorded
 unfolding equals_recorded
 same_start game order grid recorded = refl
 
 -- the next cell
-pub same_step : (game : GameView) (order : Order) (grid : Grid) (recorded : List (List (List ℕ))) (k x y : ℕ) → k < grid.width * grid.height → length recorded ≡ grid.width * grid.height
+pub same_step : (game : GameParts) (order : Order) (grid : Grid) (recorded : List (List (List ℕ))) (k x y : ℕ) → k < grid.width * grid.height → length recorded ≡ grid.width * grid.height
     → x ≡ column_of order grid k → y ≡ row_of order grid k
     → same_from game order grid recorded k ≡ (same_set (set_of (standing_names game.objects grid (x, y))) (get_or recorded k []) && same_from game order grid recorded (k + 1))
 same_step game order grid recorded k x y h size e f =
@@ -55,21 +55,21 @@ same_step game order grid recorded k x y h size e f =
     let there : k < length recorded = rw size h in
     rw (drop_more (sets_in game order grid) k [] here, drop_more recorded k [] there, set_at game order grid k x y h e f) refl
 
-pub same_end : (game : GameView) (order : Order) (grid : Grid) (recorded : List (List (List ℕ))) (k : ℕ) → grid.width * grid.height ≤ k → length recorded ≡ grid.width * grid.height → same_from game order grid recorded k ≡ true
+pub same_end : (game : GameParts) (order : Order) (grid : Grid) (recorded : List (List (List ℕ))) (k : ℕ) → grid.width * grid.height ≤ k → length recorded ≡ grid.width * grid.height → same_from game order grid recorded k ≡ true
 same_end game order grid recorded k h size =
     let here : length (sets_in game order grid) ≤ k = rw (length-sets_in game order grid) h in
     let there : length recorded ≤ k = rw size h in
     rw (drop_all k (sets_in game order grid) here, drop_all k recorded there) refl
 
 -- the texts of the cells
-abbrev pub texts_in : GameView → Order → Grid → List (List ℕ)
+abbrev pub texts_in : GameParts → Order → Grid → List (List ℕ)
 texts_in game order grid = map joined (sets_in game order grid)
 
-pub length-texts_in : (game : GameView) (order : Order) (grid : Grid) → length (texts_in game order grid) ≡ grid.width * grid.height
+pub length-texts_in : (game : GameParts) (order : Order) (grid : Grid) → length (texts_in game order grid) ≡ grid.width * grid.height
 length-texts_in game order grid = length-map (sets_in game order grid) joined ∙ length-sets_in game order grid
 
 -- the text of the cell of a number
-pub text_at_number : (game : GameView) (order : Order) (grid : Grid) (k x y : ℕ) → k < grid.width * grid.height → x ≡ column_of order grid k → y ≡ row_of order grid k
+pub text_at_number : (game : GameParts) (order : Order) (grid : Grid) (k x y : ℕ) → k < grid.width * grid.height → x ≡ column_of order grid k → y ≡ row_of order grid k
     → get_or (texts_in game order grid) k [] ≡ joined (set_of (standing_names game.objects grid (x, y)))
 text_at_number game order grid k x y h e f =
     let within : k < length (sets_in game order grid) = rw (length-sets_in game order grid) h in

@@ -3,8 +3,8 @@ use Rattle.std.proofs.Common.{◌≡◌, ℕ, List, [], ◌∷◌, Option, Some,
 use Rattle.std.specs.Prelude.{codes, map}
 use Rattle.std.specs.Fmt.{digits}
 use Rattle.serde_json.specs.Data.{Data, Items, null, number, string, array, object, unsigned, no_items, item, no_members}
-use Rattle.pz_source.specs.declared.direction.Dir.TheVariants.{Up, Down, Left, Right, Action}
-use Rattle.pz_source.specs.Game.{GameView}
+use Rattle.pz_game.specs.declared.direction.Dir.TheVariants.{Up, Down, Left, Right, Action}
+use Rattle.pz_game.specs.declared.game.GameParts.{GameParts}
 use Rattle.pz_grid.specs.declared.cell.Piece.{Piece}
 use Rattle.pz_grid.specs.Grid.{Grid}
 use Rattle.pz_record.specs.declared.order.Order.TheVariants.{Rows, Columns}
@@ -50,7 +50,7 @@ one_more = refl
 -- the text of a level
 
 -- the objects 0 player and 1 crate on one layer, 2 the background on another
-abbrev game : GameView
+abbrev game : GameParts
 game = record {
   objects = codes "player" ∷ codes "crate" ∷ codes "background" ∷ [];
   names = codes "player" ∷ codes "crate" ∷ codes "background" ∷ [];

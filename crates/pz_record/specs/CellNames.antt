@@ -5,7 +5,7 @@ use Rattle.std.specs.Str.{bytes_eq}
 use Rattle.std.specs.Ordering.{nat_cmp}
 use Rattle.std.specs.Cmp.Lexicographic.{slice_cmp}
 use Rattle.std.specs.BTreeSet.{insert_key}
-use Rattle.pz_text.specs.Name.{folded}
+use Rattle.pz_base.specs.Name.{folded}
 
 -- the names with one more, at its place
 unfoldable pub with_name : List (List ℕ) → List ℕ → List (List ℕ)

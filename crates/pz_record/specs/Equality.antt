@@ -1,6 +1,6 @@
 -- A level that is as it was recorded.
 use Rattle.std.specs.Prelude.{ℕ, Bool, true, false, ◌&&◌, List, [], ◌∷◌}
-use Rattle.pz_source.specs.Game.{GameView}
+use Rattle.pz_game.specs.declared.game.GameParts.{GameParts}
 use Rattle.pz_grid.specs.Grid.{Grid}
 use Rattle.pz_record.specs.declared.order.Order.{Order}
 use Rattle.pz_record.specs.CellNames.{same_set}
@@ -13,5 +13,5 @@ same_sets (x ∷ xs) (y ∷ ys) = same_set x y && same_sets xs ys
 same_sets xs ys = false
 
 -- the cells of the level, in this order, have the recorded names
-unfoldable pub equals_recorded : GameView → Order → Grid → List (List (List ℕ)) → Bool
+unfoldable pub equals_recorded : GameParts → Order → Grid → List (List (List ℕ)) → Bool
 equals_recorded game order grid recorded = same_sets (sets_in game order grid) recorded

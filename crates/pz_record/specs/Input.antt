@@ -2,11 +2,11 @@
 use Rattle.std.specs.Prelude.{ℕ, List, [], ◌∷◌, length, map, nat_lt, slice_get, if◌then◌else◌, Option, Some, None, codes}
 use Rattle.std.specs.Str.{bytes_eq}
 use Rattle.serde_json.specs.Data.{Data, number, string, unsigned}
-use Rattle.pz_source.specs.declared.direction.Dir.TheVariants.{Up, Down, Left, Right, Action}
+use Rattle.pz_game.specs.declared.direction.Dir.TheVariants.{Up, Down, Left, Right, Action}
 use Rattle.pz_record.specs.declared.input.TheConstants.{MOST_INPUTS}
 use Rattle.pz_record.specs.declared.input.Input.{Input}
 use Rattle.pz_record.specs.declared.input.Input.TheVariants.{Press, Undo, Restart, Tick}
-use Rattle.pz_source.specs.Each.{all_some}
+use Rattle.pz_base.specs.Each.{all_some}
 use Rattle.pz_record.specs.Json.{list_of, ◌>>=◌}
 
 -- 0 up, 1 left, 2 down, 3 right, 4 action

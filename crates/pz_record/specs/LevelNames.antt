@@ -1,6 +1,6 @@
 -- The names that stand in the cells of a level.
 use Rattle.std.specs.Prelude.{ℕ, suc, Bool, List, [], ◌∷◌, map, if◌then◌else◌}
-use Rattle.pz_source.specs.Game.{GameView}
+use Rattle.pz_game.specs.declared.game.GameParts.{GameParts}
 use Rattle.pz_grid.specs.Grid.{Grid}
 use Rattle.pz_grid.specs.Standing.{stands}
 use Rattle.pz_record.specs.declared.order.Order.{Order}
@@ -17,5 +17,5 @@ unfoldable pub standing_names : List (List ℕ) → Grid → ℕ × ℕ → List
 standing_names objects grid position = chosen_from (stands grid position.0 position.1) 0 objects
 
 -- for each cell of a level, in an order, the set of its names
-abbrev pub sets_in : GameView → Order → Grid → List (List (List ℕ))
+abbrev pub sets_in : GameParts → Order → Grid → List (List (List ℕ))
 sets_in game order grid = map (λ position. set_of (standing_names game.objects grid position)) (cells_in order grid)

@@ -1,8 +1,8 @@
 -- The text of a level: for each cell its names, and from the second time on their number.
 use Rattle.std.specs.Prelude.{◌≢◌, ℕ, ◌+◌, ◌%◌, ◌==◌, List, [], ◌∷◌, ◌++◌, length, take, slice_index_or, fold, flat_map, map, All, if◌then◌else◌, Option, Some, None, decimal}
 use Rattle.std.specs.List.{join_with_byte, range_with_len}
-use Rattle.pz_text.specs.NameSet.{number_in}
-use Rattle.pz_source.specs.Game.{GameView}
+use Rattle.pz_base.specs.NameSet.{number_in}
+use Rattle.pz_game.specs.declared.game.GameParts.{GameParts}
 use Rattle.pz_grid.specs.Grid.{Grid}
 use Rattle.pz_record.specs.declared.order.Order.{Order}
 use Rattle.pz_record.specs.LevelNames.{sets_in}
@@ -43,9 +43,9 @@ abbrev pub text_of_cells : ℕ → List (List ℕ) → List ℕ
 text_of_cells width cells = flat_map (cell_text width cells) (range_with_len 0 (length cells))
 
 -- the text of a level, its cells in an order
-unfoldable pub text_of_level : GameView → Order → Grid → List ℕ
+unfoldable pub text_of_level : GameParts → Order → Grid → List ℕ
 text_of_level game order grid = text_of_cells grid.width (map joined (sets_in game order grid))
 
 -- no object of the game has a comma in its name
-abbrev pub HasNoComma : GameView → Type 0
+abbrev pub HasNoComma : GameParts → Type 0
 HasNoComma game = All (All (λ c. c ≢ 44)) game.objects

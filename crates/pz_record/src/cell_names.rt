@@ -1,7 +1,7 @@
 //! The names of a cell's objects.
 
 ghost use Rattle.std.specs.Prelude.{◌≡◌, [], map, IfOk, OnOk};
-ghost use Rattle.pz_text.specs.Name.{folded};
+ghost use Rattle.pz_base.specs.Name.{folded};
 ghost use Rattle.pz_record.specs.CellNames.{with_name, with_word, name_set, has_name};
 
 use crate::cutting::cut_first;

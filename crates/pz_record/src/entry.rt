@@ -10,7 +10,7 @@ use crate::fault::FileFault;
 use crate::input::{Inputs, read_inputs};
 use crate::reading::read_level_text;
 use crate::recorded::Recorded;
-use pz_text::text::Text;
+use pz_base::text::Text;
 use serde_json::Value;
 use std::alloc::{AllocError, Global};
 

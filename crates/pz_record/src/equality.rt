@@ -10,9 +10,9 @@ ghost use Rattle.pz_record.specs.Equality.{equals_recorded};
 use crate::cell_names::CellNames;
 use crate::order::{Order, position};
 use crate::recorded::Recorded;
+use pz_base::name::Name;
+use pz_game::game::Game;
 use pz_grid::Level;
-use pz_source::game::Game;
-use pz_text::name::Name;
 use std::collections::BTreeSet;
 
 fn is_named(object: &Name, name: &[u8]) -> bool

@@ -2,10 +2,10 @@
 
 ghost use Rattle.std.specs.Prelude.{◌≡◌, ◌≤◌, length, map, IfOk};
 ghost use Rattle.serde_json.specs.View.{view as data_of};
-ghost use Rattle.pz_source.specs.Each.{all_some};
+ghost use Rattle.pz_base.specs.Each.{all_some};
 ghost use Rattle.pz_record.specs.Input.{input_of, inputs_of};
 
-use pz_source::direction::Dir;
+use pz_game::direction::Dir;
 use serde_json::Value;
 use std::alloc::{AllocError, Global};
 use std::marker::Model;

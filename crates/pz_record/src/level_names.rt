@@ -5,8 +5,8 @@ ghost use Rattle.pz_record.specs.CellNames.{with_name, set_of};
 ghost use Rattle.pz_record.specs.LevelNames.{standing_names};
 ghost use Rattle.pz_record.specs.LevelText.{joined};
 
+use pz_base::name::Name;
 use pz_grid::Level;
-use pz_text::name::Name;
 use std::alloc::{AllocError, Global};
 use std::collections::BTreeSet;
 

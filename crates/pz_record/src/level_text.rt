@@ -7,10 +7,10 @@ ghost use Rattle.pz_record.specs.Reading.{reading};
 
 use crate::level_names::text_at;
 use crate::order::{Order, position};
+use pz_base::name_set::NameSet;
+use pz_base::text::Text;
+use pz_game::game::Game;
 use pz_grid::Level;
-use pz_source::game::Game;
-use pz_text::name_set::NameSet;
-use pz_text::text::Text;
 use std::alloc::{AllocError, Global};
 
 /// Writes a cell, and adds its names to the known ones where they are new.

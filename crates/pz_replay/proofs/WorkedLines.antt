@@ -3,7 +3,7 @@ use Rattle.std.proofs.Common.{◌≡◌, ℕ, List, [], ◌∷◌, ◌++◌, ref
 use Rattle.std.specs.Prelude.{codes}
 use Rattle.std.specs.Fmt.{digits}
 use Rattle.json.specs.Print.{escape_byte}
-use Rattle.pz_text.specs.declared.fault.Code.TheVariants as code
+use Rattle.pz_base.specs.declared.fault.Code.TheVariants as code
 use Rattle.pz_session.specs.declared.item.Frame.{Frame}
 use Rattle.pz_session.specs.declared.item.FrameKind.{FrameKind}
 use Rattle.pz_session.specs.declared.item.FrameKind.TheVariants as kind

@@ -1,7 +1,7 @@
 -- What the lines of a recording call the kinds of frames, the closes and their causes.
 use Rattle.std.specs.Prelude.{ℕ, List, ◌++◌, Option, Some, None, codes, decimal}
-use Rattle.pz_text.specs.declared.fault.Code.{Code}
-use Rattle.pz_text.specs.declared.fault.Code.TheVariants as code
+use Rattle.pz_base.specs.declared.fault.Code.{Code}
+use Rattle.pz_base.specs.declared.fault.Code.TheVariants as code
 use Rattle.pz_session.specs.declared.item.FrameKind.{FrameKind}
 use Rattle.pz_session.specs.declared.item.FrameKind.TheVariants as kind
 use Rattle.pz_session.specs.declared.item.Stop.{Stop}

@@ -11,7 +11,5 @@ pub mod output;
 mod recorder;
 pub mod recording;
 pub mod replaying;
-#[cfg(test)]
-mod tests;
 pub mod work;
 pub mod writing;

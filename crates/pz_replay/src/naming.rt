@@ -3,8 +3,8 @@
 ghost use Rattle.std.specs.Prelude.{◌≡◌, ◌++◌, IfOk, codes, decimal, option_map, string_bytes};
 ghost use Rattle.pz_replay.specs.Naming.{kind_name, code_name, stop_name, refusal_name, close_name, cause_name};
 
+use pz_base::fault::Code;
 use pz_session::item::{FrameKind, Refusal, Stop, Verdict};
-use pz_text::fault::Code;
 use std::alloc::{AllocError, Global};
 
 #[tactic(auto, unfolding(crate::specs::Naming::kind_name))]

@@ -2,9 +2,9 @@
 
 ghost use Rattle.std.specs.Prelude.{◌≡◌};
 
+use pz_base::listed::Listed;
+use pz_base::text::Text;
 use pz_session::item::Item;
-use pz_text::listed::Listed;
-use pz_text::text::Text;
 use std::marker::Model;
 
 /// What one session showed: its name and its items, the close among them.

@@ -1,4 +1,0 @@
-pub mod CommandLine
-pub mod Options
-pub mod Reading
-pub mod Serving

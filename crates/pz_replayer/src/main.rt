@@ -1,19 +1,9 @@
-//! Replays recorded PuzzleScript sessions: from the words of a command line and the bytes of a file of sessions to the lines of
-//! their recording and an exit status.
+//! The program: replays recorded PuzzleScript sessions, over its words and its streams.
 #![tactic(auto)]
 
-mod command_line;
-mod counted;
-mod input;
-mod options;
-mod refusal;
-mod serving;
-#[cfg(test)]
-mod tests;
-
-use crate::command_line::serve_words;
-use crate::refusal::{Refusal, refuse};
 use pz_replay::output::Output;
+use pz_serving::command_line::serve_words;
+use pz_serving::refusal::{Refusal, refuse};
 use std::env;
 use std::env::Env;
 use std::io::ErrorKind;

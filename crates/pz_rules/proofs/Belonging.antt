@@ -3,13 +3,13 @@ use Rattle.std.proofs.Common.{◌≡◌, ℕ, ◌+◌, ◌<◌, nat_lt, Bool, tr
 use Rattle.std.specs.List.{list_all, flat_map, slice_get}
 use Rattle.std.specs.Option.{option_map_or}
 use Rattle.std.proofs.lemmas.Bool.{and_parts, and_from, lt-ltb, eq-eqb}
-use Rattle.pz_names.specs.declared.denotation.Denotation.{Denotation}
-use Rattle.pz_source.specs.declared.direction.Dir.{Dir}
+use Rattle.pz_game.specs.declared.denotation.Denotation.{Denotation}
+use Rattle.pz_game.specs.declared.direction.Dir.{Dir}
 use Rattle.pz_plan.specs.declared.fault.RuleFault.{RuleFault}
-use Rattle.pz_rules.specs.declared.instance.Instance.{Instance}
+use Rattle.pz_game.specs.declared.instance.Instance.{Instance}
 use Rattle.pz_rules.specs.declared.instances.Pick.{Pick}
 use Rattle.pz_rules.specs.declared.instances.Pick.TheVariants as pick
-use Rattle.pz_rules.specs.declared.pattern.Item.{Item}
+use Rattle.pz_game.specs.declared.pattern.Item.{Item}
 use Rattle.pz_plan.specs.declared.plan.Asked.{Asked}
 use Rattle.pz_plan.specs.declared.plan.Asked.TheVariants as asked
 use Rattle.pz_plan.specs.declared.plan.Choice.{Choice}
@@ -34,10 +34,10 @@ use Rattle.pz_plan.specs.Checks.{fault_of}
 use Rattle.pz_plan.specs.Deciding.{joined, with_word, decided_word, decided_name, decided_term, decided_terms, decided_cells, decided_row, decided_rows, member_choice}
 use Rattle.pz_rules.specs.Equal.{same_instance}
 use Rattle.pz_rules.specs.Instances.{members_at, options_of, picked_object, object_of, layer_of, item_of, cell_of, row_of, rows_of, instance_of, is_possible, picks_of, possible_of, instances_of}
-use Rattle.pz_plan.specs.Lists.{firsts}
+use Rattle.pz_base.specs.Lists.{firsts}
 use Rattle.pz_plan.specs.Numbering as numbering
 use Rattle.pz_plan.specs.Numbering.{choices_in_rows, name_of, term_of, terms_of, cells_of, asked_by, asked_in, asked_count, asked_by_mark}
-use Rattle.pz_rules.specs.Pattern.{RuleRow}
+use Rattle.pz_game.specs.Pattern.{RuleRow}
 use Rattle.pz_plan.specs.Planning.{with_right, planned, plan_of}
 use Rattle.pz_plan.specs.Same.{says_the_same}
 use Rattle.pz_plan.specs.Spelling as spelling

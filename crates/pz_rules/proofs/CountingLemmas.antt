@@ -3,11 +3,11 @@ use Rattle.std.proofs.Common.{Bool, true, false, ◌==◌, ◌||◌, ◌≡◌, 
 use Rattle.std.specs.List.{All}
 use Rattle.std.proofs.Math.Nat.{mul-le-mul_left, mul_assoc}
 use Rattle.pz_plan.specs.declared.plan.Choice.{Choice}
-use Rattle.pz_names.specs.declared.denotation.Denotation.{Denotation}
+use Rattle.pz_game.specs.declared.denotation.Denotation.{Denotation}
 use Rattle.std.proofs.lemmas.Bool.{eqb-true, eqb-false, or_parts, false≢true}
 use Rattle.std.specs.List.{list_any}
 use Rattle.std.proofs.lemmas.List.{at_drop_more}
-use Rattle.pz_plan.specs.Lists.{product_of}
+use Rattle.pz_base.specs.Lists.{product_of}
 use Rattle.pz_rules.specs.Counting.{size_of}
 
 -- every choice has a pick

@@ -2,13 +2,13 @@
 use Rattle.std.proofs.Common.{◌≡◌, ℕ, true, ◌&&◌, ◌==◌, List, [], ◌∷◌, length, refl, ap, ◌∙◌, subst, ⊎_elim}
 use Rattle.std.proofs.lemmas.Bool.{and_parts, and_from, or_cases, eqb-true, eq-eqb, false≢true}
 use Rattle.std.specs.List.{list_any, list_all, zip}
-use Rattle.pz_rules.specs.declared.pattern.Word.{Word}
-use Rattle.pz_rules.specs.declared.pattern.Word.TheVariants.{Present, Still, Toward, Absent}
-use Rattle.pz_rules.specs.declared.pattern.Item.{Item}
-use Rattle.pz_rules.specs.declared.instance.Instance.{Instance}
-use Rattle.pz_source.specs.Direction.{same_dir}
+use Rattle.pz_game.specs.declared.pattern.Word.{Word}
+use Rattle.pz_game.specs.declared.pattern.Word.TheVariants.{Present, Still, Toward, Absent}
+use Rattle.pz_game.specs.declared.pattern.Item.{Item}
+use Rattle.pz_game.specs.declared.instance.Instance.{Instance}
+use Rattle.pz_game.specs.Direction.{same_dir}
 use Rattle.pz_rules.specs.Equal.{same_meaning, same_item, has_item, within_cell, same_cell, cells_agree, same_row, rows_agree, same_rows, same_instance}
-use Rattle.pz_rules.specs.Pattern.{RuleRow}
+use Rattle.pz_game.specs.Pattern.{RuleRow}
 use Rattle.pz_plan.proofs.Directions.{same_dir_is, same_dir-trans}
 
 same_meaning_is : (a b : Word) → same_meaning a b ≡ true → a ≡ b

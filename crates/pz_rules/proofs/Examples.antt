@@ -1,21 +1,21 @@
 -- Worked programs.
 use Rattle.std.proofs.Common.{◌≡◌, ℕ, false, List, [], ◌∷◌, map, length, codes, Result, Ok, Err, refl}
 use Rattle.std.specs.List.{flat_map}
-use Rattle.pz_text.specs.declared.fault.Code.TheVariants as code
-use Rattle.pz_text.specs.declared.fault.SourceFault.{SourceFault}
-use Rattle.pz_names.specs.declared.denotation.Denotation.{Denotation}
-use Rattle.pz_names.specs.declared.denotation.Kind.TheVariants as kind
-use Rattle.pz_source.specs.declared.direction.Dir.{Dir}
-use Rattle.pz_source.specs.declared.direction.Dir.TheVariants as dir
-use Rattle.pz_source.specs.declared.rules.RuleLine.{RuleLine}
-use Rattle.pz_source.specs.Game.{GameView}
-use Rattle.pz_rules.specs.declared.instance.Block.{Block}
-use Rattle.pz_rules.specs.declared.instance.Block.TheVariants.{One, Loop}
-use Rattle.pz_rules.specs.declared.instance.Instance.{Instance}
-use Rattle.pz_rules.specs.declared.instance.Program.{Program}
-use Rattle.pz_rules.specs.declared.pattern.Word.{Word}
-use Rattle.pz_rules.specs.declared.pattern.Word.TheVariants as word
-use Rattle.pz_rules.specs.declared.pattern.Item.{Item}
+use Rattle.pz_base.specs.declared.fault.Code.TheVariants as code
+use Rattle.pz_base.specs.declared.fault.SourceFault.{SourceFault}
+use Rattle.pz_game.specs.declared.denotation.Denotation.{Denotation}
+use Rattle.pz_game.specs.declared.denotation.Kind.TheVariants as kind
+use Rattle.pz_game.specs.declared.direction.Dir.{Dir}
+use Rattle.pz_game.specs.declared.direction.Dir.TheVariants as dir
+use Rattle.pz_game.specs.declared.rule_line.RuleLine.{RuleLine}
+use Rattle.pz_game.specs.declared.game.GameParts.{GameParts}
+use Rattle.pz_game.specs.declared.instance.Block.{Block}
+use Rattle.pz_game.specs.declared.instance.Block.TheVariants.{One, Loop}
+use Rattle.pz_game.specs.declared.instance.Instance.{Instance}
+use Rattle.pz_game.specs.declared.instance.Program.{Program}
+use Rattle.pz_game.specs.declared.pattern.Word.{Word}
+use Rattle.pz_game.specs.declared.pattern.Word.TheVariants as word
+use Rattle.pz_game.specs.declared.pattern.Item.{Item}
 use Rattle.pz_rules.specs.Drafts.{program_of}
 use Rattle.pz_plan.specs.Checks as of_checks
 use Rattle.pz_rules.specs.Clash as of_clash
@@ -41,7 +41,7 @@ abbrev object : ℕ → Denotation
 object k = record { kind = kind.Object; number = k; members = k ∷ [] }
 
 -- Background, Target, Player, Wall, Crate, Spike, Mark; @ is Crate and Target; Thing is Crate or Wall
-abbrev game : List RuleLine → GameView
+abbrev game : List RuleLine → GameParts
 game lines = record {
   objects = codes "background" ∷ codes "target" ∷ codes "player" ∷ codes "wall" ∷ codes "crate" ∷ codes "spike" ∷ codes "mark" ∷ [];
   names = codes "background" ∷ codes "target" ∷ codes "player" ∷ codes "wall" ∷ codes "crate" ∷ codes "spike" ∷ codes "mark" ∷ codes "@" ∷ codes "thing" ∷ [];

@@ -4,13 +4,13 @@ use Rattle.std.proofs.lemmas.Bool.{cases_Bool, cond-true, cond-false}
 use Rattle.std.proofs.lemmas.List.{take_more, append-nil, map-id}
 use Rattle.std.proofs.lemmas.List.Concat.{flat_map-append}
 use Rattle.std.specs.List.{flat_map}
-use Rattle.pz_source.specs.declared.direction.Dir.{Dir}
-use Rattle.pz_rules.specs.declared.instance.Instance.{Instance}
+use Rattle.pz_game.specs.declared.direction.Dir.{Dir}
+use Rattle.pz_game.specs.declared.instance.Instance.{Instance}
 use Rattle.pz_rules.specs.declared.instances.Pick.{Pick}
 use Rattle.pz_plan.specs.declared.plan.Plan.{Plan}
-use Rattle.pz_names.specs.declared.denotation.Denotation.{Denotation}
+use Rattle.pz_game.specs.declared.denotation.Denotation.{Denotation}
 use Rattle.pz_rules.specs.Equal.{same_instance}
-use Rattle.pz_plan.specs.Lists.{firsts, product, added}
+use Rattle.pz_base.specs.Lists.{firsts, product, added}
 use Rattle.pz_rules.specs.Instances.{instance_of, is_possible, considered, picks_of, possible_of, options_of}
 use Rattle.pz_plan.proofs.Firsts.{firsts-append}
 use Rattle.pz_rules.proofs.EqualLemmas.{same_instance-trans}

@@ -3,13 +3,13 @@ use Rattle.std.proofs.Common.{◌≡◌, ◌≢◌, ℕ, List, [], ◌∷◌, ma
 use Rattle.std.specs.Prelude.{IfErr}
 use Rattle.std.specs.List.{Contains}
 use Rattle.std.proofs.lemmas.List.Elements.{Contains-get_or, Contains-append_left, Contains-append_right}
-use Rattle.pz_text.specs.declared.fault.Code.TheVariants.{Memory}
-use Rattle.pz_text.specs.declared.fault.SourceFault.{SourceFault}
-use Rattle.pz_source.specs.Game.{GameView}
-use Rattle.pz_source.specs.declared.rules.RuleLine.{RuleLine}
+use Rattle.pz_base.specs.declared.fault.Code.TheVariants.{Memory}
+use Rattle.pz_base.specs.declared.fault.SourceFault.{SourceFault}
+use Rattle.pz_game.specs.declared.game.GameParts.{GameParts}
+use Rattle.pz_game.specs.declared.rule_line.RuleLine.{RuleLine}
 use Rattle.pz_rules.specs.declared.draft.Draft.{Draft}
 use Rattle.pz_plan.specs.declared.fault.RuleFault.{RuleFault}
-use Rattle.pz_rules.specs.declared.instance.Program.{Program}
+use Rattle.pz_game.specs.declared.instance.Program.{Program}
 use Rattle.pz_rules.specs.Drafts.{line_added, going_on, program_from, nothing, program_of}
 
 -- the fault names one of the lines
@@ -28,18 +28,18 @@ going_on-lined line lines later (Ok d) each = by (later d) (each d)
     by (Ok program) h = tt
     by (Err fault) h = Contains-append_right (line.number ∷ []) (map (λ (line : RuleLine). line.number) lines) fault.line h
 
-program_from-lined : (game : GameView) (d : Draft) (lines : List RuleLine) → IfErr (program_from game d lines) (NamesOneOf lines)
+program_from-lined : (game : GameParts) (d : Draft) (lines : List RuleLine) → IfErr (program_from game d lines) (NamesOneOf lines)
 unfolding program_from
 program_from-lined game d [] = tt
 program_from-lined game d (line ∷ lines) =
     going_on-lined line lines (λ d. program_from game d lines) (line_added game d lines line.words) (λ e. program_from-lined game e lines)
 
-program_of-lined : (game : GameView) → IfErr (program_of game) (NamesOneOf game.rules)
+program_of-lined : (game : GameParts) → IfErr (program_of game) (NamesOneOf game.rules)
 unfolding program_of
 program_of-lined game = program_from-lined game nothing game.rules
 
 -- and so does what stands for it where memory may fail
-pub result-lined : {A : Type 0} (game : GameView) (r : Result A SourceFault) → IfErr r (λ fault. fault.code ≢ Memory → program_of game ≡ Err fault)
+pub result-lined : {A : Type 0} (game : GameParts) (r : Result A SourceFault) → IfErr r (λ fault. fault.code ≢ Memory → program_of game ≡ Err fault)
     → IfErr r (λ fault. fault.code ≢ Memory → NamesOneOf game.rules fault)
 result-lined game (Ok x) refused = tt
 result-lined game (Err fault) refused = λ other. subst (λ p. IfErr p (NamesOneOf game.rules)) (refused other) (program_of-lined game)

@@ -5,7 +5,7 @@ use Rattle.std.proofs.lemmas.List.{get_or-set_same, get_or-set_other, get_or_def
 use Rattle.std.proofs.lemmas.List.Folds.{list_any-append}
 use Rattle.std.specs.List.{list_any, list_all}
 use Rattle.std.specs.Option.{option_map_or}
-use Rattle.pz_rules.specs.declared.instance.Instance.{Instance}
+use Rattle.pz_game.specs.declared.instance.Instance.{Instance}
 use Rattle.pz_rules.specs.declared.kept.Place.{Place}
 use Rattle.pz_rules.specs.Equal.{same_instance}
 use Rattle.pz_rules.specs.Marks.{mark_of}

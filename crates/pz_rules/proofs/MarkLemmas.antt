@@ -4,12 +4,12 @@ use Rattle.std.proofs.lemmas.Bool.{and_parts, and_from, or_cases, or_parts, case
 use Rattle.std.proofs.lemmas.Nat.{xor_comm}
 use Rattle.std.specs.Int.Bits.{bit_xor, xor_assoc}
 use Rattle.std.specs.List.{list_any, list_all, zip}
-use Rattle.pz_rules.specs.declared.pattern.Item.{Item}
-use Rattle.pz_rules.specs.declared.instance.Instance.{Instance}
+use Rattle.pz_game.specs.declared.pattern.Item.{Item}
+use Rattle.pz_game.specs.declared.instance.Instance.{Instance}
 use Rattle.pz_rules.specs.Equal.{same_item, has_item, within_cell, same_cell, cells_agree, same_row, rows_agree, same_rows, same_instance}
 use Rattle.pz_rules.specs.Marks.{direction_number, item_mark, cell_mark, with_cell, with_row, with_rows, mark_of, spread_once}
-use Rattle.pz_rules.specs.Pattern.{RuleRow}
-use Rattle.pz_source.specs.Direction.{same_dir}
+use Rattle.pz_game.specs.Pattern.{RuleRow}
+use Rattle.pz_game.specs.Direction.{same_dir}
 use Rattle.pz_plan.proofs.Directions.{same_dir_is}
 use Rattle.pz_rules.proofs.EqualLemmas.{same_item_is}
 

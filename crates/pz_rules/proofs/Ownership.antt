@@ -5,24 +5,25 @@ use Rattle.std.specs.Option.{option_map_or, option_and_then}
 use Rattle.std.proofs.lemmas.Bool.{and_parts, and_from, lt-ltb, ltb-true, eqb-true}
 use Rattle.std.proofs.lemmas.List.Sums.{AllPass-from_list_all, list_all-from_AllPass}
 use Rattle.std.proofs.lemmas.Option.{unwrap_or-slice_get}
-use Rattle.pz_text.specs.declared.fault.SourceFault.{SourceFault}
-use Rattle.pz_text.specs.NameSet.{number_in}
-use Rattle.pz_names.specs.declared.denotation.Denotation.{Denotation}
-use Rattle.pz_source.specs.declared.rules.RuleLine.{RuleLine}
-use Rattle.pz_source.specs.Game.{GameView, IsGame}
-use Rattle.pz_names.specs.Denotation.{IsDenoted}
+use Rattle.pz_base.specs.declared.fault.SourceFault.{SourceFault}
+use Rattle.pz_base.specs.NameSet.{number_in}
+use Rattle.pz_game.specs.declared.denotation.Denotation.{Denotation}
+use Rattle.pz_game.specs.declared.rule_line.RuleLine.{RuleLine}
+use Rattle.pz_game.specs.Game.{IsGame}
+use Rattle.pz_game.specs.declared.game.GameParts.{GameParts}
+use Rattle.pz_game.specs.Denotation.{IsDenoted}
 use Rattle.pz_rules.specs.declared.draft.Draft.{Draft}
 use Rattle.pz_rules.specs.declared.draft.OpenGroup.{OpenGroup}
 use Rattle.pz_rules.specs.declared.expansion.Expansion.{Expansion}
 use Rattle.pz_plan.specs.declared.fault.RuleFault.{RuleFault}
 use Rattle.pz_plan.specs.declared.fault.RuleFault.TheVariants as fault
-use Rattle.pz_rules.specs.declared.instance.Block.{Block}
-use Rattle.pz_rules.specs.declared.instance.Block.TheVariants.{One, Loop}
-use Rattle.pz_rules.specs.declared.instance.Instance.{Instance}
-use Rattle.pz_rules.specs.declared.instance.Program.{Program}
+use Rattle.pz_game.specs.declared.instance.Block.{Block}
+use Rattle.pz_game.specs.declared.instance.Block.TheVariants.{One, Loop}
+use Rattle.pz_game.specs.declared.instance.Instance.{Instance}
+use Rattle.pz_game.specs.declared.instance.Program.{Program}
 use Rattle.pz_grammar.specs.declared.loops.LoopWord.{LoopWord}
 use Rattle.pz_grammar.specs.declared.loops.LoopWord.TheVariants as loop_words
-use Rattle.pz_rules.specs.declared.pattern.Item.{Item}
+use Rattle.pz_game.specs.declared.pattern.Item.{Item}
 use Rattle.pz_plan.specs.declared.plan.Plan.{Plan}
 use Rattle.pz_grammar.specs.declared.rule.Rule.{Rule}
 use Rattle.pz_rules.specs.declared.sides.Sides.{Sides}
@@ -30,11 +31,11 @@ use Rattle.pz_rules.specs.Clash.{has_clash}
 use Rattle.pz_rules.specs.Counting.{pair_count}
 use Rattle.pz_rules.specs.Drafts.{placed, settled, opened, loop_of, with_loop, closed, is_misplaced, lateness, joins, before, extended, extended_by, rule_added, parsed_added, loop_added, line_added, going_on, finished, program_from, nothing, program_of}
 use Rattle.pz_rules.specs.Expansion.{unless_clash, expansion_within, expanded_plan, expanded}
-use Rattle.pz_rules.specs.Instance.{IsInstanceOf, IsGroupOf, IsBlockOf, IsProgramOf}
+use Rattle.pz_game.specs.Instance.{IsInstanceOf, IsGroupOf, IsBlockOf, IsProgramOf}
 use Rattle.pz_rules.specs.Instances.{layer_of, instances_of}
 use Rattle.pz_grammar.specs.Loop.{loop_word, next_loop, is_end}
 use Rattle.pz_grammar.specs.Parsed.{parsed}
-use Rattle.pz_rules.specs.Pattern.{RuleRow, IsOf, AreOf, IsRowOf, AreRowsOf}
+use Rattle.pz_game.specs.Pattern.{RuleRow, IsOf, AreOf, IsRowOf, AreRowsOf}
 use Rattle.pz_plan.specs.Planning.{plan_of}
 use Rattle.pz_rules.specs.Sides.{side_added}
 use Rattle.pz_grammar.specs.Words.{tokens_of}
@@ -181,7 +182,7 @@ extended_by-is_of : (layers : List ℕ) (d : Draft) (rule : Rule) (o : Result Ex
 extended_by-is_of layers d rule (Ok more) h k = extended-is_of layers d rule more h k
 extended_by-is_of layers d rule (Err fault) h k = tt
 
-rule_added-is_of : (game : GameView) (d : Draft) (rule : Rule) → HasTable game.layers game.values → IsDraftOf game.layers d → DraftsOf game.layers (rule_added game d rule)
+rule_added-is_of : (game : GameParts) (d : Draft) (rule : Rule) → HasTable game.layers game.values → IsDraftOf game.layers d → DraftsOf game.layers (rule_added game d rule)
 unfolding rule_added
 rule_added-is_of game d rule has h =
     let more = extended_by d rule (expanded game.values game.layers d.pairs (lateness d rule) rule) in
@@ -191,7 +192,7 @@ rule_added-is_of game d rule has h =
     ] in
     by (is_misplaced d rule)
 
-parsed_added-is_of : (game : GameView) (d : Draft) (o : Option Rule) → HasTable game.layers game.values → IsDraftOf game.layers d → DraftsOf game.layers (parsed_added game d o)
+parsed_added-is_of : (game : GameParts) (d : Draft) (o : Option Rule) → HasTable game.layers game.values → IsDraftOf game.layers d → DraftsOf game.layers (parsed_added game d o)
 parsed_added-is_of game d None has h = tt
 parsed_added-is_of game d (Some rule) has h = rule_added-is_of game d rule has h
 
@@ -204,7 +205,7 @@ unfolding loop_added
 loop_added-is_of layers d lines loop_words.Start h = unless-is_of layers (is_end (next_loop lines)) (opened d) (opened-is_of layers d h)
 loop_added-is_of layers d lines loop_words.End h = unless-is_of layers _ (closed d) (closed-is_of layers d h)
 
-line_added-is_of : (game : GameView) (d : Draft) (lines : List RuleLine) (words : List (List ℕ)) → HasTable game.layers game.values → IsDraftOf game.layers d → DraftsOf game.layers (line_added game d lines words)
+line_added-is_of : (game : GameParts) (d : Draft) (lines : List RuleLine) (words : List (List ℕ)) → HasTable game.layers game.values → IsDraftOf game.layers d → DraftsOf game.layers (line_added game d lines words)
 unfolding line_added
 line_added-is_of game d lines words has h =
     let rule = parsed_added game d (parsed (tokens_of game.names words)) in
@@ -224,7 +225,7 @@ going_on-is_of : (layers : List ℕ) (n : ℕ) (later : Draft → Result Program
 going_on-is_of layers n later (Ok d) all h = all d h
 going_on-is_of layers n later (Err fault) all h = tt
 
-program_from-is_of : (game : GameView) (d : Draft) (lines : List RuleLine) → HasTable game.layers game.values → IsDraftOf game.layers d → ProgramsOf game.layers (program_from game d lines)
+program_from-is_of : (game : GameParts) (d : Draft) (lines : List RuleLine) → HasTable game.layers game.values → IsDraftOf game.layers d → ProgramsOf game.layers (program_from game d lines)
 unfolding program_from finished
 program_from-is_of game d [] has h =
     let e = settled-is_of game.layers d h in
@@ -234,7 +235,7 @@ program_from-is_of game d (line ∷ lines) has h =
     (λ e k. program_from-is_of game e lines has k)
     (line_added-is_of game d lines line.words has h)
 
-program_of-is_of : (game : GameView) → HasTable game.layers game.values → ProgramsOf game.layers (program_of game)
+program_of-is_of : (game : GameParts) → HasTable game.layers game.values → ProgramsOf game.layers (program_of game)
 unfolding program_of nothing
 program_of-is_of game has = program_from-is_of game nothing game.rules has (record { done = refl; repeated = tt; group = tt })
 
@@ -268,7 +269,7 @@ denotes-below : (n m : ℕ) (d : Denotation) → n ≡ m → IsDenoted n d → d
 denotes-below n m d e is =
     list_all-from_AllPass (below m) d.members (λ k x in_range. lt-ltb (get_or d.members k x) m (subst (λ j. get_or d.members k x < j) e (is.all k x in_range)))
 
-table-has : (game : GameView) → IsGame game → list_all (denotes (length game.layers)) game.values ≡ true
+table-has : (game : GameParts) → IsGame game → list_all (denotes (length game.layers)) game.values ≡ true
 table-has game is =
     list_all-from_AllPass (denotes (length game.layers)) game.values
     (λ k d in_range. denotes-below (length game.objects) (length game.layers) (get_or game.values k d) (sym is.laid) (is.members k d in_range))
@@ -286,7 +287,7 @@ some-object n values (Some k) h some =
     ] in
     by (slice_get values k) (each-get (denotes n) values k h) some
 
-pub program-owned : (game : GameView) (program : Program) → IsGame game → program_of game ≡ Ok program → IsProgramOf game.layers program
+pub program-owned : (game : GameParts) (program : Program) → IsGame game → program_of game ≡ Ok program → IsProgramOf game.layers program
 program-owned game program is e =
     let table = table-has game is in
     let has : HasTable game.layers game.values = record { some = some-object (length game.layers) game.values (number_in game.names (codes "player")) table is.player; entries = table } in

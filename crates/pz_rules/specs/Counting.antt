@@ -3,8 +3,8 @@ use Rattle.std.specs.Prelude.{ℕ, ◌*◌, List, length, map, slice_get}
 use Rattle.std.specs.Option.{option_map_or}
 use Rattle.pz_grammar.specs.declared.token.Class.{Class}
 use Rattle.pz_grammar.specs.declared.token.Class.TheVariants.{Moving, Orthogonal}
-use Rattle.pz_names.specs.declared.denotation.Denotation.{Denotation}
-use Rattle.pz_plan.specs.Lists.{product_of}
+use Rattle.pz_game.specs.declared.denotation.Denotation.{Denotation}
+use Rattle.pz_base.specs.Lists.{product_of}
 use Rattle.pz_plan.specs.declared.plan.Asked.TheVariants.{Member, Direction}
 use Rattle.pz_plan.specs.declared.plan.Choice.{Choice}
 use Rattle.pz_plan.specs.declared.plan.Plan.{Plan}

@@ -1,17 +1,17 @@
 -- The program of a game, line by line.
 use Rattle.std.specs.Prelude.{ℕ, Bool, true, not, ◌&&◌, List, [], ◌∷◌, ◌++◌, Option, Some, None, Result, Ok, Err, is_some, if◌then◌else◌}
-use Rattle.pz_text.specs.declared.fault.SourceFault.{SourceFault}
-use Rattle.pz_source.specs.Game.{GameView}
-use Rattle.pz_source.specs.declared.rules.RuleLine.{RuleLine}
+use Rattle.pz_base.specs.declared.fault.SourceFault.{SourceFault}
+use Rattle.pz_game.specs.declared.game.GameParts.{GameParts}
+use Rattle.pz_game.specs.declared.rule_line.RuleLine.{RuleLine}
 use Rattle.pz_rules.specs.declared.draft.Draft.{Draft}
 use Rattle.pz_rules.specs.declared.draft.OpenGroup.{OpenGroup}
 use Rattle.pz_rules.specs.declared.expansion.Expansion.{Expansion}
 use Rattle.pz_plan.specs.declared.fault.RuleFault.{RuleFault}
 use Rattle.pz_plan.specs.declared.fault.RuleFault.TheVariants as fault
-use Rattle.pz_rules.specs.declared.instance.Block.{Block}
-use Rattle.pz_rules.specs.declared.instance.Block.TheVariants.{One, Loop}
-use Rattle.pz_rules.specs.declared.instance.Instance.{Instance}
-use Rattle.pz_rules.specs.declared.instance.Program.{Program}
+use Rattle.pz_game.specs.declared.instance.Block.{Block}
+use Rattle.pz_game.specs.declared.instance.Block.TheVariants.{One, Loop}
+use Rattle.pz_game.specs.declared.instance.Instance.{Instance}
+use Rattle.pz_game.specs.declared.instance.Program.{Program}
 use Rattle.pz_grammar.specs.declared.loops.LoopWord.{LoopWord}
 use Rattle.pz_grammar.specs.declared.loops.LoopWord.TheVariants as loop_words
 use Rattle.pz_grammar.specs.declared.rule.Rule.{Rule}
@@ -95,12 +95,12 @@ extended_by draft rule (Ok more) = Ok (extended draft rule more)
 extended_by draft rule (Err fault) = Err fault
 
 -- the draft with a rule, or the first fault of the rule
-unfoldable pub rule_added : GameView → Draft → Rule → Result Draft RuleFault
+unfoldable pub rule_added : GameParts → Draft → Rule → Result Draft RuleFault
 rule_added game draft rule =
     if is_misplaced draft rule then Err fault.BadRule
     else extended_by draft rule (expanded game.values game.layers draft.pairs (lateness draft rule) rule)
 
-abbrev pub parsed_added : GameView → Draft → Option Rule → Result Draft RuleFault
+abbrev pub parsed_added : GameParts → Draft → Option Rule → Result Draft RuleFault
 parsed_added game draft None = Err fault.BadRule
 parsed_added game draft (Some rule) = rule_added game draft rule
 
@@ -110,7 +110,7 @@ loop_added draft below loop_words.Start = if is_end (next_loop below) then Ok (o
 loop_added draft below loop_words.End = if is_some draft.repeated then Ok (closed draft) else Err fault.BadRule
 
 -- the draft with one more line, which stands above others
-unfoldable pub line_added : GameView → Draft → List RuleLine → List (List ℕ) → Result Draft RuleFault
+unfoldable pub line_added : GameParts → Draft → List RuleLine → List (List ℕ) → Result Draft RuleFault
 line_added game draft below words =
     elim (loop_word words) [
       | None ↦ parsed_added game draft (parsed (tokens_of game.names words))
@@ -126,7 +126,7 @@ unfoldable pub finished : Draft → Program
 finished draft = let done = (settled draft).done in record { early = done.early; late = done.late }
 
 -- the program of lines, of which a draft stands above; or the first fault of the first line that has one
-unfoldable pub program_from : GameView → Draft → List RuleLine → Result Program SourceFault
+unfoldable pub program_from : GameParts → Draft → List RuleLine → Result Program SourceFault
 program_from game draft [] = Ok (finished draft)
 program_from game draft (line ∷ lines) = going_on line.number (λ d. program_from game d lines) (line_added game draft lines line.words)
 
@@ -134,5 +134,5 @@ unfoldable pub nothing : Draft
 nothing = record { done = record { early = []; late = [] }; repeated = None; group = None; pairs = 0 }
 
 -- the program of a game
-unfoldable pub program_of : GameView → Result Program SourceFault
+unfoldable pub program_of : GameParts → Result Program SourceFault
 program_of game = program_from game nothing game.rules

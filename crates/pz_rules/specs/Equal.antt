@@ -1,12 +1,12 @@
 -- Equal instances of a rule: cells are compared as sets of items. (The commands and the gaps of one rule's instances are the same.)
 use Rattle.std.specs.Prelude.{Bool, true, false, ◌&&◌, ◌==◌, List, length}
 use Rattle.std.specs.List.{list_all, list_any, zip}
-use Rattle.pz_rules.specs.declared.pattern.Word.{Word}
-use Rattle.pz_rules.specs.declared.pattern.Word.TheVariants.{Present, Still, Toward, Absent}
-use Rattle.pz_rules.specs.declared.pattern.Item.{Item}
-use Rattle.pz_rules.specs.declared.instance.Instance.{Instance}
-use Rattle.pz_rules.specs.Pattern.{RuleRow}
-use Rattle.pz_source.specs.Direction.{same_dir}
+use Rattle.pz_game.specs.declared.pattern.Word.{Word}
+use Rattle.pz_game.specs.declared.pattern.Word.TheVariants.{Present, Still, Toward, Absent}
+use Rattle.pz_game.specs.declared.pattern.Item.{Item}
+use Rattle.pz_game.specs.declared.instance.Instance.{Instance}
+use Rattle.pz_game.specs.Pattern.{RuleRow}
+use Rattle.pz_game.specs.Direction.{same_dir}
 
 -- two words of one meaning
 abbrev pub same_meaning : Word → Word → Bool

@@ -3,11 +3,11 @@ use Rattle.std.specs.Prelude.{Bool, true, false, not, ◌&&◌, ◌||◌, ◌==�
 use Rattle.std.specs.List.{list_any}
 use Rattle.pz_rules.specs.declared.exclusion.Role.{Role}
 use Rattle.pz_rules.specs.declared.exclusion.Role.TheVariants.{Asked, Placed}
-use Rattle.pz_rules.specs.declared.pattern.Item.{Item}
-use Rattle.pz_rules.specs.declared.pattern.Word.{Word}
-use Rattle.pz_rules.specs.declared.pattern.Word.TheVariants.{Present, Absent}
+use Rattle.pz_game.specs.declared.pattern.Item.{Item}
+use Rattle.pz_game.specs.declared.pattern.Word.{Word}
+use Rattle.pz_game.specs.declared.pattern.Word.TheVariants.{Present, Absent}
 use Rattle.pz_rules.specs.Equal.{same_meaning}
-use Rattle.pz_rules.specs.Pattern.{RuleRow}
+use Rattle.pz_game.specs.Pattern.{RuleRow}
 
 abbrev pub is_absent : Word → Bool
 is_absent Absent = true

@@ -1,12 +1,12 @@
 -- The instances of a rule, or its first fault.
 use Rattle.std.specs.Prelude.{ℕ, ◌+◌, Bool, nat_lt, List, Result, Ok, Err, if◌then◌else◌}
 use Rattle.std.specs.List.{list_any}
-use Rattle.pz_names.specs.declared.denotation.Denotation.{Denotation}
+use Rattle.pz_game.specs.declared.denotation.Denotation.{Denotation}
 use Rattle.pz_rules.specs.declared.expansion.Expansion.{Expansion}
 use Rattle.pz_rules.specs.declared.expansion.TheConstants.{PAIRS}
 use Rattle.pz_plan.specs.declared.fault.RuleFault.{RuleFault}
 use Rattle.pz_plan.specs.declared.fault.RuleFault.TheVariants as fault
-use Rattle.pz_rules.specs.declared.instance.Instance.{Instance}
+use Rattle.pz_game.specs.declared.instance.Instance.{Instance}
 use Rattle.pz_plan.specs.declared.plan.Plan.{Plan}
 use Rattle.pz_grammar.specs.declared.rule.Rule.{Rule}
 use Rattle.pz_rules.specs.Clash.{has_clash}

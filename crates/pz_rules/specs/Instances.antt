@@ -2,14 +2,14 @@
 use Rattle.std.specs.Prelude.{ℕ, Bool, not, ◌==◌, List, [], Option, Some, map, filter, slice_get, unwrap_or, length, if◌then◌else◌}
 use Rattle.std.specs.List.{list_any, list_all, flat_map}
 use Rattle.std.specs.Option.{option_map_or}
-use Rattle.pz_names.specs.declared.denotation.Denotation.{Denotation}
-use Rattle.pz_source.specs.declared.direction.Dir.{Dir}
-use Rattle.pz_source.specs.declared.direction.Dir.TheVariants.{Up}
+use Rattle.pz_game.specs.declared.denotation.Denotation.{Denotation}
+use Rattle.pz_game.specs.declared.direction.Dir.{Dir}
+use Rattle.pz_game.specs.declared.direction.Dir.TheVariants.{Up}
 use Rattle.pz_rules.specs.declared.exclusion.Role.TheVariants.{Asked}
-use Rattle.pz_rules.specs.declared.pattern.Item.{Item}
-use Rattle.pz_rules.specs.declared.pattern.Word.{Word}
-use Rattle.pz_rules.specs.declared.pattern.Word.TheVariants.{Present, Still, Toward, Absent}
-use Rattle.pz_rules.specs.declared.instance.Instance.{Instance}
+use Rattle.pz_game.specs.declared.pattern.Item.{Item}
+use Rattle.pz_game.specs.declared.pattern.Word.{Word}
+use Rattle.pz_game.specs.declared.pattern.Word.TheVariants.{Present, Still, Toward, Absent}
+use Rattle.pz_game.specs.declared.instance.Instance.{Instance}
 use Rattle.pz_rules.specs.declared.instances.Pick.{Pick}
 use Rattle.pz_rules.specs.declared.instances.Pick.TheVariants as pick
 use Rattle.pz_plan.specs.declared.plan.Asked.TheVariants as asked
@@ -23,8 +23,8 @@ use Rattle.pz_plan.specs.declared.plan.TermWord.{TermWord}
 use Rattle.pz_plan.specs.declared.plan.TermWord.TheVariants as word
 use Rattle.pz_rules.specs.Equal.{same_instance}
 use Rattle.pz_rules.specs.Exclusion.{has_impossible}
-use Rattle.pz_plan.specs.Lists.{product, firsts, added}
-use Rattle.pz_rules.specs.Pattern.{RuleRow}
+use Rattle.pz_base.specs.Lists.{product, firsts, added}
+use Rattle.pz_game.specs.Pattern.{RuleRow}
 use Rattle.pz_rules.specs.Turning.{turned, class_directions}
 
 -- the members of the name of this number

@@ -1,5 +1,3 @@
-pub mod Pattern
-pub mod Instance
 pub mod Counting
 pub mod Turning
 pub mod Equal

@@ -1,15 +1,15 @@
 -- Marks of instances: numbers that equal instances share, and few unequal ones do.
 use Rattle.std.specs.Prelude.{ℕ, ◌+◌, ◌*◌, ◌/◌, ◌%◌, ◌^◌, List, [], ◌∷◌, fold, if◌then◌else◌}
 use Rattle.std.specs.Int.RustNames.{bit_xor}
-use Rattle.pz_source.specs.declared.direction.Dir.{Dir}
-use Rattle.pz_source.specs.declared.direction.Dir.TheVariants.{Up, Down, Left, Right, Action}
+use Rattle.pz_game.specs.declared.direction.Dir.{Dir}
+use Rattle.pz_game.specs.declared.direction.Dir.TheVariants.{Up, Down, Left, Right, Action}
 use Rattle.pz_rules.specs.declared.marks.TheConstants.{SPREADER}
-use Rattle.pz_rules.specs.declared.pattern.Word.{Word}
-use Rattle.pz_rules.specs.declared.pattern.Word.TheVariants.{Present, Still, Toward, Absent}
-use Rattle.pz_rules.specs.declared.pattern.Item.{Item}
-use Rattle.pz_rules.specs.declared.instance.Instance.{Instance}
+use Rattle.pz_game.specs.declared.pattern.Word.{Word}
+use Rattle.pz_game.specs.declared.pattern.Word.TheVariants.{Present, Still, Toward, Absent}
+use Rattle.pz_game.specs.declared.pattern.Item.{Item}
+use Rattle.pz_game.specs.declared.instance.Instance.{Instance}
 use Rattle.pz_rules.specs.Equal.{has_item}
-use Rattle.pz_rules.specs.Pattern.{RuleRow}
+use Rattle.pz_game.specs.Pattern.{RuleRow}
 
 abbrev pub direction_number : Dir → ℕ
 direction_number Up = 0

@@ -1,7 +1,7 @@
 -- The directions that the words of a rule mean in one of its directions.
 use Rattle.std.specs.Prelude.{List, [], ◌∷◌}
-use Rattle.pz_source.specs.declared.direction.Dir.{Dir}
-use Rattle.pz_source.specs.declared.direction.Dir.TheVariants.{Up, Down, Left, Right, Action}
+use Rattle.pz_game.specs.declared.direction.Dir.{Dir}
+use Rattle.pz_game.specs.declared.direction.Dir.TheVariants.{Up, Down, Left, Right, Action}
 use Rattle.pz_grammar.specs.declared.token.Turn.{Turn}
 use Rattle.pz_grammar.specs.declared.token.Turn.TheVariants as turn
 use Rattle.pz_grammar.specs.declared.token.Class.{Class}

@@ -3,11 +3,11 @@
 ghost use Rattle.std.specs.Prelude.{◌≡◌, ◌≤◌, ◌+◌, ◌*◌, ◌==◌, List, All, length, map};
 ghost use Rattle.std.specs.List.{list_any};
 ghost use Rattle.std.specs.Option.{SomeIff};
-ghost use Rattle.pz_plan.specs.Lists.{product_of};
+ghost use Rattle.pz_base.specs.Lists.{product_of};
 ghost use Rattle.pz_rules.specs.Counting.{class_size, size_of, pair_count};
 
+use pz_game::denotation::Denotation;
 use pz_grammar::token::Class;
-use pz_names::denotation::Denotation;
 use pz_plan::plan::{Asked, Choice, Plan};
 
 fn class_size(class: Class) -> u64

@@ -6,18 +6,18 @@ ghost use Rattle.pz_rules.specs.Drafts.{placed, settled, opened, loop_of, with_l
 ghost use Rattle.pz_grammar.specs.Written.{is_whole};
 
 use crate::expansion::{Expansion, expanded};
-use crate::instance::{Block, Blocks, Group, Groups};
 use crate::sides::{Sides, no_sides, side_added};
+use pz_base::listing::{joined, pushed};
+use pz_base::name::Name;
+use pz_game::game::Game;
+use pz_game::instance::{Block, Blocks, Group, Groups};
+use pz_game::rule_line::RuleLine;
 use pz_grammar::grammar::parse;
-use pz_grammar::listing::{joined, pushed};
 use pz_grammar::loops::{LoopWord, loop_word, next_loop};
 use pz_grammar::rule::Rule;
 use pz_grammar::words::tokens_of;
 use pz_plan::fault::RuleFault;
 use pz_plan::prefix::is_late_rule;
-use pz_source::game::Game;
-use pz_source::rules::RuleLine;
-use pz_text::name::Name;
 use std::alloc::{AllocError, Global};
 
 /// The last group, which a rule may join.

@@ -4,8 +4,8 @@ ghost use Rattle.std.specs.Prelude.{◌≡◌};
 ghost use Rattle.std.specs.List.{list_any};
 ghost use Rattle.pz_rules.specs.Equal.{same_meaning, same_item, has_item, within_cell, same_cell, cells_agree, same_row, rows_agree, same_rows, same_instance};
 
-use crate::instance::Instance;
-use crate::pattern::{Item, Pattern, Row, Word};
+use pz_game::instance::Instance;
+use pz_game::pattern::{Item, Pattern, Row, Word};
 
 /// Whether two words say the same of their object.
 pub fn same_meaning(a: Word, b: Word) -> bool

@@ -5,7 +5,7 @@ ghost use Rattle.std.specs.List.{list_any};
 ghost use Rattle.pz_rules.specs.Exclusion.{is_absent, is_present, at_odds, excludes, excludes_some, is_impossible, has_impossible};
 
 use crate::equal::same_meaning;
-use crate::pattern::{Item, Row, Word};
+use pz_game::pattern::{Item, Row, Word};
 
 /// What the items of a cell are for: a left asks for them, a right places them.
 #[derive(Clone, Copy, PartialEq, Eq, Debug)]

@@ -10,14 +10,14 @@ ghost use Rattle.pz_grammar.specs.Written.{is_whole};
 
 use crate::clash::have_clash;
 use crate::counting::count_within;
-use crate::instance::{Group, Instance};
 use crate::instances::instances_of;
+use pz_base::listed::Listed;
+use pz_game::denotation::Denotation;
+use pz_game::instance::{Group, Instance};
 use pz_grammar::rule::Rule;
-use pz_names::denotation::Denotation;
 use pz_plan::fault::RuleFault;
 use pz_plan::plan::Plan;
 use pz_plan::planning::plan_of;
-use pz_text::listed::Listed;
 use std::alloc::Global;
 
 /// How many pairs of a direction and a list of picks all rules of a game may have together.

@@ -2,19 +2,19 @@
 
 ghost use Rattle.std.specs.Prelude.{◌≡◌, ◌++◌, IfOk, OnOk, map, fold, slice_get};
 ghost use Rattle.std.specs.List.{list_any, list_all};
-ghost use Rattle.pz_plan.specs.Lists.{product};
+ghost use Rattle.pz_base.specs.Lists.{product};
 ghost use Rattle.pz_plan.specs.Shape.{IsShaped, AreShaped};
 ghost use Rattle.pz_rules.specs.Instances.{members_at, options_of, object_of, meaning_of, layer_of, item_of, cell_of, row_of, rows_of, is_one_cell, scan_of, instance_of, is_possible, instances_of, considered};
 
 use crate::exclusion::{Role, have_impossible};
-use crate::instance::Instance;
 use crate::kept::Kept;
-use crate::pattern::{Item, Pattern, Row, Rows, Word};
 use crate::turning::{class_directions, turned};
-use pz_names::denotation::Denotation;
+use pz_base::listed::Listed;
+use pz_game::denotation::Denotation;
+use pz_game::direction::Dir;
+use pz_game::instance::Instance;
+use pz_game::pattern::{Item, Pattern, Row, Rows, Word};
 use pz_plan::plan::{Asked, Choice, Plan, PlanRow, Term, TermName, TermWord};
-use pz_source::direction::Dir;
-use pz_text::listed::Listed;
 use std::alloc::{AllocError, Global};
 
 /// What a choice gives.

@@ -3,13 +3,13 @@
 ghost use Rattle.std.specs.Prelude.{◌≡◌, ◌∷◌, ◌++◌, [], length, IfOk, OnOk, OnErr};
 ghost use Rattle.std.specs.List.{list_any};
 ghost use Rattle.pz_rules.specs.Equal.{same_instance};
-ghost use Rattle.pz_plan.specs.Lists.{added};
+ghost use Rattle.pz_base.specs.Lists.{added};
 ghost use Rattle.pz_rules.specs.Marks.{mark_of};
 ghost use Rattle.pz_rules.specs.Kept.{stands_at, bucket_of};
 
 use crate::equal::same_instance;
-use crate::instance::Instance;
 use crate::marks::mark_of;
+use pz_game::instance::Instance;
 use std::alloc::{AllocError, Global};
 use std::marker::Model;
 
@@ -71,7 +71,7 @@ pub struct Kept {
 
 impl Model for Kept {
     ghost use Rattle.std.specs.Prelude.{List};
-    ghost use Rattle.pz_rules.specs.declared.instance.Instance.{Instance};
+    ghost use Rattle.pz_game.specs.declared.instance.Instance.{Instance};
     ghost use Rattle.pz_rules.specs.Kept.{AreFiled};
 
     ghost Value = { List Instance };

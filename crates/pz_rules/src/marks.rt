@@ -4,9 +4,9 @@ ghost use Rattle.std.specs.Prelude.{◌≡◌, fold};
 ghost use Rattle.pz_rules.specs.Marks.{direction_number, word_number, spread, item_mark, cell_mark, with_cell, with_row, with_rows, mark_of};
 
 use crate::equal::has_item;
-use crate::instance::Instance;
-use crate::pattern::{Item, Pattern, Row, Word};
-use pz_source::direction::Dir;
+use pz_game::direction::Dir;
+use pz_game::instance::Instance;
+use pz_game::pattern::{Item, Pattern, Row, Word};
 
 /// An odd number, by which a product spreads what it is multiplied with.
 const SPREADER: u64 = 0x9e37_79b9_7f4a_7c15;

@@ -3,8 +3,8 @@
 ghost use Rattle.std.specs.Prelude.{◌≡◌, [], IfOk};
 ghost use Rattle.pz_rules.specs.Sides.{side_added};
 
-use pz_grammar::listing::pushed;
-use pz_text::listed::Listed;
+use pz_base::listed::Listed;
+use pz_base::listing::pushed;
 use std::alloc::{AllocError, Global};
 
 /// What runs before the movement, and what runs after it.

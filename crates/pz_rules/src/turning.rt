@@ -3,8 +3,8 @@
 ghost use Rattle.std.specs.Prelude.{◌≡◌};
 ghost use Rattle.pz_rules.specs.Turning.{turned, along, across, class_directions};
 
+use pz_game::direction::Dir;
 use pz_grammar::token::{Class, Turn};
-use pz_source::direction::Dir;
 
 /// The direction that a turning word means in a rule of this direction.
 pub fn turned(direction: Dir, turn: Turn) -> Dir

@@ -2,12 +2,12 @@
 use Rattle.std.proofs.Common.{◌≡◌, ℕ, List, [], ◌∷◌, ◌++◌, map, reverse, All, refl, sym, ap, subst, ◌∙◌}
 use Rattle.std.proofs.lemmas.List.{map-append, reverse-append}
 use Rattle.std.proofs.lemmas.List.Elements.{All-same, All-nil}
-use Rattle.pz_source.specs.Game.{GameView}
+use Rattle.pz_game.specs.declared.game.GameParts.{GameParts}
 use Rattle.pz_grid.specs.Grid.{Grid, IsOfGame}
 use Rattle.pz_grid.specs.Loading.{loaded}
 
 -- a level that is loaded
-pub loaded_of_game : (game : GameView) (index : ℕ) (grid : Grid) → grid ≡ loaded game index → IsOfGame game grid
+pub loaded_of_game : (game : GameParts) (index : ℕ) (grid : Grid) → grid ≡ loaded game index → IsOfGame game grid
 loaded_of_game game index grid e =
     let own : IsOfGame game (loaded game index) = record { layers = refl; depth = refl } in
     let P : Grid → Type 0 = λ g. IsOfGame game g in

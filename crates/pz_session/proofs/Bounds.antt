@@ -1,8 +1,8 @@
 -- How many items a session has at most.
 use Rattle.std.proofs.Common.{◌≡◌, ℕ, zero, suc, ◌+◌, ◌*◌, ◌<◌, ◌≤◌, ◌^◌, Bool, true, false, ◌||◌, List, [], ◌∷◌, length, map, Option, Some, None, option_to_list, Result, Ok, Err, IfOk, if◌then◌else◌, refl, ap, ◌∙◌, arith}
 use Rattle.std.proofs.lemmas.List.{length-map, length-append}
-use Rattle.pz_plan.specs.declared.commands.Commands.{Commands}
-use Rattle.pz_grammar.specs.declared.token.Command.TheVariants as command
+use Rattle.pz_game.specs.declared.commands.Commands.{Commands}
+use Rattle.pz_game.specs.Commands as command
 use Rattle.pz_grid.specs.Grid.{Grid}
 use Rattle.pz_turn.specs.declared.outcome.StepFault.{StepFault}
 use Rattle.pz_turn.specs.Outcome.{Outcome}
@@ -18,7 +18,7 @@ use Rattle.pz_session.specs.declared.item.Item.TheVariants as item
 use Rattle.pz_session.specs.Chain.{Link, Chain, follow, ticks, preceded}
 use Rattle.pz_session.specs.Session.{Links, Played, played, going_on, showing, after_chain, ticks_after, numbered, items_from}
 use Rattle.pz_session.specs.FirstLevel.{level_from}
-use Rattle.pz_session.specs.Turn.{gives, is_idle}
+use Rattle.pz_session.specs.Turn.{is_idle}
 use Rattle.pz_session.specs.Board.{State, at_level, keeping, frame_of, restarted, won_link, kept_link, reached_link, effect, pressed_to, ticked_to, tick_link, press_link, undo_link, input_link, begun, start_link, board_links}
 use Rattle.pz_session.specs.Plan.{PlanState}
 use Rattle.pz_session.specs.Case.{state_of, played_items}
@@ -100,7 +100,7 @@ won_short won s (Some next) = omega arith
 reached_short : (kind : FrameKind) (commands : Commands) (changed : Bool) (s : State) → length (reached_link kind commands changed s).shown ≤ 2
 unfolding reached_link kept_link
 reached_short kind commands changed s =
-    either_short (λ (link : Link State). length link.shown ≤ 2) (gives commands command.Win || has_won s.game s.level) _ _ (won_short (frame_of s kind) s (level_from s.game (s.entry + 1))) (omega arith)
+    either_short (λ (link : Link State). length link.shown ≤ 2) (command.has commands command.win || has_won s.game s.level) _ _ (won_short (frame_of s kind) s (level_from s.game (s.entry + 1))) (omega arith)
 
 restart_short : (s : State) → length (restarted s).shown ≤ 2
 unfolding restarted
@@ -110,8 +110,8 @@ effect_short : (kind : FrameKind) (s : State) (end : Outcome Grid) → length (e
 unfolding effect
 effect_short kind s end =
     let P : Link State → Type 0 = λ link. length link.shown ≤ 2 in
-    either_short P (gives end.commands command.Cancel) _ _ (omega arith)
-    (either_short P (gives end.commands command.Restart) _ _ (restart_short s) (reached_short kind end.commands end.changed (at_level end.level s)))
+    either_short P (command.has end.commands command.cancel) _ _ (omega arith)
+    (either_short P (command.has end.commands command.restart) _ _ (restart_short s) (reached_short kind end.commands end.changed (at_level end.level s)))
 
 ticked_short : (s : State) (r : Result (Outcome Grid) StepFault) → IsShort (ticked_to s r)
 ticked_short s (Err fault) = tt

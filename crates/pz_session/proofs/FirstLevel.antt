@@ -3,9 +3,9 @@ use Rattle.std.proofs.Common.{◌≡◌, ℕ, ◌+◌, ◌-◌, List, drop, take
 use Rattle.std.specs.List.{position}
 use Rattle.std.proofs.lemmas.List.{get_or-drop, take_all}
 use Rattle.std.proofs.lemmas.List.Quantifiers.{position-Some}
-use Rattle.pz_source.specs.Level.{is_playable}
-use Rattle.pz_source.specs.declared.level.LevelEntry.{LevelEntry}
-use Rattle.pz_source.specs.declared.level.LevelEntry.TheVariants.{Message}
+use Rattle.pz_game.specs.Level.{is_playable}
+use Rattle.pz_game.specs.declared.level.LevelEntry.{LevelEntry}
+use Rattle.pz_game.specs.declared.level.LevelEntry.TheVariants.{Message}
 
 pub found_playable : (levels read : List LevelEntry) (start passed : ℕ) → read ≡ levels → position is_playable (take (length read - start) (drop start read)) ≡ Some passed
     → is_playable (get_or levels (start + passed) Message) ≡ true

@@ -1,18 +1,18 @@
 -- Worked sessions, computed.
 use Rattle.std.proofs.Common.{◌≡◌, ℕ, List, [], ◌∷◌, Option, Some, None, Err, false, if◌then◌else◌, refl}
 use Rattle.std.specs.Prelude.{codes}
-use Rattle.pz_names.specs.declared.denotation.Denotation.{Denotation}
-use Rattle.pz_names.specs.declared.denotation.Kind.TheVariants.{Object}
-use Rattle.pz_source.specs.declared.direction.Dir.TheVariants.{Left, Right}
-use Rattle.pz_source.specs.declared.level.LevelEntry.{LevelEntry}
-use Rattle.pz_source.specs.declared.level.LevelEntry.TheVariants.{Message, Level}
-use Rattle.pz_source.specs.declared.wins.Quantifier.TheVariants.{No}
-use Rattle.pz_source.specs.declared.wins.WinLine.{WinLine}
-use Rattle.pz_source.specs.Game.{GameView}
-use Rattle.pz_rules.specs.declared.instance.Block.TheVariants.{One}
-use Rattle.pz_rules.specs.declared.instance.Program.{Program}
-use Rattle.pz_rules.specs.declared.pattern.Word.TheVariants.{Toward}
-use Rattle.pz_rules.specs.Pattern.{RuleRow}
+use Rattle.pz_game.specs.declared.denotation.Denotation.{Denotation}
+use Rattle.pz_game.specs.declared.denotation.Kind.TheVariants.{Object}
+use Rattle.pz_game.specs.declared.direction.Dir.TheVariants.{Left, Right}
+use Rattle.pz_game.specs.declared.level.LevelEntry.{LevelEntry}
+use Rattle.pz_game.specs.declared.level.LevelEntry.TheVariants.{Message, Level}
+use Rattle.pz_game.specs.declared.win_line.Quantifier.TheVariants.{No}
+use Rattle.pz_game.specs.declared.win_line.WinLine.{WinLine}
+use Rattle.pz_game.specs.declared.game.GameParts.{GameParts}
+use Rattle.pz_game.specs.declared.instance.Block.TheVariants.{One}
+use Rattle.pz_game.specs.declared.instance.Program.{Program}
+use Rattle.pz_game.specs.declared.pattern.Word.TheVariants.{Toward}
+use Rattle.pz_game.specs.Pattern.{RuleRow}
 use Rattle.pz_grid.specs.declared.cell.Piece.{Piece}
 use Rattle.pz_grid.specs.Grid.{Grid}
 use Rattle.pz_grid.specs.Places.{searched}
@@ -45,7 +45,7 @@ abbrev row : ℕ → List ℕ → LevelEntry
 row width glyphs = Level (record { width = width; height = 1; cells = glyphs })
 
 -- background, wall and player; the wall and the player share a layer; glyphs 3 ".", 4 "#" and 5 "p"
-abbrev game_with : List WinLine → List LevelEntry → GameView
+abbrev game_with : List WinLine → List LevelEntry → GameParts
 game_with wins levels = record {
   objects = codes "background" ∷ codes "wall" ∷ codes "player" ∷ [];
   names = codes "background" ∷ codes "wall" ∷ codes "player" ∷ codes "." ∷ codes "#" ∷ codes "p" ∷ [];
@@ -58,7 +58,7 @@ game_with wins levels = record {
   options = record { run_rules_on_level_start = false; require_player_movement = false };
 }
 
-abbrev game : List LevelEntry → GameView
+abbrev game : List LevelEntry → GameParts
 game levels = game_with [] levels
 
 abbrev no_rules : Program
@@ -82,13 +82,13 @@ level width cells = record { width = width; height = 1; depth = 2; layers = 0 �
 abbrev recorded : List (List (List ℕ))
 recorded = []
 
-abbrev playing : GameView → Program → List Input → PlanState
+abbrev playing : GameParts → Program → List Input → PlanState
 playing game program inputs = record { game = game; program = program; first = 0; inputs = inputs; recorded = recorded; order = Rows }
 
-abbrev shown : GameView → ℕ → ℕ → FrameKind → Grid → Item
+abbrev shown : GameParts → ℕ → ℕ → FrameKind → Grid → Item
 shown game number at kind grid = Frame number at (record { kind = kind; level_text = text_of_level game Rows grid })
 
-abbrev closed : GameView → Grid → Item
+abbrev closed : GameParts → Grid → Item
 closed game grid = Close (if equals_recorded game Rows grid recorded then Passed else Differs)
 
 abbrev session : LevelEntry → List Input → PlanState
@@ -176,7 +176,7 @@ is_cancelled = refl
 abbrev no_wall : WinLine
 no_wall = record { quantifier = No; subject = 1; on = None }
 
-abbrev two_levels : GameView
+abbrev two_levels : GameParts
 two_levels = game_with (no_wall ∷ []) (free ∷ Message ∷ row 2 (5 ∷ 3 ∷ []) ∷ Message ∷ [])
 
 pub wins : played_items (playing two_levels no_rules (Press Right ∷ Undo ∷ Press Right ∷ Undo ∷ []))

@@ -1,7 +1,7 @@
 -- The items of a session that begins.
 use Rattle.std.proofs.Common.{◌≡◌, ℕ, List, Ok, ap, ap₂, ◌∙◌}
-use Rattle.pz_source.specs.Game.{GameView}
-use Rattle.pz_rules.specs.declared.instance.Program.{Program}
+use Rattle.pz_game.specs.declared.game.GameParts.{GameParts}
+use Rattle.pz_game.specs.declared.instance.Program.{Program}
 use Rattle.pz_record.specs.declared.order.Order.{Order}
 use Rattle.pz_record.specs.declared.input.Input.{Input}
 use Rattle.pz_session.specs.declared.item.Item.{Item}
@@ -10,7 +10,7 @@ use Rattle.pz_session.specs.Board.{State, board_links, start_link, loaded_at}
 use Rattle.pz_session.specs.Plan.{PlanState}
 use Rattle.pz_session.specs.Case.{state_of, played_items}
 
-pub starts : (plan : PlanState) (state : State) (game : GameView) (program : Program) (order : Order) (recorded : List (List (List ℕ))) (first : ℕ)
+pub starts : (plan : PlanState) (state : State) (game : GameParts) (program : Program) (order : Order) (recorded : List (List (List ℕ))) (first : ℕ)
     → state ≡ loaded_at game program order recorded first
     → game ≡ plan.game → program ≡ plan.program → order ≡ plan.order → recorded ≡ plan.recorded → first ≡ plan.first → state ≡ state_of plan
 starts plan state game program order recorded first is e p f g h =

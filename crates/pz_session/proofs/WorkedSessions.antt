@@ -1,20 +1,17 @@
 -- Worked cases of sessions: where they start, undo and restart, what commands make of a step, the order of the items, and the close.
 use Rattle.std.proofs.Common.{◌≡◌, ℕ, suc, List, [], ◌∷◌, length, Option, Some, None, Bool, true, false, Ok, Err, refl}
 use Rattle.std.specs.Prelude.{codes, map, nat_lt, ◌==◌, if◌then◌else◌}
-use Rattle.std.specs.Str.{chars}
 use Rattle.std.specs.Fmt.{digits}
-use Rattle.pz_text.specs.declared.fault.Code.TheVariants as code
-use Rattle.pz_names.specs.declared.denotation.Denotation.{Denotation}
-use Rattle.pz_names.specs.declared.denotation.Kind.TheVariants.{Object}
-use Rattle.pz_source.specs.declared.direction.Dir.TheVariants.{Up, Right}
-use Rattle.pz_source.specs.declared.level.LevelEntry.{LevelEntry}
-use Rattle.pz_source.specs.declared.level.LevelEntry.TheVariants.{Message, Level}
-use Rattle.pz_source.specs.Game.{GameView}
-use Rattle.pz_source.specs.Reading.{source_of}
-use Rattle.pz_grammar.specs.declared.token.Command.TheVariants as command
-use Rattle.pz_plan.specs.declared.commands.Commands.{Commands}
-use Rattle.pz_plan.specs.Commands.{either, flag_of}
-use Rattle.pz_rules.specs.declared.instance.Program.{Program}
+use Rattle.pz_game.specs.declared.denotation.Denotation.{Denotation}
+use Rattle.pz_game.specs.declared.denotation.Kind.TheVariants.{Object}
+use Rattle.pz_game.specs.declared.direction.Dir.TheVariants.{Up, Right}
+use Rattle.pz_game.specs.declared.level.LevelEntry.{LevelEntry}
+use Rattle.pz_game.specs.declared.level.LevelEntry.TheVariants.{Message, Level}
+use Rattle.pz_game.specs.declared.game.GameParts.{GameParts}
+use Rattle.pz_game.specs.Commands as command
+use Rattle.pz_game.specs.declared.commands.Commands.{Commands}
+use Rattle.pz_game.specs.Commands.{either}
+use Rattle.pz_game.specs.declared.instance.Program.{Program}
 use Rattle.pz_grid.specs.declared.cell.Piece.{Piece}
 use Rattle.pz_grid.specs.Grid.{Grid}
 use Rattle.pz_turn.specs.Outcome.{Outcome}
@@ -30,14 +27,13 @@ use Rattle.pz_session.specs.declared.item.FrameKind.{FrameKind}
 use Rattle.pz_session.specs.declared.item.FrameKind.TheVariants as kind
 use Rattle.pz_session.specs.declared.item.Frame.{Frame}
 use Rattle.pz_session.specs.declared.item.Item.TheVariants as item
-use Rattle.pz_session.specs.declared.item.Refusal.TheVariants.{Source, NoLevel}
+use Rattle.pz_session.specs.declared.item.Refusal.TheVariants.{NoLevel}
 use Rattle.pz_session.specs.declared.item.Stop.TheVariants as stop
 use Rattle.pz_session.specs.declared.item.Verdict.TheVariants.{Passed, Differs, Stopped, Refused}
 use Rattle.pz_session.specs.Board.{State, frame_of, start_link, restarted, won_link, kept_link, reached_link, effect}
 use Rattle.pz_session.specs.Board.{press_link, undo_link, begun, settled}
 use Rattle.pz_session.specs.Case.{played_items, items_of_plan}
 use Rattle.pz_session.specs.FirstLevel.{level_from}
-use Rattle.pz_session.specs.Job.{plan_of}
 use Rattle.pz_session.specs.Plan.{PlanState}
 use Rattle.pz_session.specs.Session.{Links, closing, played, numbered, items_from}
 use Rattle.pz_session.specs.Turn.{is_idle}
@@ -46,7 +42,7 @@ use Rattle.pz_session.specs.Turn.{is_idle}
 abbrev object : ℕ → Denotation
 object k = record { kind = Object; members = k ∷ []; number = k }
 
-abbrev game_with : Bool → List LevelEntry → GameView
+abbrev game_with : Bool → List LevelEntry → GameParts
 game_with runs_at_start entries = record {
   objects = codes "background" ∷ codes "player" ∷ codes "crate" ∷ [];
   names = codes "background" ∷ codes "player" ∷ codes "crate" ∷ [];
@@ -63,7 +59,7 @@ game_with runs_at_start entries = record {
 abbrev entry : LevelEntry
 entry = Level (record { width = 2; height = 1; cells = 1 ∷ 0 ∷ [] })
 
-abbrev game : GameView
+abbrev game : GameParts
 game = game_with false (entry ∷ Message ∷ [])
 
 abbrev no_rules : Program
@@ -89,7 +85,7 @@ abbrev there : Grid
 there = strip (None ∷ player ∷ [])
 
 -- a session with this level, this target and this past
-abbrev session_of : GameView → Grid → Grid → List Grid → State
+abbrev session_of : GameParts → Grid → Grid → List Grid → State
 session_of game level target past = record {
   game = game;
   program = no_rules;
@@ -162,33 +158,33 @@ undo_without_a_tick = refl
 
 -- cancel goes before restart: the level stays, and the frame is that of the step
 cancel_before_restart : effect kind.Move (session here there [])
-    (record { level = here; commands = either (flag_of command.Restart) (flag_of command.Cancel); changed = false })
+    (record { level = here; commands = either command.restart command.cancel; changed = false })
     ≡ record { shown = shows kind.Move here ∷ []; after = session here there []; goes_on = false }
 unfolding effect frame_of
 cancel_before_restart = refl
 
 -- restart goes before win, and is shown in place of the step
 restart_before_win : effect kind.Move (session here here [])
-    (record { level = there; commands = either (flag_of command.Win) (flag_of command.Restart); changed = true })
+    (record { level = there; commands = either command.win command.restart; changed = true })
     ≡ record { shown = shows kind.Restart here ∷ []; after = session here here []; goes_on = false }
 unfolding effect restarted frame_of
 restart_before_win = refl
 
 -- checkpoint and again of one step both count
 checkpoint_and_again : effect kind.Move (session here here [])
-    (record { level = there; commands = either (flag_of command.Again) (flag_of command.Checkpoint); changed = true })
+    (record { level = there; commands = either command.again command.checkpoint; changed = true })
     ≡ record { shown = shows kind.Move there ∷ []; after = session there there []; goes_on = true }
 unfolding effect reached_link kept_link has_won frame_of
 checkpoint_and_again = refl
 
 -- again without a change asks for no tick
-again_without_a_change : effect kind.Move (session here there []) (record { level = here; commands = flag_of command.Again; changed = false })
+again_without_a_change : effect kind.Move (session here there []) (record { level = here; commands = command.again; changed = false })
     ≡ record { shown = shows kind.Move here ∷ []; after = session here there []; goes_on = false }
 unfolding effect reached_link kept_link has_won frame_of
 again_without_a_change = refl
 
 -- a message alone is left behind the won level: play is over, and the level stays
-last_level_won : effect kind.Move (session here here []) (record { level = there; commands = flag_of command.Win; changed = true })
+last_level_won : effect kind.Move (session here here []) (record { level = there; commands = command.win; changed = true })
     ≡ record { shown = shows kind.Move there ∷ []; after = record (session there here []) { is_over = true }; goes_on = false }
 unfolding effect reached_link won_link has_won level_from frame_of
 last_level_won = refl
@@ -201,7 +197,7 @@ over_means_over = refl
 
 -- a win shows the step and then the next level, behind a message; it is the target, and there is no past
 next_level : effect kind.Move (session_of (game_with false (entry ∷ Message ∷ entry ∷ [])) there there (here ∷ []))
-    (record { level = there; commands = flag_of command.Win; changed = false })
+    (record { level = there; commands = command.win; changed = false })
     ≡ record {
       shown = shows kind.Move there ∷ shows kind.Load here ∷ [];
       after = record (session_of (game_with false (entry ∷ Message ∷ entry ∷ [])) here here []) { entry = 2 };
@@ -216,12 +212,12 @@ abbrev tick_with : Bool → Commands → Outcome Grid
 tick_with changed commands = record { level = here; commands = commands; changed = changed }
 
 -- a tick that changes nothing is idle, though it gives checkpoint or again; restart or win make it count, and cancel doesn't
-without_a_change : map (λ c. is_idle (tick_with false (flag_of c))) (command.Checkpoint ∷ command.Again ∷ command.Restart ∷ command.Win
-    ∷ command.Cancel ∷ [])
+without_a_change : map (λ c. is_idle (tick_with false c)) (command.checkpoint ∷ command.again ∷ command.restart ∷ command.win
+    ∷ command.cancel ∷ [])
     ≡ true ∷ true ∷ false ∷ false ∷ true ∷ []
 without_a_change = refl
 
-cancelled_with_win : is_idle (tick_with false (either (flag_of command.Cancel) (flag_of command.Win))) ≡ true
+cancelled_with_win : is_idle (tick_with false (either command.cancel command.win)) ≡ true
 cancelled_with_win = refl
 
 -- the order of the items
@@ -308,8 +304,3 @@ start_alone = refl
 refused : items_of_plan (Err NoLevel) ≡ item.Close (Refused NoLevel) ∷ []
 unfolding items_of_plan
 refused = refl
-
--- an empty source is refused by its sections
-empty_source : plan_of [] [] [] 0 Rows ≡ Err (Source (record { code = code.Section; line = 0 }))
-unfolding plan_of source_of chars
-empty_source = refl

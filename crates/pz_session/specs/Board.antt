@@ -1,11 +1,11 @@
 -- The links of a session: a press, a tick, an undo, a restart, and what the commands of a step make of it.
 use Rattle.std.specs.Prelude.{ℕ, ◌+◌, ◌<◌, Bool, true, false, ◌&&◌, ◌||◌, List, [], ◌∷◌, length, Option, Some, None, Result, Ok, Err, All, IfSome, if◌then◌else◌}
-use Rattle.pz_source.specs.Game.{GameView}
-use Rattle.pz_source.specs.declared.direction.Dir.{Dir}
-use Rattle.pz_plan.specs.declared.commands.Commands.{Commands}
-use Rattle.pz_rules.specs.declared.instance.Program.{Program}
-use Rattle.pz_grammar.specs.declared.token.Command.TheVariants as command
-use Rattle.pz_rules.specs.Instance.{IsProgramOf}
+use Rattle.pz_game.specs.declared.game.GameParts.{GameParts}
+use Rattle.pz_game.specs.declared.direction.Dir.{Dir}
+use Rattle.pz_game.specs.declared.commands.Commands.{Commands}
+use Rattle.pz_game.specs.declared.instance.Program.{Program}
+use Rattle.pz_game.specs.Commands as command
+use Rattle.pz_game.specs.Instance.{IsProgramOf}
 use Rattle.pz_grid.specs.Grid.{Grid, IsOfGame}
 use Rattle.pz_grid.specs.Loading.{loaded}
 use Rattle.pz_grid.specs.Sameness.{same_grid}
@@ -27,11 +27,11 @@ use Rattle.pz_session.specs.declared.item.Verdict.TheVariants.{Passed, Differs}
 use Rattle.pz_session.specs.Chain.{Link}
 use Rattle.pz_session.specs.FirstLevel.{level_from}
 use Rattle.pz_session.specs.Session.{Links}
-use Rattle.pz_session.specs.Turn.{stop_of, gives, is_idle}
+use Rattle.pz_session.specs.Turn.{stop_of, is_idle}
 
 -- a session between two links
 pub record State : Type 0 where
-  pub game : GameView
+  pub game : GameParts
   pub program : Program
   pub order : Order
   pub recorded : List (List (List ℕ))
@@ -57,7 +57,7 @@ pub record IsOneGame (state : State) : Type 0 where
   pub before : IfSome state.before (IsOfGame state.game)
 
 -- the level of an entry, as it is loaded: it is the target, and there is no past
-abbrev pub loaded_at : GameView → Program → Order → List (List (List ℕ)) → ℕ → State
+abbrev pub loaded_at : GameParts → Program → Order → List (List (List ℕ)) → ℕ → State
 loaded_at game program order recorded entry = record {
   game = game;
   program = program;
@@ -118,14 +118,14 @@ won_link won state (Some next) = loading won (loaded_at state.game state.program
 unfoldable pub kept_link : FrameKind → Commands → Bool → State → Link State
 kept_link kind commands changed state = record {
   shown = frame_of state kind ∷ [];
-  after = record state { target = if gives commands command.Checkpoint then state.level else state.target };
-  goes_on = gives commands command.Again && changed;
+  after = record state { target = if command.has commands command.checkpoint then state.level else state.target };
+  goes_on = command.has commands command.again && changed;
 }
 
 -- the level where a step ends that is neither cancelled nor a restart: it is won by WIN or by the win lines
 unfoldable pub reached_link : FrameKind → Commands → Bool → State → Link State
 reached_link kind commands changed state =
-    if gives commands command.Win || has_won state.game state.level
+    if command.has commands command.win || has_won state.game state.level
     then won_link (frame_of state kind) state (level_from state.game (state.entry + 1))
     else kept_link kind commands changed state
 
@@ -133,8 +133,8 @@ reached_link kind commands changed state =
 -- restart is shown in place of the step.
 unfoldable pub effect : FrameKind → State → Outcome Grid → Link State
 effect kind state end =
-    if gives end.commands command.Cancel then showing_end kind state
-    else (if gives end.commands command.Restart then restarted state
+    if command.has end.commands command.cancel then showing_end kind state
+    else (if command.has end.commands command.restart then restarted state
     else reached_link kind end.commands end.changed (at_level end.level state))
 
 -- the level is kept for the past until the chain is over

@@ -7,5 +7,4 @@ pub mod Board
 pub mod Plan
 pub mod Case
 pub mod Run
-pub mod Job
 pub mod Laws

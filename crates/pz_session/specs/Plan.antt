@@ -1,9 +1,9 @@
 -- What is needed to play a session.
 use Rattle.std.specs.Prelude.{◌≡◌, ℕ, ◌<◌, ◌≤◌, List, true, length}
-use Rattle.pz_source.specs.Game.{GameView}
-use Rattle.pz_source.specs.Level.{is_playable}
-use Rattle.pz_rules.specs.declared.instance.Program.{Program}
-use Rattle.pz_rules.specs.Instance.{IsProgramOf}
+use Rattle.pz_game.specs.declared.game.GameParts.{GameParts}
+use Rattle.pz_game.specs.Level.{is_playable}
+use Rattle.pz_game.specs.declared.instance.Program.{Program}
+use Rattle.pz_game.specs.Instance.{IsProgramOf}
 use Rattle.pz_grid.specs.Loading.{entry_at}
 use Rattle.pz_record.specs.declared.input.TheConstants.{MOST_INPUTS}
 use Rattle.pz_record.specs.declared.input.Input.{Input}
@@ -12,7 +12,7 @@ use Rattle.pz_record.specs.declared.order.Order.{Order}
 -- a session's game with its rules, the number of the entry of LEVELS at which it starts, its inputs, and its recorded level with
 -- the order of that level's cells
 pub record PlanState : Type 0 where
-  pub game : GameView
+  pub game : GameParts
   pub program : Program
   pub first : ℕ
   pub inputs : List Input

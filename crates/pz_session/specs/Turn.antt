@@ -1,9 +1,6 @@
 -- What a session makes of the end of a step.
 use Rattle.std.specs.Prelude.{Bool, not, ◌||◌}
-use Rattle.pz_plan.specs.declared.commands.Commands.{Commands}
-use Rattle.pz_grammar.specs.declared.token.Command.{Command}
-use Rattle.pz_grammar.specs.declared.token.Command.TheVariants.{Cancel, Restart, Win}
-use Rattle.pz_plan.specs.Commands.{has, flag_of}
+use Rattle.pz_game.specs.Commands.{has, cancel, restart, win}
 use Rattle.pz_grid.specs.Grid.{Grid}
 use Rattle.pz_turn.specs.declared.outcome.StepFault.{StepFault}
 use Rattle.pz_turn.specs.declared.outcome.StepFault.TheVariants as step
@@ -23,9 +20,6 @@ fault_of step.Memory = Memory
 fault_of step.LoopLimit = Stopped stop.LoopLimit
 fault_of step.MatchLimit = Stopped stop.MatchLimit
 
-abbrev pub gives : Commands → Command → Bool
-gives commands command = has commands (flag_of command)
-
 -- a tick is idle if it is cancelled, or if it changes nothing and gives neither RESTART nor WIN; win lines don't count
 abbrev pub is_idle : Outcome Grid → Bool
-is_idle end = gives end.commands Cancel || not (end.changed || (gives end.commands Restart || gives end.commands Win))
+is_idle end = has end.commands cancel || not (end.changed || (has end.commands restart || has end.commands win))

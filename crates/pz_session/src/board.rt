@@ -1,8 +1,8 @@
 //! The levels of a session between two links, and the links that lead on from them.
 
 ghost use Rattle.std.specs.Prelude.{◌≡◌, ◌<◌, ◌+◌, true, length, IfOk, OnOk, Ok};
-ghost use Rattle.pz_source.specs.Level.{is_playable};
-ghost use Rattle.pz_rules.specs.Instance.{IsProgramOf};
+ghost use Rattle.pz_game.specs.Level.{is_playable};
+ghost use Rattle.pz_game.specs.Instance.{IsProgramOf};
 ghost use Rattle.pz_grid.specs.Grid.{IsOfGame};
 ghost use Rattle.pz_grid.specs.Loading.{entry_at};
 ghost use Rattle.pz_session.specs.Chain.{GivesLink};
@@ -13,16 +13,16 @@ use crate::first_level::level_after;
 use crate::item::{Frame, FrameKind, Verdict};
 use crate::turn::{is_idle, turn};
 use bitflags::Flags;
+use pz_game::commands::Commands;
+use pz_game::direction::Dir;
+use pz_game::game::Game;
+use pz_game::instance::Program;
 use pz_grid::Level;
-use pz_plan::commands::Commands;
 use pz_record::equality::equals;
 use pz_record::input::Input;
 use pz_record::level_text::level_text;
 use pz_record::order::Order;
 use pz_record::recorded::Recorded;
-use pz_rules::instance::Program;
-use pz_source::direction::Dir;
-use pz_source::game::Game;
 use pz_turn::step::StepEnd;
 use pz_turn::win::won;
 use std::alloc::{AllocError, Global};

@@ -2,7 +2,7 @@
 
 use crate::item::Refusal;
 use crate::plan::Plan;
-use pz_text::text::Text;
+use pz_base::text::Text;
 
 /// A session of a job: its name, and what is needed to play it, or why it is refused.
 #[derive(Drop)]

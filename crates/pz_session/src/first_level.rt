@@ -1,12 +1,12 @@
 //! The first level among the entries of LEVELS.
 
 ghost use Rattle.std.specs.Prelude.{◌≡◌, ◌<◌, ◌+◌, true, length, position, IfSome};
-ghost use Rattle.pz_source.specs.Level.{is_playable};
+ghost use Rattle.pz_game.specs.Level.{is_playable};
 ghost use Rattle.pz_grid.specs.Loading.{entry_at};
 ghost use Rattle.pz_session.specs.FirstLevel.{level_from};
 
-use pz_source::game::Game;
-use pz_source::level::LevelEntry;
+use pz_game::game::Game;
+use pz_game::level::LevelEntry;
 
 /// How many entries of LEVELS are passed over before the first level.
 fn passed_over(levels: &[LevelEntry]) -> Option<usize>
@@ -17,7 +17,7 @@ fn passed_over(levels: &[LevelEntry]) -> Option<usize>
 
 /// The first level among the entries of LEVELS from a number on.
 #[tactic(auto, unfolding(crate::specs::FirstLevel::level_from))]
-pub(crate) fn level_from(game: &Game, index: u64) -> Option<usize>
+pub fn level_from(game: &Game, index: u64) -> Option<usize>
     ensures first { result ≡ level_from game.now index }
     ensures playable { IfSome result (λ first. is_playable (entry_at game.now first) ≡ true) }
     ensures within { IfSome result (λ first. first < length game.now.levels) }

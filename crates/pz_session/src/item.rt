@@ -1,7 +1,7 @@
 //! What a session shows: its frames, and its close.
 
-use pz_text::fault::SourceFault;
-use pz_text::text::Text;
+use pz_base::fault::SourceFault;
+use pz_base::text::Text;
 
 /// Why a frame is shown.
 #[derive(Clone, Copy, Debug, PartialEq, Eq)]

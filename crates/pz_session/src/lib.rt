@@ -1,11 +1,11 @@
-//! A recorded session, played. The entries of a file make a job, with a case for each: what is needed to play its session, or why
-//! it is refused. The run of a case gives its items one by one: the frames that the session shows, and its close.
+//! A recorded session, played. A job has a case for each session: what is needed to play it, or why it is refused. The run of a case
+//! gives its items one by one: the frames that the session shows, and its close.
 #![tactic(auto)]
 
 mod board;
 pub mod case;
 mod chain;
-mod first_level;
+pub mod first_level;
 pub mod item;
 pub mod job;
 pub mod laws;

@@ -1,16 +1,16 @@
 //! What is needed to play a session.
 
 ghost use Rattle.std.specs.Prelude.{◌≡◌, ◌<◌, true, length};
-ghost use Rattle.pz_rules.specs.Instance.{IsProgramOf};
-ghost use Rattle.pz_source.specs.Level.{is_playable};
+ghost use Rattle.pz_game.specs.Instance.{IsProgramOf};
+ghost use Rattle.pz_game.specs.Level.{is_playable};
 ghost use Rattle.pz_grid.specs.Loading.{entry_at};
 ghost use Rattle.pz_session.specs.Plan.{IsPlan};
 
+use pz_game::game::Game;
+use pz_game::instance::Program;
 use pz_record::input::Inputs;
 use pz_record::order::Order;
 use pz_record::recorded::Recorded;
-use pz_rules::instance::Program;
-use pz_source::game::Game;
 use std::marker::Model;
 
 /// A session that can be played: its game with its rules, the number of the entry of LEVELS at which it starts, its inputs, and its
@@ -37,7 +37,7 @@ impl Model for Plan {
 
 impl Plan {
     /// A session that starts at a level.
-    pub(crate) fn new(
+    pub fn new(
         game: Game,
         program: Program,
         first: usize,

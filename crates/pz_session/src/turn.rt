@@ -1,20 +1,20 @@
 //! What a session makes of a step.
 
 ghost use Rattle.std.specs.Prelude.{◌≡◌, ◌≢◌, IfOk, IfErr, Ok, Err};
-ghost use Rattle.pz_rules.specs.Instance.{IsProgramOf};
+ghost use Rattle.pz_game.specs.Instance.{IsProgramOf};
 ghost use Rattle.pz_grid.specs.Grid.{IsOfGame};
 ghost use Rattle.pz_turn.specs.Step.{step_of};
 ghost use Rattle.pz_turn.specs.declared.outcome.StepFault.TheVariants.{Memory};
-ghost use Rattle.pz_session.specs.Turn.{gives, is_idle};
+ghost use Rattle.pz_session.specs.Turn.{is_idle};
 
 use crate::chain::PlayFault;
 use crate::item::Stop;
 use bitflags::Flags;
+use pz_game::commands::Commands;
+use pz_game::direction::Dir;
+use pz_game::game::Game;
+use pz_game::instance::Program;
 use pz_grid::Level;
-use pz_plan::commands::Commands;
-use pz_rules::instance::Program;
-use pz_source::direction::Dir;
-use pz_source::game::Game;
 use pz_turn::outcome::StepFault;
 use pz_turn::step::{StepEnd, step};
 use std::alloc::Global;

@@ -5,21 +5,21 @@ use Rattle.std.specs.Option.{option_map_or}
 use Rattle.std.specs.List.{All, list_any, flat_map, enumerate_from}
 use Rattle.std.proofs.lemmas.List.Elements.{All-nil, All-cons, All-append, All-head, All-tail, All-drop}
 use Rattle.std.proofs.lemmas.Option.{slice_get_within}
-use Rattle.pz_text.specs.Fault.{and_then}
-use Rattle.pz_text.specs.Name.{name_of}
-use Rattle.pz_text.specs.NameSet.{number_in}
+use Rattle.pz_base.specs.Fault.{and_then}
+use Rattle.pz_base.specs.Name.{name_of}
+use Rattle.pz_base.specs.NameSet.{number_in}
 use Rattle.pz_text.specs.declared.line.Line.{Line}
-use Rattle.pz_text.specs.declared.fault.SourceFault.{SourceFault}
-use Rattle.pz_text.specs.declared.fault.Code.TheVariants as code
-use Rattle.pz_source.specs.Each.{each_ok}
-use Rattle.pz_source.specs.Level.{is_playable}
+use Rattle.pz_base.specs.declared.fault.SourceFault.{SourceFault}
+use Rattle.pz_base.specs.declared.fault.Code.TheVariants as code
+use Rattle.pz_base.specs.Each.{each_ok}
+use Rattle.pz_game.specs.Level.{is_playable}
 use Rattle.pz_source.specs.Levels.{draws, glyph_of, glyphs_of, filled, row_of, rows_of, is_message, is_too_large, entry_of, entries_of, read_entries, levels_of}
-use Rattle.pz_source.specs.Game.{IsDrawnBy}
-use Rattle.pz_names.specs.declared.denotation.Denotation.{Denotation}
+use Rattle.pz_game.specs.Game.{IsDrawnBy}
+use Rattle.pz_game.specs.declared.denotation.Denotation.{Denotation}
 use Rattle.pz_source.specs.declared.levels.TheConstants.{MAX_ENTRIES}
-use Rattle.pz_source.specs.declared.level.LevelEntry.{LevelEntry}
-use Rattle.pz_source.specs.declared.level.LevelEntry.TheVariants.{Message, Level}
-use Rattle.pz_source.proofs.EachLemmas.{each-ok, each-some}
+use Rattle.pz_game.specs.declared.level.LevelEntry.{LevelEntry}
+use Rattle.pz_game.specs.declared.level.LevelEntry.TheVariants.{Message, Level}
+use Rattle.pz_base.proofs.EachLemmas.{each-ok, each-some}
 use Rattle.pz_source.proofs.LineLemmas.{and_then-ok}
 
 -- a glyph is a name

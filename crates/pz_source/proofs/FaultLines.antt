@@ -7,24 +7,24 @@ use Rattle.std.specs.Str.{chars}
 use Rattle.std.proofs.lemmas.List.Elements.{All-nil, All-cons, All-head, All-tail, All-append, All-push, All-drop, All-map, All-filter}
 use Rattle.pz_text.specs.Check.{number_of, too_long, misplaces, misplaced_heading, has_section, missing_section, lines_of}
 use Rattle.pz_text.specs.Cutting.{cut}
-use Rattle.pz_text.specs.Fault.{first_fault, or_else, unless, and_then}
+use Rattle.pz_base.specs.Fault.{first_fault, or_else, unless, and_then}
 use Rattle.pz_text.specs.Section.{lines_in}
 use Rattle.pz_text.specs.Words.{names_of}
 use Rattle.pz_text.specs.declared.line.Line.{Line}
 use Rattle.pz_text.specs.declared.line.Section.TheVariants as section
-use Rattle.pz_text.specs.declared.fault.Code.{Code}
-use Rattle.pz_text.specs.declared.fault.Code.TheVariants as code
-use Rattle.pz_text.specs.declared.fault.SourceFault.{SourceFault}
+use Rattle.pz_base.specs.declared.fault.Code.{Code}
+use Rattle.pz_base.specs.declared.fault.Code.TheVariants as code
+use Rattle.pz_base.specs.declared.fault.SourceFault.{SourceFault}
 use Rattle.pz_names.specs.Cycles.{reaches_itself}
 use Rattle.pz_names.specs.Denotation.{values_of}
-use Rattle.pz_source.specs.Game.{GameView}
+use Rattle.pz_game.specs.declared.game.GameParts.{GameParts}
 use Rattle.pz_names.specs.Kinds.{kind_in, mixes}
 use Rattle.pz_source.specs.Layers.{layer_names, layer_lines, name_line_at, layer_of, holds, lies_nowhere, layers_of, fault_of_layers}
 use Rattle.pz_source.specs.Layers as layers
 use Rattle.pz_names.specs.Legend.{sides, said_by, defined_by, definition_of, definitions_of, line_number, line_at, speaks_of_unknown}
 use Rattle.pz_names.specs.Legend as legend
-use Rattle.pz_source.specs.Each.{each_ok}
-use Rattle.pz_source.specs.Level.{is_playable}
+use Rattle.pz_base.specs.Each.{each_ok}
+use Rattle.pz_game.specs.Level.{is_playable}
 use Rattle.pz_source.specs.Levels.{is_message, closed, entries_of, glyph_of, glyphs_of, filled, row_of, rows_of, is_too_large, entry_of, read_entries, levels_of}
 use Rattle.pz_names.specs.Meaning.{meanings_of}
 use Rattle.pz_source.specs.Missing.{names_single, fault_of_needs}
@@ -34,15 +34,15 @@ use Rattle.pz_source.specs.Reading.{line_count, first_names, game_over, game_of_
 use Rattle.pz_source.specs.Rules.{rule_lines}
 use Rattle.pz_names.specs.Values.{names_of_source, meanings_of_source, fault_of_definitions, fault_of_legend}
 use Rattle.pz_source.specs.Wins.{at_line, win_of, win_at, wins_of}
-use Rattle.pz_names.specs.declared.denotation.Denotation.{Denotation}
+use Rattle.pz_game.specs.declared.denotation.Denotation.{Denotation}
 use Rattle.pz_names.specs.declared.legend.Definition.{Definition}
 use Rattle.pz_names.specs.declared.legend.Said.{Said}
 use Rattle.pz_source.specs.declared.levels.TheConstants.{MAX_ENTRIES}
-use Rattle.pz_source.specs.declared.level.LevelEntry.{LevelEntry}
-use Rattle.pz_source.specs.declared.level.LevelEntry.TheVariants.{Message, Level}
+use Rattle.pz_game.specs.declared.level.LevelEntry.{LevelEntry}
+use Rattle.pz_game.specs.declared.level.LevelEntry.TheVariants.{Message, Level}
 use Rattle.pz_names.specs.declared.name_line.NameLine.{NameLine}
-use Rattle.pz_source.specs.declared.wins.WinLine.{WinLine}
-use Rattle.pz_source.proofs.EachLemmas.{each-fault, All-numbered}
+use Rattle.pz_game.specs.declared.win_line.WinLine.{WinLine}
+use Rattle.pz_base.proofs.EachLemmas.{each-fault, All-numbered}
 use Rattle.pz_source.proofs.LineLemmas.{IsWithin, Names, All-filter_map, lines_in-all, first_fault-within, or_else-within, unless-within, unless-ok, any-ok, and_then-within, cut-within, lines-all}
 
 module _ (n : ℕ) where
@@ -247,7 +247,7 @@ module _ (n : ℕ) where
       (levels-fault (glyph_of names values) (lines_in section.Levels lines) (lines_in-all (IsWithin n) section.Levels lines all)) (any-ok (levels_of (glyph_of names values) (lines_in section.Levels lines)))
       (λ entries done. tt))))
     where
-      made : List WinLine → List LevelEntry → Result GameView SourceFault
+      made : List WinLine → List LevelEntry → Result GameParts SourceFault
       made wins entries = Ok (record {
         objects = first_names objects;
         names = names;
@@ -260,13 +260,13 @@ module _ (n : ℕ) where
         options = options_of (lines_in section.Prelude lines);
       })
 
-      levelled : List WinLine → Result GameView SourceFault
+      levelled : List WinLine → Result GameParts SourceFault
       levelled wins = and_then (made wins) (levels_of (glyph_of names values) (lines_in section.Levels lines))
 
-      won : Result GameView SourceFault
+      won : Result GameParts SourceFault
       won = and_then levelled (wins_of names (lines_in section.Wins lines))
 
-      placed : Result GameView SourceFault
+      placed : Result GameParts SourceFault
       placed = unless (fault_of_layers objects names values (lines_in section.Layers lines)) won
 
   game_of_objects-fault : (lines : List Line) (objects : List NameLine) → All (IsWithin n) lines → All (λ line. name_line_at line ≤ n) objects → IfErr (game_of_objects lines objects) (Names n)

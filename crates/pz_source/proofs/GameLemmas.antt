@@ -6,13 +6,13 @@ use Rattle.std.specs.List.{All}
 use Rattle.std.proofs.lemmas.List.{length-map}
 use Rattle.std.proofs.lemmas.List.Elements.{All-map, All-weaker, All-get_or}
 use Rattle.std.proofs.lemmas.Option.{slice_get_within, get_or_from_slice_get}
-use Rattle.pz_text.specs.Fault.{unless, and_then}
-use Rattle.pz_text.specs.NameSet.{number_in}
+use Rattle.pz_base.specs.Fault.{unless, and_then}
+use Rattle.pz_base.specs.NameSet.{number_in}
 use Rattle.pz_text.specs.Section.{lines_in}
 use Rattle.pz_text.specs.declared.line.Line.{Line}
 use Rattle.pz_text.specs.declared.line.Section.TheVariants as section
-use Rattle.pz_text.specs.declared.fault.SourceFault.{SourceFault}
-use Rattle.pz_text.specs.declared.fault.Code.TheVariants as code
+use Rattle.pz_base.specs.declared.fault.SourceFault.{SourceFault}
+use Rattle.pz_base.specs.declared.fault.Code.TheVariants as code
 use Rattle.pz_names.specs.Objects.{IsNamed, objects_of}
 use Rattle.pz_names.specs.Legend.{definitions_of}
 use Rattle.pz_names.specs.Denotation.{values_of}
@@ -23,16 +23,17 @@ use Rattle.pz_source.specs.Rules.{rule_lines}
 use Rattle.pz_source.specs.Wins.{wins_of}
 use Rattle.pz_source.specs.Levels.{glyph_of, levels_of}
 use Rattle.pz_source.specs.Profile.{outside_profile, options_of}
-use Rattle.pz_source.specs.Game.{GameView, IsGame}
-use Rattle.pz_names.specs.Word.{IsWord}
-use Rattle.pz_names.specs.Denotation.{IsDenoted}
+use Rattle.pz_game.specs.Game.{IsGame}
+use Rattle.pz_game.specs.declared.game.GameParts.{GameParts}
+use Rattle.pz_game.specs.Word.{IsWord}
+use Rattle.pz_game.specs.Denotation.{IsDenoted}
 use Rattle.pz_source.specs.Reading.{first_names, game_over, game_of_objects, game_of_lines}
 use Rattle.pz_names.specs.declared.name_line.NameLine.{NameLine}
-use Rattle.pz_names.specs.declared.denotation.Denotation.{Denotation}
-use Rattle.pz_source.specs.declared.level.LevelEntry.{LevelEntry}
-use Rattle.pz_source.specs.declared.rules.RuleLine.{RuleLine}
-use Rattle.pz_source.specs.declared.wins.WinLine.{WinLine}
-use Rattle.pz_source.specs.declared.options.Options.{Options}
+use Rattle.pz_game.specs.declared.denotation.Denotation.{Denotation}
+use Rattle.pz_game.specs.declared.level.LevelEntry.{LevelEntry}
+use Rattle.pz_game.specs.declared.rule_line.RuleLine.{RuleLine}
+use Rattle.pz_game.specs.declared.win_line.WinLine.{WinLine}
+use Rattle.pz_game.specs.declared.options.Options.{Options}
 use Rattle.pz_source.proofs.LayerLemmas.{shallow, layered, laid}
 use Rattle.pz_source.proofs.DrawnLemmas.{glyph_below, levels-below}
 
@@ -118,7 +119,7 @@ module _ (objects : List NameLine) (names : List (List ℕ)) (values : List Deno
 module _ (lines : List Line) (objects : List NameLine) (names : List (List ℕ)) (values : List Denotation) (vs : List Denotation) (same : vs ≡ values)
     (needed : fault_of_needs names vs ≡ None) (ls : List Line) (layer_part : ls ≡ lines_in section.Layers lines) where
   -- the game by the parts that were read
-  by_parts : List Denotation → List Line → List Line → List Line → Result GameView SourceFault
+  by_parts : List Denotation → List Line → List Line → List Line → Result GameParts SourceFault
   by_parts vals ls ws es =
       unless (fault_of_needs names vals)
       (unless (fault_of_layers objects names vals ls)
@@ -186,7 +187,7 @@ module _ (lines : List Line) (objects : List NameLine) (names : List (List ℕ))
 
 -- behind a legend that was read
 module _ (lines : List Line) (objects : List NameLine) (legend : List Line) (part : legend ≡ lines_in section.Legend lines) where
-  by_legend : List Line → Result GameView SourceFault
+  by_legend : List Line → Result GameParts SourceFault
   by_legend ls =
       unless (fault_of_legend objects ls)
       (game_over lines objects (names_of_source objects (definitions_of ls)) (values_of (meanings_of_source objects (definitions_of ls))))

@@ -4,22 +4,21 @@ use Rattle.std.specs.Prelude.{Option, Some, None, is_some, if◌then◌else◌, 
 use Rattle.std.specs.Option.{option_map_or}
 use Rattle.std.specs.List.{All, list_any, filter_map, range_with_len}
 use Rattle.std.proofs.lemmas.List.Elements.{All-nil, All-cons}
-use Rattle.pz_text.specs.Fault.{or_else}
-use Rattle.pz_text.specs.NameSet.{is_name_of}
+use Rattle.pz_base.specs.Fault.{or_else, first_fault}
+use Rattle.pz_base.specs.NameSet.{is_name_of}
 use Rattle.pz_text.specs.declared.line.Line.{Line}
-use Rattle.pz_text.specs.declared.fault.SourceFault.{SourceFault}
-use Rattle.pz_text.proofs.FaultLemmas.{or_else-later}
+use Rattle.pz_base.specs.declared.fault.SourceFault.{SourceFault}
+use Rattle.pz_base.proofs.FaultLemmas.{or_else-later}
 use Rattle.pz_names.specs.Kinds.{kind_in, is_of_kind}
 use Rattle.pz_source.specs.Layers.{misplaces, last_layer, layer_of, layer_lines, layers_of, holds, fault_of_layers}
-use Rattle.pz_names.specs.declared.denotation.Denotation.{Denotation}
-use Rattle.pz_names.specs.declared.denotation.Kind.TheVariants.{Aggregate}
+use Rattle.pz_game.specs.declared.denotation.Denotation.{Denotation}
+use Rattle.pz_game.specs.declared.denotation.Kind.TheVariants.{Aggregate}
 use Rattle.pz_names.proofs.ValueLemmas.{table_length}
 use Rattle.std.proofs.lemmas.Bool.{leb-false}
-use Rattle.pz_source.specs.declared.layers.TheConstants.{MAX_LAYERS}
+use Rattle.pz_game.specs.declared.limits.TheConstants.{MAX_LAYERS}
 use Rattle.pz_source.specs.Layers.{name_line_at, lies_nowhere}
-use Rattle.pz_text.specs.Fault.{first_fault}
 use Rattle.pz_names.specs.declared.name_line.NameLine.{NameLine}
-use Rattle.pz_text.specs.declared.fault.Code.TheVariants as code
+use Rattle.pz_base.specs.declared.fault.Code.TheVariants as code
 
 -- tables that agree on the objects name the same line
 pub nowhere-same : (f g : ℕ → Option ℕ) (before rest : List NameLine) → ((k : ℕ) → k < length before + length rest → f k ≡ g k)

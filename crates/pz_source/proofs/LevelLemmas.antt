@@ -6,7 +6,7 @@ use Rattle.std.proofs.lemmas.List.Folds.{list_all-append, list_all_at}
 use Rattle.std.proofs.lemmas.List.{get_or-drop}
 use Rattle.pz_source.specs.Levels.{entries_of, closed, is_message, is_entry, filled}
 use Rattle.pz_names.specs.Objects.{is_blank}
-use Rattle.pz_text.proofs.ListLemmas.{take-next}
+use Rattle.pz_base.proofs.ListLemmas.{take-next}
 use Rattle.pz_text.specs.declared.line.Line.{Line}
 
 drop-one : {A : Type 0} (i : ℕ) (xs : List A) → drop 1 (drop i xs) ≡ drop (i + 1) xs

@@ -2,7 +2,6 @@ pub mod LayerLemmas
 pub mod LevelLemmas
 pub mod RuleLemmas
 pub mod ReadingExamples
-pub mod EachLemmas
 pub mod DrawnLemmas
 pub mod GameLemmas
 pub mod LineLemmas

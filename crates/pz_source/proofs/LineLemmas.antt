@@ -11,12 +11,12 @@ use Rattle.pz_text.specs.Heading.{heading_in}
 use Rattle.pz_text.specs.Check.{too_long, misplaced_heading, missing_section, lines_of}
 use Rattle.pz_text.specs.Cutting.{is_left_out, lines_from, cut}
 use Rattle.pz_text.specs.Section.{is_heading_of, before_heading, behind_heading, lines_in}
-use Rattle.pz_text.specs.Fault.{first_fault, or_else, unless, and_then}
+use Rattle.pz_base.specs.Fault.{first_fault, or_else, unless, and_then}
 use Rattle.pz_text.specs.declared.line.Section.{Section}
 use Rattle.pz_text.specs.declared.line.Section.TheVariants.{Prelude}
 use Rattle.pz_text.specs.declared.line.Line.{Line}
-use Rattle.pz_text.specs.declared.fault.Code.{Code}
-use Rattle.pz_text.specs.declared.fault.SourceFault.{SourceFault}
+use Rattle.pz_base.specs.declared.fault.Code.{Code}
+use Rattle.pz_base.specs.declared.fault.SourceFault.{SourceFault}
 
 -- what a function gives of things that pass a test passes another
 pub All-filter_map : {A B : Type 0} (P : A → Type 0) (Q : B → Type 0) (f : A → Option B) → ((x : A) → P x → IfSome (f x) Q) → (xs : List A) → All P xs → All Q (filter_map f xs)

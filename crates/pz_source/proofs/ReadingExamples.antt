@@ -5,12 +5,12 @@ use Rattle.std.specs.Char.{encode_utf8}
 use Rattle.pz_text.specs.declared.line.Line.{Line}
 use Rattle.pz_text.specs.declared.line.Section.{Section}
 use Rattle.pz_text.specs.declared.line.Section.TheVariants.{Prelude, Objects, Wins}
-use Rattle.pz_text.specs.declared.fault.Code.TheVariants as code
+use Rattle.pz_base.specs.declared.fault.Code.TheVariants as code
 use Rattle.pz_names.specs.Objects.{objects_of}
 use Rattle.pz_source.specs.Profile.{has_outside_word, outside_profile, options_of}
 use Rattle.pz_source.specs.Rules.{rule_words}
 use Rattle.pz_source.specs.Wins.{win_of, wins_of}
-use Rattle.pz_source.specs.declared.wins.Quantifier.TheVariants as quantifier
+use Rattle.pz_game.specs.declared.win_line.Quantifier.TheVariants as quantifier
 
 -- lines of a section, numbered
 lines_at : Section → ℕ → List (List ℕ) → List Line

@@ -2,19 +2,19 @@
 use Rattle.std.proofs.Common.{◌≡◌, ℕ, suc, true, false, List, [], ◌∷◌, ◌++◌, Some, None, Ok, Err, refl}
 use Rattle.std.specs.Prelude.{codes, map, replicate}
 use Rattle.std.specs.Char.{encode_utf8}
-use Rattle.pz_text.specs.declared.fault.Code.TheVariants as code
+use Rattle.pz_base.specs.declared.fault.Code.TheVariants as code
 use Rattle.pz_text.specs.declared.line.Line.{Line}
 use Rattle.pz_text.specs.declared.line.Section.{Section}
 use Rattle.pz_text.specs.declared.line.Section.TheVariants as section
-use Rattle.pz_names.specs.declared.denotation.Denotation.{Denotation}
-use Rattle.pz_names.specs.declared.denotation.Kind.{Kind}
-use Rattle.pz_names.specs.declared.denotation.Kind.TheVariants.{Object, Property, Aggregate}
+use Rattle.pz_game.specs.declared.denotation.Denotation.{Denotation}
+use Rattle.pz_game.specs.declared.denotation.Kind.{Kind}
+use Rattle.pz_game.specs.declared.denotation.Kind.TheVariants.{Object, Property, Aggregate}
 use Rattle.pz_names.specs.declared.name_line.NameLine.{NameLine}
 use Rattle.pz_source.specs.Layers.{layer_names, layer_lines, misplaced, fault_of_layers, layers_of}
-use Rattle.pz_source.specs.Level.{is_playable}
+use Rattle.pz_game.specs.Level.{is_playable}
 use Rattle.pz_source.specs.Levels.{entries_of, glyph_of, is_too_large, entry_of, levels_of, rows_of}
 use Rattle.pz_source.specs.Missing.{fault_of_needs}
-use Rattle.pz_source.specs.declared.level.LevelEntry.TheVariants.{Message, Level}
+use Rattle.pz_game.specs.declared.level.LevelEntry.TheVariants.{Message, Level}
 
 -- lines of a section, numbered
 abbrev lines_at : Section → ℕ → List (List ℕ) → List Line

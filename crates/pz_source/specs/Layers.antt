@@ -3,19 +3,19 @@ use Rattle.std.specs.Prelude.{ℕ, ◌+◌, Bool, not, ◌==◌, ◌||◌, if◌
 use Rattle.std.specs.List.{list_any, filter_map, slice_split, range_with_len}
 use Rattle.std.specs.Option.{option_map_or}
 use Rattle.std.specs.Char.{is_whitespace}
-use Rattle.pz_text.specs.Fault.{first_fault, or_else}
-use Rattle.pz_text.specs.Name.{name_of}
-use Rattle.pz_text.specs.NameSet.{is_name_of}
+use Rattle.pz_base.specs.Fault.{first_fault, or_else}
+use Rattle.pz_base.specs.Name.{name_of}
+use Rattle.pz_base.specs.NameSet.{is_name_of}
 use Rattle.pz_text.specs.declared.line.Line.{Line}
-use Rattle.pz_text.specs.declared.fault.SourceFault.{SourceFault}
-use Rattle.pz_text.specs.declared.fault.Code.{Code}
-use Rattle.pz_text.specs.declared.fault.Code.TheVariants as code
+use Rattle.pz_base.specs.declared.fault.SourceFault.{SourceFault}
+use Rattle.pz_base.specs.declared.fault.Code.{Code}
+use Rattle.pz_base.specs.declared.fault.Code.TheVariants as code
 use Rattle.pz_names.specs.Meaning.{number_or_end}
 use Rattle.pz_names.specs.Kinds.{kind_in, is_of_kind}
 use Rattle.pz_names.specs.declared.name_line.NameLine.{NameLine}
-use Rattle.pz_names.specs.declared.denotation.Denotation.{Denotation}
-use Rattle.pz_names.specs.declared.denotation.Kind.TheVariants.{Aggregate}
-use Rattle.pz_source.specs.declared.layers.TheConstants.{MAX_LAYERS}
+use Rattle.pz_game.specs.declared.denotation.Denotation.{Denotation}
+use Rattle.pz_game.specs.declared.denotation.Kind.TheVariants.{Aggregate}
+use Rattle.pz_game.specs.declared.limits.TheConstants.{MAX_LAYERS}
 
 -- the words of a line, parted by commas and white space
 abbrev pub layer_words : List ℕ → List (List ℕ)

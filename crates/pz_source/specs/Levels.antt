@@ -2,22 +2,23 @@
 use Rattle.std.specs.Prelude.{ℕ, zero, suc, ◌*◌, Bool, true, false, not, ◌||◌, if◌then◌else◌, nat_lt, nat_le, List, [], ◌∷◌, ◌++◌, length, map, take, drop, get_or, Option, Some, None, option_and_then, slice_get, Result, Ok, Err, codes}
 use Rattle.std.specs.List.{list_any, flat_map, enumerate_from}
 use Rattle.std.specs.Option.{option_map_or}
-use Rattle.pz_text.specs.Fault.{and_then}
+use Rattle.pz_base.specs.Fault.{and_then}
 use Rattle.pz_text.specs.Heading.{begins_with_word}
-use Rattle.pz_text.specs.Name.{name_of}
-use Rattle.pz_text.specs.NameSet.{number_in}
+use Rattle.pz_base.specs.Name.{name_of}
+use Rattle.pz_base.specs.NameSet.{number_in}
 use Rattle.pz_text.specs.declared.line.Line.{Line}
-use Rattle.pz_text.specs.declared.fault.SourceFault.{SourceFault}
-use Rattle.pz_text.specs.declared.fault.Code.TheVariants as code
+use Rattle.pz_base.specs.declared.fault.SourceFault.{SourceFault}
+use Rattle.pz_base.specs.declared.fault.Code.TheVariants as code
 use Rattle.pz_names.specs.Objects.{is_blank}
-use Rattle.pz_source.specs.Each.{each_ok, all_some}
-use Rattle.pz_source.specs.Level.{is_playable}
-use Rattle.pz_names.specs.declared.denotation.Denotation.{Denotation}
-use Rattle.pz_names.specs.declared.denotation.Kind.{Kind}
-use Rattle.pz_names.specs.declared.denotation.Kind.TheVariants.{Object, Property, Aggregate}
-use Rattle.pz_source.specs.declared.levels.TheConstants.{MAX_SIDE, MAX_CELLS, MAX_ENTRIES}
-use Rattle.pz_source.specs.declared.level.LevelEntry.{LevelEntry}
-use Rattle.pz_source.specs.declared.level.LevelEntry.TheVariants.{Message, Level}
+use Rattle.pz_base.specs.Each.{each_ok, all_some}
+use Rattle.pz_game.specs.Level.{is_playable}
+use Rattle.pz_game.specs.declared.denotation.Denotation.{Denotation}
+use Rattle.pz_game.specs.declared.denotation.Kind.{Kind}
+use Rattle.pz_game.specs.declared.denotation.Kind.TheVariants.{Object, Property, Aggregate}
+use Rattle.pz_game.specs.declared.limits.TheConstants.{MAX_SIDE, MAX_CELLS}
+use Rattle.pz_source.specs.declared.levels.TheConstants.{MAX_ENTRIES}
+use Rattle.pz_game.specs.declared.level.LevelEntry.{LevelEntry}
+use Rattle.pz_game.specs.declared.level.LevelEntry.TheVariants.{Message, Level}
 
 abbrev pub is_message : Line → Bool
 is_message line = begins_with_word line.text (codes "message")

@@ -1,13 +1,7 @@
-pub mod Each
-pub mod Direction
 pub mod Missing
 pub mod Layers
 pub mod Rules
 pub mod Wins
-pub mod Size
-pub mod Drawing
-pub mod Level
 pub mod Levels
 pub mod Profile
-pub mod Game
 pub mod Reading

@@ -1,12 +1,12 @@
 -- The names that each game needs.
 use Rattle.std.specs.Prelude.{ℕ, Bool, true, false, ◌&&◌, if◌then◌else◌, List, Option, Some, None, option_and_then, slice_get, codes}
 use Rattle.std.specs.Option.{option_map_or}
-use Rattle.pz_text.specs.NameSet.{number_in}
-use Rattle.pz_text.specs.declared.fault.SourceFault.{SourceFault}
-use Rattle.pz_text.specs.declared.fault.Code.TheVariants as code
-use Rattle.pz_names.specs.declared.denotation.Denotation.{Denotation}
-use Rattle.pz_names.specs.declared.denotation.Kind.{Kind}
-use Rattle.pz_names.specs.declared.denotation.Kind.TheVariants.{Object, Property, Aggregate}
+use Rattle.pz_base.specs.NameSet.{number_in}
+use Rattle.pz_base.specs.declared.fault.SourceFault.{SourceFault}
+use Rattle.pz_base.specs.declared.fault.Code.TheVariants as code
+use Rattle.pz_game.specs.declared.denotation.Denotation.{Denotation}
+use Rattle.pz_game.specs.declared.denotation.Kind.{Kind}
+use Rattle.pz_game.specs.declared.denotation.Kind.TheVariants.{Object, Property, Aggregate}
 
 -- an object or a property: a synonym has the kind of what it names
 abbrev pub is_single : Kind → Bool

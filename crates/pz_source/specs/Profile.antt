@@ -3,16 +3,16 @@ use Rattle.std.specs.Prelude.{ℕ, Bool, false, ◌||◌, if◌then◌else◌, L
 use Rattle.std.specs.List.{list_any}
 use Rattle.std.specs.Str.{bytes_eq}
 use Rattle.pz_text.specs.Check.{number_of}
-use Rattle.pz_text.specs.Fault.{first_fault}
+use Rattle.pz_base.specs.Fault.{first_fault}
 use Rattle.pz_text.specs.Heading.{begins_with_word}
 use Rattle.pz_text.specs.declared.line.Line.{Line}
 use Rattle.pz_text.specs.declared.line.Section.{Section}
 use Rattle.pz_text.specs.declared.line.Section.TheVariants.{Prelude, Rules}
-use Rattle.pz_text.specs.declared.fault.Code.{Code}
-use Rattle.pz_text.specs.declared.fault.Code.TheVariants as code
-use Rattle.pz_text.specs.declared.fault.SourceFault.{SourceFault}
+use Rattle.pz_base.specs.declared.fault.Code.{Code}
+use Rattle.pz_base.specs.declared.fault.Code.TheVariants as code
+use Rattle.pz_base.specs.declared.fault.SourceFault.{SourceFault}
 use Rattle.pz_source.specs.Rules.{rule_words}
-use Rattle.pz_source.specs.declared.options.Options.{Options}
+use Rattle.pz_game.specs.declared.options.Options.{Options}
 
 -- rules that choose by chance, and rigid bodies
 abbrev pub is_outside_word : List ℕ → Bool

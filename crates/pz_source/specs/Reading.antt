@@ -2,12 +2,12 @@
 use Rattle.std.specs.Prelude.{ℕ, ◌==◌, List, [], length, map, get_or, Result, Ok}
 use Rattle.std.specs.List.{slice_split}
 use Rattle.std.specs.Str.{chars}
-use Rattle.pz_text.specs.Fault.{unless, and_then}
+use Rattle.pz_base.specs.Fault.{unless, and_then}
 use Rattle.pz_text.specs.Check.{lines_of}
 use Rattle.pz_text.specs.Section.{lines_in}
 use Rattle.pz_text.specs.declared.line.Line.{Line}
 use Rattle.pz_text.specs.declared.line.Section.TheVariants as section
-use Rattle.pz_text.specs.declared.fault.SourceFault.{SourceFault}
+use Rattle.pz_base.specs.declared.fault.SourceFault.{SourceFault}
 use Rattle.pz_source.specs.Profile.{outside_profile, options_of}
 use Rattle.pz_names.specs.Objects.{objects_of}
 use Rattle.pz_names.specs.Legend.{definitions_of}
@@ -18,9 +18,9 @@ use Rattle.pz_source.specs.Layers.{layer_lines, fault_of_layers, layers_of}
 use Rattle.pz_source.specs.Rules.{rule_lines}
 use Rattle.pz_source.specs.Wins.{wins_of}
 use Rattle.pz_source.specs.Levels.{glyph_of, levels_of}
-use Rattle.pz_source.specs.Game.{GameView}
+use Rattle.pz_game.specs.declared.game.GameParts.{GameParts}
 use Rattle.pz_names.specs.declared.name_line.NameLine.{NameLine}
-use Rattle.pz_names.specs.declared.denotation.Denotation.{Denotation}
+use Rattle.pz_game.specs.declared.denotation.Denotation.{Denotation}
 
 -- how many lines a text has, which line feeds end
 abbrev pub line_count : List ℕ → ℕ
@@ -31,7 +31,7 @@ abbrev pub first_names : List NameLine → List (List ℕ)
 first_names objects = map (λ line. get_or line.names 0 []) objects
 
 -- the game over these objects and names: the names that each game needs, then the layers, then the win lines, then the levels
-abbrev pub game_over : List Line → List NameLine → List (List ℕ) → List Denotation → Result GameView SourceFault
+abbrev pub game_over : List Line → List NameLine → List (List ℕ) → List Denotation → Result GameParts SourceFault
 game_over lines objects names values =
     unless (fault_of_needs names values)
     (unless (fault_of_layers objects names values (lines_in section.Layers lines))
@@ -52,16 +52,16 @@ game_over lines objects names values =
     (wins_of names (lines_in section.Wins lines))))
 
 -- the game over these objects: the legend, then what follows
-abbrev pub game_of_objects : List Line → List NameLine → Result GameView SourceFault
+abbrev pub game_of_objects : List Line → List NameLine → Result GameParts SourceFault
 game_of_objects lines objects =
     let definitions = definitions_of (lines_in section.Legend lines) in
     unless (fault_of_legend objects (lines_in section.Legend lines))
     (game_over lines objects (names_of_source objects definitions) (values_of (meanings_of_source objects definitions)))
 
 -- the game of lines with all headings in order: the profile, then the objects, then what follows
-abbrev pub game_of_lines : List Line → Result GameView SourceFault
+abbrev pub game_of_lines : List Line → Result GameParts SourceFault
 game_of_lines lines = unless (outside_profile lines) (and_then (game_of_objects lines) (objects_of (lines_in section.Objects lines)))
 
 -- the game of a text: its length and its headings, then what follows
-unfoldable pub source_of : List ℕ → Result GameView SourceFault
+unfoldable pub source_of : List ℕ → Result GameParts SourceFault
 source_of text = and_then game_of_lines (lines_of text)

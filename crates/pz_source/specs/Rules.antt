@@ -3,11 +3,11 @@ use Rattle.std.specs.Prelude.{ℕ, ◌-◌, Bool, not, ◌==◌, if◌then◌els
 use Rattle.std.specs.Char.{is_whitespace}
 use Rattle.pz_text.specs.Characters.{trimmed}
 use Rattle.pz_text.specs.Comment.{ends_arrow, ends_word, ends_message, is_first_after, word_after}
-use Rattle.pz_text.specs.Name.{name_of}
+use Rattle.pz_base.specs.Name.{name_of}
 use Rattle.pz_text.specs.declared.line.Line.{Line}
 use Rattle.pz_text.specs.declared.line.Section.TheVariants.{Rules}
 use Rattle.pz_names.specs.Objects.{is_blank}
-use Rattle.pz_source.specs.declared.rules.RuleLine.{RuleLine}
+use Rattle.pz_game.specs.declared.rule_line.RuleLine.{RuleLine}
 
 -- a word that was read, if it has a character
 abbrev pub closed : List ℕ → List (List ℕ)

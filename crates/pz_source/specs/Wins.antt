@@ -1,17 +1,17 @@
 -- WINCONDITIONS: its lines.
 use Rattle.std.specs.Prelude.{ℕ, not, ◌||◌, if◌then◌else◌, List, [], ◌∷◌, map, filter, Option, Some, None, option_map, Result, Ok, Err, codes}
 use Rattle.std.specs.Str.{bytes_eq}
-use Rattle.pz_text.specs.NameSet.{number_in}
+use Rattle.pz_base.specs.NameSet.{number_in}
 use Rattle.pz_text.specs.Words.{names_of}
 use Rattle.pz_text.specs.declared.line.Line.{Line}
-use Rattle.pz_text.specs.declared.fault.Code.{Code}
-use Rattle.pz_text.specs.declared.fault.Code.TheVariants as code
-use Rattle.pz_text.specs.declared.fault.SourceFault.{SourceFault}
+use Rattle.pz_base.specs.declared.fault.Code.{Code}
+use Rattle.pz_base.specs.declared.fault.Code.TheVariants as code
+use Rattle.pz_base.specs.declared.fault.SourceFault.{SourceFault}
 use Rattle.pz_names.specs.Objects.{is_blank}
-use Rattle.pz_source.specs.Each.{each_ok}
-use Rattle.pz_source.specs.declared.wins.Quantifier.{Quantifier}
-use Rattle.pz_source.specs.declared.wins.Quantifier.TheVariants as quantifier
-use Rattle.pz_source.specs.declared.wins.WinLine.{WinLine}
+use Rattle.pz_base.specs.Each.{each_ok}
+use Rattle.pz_game.specs.declared.win_line.Quantifier.{Quantifier}
+use Rattle.pz_game.specs.declared.win_line.Quantifier.TheVariants as quantifier
+use Rattle.pz_game.specs.declared.win_line.WinLine.{WinLine}
 
 -- the first word of a win line; `any` is `some`
 abbrev pub quantifier_of : List ℕ → Option Quantifier

@@ -2,24 +2,22 @@
 
 ghost use Rattle.std.specs.Prelude.{◌≡◌, ◌≢◌, ◌==◌, ℕ, ◌<◌, [], IfOk, IfErr, IfSome, length, None, Some, map, if◌then◌else◌};
 ghost use Rattle.std.specs.List.{list_any, filter_map};
-ghost use Rattle.pz_text.specs.Fault.{first_fault};
-ghost use Rattle.pz_text.specs.declared.fault.Code.TheVariants as code;
+ghost use Rattle.pz_base.specs.Fault.{first_fault};
+ghost use Rattle.pz_base.specs.declared.fault.Code.TheVariants as code;
 ghost use Rattle.pz_source.specs.Layers.{layer_words, layer_names, layer_lines, name_line_at, misplaced, misplaces, members_of, holds, entry_at, layer_of, lies_nowhere, fault_of_layers, layers_of};
 
-use pz_names::denotation::{Denotation, Kind};
+use pz_base::fault::{Code, SourceFault};
+use pz_base::listed::Listed;
+use pz_base::name::Name;
+use pz_base::name_set::NameSet;
+use pz_game::denotation::{Denotation, Kind};
+use pz_game::limits::MAX_LAYERS;
 use pz_names::kinds::has_kind;
 use pz_names::legend::has_unknown;
 use pz_names::meaning::number_or_end;
 use pz_names::name_line::NameLine;
-use pz_text::fault::{Code, SourceFault};
 use pz_text::line::Line;
-use pz_text::listed::Listed;
-use pz_text::name::Name;
-use pz_text::name_set::NameSet;
 use std::alloc::{AllocError, Global};
-
-/// The most layers that a source may have.
-pub const MAX_LAYERS: usize = 25;
 
 /// The words of a line of COLLISIONLAYERS, parted by commas and white space.
 fn layer_words<'a>(alloc: Global, line: &'a [char]) -> Result<Vec<&'a [char]>, AllocError>

@@ -2,26 +2,21 @@
 
 ghost use Rattle.std.specs.Prelude.{◌≡◌, ◌≢◌, ◌≤◌, ◌<◌, ◌+◌, ◌*◌, length, drop, [], IfOk, IfErr, OnOk, Ok, Err, ◌++◌, map, take, option_map, get_or, true};
 ghost use Rattle.std.specs.List.{list_any, slice_range};
-ghost use Rattle.pz_text.specs.declared.fault.Code.TheVariants as code;
-ghost use Rattle.pz_source.specs.Level.{is_playable};
+ghost use Rattle.pz_base.specs.declared.fault.Code.TheVariants as code;
+ghost use Rattle.pz_game.specs.Level.{is_playable};
 ghost use Rattle.pz_source.specs.Levels.{is_message, closed, entries_of, is_entry, glyph_of, glyphs_of, filled, is_too_large, rows_of, entry_of, levels_of};
 
-use crate::level::{DrawnLevel, LevelEntry};
-use pz_names::denotation::{Denotation, Kind};
+use pz_base::fault::{Code, SourceFault};
+use pz_base::listed::Listed;
+use pz_base::name::Name;
+use pz_base::name_set::NameSet;
+use pz_game::denotation::{Denotation, Kind};
+use pz_game::level::{DrawnLevel, LevelEntry};
+use pz_game::limits::{MAX_CELLS, MAX_SIDE};
 use pz_names::objects::is_blank;
-use pz_text::fault::{Code, SourceFault};
 use pz_text::heading::begins_with_word;
 use pz_text::line::Line;
-use pz_text::listed::Listed;
-use pz_text::name::Name;
-use pz_text::name_set::NameSet;
 use std::alloc::{AllocError, Global};
-
-/// The most columns and rows that a level may have.
-pub const MAX_SIDE: usize = 255;
-
-/// The most cells that a level may have.
-pub const MAX_CELLS: usize = 16_384;
 
 /// The most entries that a source may have.
 pub const MAX_ENTRIES: usize = 1_024;

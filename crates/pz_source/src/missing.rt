@@ -3,9 +3,9 @@
 ghost use Rattle.std.specs.Prelude.{◌≡◌};
 ghost use Rattle.pz_source.specs.Missing.{is_single, names_single, fault_of_needs};
 
-use pz_names::denotation::{Denotation, Kind};
-use pz_text::fault::{Code, SourceFault};
-use pz_text::name_set::NameSet;
+use pz_base::fault::{Code, SourceFault};
+use pz_base::name_set::NameSet;
+use pz_game::denotation::{Denotation, Kind};
 
 fn is_single(kind: Kind) -> bool
     ensures { result ≡ is_single kind }

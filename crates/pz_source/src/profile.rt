@@ -1,15 +1,15 @@
 //! The profile: the keywords of the prelude, and the words of RULES that are outside it.
 
 ghost use Rattle.std.specs.Prelude.{◌≡◌, ◌≢◌, None, Some, IfOk, IfErr};
-ghost use Rattle.pz_text.specs.declared.fault.Code.TheVariants as code;
+ghost use Rattle.pz_base.specs.declared.fault.Code.TheVariants as code;
 ghost use Rattle.pz_source.specs.Profile.{is_outside_word, has_outside_word, is_outside, outside_profile, has_keyword, options_of};
 
-use crate::options::Options;
 use crate::rules::rule_words;
-use pz_text::fault::{Code, SourceFault};
+use pz_base::fault::{Code, SourceFault};
+use pz_base::name::Name;
+use pz_game::options::Options;
 use pz_text::heading::begins_with_word;
 use pz_text::line::{Line, Section};
-use pz_text::name::Name;
 use std::alloc::{AllocError, Global};
 
 fn is_outside_word(word: &Name) -> bool

@@ -1,29 +1,30 @@
 //! A source, read.
 
 ghost use Rattle.std.specs.Prelude.{◌≡◌, ◌≢◌, ◌≤◌, ◌<◌, length, All, [], get_or, IfOk, IfErr, Ok, Err};
-ghost use Rattle.pz_text.specs.declared.fault.Code.TheVariants as code;
+ghost use Rattle.pz_base.specs.declared.fault.Code.TheVariants as code;
 ghost use Rattle.pz_names.specs.Objects.{IsNamed, object_names};
-ghost use Rattle.pz_names.specs.Word.{IsWord};
-ghost use Rattle.pz_names.specs.Denotation.{IsDenoted};
+ghost use Rattle.pz_game.specs.Word.{IsWord};
+ghost use Rattle.pz_game.specs.Denotation.{IsDenoted};
 ghost use Rattle.pz_source.specs.Reading.{first_names, game_over, game_of_objects, game_of_lines, source_of, line_count};
 
-use crate::game::Game;
 use crate::layers::read_layers;
 use crate::levels::read_levels;
 use crate::missing::missing_name;
 use crate::profile::{check_profile, options_of};
 use crate::rules::rule_lines;
 use crate::wins::read_wins;
-use pz_names::denotation::Denotation;
+use pz_base::fault::SourceFault;
+use pz_base::listed::Listed;
+use pz_base::name::Name;
+use pz_base::name_set::NameSet;
+use pz_game::denotation::Denotation;
+use pz_game::game::{Game, GameParts};
+use pz_game::limits::MAX_OBJECTS;
 use pz_names::name_line::NameLine;
-use pz_names::objects::{MAX_OBJECTS, read_objects};
+use pz_names::objects::read_objects;
 use pz_names::values::read_legend;
 use pz_text::check::read_lines;
-use pz_text::fault::SourceFault;
 use pz_text::line::{Line, Section};
-use pz_text::listed::Listed;
-use pz_text::name::Name;
-use pz_text::name_set::NameSet;
 use pz_text::section::lines_in;
 use std::alloc::{AllocError, Global};
 
@@ -80,7 +81,7 @@ fn read_over(
     let rules = rule_lines(alloc, lines_in(Section::Rules, lines))?;
     let options = options_of(lines_in(Section::Prelude, lines));
     let firsts = first_names(alloc, objects)?;
-    Ok(Game {
+    Ok(Game::new(GameParts {
         objects: firsts,
         names,
         values: Listed::new(values),
@@ -90,7 +91,7 @@ fn read_over(
         wins: Listed::new(wins),
         levels: Listed::new(levels),
         options,
-    })
+    }))
 }
 
 /// The game over these objects, or its first fault: those of the legend, then those of what follows.

@@ -1,24 +1,18 @@
 //! The lines of RULES.
 
 ghost use Rattle.std.specs.Prelude.{◌≡◌, ◌≤◌, ◌++◌, ◌∷◌, length, take, drop, map, IfOk, OnOk};
-ghost use Rattle.pz_text.specs.Name.{name_of};
+ghost use Rattle.pz_base.specs.Name.{name_of};
 ghost use Rattle.pz_text.specs.Characters.{trimmed};
 ghost use Rattle.pz_source.specs.Rules.{closed, ended, rule_words, rule_line_of, rule_lines};
 
+use pz_base::listed::Listed;
+use pz_base::name::Name;
+use pz_game::rule_line::RuleLine;
 use pz_names::objects::is_blank;
 use pz_text::characters::trimmed;
 use pz_text::comment::Place;
 use pz_text::line::{Line, Section};
-use pz_text::listed::Listed;
-use pz_text::name::Name;
 use std::alloc::{AllocError, Global};
-
-/// A line of RULES: its number, and its words. The text after the word `message` is one word.
-#[derive(Drop, Debug)]
-pub struct RuleLine {
-    pub number: u32,
-    pub words: Listed<Name>,
-}
 
 fn push_closed(alloc: Global, words: &mut Vec<Name>, word: &[char]) -> Result<(), AllocError>
     ensures { OnOk result (words.new.items ≡ words.old.items ++ map name_of (closed word.now)) }

@@ -1,32 +1,17 @@
 //! The lines of WINCONDITIONS.
 
 ghost use Rattle.std.specs.Prelude.{◌≡◌, ◌≢◌, Ok, Err, IfOk, IfErr};
-ghost use Rattle.pz_text.specs.declared.fault.Code.TheVariants as code;
+ghost use Rattle.pz_base.specs.declared.fault.Code.TheVariants as code;
 ghost use Rattle.pz_source.specs.Wins.{quantifier_of, win_about, win_of, wins_of};
 
+use pz_base::fault::{Code, SourceFault};
+use pz_base::name::Name;
+use pz_base::name_set::NameSet;
+use pz_game::win_line::{Quantifier, WinLine};
 use pz_names::objects::is_blank;
-use pz_text::fault::{Code, SourceFault};
 use pz_text::line::Line;
-use pz_text::name::Name;
-use pz_text::name_set::NameSet;
 use pz_text::words::names_of;
 use std::alloc::Global;
-
-/// How many cells a win line speaks of.
-#[derive(Clone, Copy, Debug, PartialEq, Eq)]
-pub enum Quantifier {
-    All,
-    Some,
-    No,
-}
-
-/// A line of WINCONDITIONS: what it is about and, where it has `on`, what that is to be on, as numbers of names.
-#[derive(Clone, Copy, Debug, PartialEq, Eq)]
-pub struct WinLine {
-    pub quantifier: Quantifier,
-    pub subject: usize,
-    pub on: Option<usize>,
-}
 
 fn quantifier_of(word: &Name) -> Option<Quantifier>
     ensures { result ≡ quantifier_of word.now }

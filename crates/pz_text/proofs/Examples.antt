@@ -7,7 +7,7 @@ use Rattle.pz_text.specs.Comment.{outside}
 use Rattle.pz_text.specs.Cutting.{cut}
 use Rattle.pz_text.specs.declared.line.Line.{Line}
 use Rattle.pz_text.specs.declared.line.Section.TheVariants.{Prelude, Objects, Legend, Rules, Levels}
-use Rattle.pz_text.specs.declared.fault.Code.TheVariants as code
+use Rattle.pz_base.specs.declared.fault.Code.TheVariants as code
 
 joined : List (List ℕ) → List ℕ
 joined [] = []

@@ -1,5 +1,2 @@
 pub mod Examples
-pub mod FaultLemmas
-pub mod ListLemmas
-pub mod NameLemmas
 pub mod TextLemmas

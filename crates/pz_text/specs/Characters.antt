@@ -2,7 +2,7 @@
 use Rattle.std.specs.Prelude.{ℕ, ◌-◌, Bool, false, ◌==◌, List, length, slice_get}
 use Rattle.std.specs.Option.{option_map_or}
 use Rattle.std.specs.Str.{bytes_eq, skip_leading_whitespace, drop_trailing_whitespace}
-use Rattle.pz_text.specs.Name.{folded}
+use Rattle.pz_base.specs.Name.{folded}
 
 -- without the white space at both ends, by any that Unicode knows
 abbrev pub trimmed : List ℕ → List ℕ

@@ -2,16 +2,16 @@
 use Rattle.std.specs.Prelude.{ℕ, Bool, ◌&&◌, if◌then◌else◌, nat_lt, nat_le, List, [], length, Option, Some, None, Result, Ok}
 use Rattle.std.specs.List.{list_any}
 use Rattle.std.specs.Str.{chars}
-use Rattle.pz_text.specs.Fault.{first_fault, unless}
+use Rattle.pz_base.specs.Fault.{first_fault, unless}
 use Rattle.pz_text.specs.Section.{place_of, is_heading_of}
 use Rattle.pz_text.specs.Cutting.{cut}
 use Rattle.pz_text.specs.declared.check.TheConstants.{MAX_BYTES}
 use Rattle.pz_text.specs.declared.line.Section.{Section}
 use Rattle.pz_text.specs.declared.line.Section.TheVariants.{Objects, Legend, Layers, Levels}
 use Rattle.pz_text.specs.declared.line.Line.{Line}
-use Rattle.pz_text.specs.declared.fault.Code.{Code}
-use Rattle.pz_text.specs.declared.fault.Code.TheVariants as code
-use Rattle.pz_text.specs.declared.fault.SourceFault.{SourceFault}
+use Rattle.pz_base.specs.declared.fault.Code.{Code}
+use Rattle.pz_base.specs.declared.fault.Code.TheVariants as code
+use Rattle.pz_base.specs.declared.fault.SourceFault.{SourceFault}
 
 -- the text has more bytes than a source may have
 abbrev pub too_long : List ℕ → Option SourceFault

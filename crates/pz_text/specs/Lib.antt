@@ -2,9 +2,6 @@ pub mod Characters
 pub mod Check
 pub mod Comment
 pub mod Cutting
-pub mod Fault
 pub mod Heading
-pub mod Name
-pub mod NameSet
 pub mod Section
 pub mod Words

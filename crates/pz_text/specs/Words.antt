@@ -2,7 +2,7 @@
 use Rattle.std.specs.Prelude.{ℕ, not, ◌==◌, List, length, filter, map}
 use Rattle.std.specs.List.{slice_split}
 use Rattle.std.specs.Char.{is_whitespace}
-use Rattle.pz_text.specs.Name.{name_of}
+use Rattle.pz_base.specs.Name.{name_of}
 
 -- the words of a line, parted by white space, by any that Unicode knows
 abbrev pub words : List ℕ → List (List ℕ)

@@ -2,13 +2,13 @@
 
 ghost use Rattle.std.specs.Prelude.{◌≡◌, ◌≢◌, IfOk, IfErr, IfSome, None, Ok, Err};
 ghost use Rattle.pz_text.specs.Check.{too_long, misplaced_heading, has_section, missing_section, lines_of};
-ghost use Rattle.pz_text.specs.declared.fault.Code.TheVariants as code;
+ghost use Rattle.pz_base.specs.declared.fault.Code.TheVariants as code;
 
 use crate::characters::characters;
 use crate::cutting::cut;
-use crate::fault::{Code, SourceFault};
 use crate::line::{Line, Section};
 use crate::section::{is_heading_of, place_of};
+use pz_base::fault::{Code, SourceFault};
 use std::alloc::Global;
 
 /// The most bytes that a source may have.

@@ -8,7 +8,7 @@ use crate::characters::trimmed;
 use crate::comment::outside;
 use crate::heading::heading_in;
 use crate::line::{Line, Section};
-use crate::listed::Listed;
+use pz_base::listed::Listed;
 use std::alloc::{AllocError, Global};
 
 fn holds_only(line: &[char], mark: char) -> bool

@@ -1,6 +1,6 @@
 //! The lines of a source, after comments.
 
-use crate::listed::Listed;
+use pz_base::listed::Listed;
 
 /// A section of a source.
 #[derive(Clone, Copy, Debug, PartialEq, Eq)]

@@ -3,8 +3,8 @@
 ghost use Rattle.std.specs.Prelude.{◌≡◌, IfOk, map};
 ghost use Rattle.pz_text.specs.Words.{words, names_of};
 
-use crate::listed::Listed;
-use crate::name::Name;
+use pz_base::listed::Listed;
+use pz_base::name::Name;
 use std::alloc::{AllocError, Global};
 
 /// The words of a line: white space alone parts them.

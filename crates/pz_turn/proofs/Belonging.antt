@@ -1,9 +1,9 @@
 -- What is of a game places objects of the game.
 use Rattle.std.proofs.Common.{◌≡◌, ℕ, List, sym, subst}
-use Rattle.pz_rules.specs.declared.instance.Instance.{Instance}
-use Rattle.pz_rules.specs.declared.instance.Block.{Block}
-use Rattle.pz_rules.specs.declared.instance.Block.TheVariants.{One, Loop}
-use Rattle.pz_rules.specs.Instance.{IsGroupOf, AreGroupsOf, IsBlockOf, AreBlocksOf}
+use Rattle.pz_game.specs.declared.instance.Instance.{Instance}
+use Rattle.pz_game.specs.declared.instance.Block.{Block}
+use Rattle.pz_game.specs.declared.instance.Block.TheVariants.{One, Loop}
+use Rattle.pz_game.specs.Instance.{IsGroupOf, AreGroupsOf, IsBlockOf, AreBlocksOf}
 use Rattle.std.specs.Prelude.{All}
 use Rattle.pz_turn.specs.Belonging.{GroupPlacesObjectsOf, LoopPlacesObjectsOf, BlockPlacesObjectsOf}
 

@@ -5,7 +5,7 @@ use Rattle.std.proofs.lemmas.List.{take_more, append-nil, map-append, length-app
 use Rattle.std.proofs.lemmas.List.Concat.{flat_map-append}
 use Rattle.std.proofs.lemmas.Grind.{fold-append, drop-set_at}
 use Rattle.pz_turn.specs.Combinations.{combinations}
-use Rattle.pz_plan.specs.Lists.{product_of}
+use Rattle.pz_base.specs.Lists.{product_of}
 
 -- a last element put behind each of these
 abbrev pub behind : {X : Type 0} → X → List (List X) → List (List X)

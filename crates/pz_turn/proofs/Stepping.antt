@@ -1,19 +1,20 @@
 -- How a step ends.
 use Rattle.std.proofs.Common.{◌≡◌, ℕ, List, Option, None, Some, Ok, Err, ap, sym, ◌∙◌}
-use Rattle.pz_source.specs.declared.direction.Dir.{Dir}
-use Rattle.pz_rules.specs.declared.instance.Program.{Program}
-use Rattle.pz_source.specs.Game.{GameView, players_of}
+use Rattle.pz_game.specs.declared.direction.Dir.{Dir}
+use Rattle.pz_game.specs.declared.instance.Program.{Program}
+use Rattle.pz_game.specs.Game.{players_of}
+use Rattle.pz_game.specs.declared.game.GameParts.{GameParts}
 use Rattle.pz_grid.specs.Grid.{Grid}
 use Rattle.pz_turn.specs.declared.outcome.StepFault.{StepFault}
 use Rattle.pz_turn.specs.Outcome.{Outcome}
 use Rattle.pz_turn.specs.Step.{rules_run, given_input, must_cancel, with_cancel, ended, step_ended, step_of}
 
-pub step_stops : (game : GameView) (program : Program) (grid start : Grid) (input : Option Dir) (fault : StepFault) → start ≡ given_input (players_of game) input grid → rules_run program start ≡ Err fault → step_of game program grid input ≡ Err fault
+pub step_stops : (game : GameParts) (program : Program) (grid start : Grid) (input : Option Dir) (fault : StepFault) → start ≡ given_input (players_of game) input grid → rules_run program start ≡ Err fault → step_of game program grid input ≡ Err fault
 unfolding step_of
 step_stops game program grid start input fault starts stops =
     ap (λ (g : Grid). step_ended game input grid (rules_run program g)) (sym starts) ∙ ap (step_ended game input grid) stops
 
-pub step_ends : (game : GameView) (program : Program) (grid start : Grid) (input : Option Dir) (end : Outcome Grid) → start ≡ given_input (players_of game) input grid → rules_run program start ≡ Ok end → step_of game program grid input ≡ Ok (ended grid end.level (with_cancel (must_cancel game input grid end.level) end.commands))
+pub step_ends : (game : GameParts) (program : Program) (grid start : Grid) (input : Option Dir) (end : Outcome Grid) → start ≡ given_input (players_of game) input grid → rules_run program start ≡ Ok end → step_of game program grid input ≡ Ok (ended grid end.level (with_cancel (must_cancel game input grid end.level) end.commands))
 unfolding step_of
 step_ends game program grid start input end starts ends =
     ap (λ (g : Grid). step_ended game input grid (rules_run program g)) (sym starts) ∙ ap (step_ended game input grid) ends

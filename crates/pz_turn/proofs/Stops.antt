@@ -2,13 +2,14 @@
 use Rattle.std.proofs.Common.{◌≢◌, ℕ, zero, suc, List, [], ◌∷◌, Option, Some, None, Bool, true, false, Result, Ok, Err, fold, length, cond, refl, subst}
 use Rattle.std.specs.Prelude.{nat_lt, IfErr}
 use Rattle.std.specs.List.{find, range_with_len}
-use Rattle.pz_source.specs.declared.direction.Dir.{Dir}
-use Rattle.pz_source.specs.Game.{GameView, players_of}
-use Rattle.pz_rules.specs.declared.instance.Instance.{Instance}
-use Rattle.pz_rules.specs.declared.instance.Block.{Block}
-use Rattle.pz_rules.specs.declared.instance.Block.TheVariants.{One, Loop}
-use Rattle.pz_rules.specs.declared.instance.Program.{Program}
-use Rattle.pz_rules.specs.Pattern.{RuleRow}
+use Rattle.pz_game.specs.declared.direction.Dir.{Dir}
+use Rattle.pz_game.specs.Game.{players_of}
+use Rattle.pz_game.specs.declared.game.GameParts.{GameParts}
+use Rattle.pz_game.specs.declared.instance.Instance.{Instance}
+use Rattle.pz_game.specs.declared.instance.Block.{Block}
+use Rattle.pz_game.specs.declared.instance.Block.TheVariants.{One, Loop}
+use Rattle.pz_game.specs.declared.instance.Program.{Program}
+use Rattle.pz_game.specs.Pattern.{RuleRow}
 use Rattle.pz_grid.specs.declared.places.GridFault.TheVariants as grid
 use Rattle.pz_grid.specs.declared.places.Place.{Place}
 use Rattle.pz_grid.specs.declared.places.TheConstants.{MATCH_LIMIT}
@@ -108,12 +109,12 @@ rules-stop program level = followed_by-stops (then_moved (blocks_run program.ear
   by (Err fault) h = h
   by (Ok end) h = tt
 
-step-stops : (game : GameView) (program : Program) (level : Grid) (input : Option Dir) → Stops (step_of game program level input)
+step-stops : (game : GameParts) (program : Program) (level : Grid) (input : Option Dir) → Stops (step_of game program level input)
 unfolding step_of
 step-stops game program level input = by (rules_run program (given_input (players_of game) input level)) (rules-stop program (given_input (players_of game) input level)) where
   by : (end : Result (Outcome Grid) StepFault) → Stops end → Stops (step_ended game input level end)
   by (Err fault) h = h
   by (Ok end) h = tt
 
-pub never_for_memory : (game : GameView) (program : Program) (level : Grid) (input : Option Dir) → step_of game program level input ≢ Err Memory
+pub never_for_memory : (game : GameParts) (program : Program) (level : Grid) (input : Option Dir) → step_of game program level input ≢ Err Memory
 never_for_memory game program level input = λ e. subst Stops e (step-stops game program level input) refl

@@ -1,29 +1,29 @@
 -- Worked cases of instances, groups, steps and wins.
 use Rattle.std.proofs.Common.{◌≡◌, ℕ, List, [], ◌∷◌, Option, Some, None, Bool, true, false, Ok, Err, length, refl}
 use Rattle.std.specs.Prelude.{codes}
-use Rattle.pz_names.specs.declared.denotation.Denotation.{Denotation}
-use Rattle.pz_names.specs.declared.denotation.Kind.{Kind}
-use Rattle.pz_names.specs.declared.denotation.Kind.TheVariants.{Object, Property, Aggregate}
-use Rattle.pz_source.specs.declared.direction.Dir.TheVariants.{Right}
-use Rattle.pz_source.specs.declared.wins.Quantifier.{Quantifier}
-use Rattle.pz_source.specs.declared.wins.Quantifier.TheVariants as quantifier
-use Rattle.pz_source.specs.declared.wins.WinLine.{WinLine}
-use Rattle.pz_source.specs.Game.{GameView}
-use Rattle.pz_plan.specs.declared.commands.Commands.{Commands}
-use Rattle.pz_rules.specs.declared.pattern.Item.{Item}
-use Rattle.pz_rules.specs.declared.pattern.Word.{Word}
-use Rattle.pz_rules.specs.declared.pattern.Word.TheVariants.{Present, Toward, Absent}
-use Rattle.pz_rules.specs.declared.instance.Instance.{Instance}
-use Rattle.pz_rules.specs.declared.instance.Block.TheVariants.{One}
-use Rattle.pz_rules.specs.declared.instance.Program.{Program}
-use Rattle.pz_rules.specs.Pattern.{RuleRow}
+use Rattle.pz_game.specs.declared.denotation.Denotation.{Denotation}
+use Rattle.pz_game.specs.declared.denotation.Kind.{Kind}
+use Rattle.pz_game.specs.declared.denotation.Kind.TheVariants.{Object, Property, Aggregate}
+use Rattle.pz_game.specs.declared.direction.Dir.TheVariants.{Right}
+use Rattle.pz_game.specs.declared.win_line.Quantifier.{Quantifier}
+use Rattle.pz_game.specs.declared.win_line.Quantifier.TheVariants as quantifier
+use Rattle.pz_game.specs.declared.win_line.WinLine.{WinLine}
+use Rattle.pz_game.specs.declared.game.GameParts.{GameParts}
+use Rattle.pz_game.specs.declared.commands.Commands.{Commands}
+use Rattle.pz_game.specs.declared.pattern.Item.{Item}
+use Rattle.pz_game.specs.declared.pattern.Word.{Word}
+use Rattle.pz_game.specs.declared.pattern.Word.TheVariants.{Present, Toward, Absent}
+use Rattle.pz_game.specs.declared.instance.Instance.{Instance}
+use Rattle.pz_game.specs.declared.instance.Block.TheVariants.{One}
+use Rattle.pz_game.specs.declared.instance.Program.{Program}
+use Rattle.pz_game.specs.Pattern.{RuleRow}
 use Rattle.pz_grid.specs.declared.cell.Piece.{Piece}
 use Rattle.pz_grid.specs.Grid.{Grid}
 use Rattle.pz_grid.specs.Places.{searched}
 use Rattle.pz_turn.specs.declared.outcome.StepFault.TheVariants.{LoopLimit}
 use Rattle.pz_turn.specs.declared.rest.TheConstants.{PASSES}
 use Rattle.pz_turn.specs.Combinations.{combinations}
-use Rattle.pz_plan.specs.Commands.{no_commands}
+use Rattle.pz_game.specs.Commands.{no_commands}
 use Rattle.pz_turn.specs.Instance.{applied}
 use Rattle.pz_turn.specs.Rest.{pass_of, rest_of, group_runs}
 use Rattle.pz_turn.specs.Step.{block_runs, blocks_run, rules_run, step_of, cancel}
@@ -41,7 +41,7 @@ line quantity subject on = record { quantifier = quantity; subject = subject; on
 
 -- object 0 is the background on layer 0; 1 the player, 2 a crate and 3 a wall, on layer 1; the name 4 is a property of crate and
 -- wall, the name 5 an aggregate of background and crate
-abbrev game_with : Bool → List WinLine → GameView
+abbrev game_with : Bool → List WinLine → GameParts
 game_with must_move wins = record {
   objects = codes "background" ∷ codes "player" ∷ codes "crate" ∷ codes "wall" ∷ [];
   names = codes "background" ∷ codes "player" ∷ codes "crate" ∷ codes "wall" ∷ codes "solid" ∷ codes "@" ∷ [];
@@ -54,7 +54,7 @@ game_with must_move wins = record {
   options = record { run_rules_on_level_start = false; require_player_movement = must_move };
 }
 
-abbrev game : GameView
+abbrev game : GameParts
 game = game_with true []
 
 abbrev item : ℕ → Word → Item

@@ -1,9 +1,9 @@
 -- What the rights of rules place is of the game whose objects have these layers: all that applying rules needs to know of them.
 use Rattle.std.specs.Prelude.{ℕ, List, All}
-use Rattle.pz_rules.specs.declared.instance.Instance.{Instance}
-use Rattle.pz_rules.specs.declared.instance.Block.{Block}
-use Rattle.pz_rules.specs.declared.instance.Block.TheVariants.{One, Loop}
-use Rattle.pz_rules.specs.Pattern.{AreRowsOf}
+use Rattle.pz_game.specs.declared.instance.Instance.{Instance}
+use Rattle.pz_game.specs.declared.instance.Block.{Block}
+use Rattle.pz_game.specs.declared.instance.Block.TheVariants.{One, Loop}
+use Rattle.pz_game.specs.Pattern.{AreRowsOf}
 
 abbrev pub PlacesObjectsOf : List ℕ → Instance → Type 0
 PlacesObjectsOf layers instance = AreRowsOf layers instance.right

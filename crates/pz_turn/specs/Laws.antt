@@ -1,10 +1,10 @@
 -- Laws of instances, groups and steps.
 use Rattle.std.specs.Prelude.{◌≡◌, ◌≢◌, List, length, map, true, false, Option, Ok, Err}
-use Rattle.pz_source.specs.declared.direction.Dir.{Dir}
-use Rattle.pz_source.specs.Game.{GameView}
-use Rattle.pz_plan.specs.Lists.{product_of}
-use Rattle.pz_rules.specs.declared.instance.Instance.{Instance}
-use Rattle.pz_rules.specs.declared.instance.Program.{Program}
+use Rattle.pz_game.specs.declared.direction.Dir.{Dir}
+use Rattle.pz_game.specs.declared.game.GameParts.{GameParts}
+use Rattle.pz_base.specs.Lists.{product_of}
+use Rattle.pz_game.specs.declared.instance.Instance.{Instance}
+use Rattle.pz_game.specs.declared.instance.Program.{Program}
 use Rattle.pz_grid.specs.declared.places.Place.{Place}
 use Rattle.pz_grid.specs.Grid.{Grid}
 use Rattle.pz_turn.specs.declared.outcome.StepFault.TheVariants.{Memory}
@@ -29,4 +29,4 @@ RestLasts = (group : List Instance) (grid : Grid) (end : Outcome Grid) → rest_
 
 -- want of memory stops a run alone: no step ends with it
 abbrev pub NeverEndsForMemory : Type 0
-NeverEndsForMemory = (game : GameView) (program : Program) (grid : Grid) (input : Option Dir) → step_of game program grid input ≢ Err Memory
+NeverEndsForMemory = (game : GameParts) (program : Program) (grid : Grid) (input : Option Dir) → step_of game program grid input ≢ Err Memory

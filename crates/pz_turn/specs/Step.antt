@@ -4,13 +4,14 @@
 -- was given before it.
 use Rattle.std.specs.Prelude.{ℕ, Bool, true, false, not, ◌&&◌, ◌||◌, List, Option, Some, None, Result, Ok, Err, is_some, if◌then◌else◌}
 use Rattle.std.specs.List.{list_any, list_all, zip}
-use Rattle.pz_source.specs.declared.direction.Dir.{Dir}
-use Rattle.pz_source.specs.Game.{GameView, players_of}
-use Rattle.pz_plan.specs.declared.commands.Commands.{Commands}
-use Rattle.pz_rules.specs.declared.instance.Block.{Block}
-use Rattle.pz_rules.specs.declared.instance.Block.TheVariants.{One, Loop}
-use Rattle.pz_rules.specs.declared.instance.Program.{Program}
-use Rattle.pz_plan.specs.Commands.{has}
+use Rattle.pz_game.specs.declared.direction.Dir.{Dir}
+use Rattle.pz_game.specs.Game.{players_of}
+use Rattle.pz_game.specs.declared.game.GameParts.{GameParts}
+use Rattle.pz_game.specs.declared.commands.Commands.{Commands}
+use Rattle.pz_game.specs.declared.instance.Block.{Block}
+use Rattle.pz_game.specs.declared.instance.Block.TheVariants.{One, Loop}
+use Rattle.pz_game.specs.declared.instance.Program.{Program}
+use Rattle.pz_game.specs.Commands.{has, either}
 use Rattle.pz_grid.specs.declared.cell.Piece.{Piece}
 use Rattle.pz_grid.specs.Grid.{Grid}
 use Rattle.pz_grid.specs.Movement.{resolved}
@@ -20,7 +21,6 @@ use Rattle.pz_grid.specs.Sameness.{same_grid}
 use Rattle.pz_turn.specs.declared.outcome.StepFault.{StepFault}
 use Rattle.pz_turn.specs.declared.rest.TheConstants.{PASSES}
 use Rattle.pz_turn.specs.Instance.{applied}
-use Rattle.pz_plan.specs.Commands.{either}
 use Rattle.pz_turn.specs.Outcome.{Outcome, followed_by}
 use Rattle.pz_turn.specs.Rest.{Runs, pass_of, rest_of, group_runs}
 
@@ -59,7 +59,7 @@ has_stayed players before after =
     list_any (holds_one players) before.cells && list_all (keeps_player players) (zip before.cells after.cells)
 
 -- a step with an input that must move the player, and hasn't, is cancelled
-abbrev pub must_cancel : GameView → Option Dir → Grid → Grid → Bool
+abbrev pub must_cancel : GameParts → Option Dir → Grid → Grid → Bool
 must_cancel game input before after =
     game.options.require_player_movement && (is_some input && has_stayed (players_of game) before after)
 
@@ -77,12 +77,12 @@ ended before after commands =
     then record { level = before; commands = commands; changed = false }
     else record { level = after; commands = commands; changed = not (same_grid after before) }
 
-abbrev pub step_ended : GameView → Option Dir → Grid → Result (Outcome Grid) StepFault → Result (Outcome Grid) StepFault
+abbrev pub step_ended : GameParts → Option Dir → Grid → Result (Outcome Grid) StepFault → Result (Outcome Grid) StepFault
 step_ended game input before (Err fault) = Err fault
 step_ended game input before (Ok end) =
     Ok (ended before end.level (with_cancel (must_cancel game input before end.level) end.commands))
 
 -- a step from a level, with an input or none
-unfoldable pub step_of : GameView → Program → Grid → Option Dir → Result (Outcome Grid) StepFault
+unfoldable pub step_of : GameParts → Program → Grid → Option Dir → Result (Outcome Grid) StepFault
 step_of game program grid input =
     step_ended game input grid (rules_run program (given_input (players_of game) input grid))

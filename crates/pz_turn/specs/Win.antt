@@ -3,12 +3,12 @@
 use Rattle.std.specs.Prelude.{ℕ, Bool, true, false, not, ◌&&◌, ◌||◌, List, Option, Some, None, length, nat_lt, slice_get}
 use Rattle.std.specs.List.{list_any, list_all}
 use Rattle.std.specs.Option.{option_map_or}
-use Rattle.pz_names.specs.declared.denotation.Kind.{Kind}
-use Rattle.pz_names.specs.declared.denotation.Kind.TheVariants.{Aggregate}
-use Rattle.pz_source.specs.declared.wins.Quantifier.{Quantifier}
-use Rattle.pz_source.specs.declared.wins.Quantifier.TheVariants as quantifier
-use Rattle.pz_source.specs.declared.wins.WinLine.{WinLine}
-use Rattle.pz_source.specs.Game.{GameView}
+use Rattle.pz_game.specs.declared.denotation.Kind.{Kind}
+use Rattle.pz_game.specs.declared.denotation.Kind.TheVariants.{Aggregate}
+use Rattle.pz_game.specs.declared.win_line.Quantifier.{Quantifier}
+use Rattle.pz_game.specs.declared.win_line.Quantifier.TheVariants as quantifier
+use Rattle.pz_game.specs.declared.win_line.WinLine.{WinLine}
+use Rattle.pz_game.specs.declared.game.GameParts.{GameParts}
 use Rattle.pz_grid.specs.declared.cell.Piece.{Piece}
 use Rattle.pz_grid.specs.Grid.{Grid}
 use Rattle.pz_grid.specs.Presence.{holds_one, holds_each}
@@ -19,31 +19,31 @@ fits_kind Aggregate members cell = holds_each members cell
 fits_kind _ members cell = holds_one members cell
 
 -- a cell fits the name of a number
-abbrev pub fits : GameView → ℕ → List (Option Piece) → Bool
+abbrev pub fits : GameParts → ℕ → List (Option Piece) → Bool
 fits game number cell = option_map_or (λ d. fits_kind d.kind d.members cell) (slice_get game.values number) false
 
 -- a cell fits what stands after `on`; without it each cell does
-abbrev pub fits_on : GameView → Option ℕ → List (Option Piece) → Bool
+abbrev pub fits_on : GameParts → Option ℕ → List (Option Piece) → Bool
 fits_on game None cell = true
 fits_on game (Some number) cell = fits game number cell
 
 -- a cell fits both names of a line
-abbrev pub fits_both : GameView → WinLine → List (Option Piece) → Bool
+abbrev pub fits_both : GameParts → WinLine → List (Option Piece) → Bool
 fits_both game line cell = fits game line.subject cell && fits_on game line.on cell
 
 -- if a cell fits the first name of a line, it fits the second
-abbrev pub fits_if : GameView → WinLine → List (Option Piece) → Bool
+abbrev pub fits_if : GameParts → WinLine → List (Option Piece) → Bool
 fits_if game line cell = not (fits game line.subject cell) || fits_on game line.on cell
 
 -- a line as a sentence over all cells
-abbrev pub holds_of : Quantifier → GameView → WinLine → List (List (Option Piece)) → Bool
+abbrev pub holds_of : Quantifier → GameParts → WinLine → List (List (Option Piece)) → Bool
 holds_of quantifier.All game line cells = list_all (fits_if game line) cells
 holds_of quantifier.Some game line cells = list_any (fits_both game line) cells
 holds_of quantifier.No game line cells = not (list_any (fits_both game line) cells)
 
-abbrev pub line_holds : GameView → Grid → WinLine → Bool
+abbrev pub line_holds : GameParts → Grid → WinLine → Bool
 line_holds game grid line = holds_of line.quantifier game line grid.cells
 
 -- there are win lines, and all hold
-unfoldable pub has_won : GameView → Grid → Bool
+unfoldable pub has_won : GameParts → Grid → Bool
 has_won game grid = nat_lt 0 (length game.wins) && list_all (line_holds game grid) game.wins

@@ -13,13 +13,13 @@ ghost use Rattle.pz_turn.specs.declared.outcome.StepFault.TheVariants.{Memory};
 use crate::outcome::{Given, StepFault};
 use crate::rest::Runnable;
 use bitflags::Flags;
+use pz_base::listed::Listed;
+use pz_game::commands::Commands;
+use pz_game::direction::Dir;
+use pz_game::instance::Instance;
+use pz_game::pattern::Row;
 use pz_grid::Level;
 use pz_grid::places::{GridFault, Place, places, still_matches};
-use pz_plan::commands::Commands;
-use pz_rules::instance::Instance;
-use pz_rules::pattern::Row;
-use pz_source::direction::Dir;
-use pz_text::listed::Listed;
 use std::alloc::Global;
 
 /// The greatest number of combinations of places of an instance.

@@ -1,7 +1,7 @@
 //! Groups of instances, run until a pass changes nothing.
 
 ghost use Rattle.std.specs.Prelude.{◌≡◌, ◌≢◌, Ok, All};
-ghost use Rattle.pz_rules.specs.Instance.{IsGroupOf};
+ghost use Rattle.pz_game.specs.Instance.{IsGroupOf};
 ghost use Rattle.pz_grid.specs.Grid.{IsLawful, IsOfGame, SameSize};
 ghost use Rattle.pz_turn.specs.Belonging.{GroupPlacesObjectsOf};
 ghost use Rattle.pz_turn.specs.Instance.{applied};
@@ -9,10 +9,10 @@ ghost use Rattle.pz_turn.specs.Outcome.{GivesOutcome, GivesBoth};
 ghost use Rattle.pz_turn.specs.Rest.{pass_of, rest_of, group_runs};
 
 use crate::outcome::{Given, StepFault};
+use pz_game::commands::Commands;
+use pz_game::game::Game;
+use pz_game::instance::Group;
 use pz_grid::Level;
-use pz_plan::commands::Commands;
-use pz_rules::instance::Group;
-use pz_source::game::Game;
 use std::alloc::Global;
 
 /// The greatest number of passes in which a group or a loop comes to rest: the last of them changes nothing.

@@ -2,8 +2,8 @@
 
 ghost use Rattle.std.specs.Prelude.{◌≡◌, ◌≢◌, ◌<◌, not, All, IfOk, IfErr, Ok, Err, length};
 ghost use Rattle.std.specs.List.{list_any, list_all, zip};
-ghost use Rattle.pz_source.specs.Game.{players_of};
-ghost use Rattle.pz_rules.specs.Instance.{IsProgramOf};
+ghost use Rattle.pz_game.specs.Game.{players_of};
+ghost use Rattle.pz_game.specs.Instance.{IsProgramOf};
 ghost use Rattle.pz_grid.specs.Grid.{IsLawful, IsOfGame, SameSize};
 ghost use Rattle.pz_grid.specs.Presence.{holds_one, cell_of};
 ghost use Rattle.pz_turn.specs.Belonging.{BlockPlacesObjectsOf};
@@ -14,11 +14,11 @@ ghost use Rattle.pz_turn.specs.declared.outcome.StepFault.TheVariants.{Memory};
 use crate::outcome::{Given, StepFault};
 use crate::rest::{Runnable, pass, to_rest};
 use bitflags::Flags;
+use pz_game::commands::Commands;
+use pz_game::direction::Dir;
+use pz_game::game::Game;
+use pz_game::instance::{Block, Program};
 use pz_grid::{Level, push_players, resolve};
-use pz_plan::commands::Commands;
-use pz_rules::instance::{Block, Program};
-use pz_source::direction::Dir;
-use pz_source::game::Game;
 use std::alloc::Global;
 
 /// How a step ends: with the level after it, the commands that were given, and whether that level is another than the one before.

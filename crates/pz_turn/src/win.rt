@@ -5,10 +5,10 @@ ghost use Rattle.std.specs.List.{list_any, list_all};
 ghost use Rattle.pz_grid.specs.Presence.{cell_of};
 ghost use Rattle.pz_turn.specs.Win.{fits_kind, fits, fits_on, fits_both, fits_if, line_holds, has_won};
 
+use pz_game::denotation::{Denotation, Kind};
+use pz_game::game::Game;
+use pz_game::win_line::{Quantifier, WinLine};
 use pz_grid::Level;
-use pz_names::denotation::{Denotation, Kind};
-use pz_source::game::Game;
-use pz_source::wins::{Quantifier, WinLine};
 
 /// Whether the cell of a number fits what a name denotes.
 fn fits_kind(level: &Level, index: usize, denotation: &Denotation) -> bool

@@ -1,6 +1,6 @@
 use Rattle.std.proofs.Common.{ℕ, ◌+◌, ◌*◌, ◌<◌, List, length, arith, ap, sym, subst}
 use Rattle.std.proofs.lemmas.Nat.{mul-add-lt}
-use Rattle.pz_rules.specs.Pattern.{AreOf}
+use Rattle.pz_game.specs.Pattern.{AreOf}
 use Rattle.pz_grid.specs.Grid.{Grid, BareState}
 use Rattle.pz_grid.proofs.RewritingLemmas.{lawful-with_rewritten, low_from_of}
 use Rattle.pz_grid.proofs.BareLevel.rewrite_position.Goals as goal

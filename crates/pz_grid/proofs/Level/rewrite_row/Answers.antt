@@ -2,7 +2,7 @@ use Rattle.std.proofs.Common.{ℕ, ◌≤◌, List, length, arith, ap, sym, ◌�
 use Rattle.std.specs.Prelude.{fold, Option}
 use Rattle.std.specs.List.{enumerate_from, zip, list_any}
 use Rattle.std.proofs.lemmas.List.Folds.{list_any_at}
-use Rattle.pz_rules.specs.declared.pattern.Item.{Item}
+use Rattle.pz_game.specs.declared.pattern.Item.{Item}
 use Rattle.pz_grid.specs.Rewriting.{Rewriting, in_rewrite, rewritten_along, names_object}
 use Rattle.pz_grid.specs.Marks.{IsWidenedBy}
 use Rattle.pz_grid.proofs.MoveLemmas.{widened_on}

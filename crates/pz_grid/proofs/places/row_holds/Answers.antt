@@ -1,5 +1,5 @@
 use Rattle.std.proofs.Common.{ℕ, ◌<◌, ◌≤◌, true, false, ◌≡◌, List, Option, length, get_or, arith, ap, sym, ◌∙◌}
-use Rattle.pz_rules.specs.declared.pattern.Item.{Item}
+use Rattle.pz_game.specs.declared.pattern.Item.{Item}
 use Rattle.pz_grid.specs.Places.{cell_holds, holds_at, position_of}
 use Rattle.pz_grid.proofs.FoldLemmas.{enumerate_more, enumerate_fails, enumerate_all}
 use Rattle.pz_grid.proofs.places.row_holds.Goals as goal

@@ -1,7 +1,7 @@
 use Rattle.std.proofs.Common.{◌≡◌, [], take, drop}
 use Rattle.pz_names.specs.Cycles.{reaches_itself}
 use Rattle.pz_names.specs.Legend.{line_at}
-use Rattle.pz_text.specs.Fault.{first_fault}
+use Rattle.pz_base.specs.Fault.{first_fault}
 use Rattle.pz_names.proofs.cycles.circle.Given as goal
 
 abbrev pub invariant-loop-place : goal.invariant-loop-place

@@ -1,7 +1,7 @@
 use Rattle.std.proofs.Common.{◌≡◌, ◌≢◌, Bor, true, length, sym, ◌∙◌}
 use Rattle.std.specs.Prelude.{Option, None, Some, is_some, option_copied}
 use Rattle.pz_names.specs.Denotation.{value_at}
-use Rattle.pz_names.specs.declared.denotation.Denotation.{Denotation}
+use Rattle.pz_game.specs.declared.denotation.Denotation.{Denotation}
 use Rattle.pz_names.proofs.QuickLemmas.{valued-off_cycle}
 use Rattle.pz_names.proofs.cycles.lies_on_cycle.Goals as goal
 

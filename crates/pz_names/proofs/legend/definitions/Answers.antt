@@ -4,8 +4,8 @@ use Rattle.std.proofs.lemmas.List.{map-append}
 use Rattle.pz_names.proofs.LegendLemmas.{definitions_of-next, definitions_of-blank, misnames-none}
 use Rattle.pz_names.specs.Legend.{line_number, misnames, definition_of, is_full, defined}
 use Rattle.pz_names.specs.Objects.{is_blank}
-use Rattle.pz_text.proofs.FaultLemmas.{first_fault-pass}
-use Rattle.pz_text.specs.NameSet.{is_name_of}
+use Rattle.pz_base.proofs.FaultLemmas.{first_fault-pass}
+use Rattle.pz_base.specs.NameSet.{is_name_of}
 use Rattle.pz_names.specs.declared.legend.Definition.{Definition}
 use Rattle.pz_names.proofs.legend.definitions.Goals as goal
 

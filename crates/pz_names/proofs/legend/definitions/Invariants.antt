@@ -1,6 +1,6 @@
 use Rattle.std.proofs.Common.{◌≡◌, ◌++◌, [], map, take, drop}
 use Rattle.pz_names.specs.Legend.{line_number, misnames, definitions_of}
-use Rattle.pz_text.specs.Fault.{first_fault}
+use Rattle.pz_base.specs.Fault.{first_fault}
 use Rattle.pz_names.proofs.legend.definitions.Given as goal
 
 abbrev pub invariant-loop-line : goal.invariant-loop-line

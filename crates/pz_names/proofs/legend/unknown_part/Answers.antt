@@ -1,8 +1,8 @@
 use Rattle.std.proofs.Common.{◌≡◌, take, refl, sym, ◌∙◌}
 use Rattle.std.specs.Prelude.{Some, None}
 use Rattle.pz_names.specs.Legend.{line_at, speaks_of_unknown}
-use Rattle.pz_text.proofs.FaultLemmas.{first_fault-hit, first_fault-pass}
-use Rattle.pz_text.specs.declared.fault.Code.TheVariants as code
+use Rattle.pz_base.proofs.FaultLemmas.{first_fault-hit, first_fault-pass}
+use Rattle.pz_base.specs.declared.fault.Code.TheVariants as code
 use Rattle.pz_names.proofs.legend.unknown_part.Goals as goal
 
 pub returns-then-speaks_beyond-clause-first : goal.returns-then-speaks_beyond-clause-first

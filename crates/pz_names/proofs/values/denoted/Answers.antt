@@ -1,6 +1,6 @@
 use Rattle.std.proofs.Common.{◌≡◌, ℕ, [], length, ap, sym, subst, ◌∙◌}
 use Rattle.std.specs.Prelude.{None, Some}
-use Rattle.pz_text.specs.Fault.{first_fault}
+use Rattle.pz_base.specs.Fault.{first_fault}
 use Rattle.pz_names.specs.Legend.{line_at}
 use Rattle.pz_names.specs.Meaning.{meanings_of, StaysInside}
 use Rattle.pz_names.specs.Denotation.{known_at, value_at, values_of}

@@ -1,8 +1,8 @@
 use Rattle.std.proofs.Common.{◌≡◌, [], ap, sym, ◌∙◌}
 use Rattle.std.specs.Prelude.{None}
 use Rattle.std.proofs.lemmas.Result.{err_from_is_err_and}
-use Rattle.pz_text.specs.Fault.{first_fault}
-use Rattle.pz_text.proofs.FaultLemmas.{or_else-later}
+use Rattle.pz_base.specs.Fault.{first_fault}
+use Rattle.pz_base.proofs.FaultLemmas.{or_else-later}
 use Rattle.pz_names.specs.Objects.{object_names}
 use Rattle.pz_names.specs.Legend.{line_number, misnames, definitions_of}
 use Rattle.pz_names.specs.Values.{fault_of_definitions}

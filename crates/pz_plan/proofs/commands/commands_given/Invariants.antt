@@ -1,5 +1,6 @@
 use Rattle.std.proofs.Common.{◌≡◌, drop, fold}
-use Rattle.pz_plan.specs.Commands.{either, flag_of, no_commands}
+use Rattle.pz_game.specs.Commands.{either, no_commands}
+use Rattle.pz_plan.specs.Commands.{flag_of}
 use Rattle.pz_plan.proofs.commands.commands_given.Given as goal
 
 abbrev pub invariant-loop-command : goal.invariant-loop-command

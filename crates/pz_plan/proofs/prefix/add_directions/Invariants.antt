@@ -1,6 +1,6 @@
 use Rattle.std.proofs.Common.{◌≡◌, drop}
-use Rattle.pz_plan.specs.Lists.{added_all}
-use Rattle.pz_source.specs.Direction.{same_dir}
+use Rattle.pz_base.specs.Lists.{added_all}
+use Rattle.pz_game.specs.Direction.{same_dir}
 use Rattle.pz_plan.proofs.prefix.add_directions.Given as goal
 
 abbrev pub invariant-loop-direction : goal.invariant-loop-direction

@@ -1,7 +1,7 @@
 use Rattle.std.proofs.Common.{◌≡◌, drop}
 use Rattle.std.specs.List.{flat_map}
-use Rattle.pz_plan.specs.Lists.{added_all, firsts}
-use Rattle.pz_source.specs.Direction.{same_dir}
+use Rattle.pz_base.specs.Lists.{added_all, firsts}
+use Rattle.pz_game.specs.Direction.{same_dir}
 use Rattle.pz_plan.specs.Prefix.{prefix_directions}
 use Rattle.pz_plan.proofs.prefix.mentioned_directions.Given as goal
 

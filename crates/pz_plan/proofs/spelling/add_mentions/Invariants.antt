@@ -1,7 +1,7 @@
 use Rattle.std.proofs.Common.{◌≡◌, map, drop}
 use Rattle.pz_plan.specs.declared.plan.Mention.{Mention}
 use Rattle.pz_plan.specs.declared.plan.Subject.TheVariants as subject
-use Rattle.pz_plan.specs.Lists.{added_all}
+use Rattle.pz_base.specs.Lists.{added_all}
 use Rattle.pz_plan.specs.Same.{says_the_same}
 use Rattle.pz_plan.proofs.spelling.add_mentions.Given as goal
 

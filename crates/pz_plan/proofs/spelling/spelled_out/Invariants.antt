@@ -1,6 +1,6 @@
 use Rattle.std.proofs.Common.{◌≡◌, drop}
 use Rattle.std.specs.List.{flat_map}
-use Rattle.pz_plan.specs.Lists.{added_all, firsts}
+use Rattle.pz_base.specs.Lists.{added_all, firsts}
 use Rattle.pz_plan.specs.Same.{says_the_same}
 use Rattle.pz_plan.specs.Spelling.{mentions_at}
 use Rattle.pz_plan.proofs.spelling.spelled_out.Given as goal

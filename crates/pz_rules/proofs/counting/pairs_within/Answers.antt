@@ -1,5 +1,5 @@
 use Rattle.std.proofs.Common.{◌≡◌, ◌*◌, map, ap, sym, ◌∙◌, arith}
-use Rattle.pz_plan.specs.Lists.{product_of}
+use Rattle.pz_base.specs.Lists.{product_of}
 use Rattle.pz_rules.specs.Counting.{size_of}
 use Rattle.pz_rules.proofs.CountingLemmas.{product-empty, none-empty}
 use Rattle.pz_rules.proofs.counting.pairs_within.Goals as goal

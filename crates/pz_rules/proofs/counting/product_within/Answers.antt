@@ -4,7 +4,7 @@ use Rattle.pz_plan.specs.declared.plan.Choice.{Choice}
 use Rattle.pz_plan.specs.declared.plan.Asked.TheVariants.{Member}
 use Rattle.std.proofs.lemmas.List.Elements.{All-drop}
 use Rattle.std.proofs.Math.Nat.{mul-le-mul_left}
-use Rattle.pz_plan.specs.Lists.{product_of}
+use Rattle.pz_base.specs.Lists.{product_of}
 use Rattle.pz_rules.specs.Counting.{size_of}
 use Rattle.pz_rules.proofs.CountingLemmas.{product-positive, above-stays, next-size, next-count}
 use Rattle.pz_rules.proofs.counting.product_within.Goals as goal

@@ -1,5 +1,5 @@
 use Rattle.std.proofs.Common.{◌≡◌, ◌*◌, map, drop}
-use Rattle.pz_plan.specs.Lists.{product_of}
+use Rattle.pz_base.specs.Lists.{product_of}
 use Rattle.pz_rules.specs.Counting.{size_of}
 use Rattle.pz_rules.proofs.counting.product_within.Given as goal
 

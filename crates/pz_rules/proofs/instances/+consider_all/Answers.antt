@@ -1,10 +1,10 @@
 use Rattle.std.proofs.Common.{◌≡◌, ◌<◌, List, [], ◌∷◌, ◌++◌, map, fold, length, slice_index_or, ap, sym, ◌∙◌, arith}
 use Rattle.std.proofs.lemmas.List.{get_or_default}
 use Rattle.std.proofs.lemmas.Grind.{common_steps}
-use Rattle.pz_rules.specs.declared.instance.Instance.{Instance}
+use Rattle.pz_game.specs.declared.instance.Instance.{Instance}
 use Rattle.pz_rules.specs.declared.instances.Pick.{Pick}
 use Rattle.pz_rules.specs.declared.instances.Pick.TheVariants.{Object}
-use Rattle.pz_plan.specs.Lists.{product}
+use Rattle.pz_base.specs.Lists.{product}
 use Rattle.pz_rules.specs.Instances.{considered}
 use Rattle.pz_plan.proofs.Products.{fold-headed_more}
 use Rattle.pz_rules.proofs.instances.+consider_all.Goals as goal

@@ -1,10 +1,10 @@
 use Rattle.std.proofs.Common.{◌≡◌, ◌<◌, List, [], ◌++◌, map, fold, length, get_or, ap, ◌∙◌, arith}
 use Rattle.std.proofs.lemmas.List.{get_or_default}
-use Rattle.pz_source.specs.declared.direction.Dir.{Dir}
-use Rattle.pz_source.specs.declared.direction.Dir.TheVariants.{Up}
-use Rattle.pz_rules.specs.declared.instance.Instance.{Instance}
+use Rattle.pz_game.specs.declared.direction.Dir.{Dir}
+use Rattle.pz_game.specs.declared.direction.Dir.TheVariants.{Up}
+use Rattle.pz_game.specs.declared.instance.Instance.{Instance}
 use Rattle.pz_rules.specs.declared.instances.Pick.{Pick}
-use Rattle.pz_plan.specs.Lists.{product}
+use Rattle.pz_base.specs.Lists.{product}
 use Rattle.pz_rules.specs.Instances.{considered, options_of}
 use Rattle.pz_rules.proofs.Expanding.{firsts-possible_more}
 use Rattle.pz_rules.proofs.instances.instances_of.Goals as goal

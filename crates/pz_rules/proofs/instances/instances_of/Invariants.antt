@@ -1,7 +1,7 @@
 use Rattle.std.proofs.Common.{◌≡◌, take}
 use Rattle.std.specs.List.{flat_map}
 use Rattle.pz_rules.specs.Equal.{same_instance}
-use Rattle.pz_plan.specs.Lists.{firsts}
+use Rattle.pz_base.specs.Lists.{firsts}
 use Rattle.pz_rules.specs.Instances.{possible_of}
 use Rattle.pz_rules.proofs.instances.instances_of.Given as goal
 

@@ -2,7 +2,7 @@ use Rattle.std.proofs.Common.{◌≡◌, ◌+◌, ◌==◌, ℕ, List, length, d
 use Rattle.std.specs.Prelude.{if◌then◌else◌, Some}
 use Rattle.std.specs.List.{list_any}
 use Rattle.pz_source.specs.Layers.{last_layer, holds, entry_at, members_of}
-use Rattle.pz_text.proofs.ListLemmas.{drop-next}
+use Rattle.pz_base.proofs.ListLemmas.{drop-next}
 use Rattle.pz_source.proofs.layers.layer_table.Goals as goal
 
 pub loop-number-preserved : goal.loop-number-preserved

@@ -1,7 +1,7 @@
 use Rattle.std.proofs.Common.{◌≡◌, length, take, sym, ◌∙◌, ap, arith, length-take}
 use Rattle.std.specs.Prelude.{Some, None}
 use Rattle.pz_source.specs.Layers.{name_line_at, misplaced, misplaces}
-use Rattle.pz_text.proofs.FaultLemmas.{first_fault-hit, first_fault-pass}
+use Rattle.pz_base.proofs.FaultLemmas.{first_fault-hit, first_fault-pass}
 use Rattle.pz_source.proofs.layers.misplacement.Goals as goal
 
 pub returns-in-Some-clause-first : goal.returns-in-Some-clause-first

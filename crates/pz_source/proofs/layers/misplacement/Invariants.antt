@@ -1,6 +1,6 @@
 use Rattle.std.proofs.Common.{◌≡◌, [], take, drop}
 use Rattle.pz_source.specs.Layers.{name_line_at, misplaces}
-use Rattle.pz_text.specs.Fault.{first_fault}
+use Rattle.pz_base.specs.Fault.{first_fault}
 use Rattle.pz_source.proofs.layers.misplacement.Given as goal
 
 abbrev pub invariant-loop-place : goal.invariant-loop-place

@@ -1,7 +1,7 @@
 use Rattle.std.proofs.Common.{◌≡◌, ◌≢◌, ℕ, ◌<◌, zero-add, [], length, ap, sym, ◌∙◌, arith}
 use Rattle.std.specs.Prelude.{None}
-use Rattle.pz_text.specs.Fault.{first_fault}
-use Rattle.pz_text.proofs.FaultLemmas.{or_else-later}
+use Rattle.pz_base.specs.Fault.{first_fault}
+use Rattle.pz_base.proofs.FaultLemmas.{or_else-later}
 use Rattle.pz_source.specs.Layers.{layer_lines, name_line_at, misplaces, lies_nowhere, layer_of, holds, entry_at}
 use Rattle.pz_source.proofs.LayerLemmas.{nowhere-same, nowhere-none}
 use Rattle.pz_names.proofs.ValueLemmas.{table_values}

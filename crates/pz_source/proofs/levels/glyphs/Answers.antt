@@ -1,5 +1,5 @@
 use Rattle.pz_source.specs.Levels.{glyph_of}
-use Rattle.pz_source.proofs.EachLemmas.{some_behind_none}
+use Rattle.pz_base.proofs.EachLemmas.{some_behind_none}
 use Rattle.pz_source.proofs.levels.glyphs.Goals as goal
 
 pub loop-character-init : goal.loop-character-init

@@ -1,6 +1,6 @@
 use Rattle.std.proofs.Common.{◌≡◌, drop}
 use Rattle.pz_source.specs.Levels.{glyphs_of, glyph_of}
-use Rattle.pz_source.proofs.EachLemmas.{some_behind}
+use Rattle.pz_base.proofs.EachLemmas.{some_behind}
 use Rattle.pz_source.proofs.levels.glyphs.Given as goal
 
 abbrev pub invariant-loop-character : goal.invariant-loop-character

@@ -3,7 +3,7 @@ use Rattle.std.specs.List.{slice_range}
 use Rattle.pz_source.proofs.LevelLemmas.{range-next, entries-row}
 use Rattle.pz_names.specs.Objects.{is_blank}
 use Rattle.pz_source.specs.Levels.{entries_of, is_message}
-use Rattle.pz_text.proofs.ListLemmas.{drop-next}
+use Rattle.pz_base.proofs.ListLemmas.{drop-next}
 use Rattle.pz_text.specs.declared.line.Line.{Line}
 use Rattle.pz_source.proofs.levels.pass.Goals as goal
 

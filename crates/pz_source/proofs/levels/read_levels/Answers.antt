@@ -3,7 +3,7 @@ use Rattle.std.proofs.lemmas.List.{length-map, get_or-map}
 use Rattle.pz_source.specs.Levels.{entries_of, entry_of, glyph_of}
 use Rattle.pz_text.specs.declared.line.Line.{Line}
 use Rattle.pz_source.proofs.LevelLemmas.{entry-drawn}
-use Rattle.pz_source.proofs.EachLemmas.{behind_at, behind_at_none}
+use Rattle.pz_base.proofs.EachLemmas.{behind_at, behind_at_none}
 use Rattle.pz_source.proofs.levels.read_levels.Goals as goal
 
 pub read_entry-requires : goal.read_entry-requires

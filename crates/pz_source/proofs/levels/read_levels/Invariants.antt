@@ -1,6 +1,6 @@
 use Rattle.std.proofs.Common.{◌≡◌, [], map, drop}
 use Rattle.pz_source.specs.Levels.{entry_of, read_entries, entries_of, glyph_of}
-use Rattle.pz_source.proofs.EachLemmas.{behind_at}
+use Rattle.pz_base.proofs.EachLemmas.{behind_at}
 use Rattle.pz_source.proofs.levels.read_levels.Given as goal
 
 abbrev pub invariant-loop-block : goal.invariant-loop-block

@@ -1,6 +1,6 @@
 use Rattle.std.proofs.Common.{arith}
 use Rattle.pz_source.specs.Levels.{row_of, rows_of, glyph_of}
-use Rattle.pz_source.proofs.EachLemmas.{joined_none}
+use Rattle.pz_base.proofs.EachLemmas.{joined_none}
 use Rattle.pz_source.proofs.levels.rows.Goals as goal
 
 pub loop-line-init : goal.loop-line-init

@@ -1,6 +1,6 @@
 use Rattle.std.proofs.Common.{◌≡◌, ◌*◌, drop, length}
 use Rattle.pz_source.specs.Levels.{row_of, rows_of, glyph_of}
-use Rattle.pz_source.proofs.EachLemmas.{behind}
+use Rattle.pz_base.proofs.EachLemmas.{behind}
 use Rattle.pz_source.proofs.levels.rows.Given as goal
 
 abbrev pub invariant-loop-line : goal.invariant-loop-line

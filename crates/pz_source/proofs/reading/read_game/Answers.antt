@@ -1,8 +1,8 @@
 use Rattle.std.proofs.Common.{◌≡◌, ◌≢◌, ap, sym, subst, ◌∙◌}
 use Rattle.std.specs.Prelude.{Ok, Err, IfOk, IfErr}
 use Rattle.std.proofs.lemmas.Result.{err_from_is_err_and}
-use Rattle.pz_text.specs.Fault.{and_then}
-use Rattle.pz_text.specs.declared.fault.Code.TheVariants as code
+use Rattle.pz_base.specs.Fault.{and_then}
+use Rattle.pz_base.specs.declared.fault.Code.TheVariants as code
 use Rattle.pz_source.specs.Reading.{source_of, game_of_lines}
 use Rattle.pz_source.proofs.FaultLines.{line-within, result-within}
 use Rattle.pz_source.proofs.RuleNumbers.{result-ruled}

@@ -1,6 +1,6 @@
 use Rattle.std.proofs.Common.{◌≡◌, ◌≢◌, ap, sym, subst, ◌∙◌}
 use Rattle.std.specs.Prelude.{Ok, Err, IfOk, IfErr}
-use Rattle.pz_text.specs.declared.fault.Code.TheVariants as code
+use Rattle.pz_base.specs.declared.fault.Code.TheVariants as code
 use Rattle.pz_source.proofs.GameLemmas.{behind_objects}
 use Rattle.pz_source.proofs.reading.read_game_of_lines.Goals as goal
 

@@ -2,8 +2,8 @@ use Rattle.std.proofs.Common.{◌≡◌, ◌≢◌, length, sym, subst}
 use Rattle.std.specs.Prelude.{Ok, Err, IfOk, IfErr}
 use Rattle.std.specs.List.{All}
 use Rattle.std.proofs.lemmas.Result.{err_from_is_err_and}
-use Rattle.pz_text.specs.declared.fault.Code.TheVariants as code
-use Rattle.pz_names.specs.Denotation.{IsDenoted}
+use Rattle.pz_base.specs.declared.fault.Code.TheVariants as code
+use Rattle.pz_game.specs.Denotation.{IsDenoted}
 use Rattle.pz_source.proofs.GameLemmas.{at_legend, behind_legend}
 use Rattle.pz_names.proofs.DenotedLemmas.{values-denoted}
 use Rattle.pz_source.proofs.reading.read_over_objects.Goals as goal

@@ -1,5 +1,5 @@
 use Rattle.std.proofs.Common.{◌≡◌, ◌++◌, length, map}
-use Rattle.pz_text.specs.Name.{name_of}
+use Rattle.pz_base.specs.Name.{name_of}
 use Rattle.pz_source.specs.Rules.{words_from, rule_words}
 use Rattle.pz_source.proofs.rules.rule_words.Given as goal
 

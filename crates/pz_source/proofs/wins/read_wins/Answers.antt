@@ -1,7 +1,7 @@
 use Rattle.std.proofs.Common.{not, filter}
 use Rattle.pz_names.specs.Objects.{is_blank}
 use Rattle.pz_source.specs.Wins.{win_at}
-use Rattle.pz_source.proofs.EachLemmas.{behind_none}
+use Rattle.pz_base.proofs.EachLemmas.{behind_none}
 use Rattle.pz_source.proofs.wins.read_wins.Goals as goal
 
 pub loop-line-init : goal.loop-line-init

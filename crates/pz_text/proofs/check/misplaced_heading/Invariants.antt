@@ -1,7 +1,7 @@
 use Rattle.std.proofs.Common.{◌≡◌, ℕ, [], take, drop}
 use Rattle.std.specs.Prelude.{nat_lt}
 use Rattle.std.specs.List.{list_any}
-use Rattle.pz_text.specs.Fault.{first_fault}
+use Rattle.pz_base.specs.Fault.{first_fault}
 use Rattle.pz_text.specs.Check.{number_of, misplaces, reaches_place}
 use Rattle.pz_text.proofs.check.misplaced_heading.Given as goal
 

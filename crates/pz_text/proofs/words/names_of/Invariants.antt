@@ -1,5 +1,5 @@
 use Rattle.std.proofs.Common.{◌≡◌, ◌++◌, map, drop}
-use Rattle.pz_text.specs.Name.{name_of}
+use Rattle.pz_base.specs.Name.{name_of}
 use Rattle.pz_text.specs.Words.{names_of}
 use Rattle.pz_text.proofs.words.names_of.Given as goal
 

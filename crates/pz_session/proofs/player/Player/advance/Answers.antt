@@ -2,7 +2,7 @@ use Rattle.std.proofs.Common.{◌≡◌, ◌<◌, length, ap, refl, sym, ◌∙�
 use Rattle.std.proofs.lemmas.List.{get_or_default}
 use Rattle.pz_record.specs.declared.input.Input.{Input}
 use Rattle.pz_record.specs.declared.input.Input.TheVariants.{Press}
-use Rattle.pz_source.specs.declared.direction.Dir.TheVariants.{Up}
+use Rattle.pz_game.specs.declared.direction.Dir.TheVariants.{Up}
 use Rattle.std.proofs.lemmas.Bool.{ltb-true}
 use Rattle.std.proofs.lemmas.Result.{on_ok_weaker}
 use Rattle.pz_session.specs.Player.{is_waiting_in}

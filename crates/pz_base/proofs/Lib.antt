@@ -1,0 +1,4 @@
+pub mod EachLemmas
+pub mod FaultLemmas
+pub mod ListLemmas
+pub mod NameLemmas

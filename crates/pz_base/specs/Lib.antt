@@ -1,0 +1,5 @@
+pub mod Each
+pub mod Fault
+pub mod Lists
+pub mod Name
+pub mod NameSet

@@ -1,0 +1,169 @@
+//! The replay of a job by several workers.
+
+use crate::sessions::{ClosedTo, LONG, REFUSED, STALE, WALK, job_of};
+use pz_base::listed::Listed;
+use pz_base::text::Text;
+use pz_replay::fault::ReplayFault;
+use pz_replay::gate::{Always, Gate};
+use pz_replay::output::Output;
+use pz_replay::recording::{Record, Recording};
+use pz_replay::replaying::{replay, replay_with};
+use pz_replay::writing::write_recording;
+use pz_session::job::Job;
+use pz_session::run::frames;
+use std::alloc::{AllocError, Global};
+use std::sync::Wait;
+use std::sync::atomic::{AtomicBool, Ordering};
+use std::test::Fail;
+use std::thread;
+use std::thread::Threads;
+
+fn nine_sessions(alloc: Global) -> Result<Job, Fail> {
+    let text = format!(in alloc;
+        "[{WALK},{REFUSED},{STALE},{LONG},{WALK},{LONG},{STALE},{REFUSED},{WALK}]"
+    )?;
+    job_of(alloc, text.as_str())
+}
+
+/// What the cases show, one after the other, in the calling thread.
+fn one_by_one(alloc: Global, job: &Job) -> Result<Recording, AllocError> {
+    let mut records = Vec::new(alloc);
+    for session in 0..job.len() {
+        let case = job.case(session);
+        records.push(Record {
+            name: Text::of_str(alloc, case.name.as_str())?,
+            items: Listed::new(frames(alloc, case)?),
+        })?;
+    }
+    Ok(Recording::new(records))
+}
+
+fn bytes_of(alloc: Global, recording: &Recording) -> Result<Vec<u8>, Fail> {
+    let mut output = Output::new(Vec::new(alloc));
+    write_recording(alloc, recording, &mut output).map_err(|_| "not written whole")?;
+    Ok(output.into_writer())
+}
+
+/// Whether so many workers record these bytes, over lanes of one message and of 64.
+fn records<R: Threads + Wait + Sync>(
+    rt: &R,
+    alloc: Global,
+    job: &Job,
+    workers: usize,
+    bytes: &[u8],
+) -> Result<bool, Fail> {
+    let narrow = replay_with(rt, alloc, job, workers, 1, &Always).map_err(|_| "no recording")?;
+    let wide = replay(rt, alloc, job, workers, &Always).map_err(|_| "no recording")?;
+    Ok(bytes_of(alloc, &narrow)?.as_slice() == bytes && bytes_of(alloc, &wide)?.as_slice() == bytes)
+}
+
+#[test]
+fn records_the_same_with_any_number_of_workers(rt: HostRuntime) -> Result<(), Fail> {
+    let job = nine_sessions(rt.alloc())?;
+    let bytes = bytes_of(rt.alloc(), &one_by_one(rt.alloc(), &job)?)?;
+    for workers in [1, 2, 64] {
+        assert!(rt; records(&rt, rt.alloc(), &job, workers, bytes.as_slice())?);
+    }
+    Ok(())
+}
+
+#[test]
+fn refuses_other_numbers_of_workers(rt: HostRuntime) -> Result<(), Fail> {
+    let job = nine_sessions(rt.alloc())?;
+    for workers in [0, 65] {
+        let end = replay(&rt, rt.alloc(), &job, workers, &Always);
+        assert!(rt; matches!(end, Err(ReplayFault::Workers)));
+    }
+    Ok(())
+}
+
+/// Session 0 waits until the first item of another session may pass, and looks for that so many times.
+#[derive(Drop)]
+struct WaitsFor {
+    session: usize,
+    tries: u64,
+    has_come: AtomicBool,
+}
+
+impl WaitsFor {
+    fn new(session: usize, tries: u64) -> WaitsFor {
+        WaitsFor {
+            session,
+            tries,
+            has_come: AtomicBool::new(false),
+        }
+    }
+
+    fn sees(&self) -> bool {
+        for _ in 0..self.tries {
+            if self.has_come.load(Ordering::SeqCst) {
+                return true;
+            }
+            thread::yield_now();
+        }
+        false
+    }
+}
+
+impl Gate for WaitsFor {
+    ghost lets_all_pass = { λ _. ⊥ };
+
+    fn pass(&self, session: usize, item: u64) -> bool {
+        if (session, item) == (self.session, 0) {
+            self.has_come.store(true, Ordering::SeqCst);
+        }
+        (session, item) != (0, 0) || self.sees()
+    }
+}
+
+#[test]
+fn plays_a_session_beside_one_that_waits(rt: HostRuntime) -> Result<(), Fail> {
+    let job = nine_sessions(rt.alloc())?;
+    for session in [1, 2] {
+        let gate = WaitsFor::new(session, 1_000_000_000);
+        let narrow = replay_with(&rt, rt.alloc(), &job, 2, 1, &gate);
+        let gate = WaitsFor::new(session, 1_000_000_000);
+        let wide = replay(&rt, rt.alloc(), &job, 2, &gate);
+        assert!(rt; narrow.is_ok() && wide.is_ok());
+    }
+    Ok(())
+}
+
+#[test]
+fn plays_one_session_at_a_time_with_one_worker(rt: HostRuntime) -> Result<(), Fail> {
+    let job = nine_sessions(rt.alloc())?;
+    let gate = WaitsFor::new(1, 1000);
+    let end = replay(&rt, rt.alloc(), &job, 1, &gate);
+    assert!(rt; matches!(end, Err(ReplayFault::GateClosed)));
+    Ok(())
+}
+
+/// Whether every item of a session is missed, where the gate is closed to it.
+fn misses_each_item<R: Threads + Wait + Sync>(
+    rt: &R,
+    alloc: Global,
+    job: &Job,
+    session: usize,
+    items: usize,
+) -> bool {
+    let mut missed = true;
+    for item in 0..items as u64 {
+        let gate = ClosedTo { session, item };
+        let one = replay_with(rt, alloc, job, 1, 1, &gate);
+        let three = replay_with(rt, alloc, job, 3, 1, &gate);
+        missed = missed
+            && matches!(one, Err(ReplayFault::GateClosed))
+            && matches!(three, Err(ReplayFault::GateClosed));
+    }
+    missed
+}
+
+#[test]
+fn misses_each_item_that_may_not_pass(rt: HostRuntime) -> Result<(), Fail> {
+    let job = nine_sessions(rt.alloc())?;
+    for session in 0..job.len() {
+        let items = frames(rt.alloc(), job.case(session))?.len();
+        assert!(rt; misses_each_item(&rt, rt.alloc(), &job, session, items));
+    }
+    Ok(())
+}

@@ -1,0 +1,45 @@
+//! Sessions, and the jobs that they make.
+
+use pz_job::job::prepare;
+use pz_record::file::read_sessions;
+use pz_record::order::Order;
+use pz_replay::gate::Gate;
+use pz_session::job::Job;
+use std::alloc::Global;
+use std::test::Fail;
+
+/// A walk of two steps against a wall, which passes.
+pub(crate) const WALK: &str =
+    r#"["walk",["OBJECTS\nBackground .\nblack\nPlayer p\nwhite\nWall #\ngrey\nLEGEND\nCOLLISIONLAYERS\nBackground\nPlayer, Wall\nLEVELS\n#p.#\n",[3,3],"background wall:0,background:1,background player:2,0,\n"]]"#;
+
+/// The same walk, and a recorded level that it doesn't end with.
+pub(crate) const STALE: &str =
+    r#"["stale",["OBJECTS\nBackground .\nblack\nPlayer p\nwhite\nWall #\ngrey\nLEGEND\nCOLLISIONLAYERS\nBackground\nPlayer, Wall\nLEVELS\n#p.#\n",[3],"background wall:0,background player:1,background:2,0,\n"]]"#;
+
+/// A walk there and back again.
+pub(crate) const LONG: &str =
+    r#"["long",["OBJECTS\nBackground .\nblack\nPlayer p\nwhite\nWall #\ngrey\nLEGEND\nCOLLISIONLAYERS\nBackground\nPlayer, Wall\nLEVELS\n#p.#\n",[3,1,3,1,"undo",3,"restart"],"background wall:0,background player:1,background:2,0,\n"]]"#;
+
+/// A source that is refused.
+pub(crate) const REFUSED: &str = r#"["refused",["",[3],"background:0,\n"]]"#;
+
+/// The job of a file of sessions. It promises nothing, so that what calls it needn't prove over the meaning of a source.
+pub(crate) fn job_of(alloc: Global, text: &str) -> Result<Job, Fail> {
+    let entries = read_sessions(alloc, text).map_err(|_| "no sessions")?;
+    Ok(prepare(alloc, entries, Order::Rows)?)
+}
+
+/// Closed to one item of one session.
+#[derive(Clone, Copy)]
+pub(crate) struct ClosedTo {
+    pub(crate) session: usize,
+    pub(crate) item: u64,
+}
+
+impl Gate for ClosedTo {
+    ghost lets_all_pass = { λ _. ⊥ };
+
+    fn pass(&self, session: usize, item: u64) -> bool {
+        (session, item) != (self.session, self.item)
+    }
+}

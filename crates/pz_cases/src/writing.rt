@@ -1,0 +1,120 @@
+//! The lines of a recording, written.
+
+use pz_base::listed::Listed;
+use pz_base::text::Text;
+use pz_replay::fault::{Cause, WriteFault};
+use pz_replay::output::Output;
+use pz_replay::recording::{Record, Recording};
+use pz_replay::writing::write_recording;
+use pz_session::item::{Frame, FrameKind, Item, Verdict};
+use std::alloc::{AllocError, Global};
+use std::io;
+use std::io::Write;
+use std::test::Fail;
+
+/// Takes seven bytes a call, and fails at its fourth.
+#[derive(Drop)]
+struct Failing {
+    bytes: Vec<u8>,
+    calls: u32,
+}
+
+impl Write for Failing {
+    fn write(&mut self, buf: &[u8]) -> io::Result<usize> {
+        if self.calls >= 3 {
+            return Err(io::Error::from(io::ErrorKind::BrokenPipe));
+        }
+        self.calls += 1;
+        let count = buf.len().min(7);
+        self.bytes.extend_from_slice(&buf[..count])?;
+        Ok(count)
+    }
+
+    fn flush(&mut self) -> io::Result<()> {
+        Ok(())
+    }
+}
+
+/// Takes nothing.
+#[derive(Drop)]
+struct Full;
+
+impl Write for Full {
+    fn write(&mut self, buf: &[u8]) -> io::Result<usize> {
+        let _ = buf;
+        Ok(0)
+    }
+
+    fn flush(&mut self) -> io::Result<()> {
+        Ok(())
+    }
+}
+
+fn frame(alloc: Global, number: u64, kind: FrameKind, level: &str) -> Result<Item, AllocError> {
+    let level_text = Text::of_str(alloc, level)?;
+    Ok(Item::Frame {
+        number,
+        at: number,
+        frame: Frame { kind, level_text },
+    })
+}
+
+/// The walk of two steps against a wall.
+fn walk(alloc: Global) -> Result<Recording, AllocError> {
+    let start = "background wall:0,background player:1,background:2,0,\n";
+    let end = "background wall:0,background:1,background player:2,0,\n";
+    let mut items = Vec::new(alloc);
+    items.push(frame(alloc, 0, FrameKind::Start, start)?)?;
+    items.push(frame(alloc, 1, FrameKind::Move, end)?)?;
+    items.push(frame(alloc, 2, FrameKind::Move, end)?)?;
+    items.push(Item::Close(Verdict::Passed))?;
+    let mut records = Vec::new(alloc);
+    records.push(Record {
+        name: Text::of_str(alloc, "walk")?,
+        items: Listed::new(items),
+    })?;
+    Ok(Recording::new(records))
+}
+
+const WALK: &str =
+    r#"{"at":0,"frame":0,"kind":"start","level":"background wall:0,background player:1,background:2,0,\n","session":0}
+{"at":1,"frame":1,"kind":"move","level":"background wall:0,background:1,background player:2,0,\n","session":0}
+{"at":2,"frame":2,"kind":"move","level":"background wall:0,background:1,background player:2,0,\n","session":0}
+{"close":"passed","frames":3,"name":"walk","session":0}
+"#;
+
+#[test]
+fn writes_the_walk(rt: HostRuntime) -> Result<(), Fail> {
+    let recording = walk(rt.alloc())?;
+    let mut output = Output::new(Vec::new(rt.alloc()));
+    assert!(rt; write_recording(rt.alloc(), &recording, &mut output).is_ok());
+    assert!(rt; output.into_writer().as_slice() == WALK.as_bytes());
+    Ok(())
+}
+
+#[test]
+fn counts_what_went_out(rt: HostRuntime) -> Result<(), Fail> {
+    let recording = walk(rt.alloc())?;
+    let mut output = Output::new(Failing {
+        bytes: Vec::new(rt.alloc()),
+        calls: 0,
+    });
+    let fault = WriteFault {
+        written: 21,
+        cause: Cause::Device,
+    };
+    assert!(rt; write_recording(rt.alloc(), &recording, &mut output) == Err(fault));
+    assert!(rt; output.into_writer().bytes.as_slice() == b"{\"at\":0,\"frame\":0,\"ki".as_slice());
+    Ok(())
+}
+
+#[test]
+fn ends_where_nothing_is_taken(rt: HostRuntime) -> Result<(), Fail> {
+    let recording = walk(rt.alloc())?;
+    let fault = WriteFault {
+        written: 0,
+        cause: Cause::Zero,
+    };
+    assert!(rt; write_recording(rt.alloc(), &recording, &mut Output::new(Full)) == Err(fault));
+    Ok(())
+}

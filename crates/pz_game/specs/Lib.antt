@@ -1,0 +1,10 @@
+pub mod Commands
+pub mod Denotation
+pub mod Direction
+pub mod Drawing
+pub mod Game
+pub mod Instance
+pub mod Level
+pub mod Pattern
+pub mod Size
+pub mod Word

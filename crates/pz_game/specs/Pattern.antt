@@ -1,0 +1,29 @@
+-- The rows of rules.
+use Rattle.std.specs.Prelude.{ℕ, ◌<◌, ◌≤◌, List, Option, length, All, IfSome, slice_index, ◌≡◌}
+use Rattle.pz_game.specs.declared.pattern.Item.{Item}
+
+-- a row of a rule: its cells as items, and the number of the cell before which a gap stands
+pub record RuleRow : Type 0 where
+  pub cells : List (List Item)
+  pub gap_at : Option ℕ
+
+-- a row has 1 to 64 cells, and its gap stands between two of them
+pub record IsRow (row : RuleRow) : Type 0 where
+  pub some : 0 < length row.cells
+  pub short : length row.cells ≤ 64
+  pub between : IfSome row.gap_at (λ at. (0 < at) × (at < length row.cells))
+
+-- an item of an object of the game, whose objects have these layers
+pub record IsOf (layers : List ℕ) (item : Item) : Type 0 where
+  pub object : item.object < length layers
+  pub layer : slice_index layers item.object ≡ item.layer
+
+-- each item of each cell of each row is of an object of the game
+abbrev pub AreOf : List ℕ → List Item → Type 0
+AreOf layers items = All (IsOf layers) items
+
+abbrev pub IsRowOf : List ℕ → RuleRow → Type 0
+IsRowOf layers row = All (AreOf layers) row.cells
+
+abbrev pub AreRowsOf : List ℕ → List RuleRow → Type 0
+AreRowsOf layers rows = All (IsRowOf layers) rows

@@ -1,0 +1,97 @@
+//! The rows of rules: cells with items.
+
+ghost use Rattle.std.specs.Prelude.{◌≡◌};
+ghost use Rattle.pz_game.specs.Pattern.{IsRow};
+
+use crate::direction::Dir;
+use pz_base::listed::Listed;
+use std::marker::Model;
+
+/// What an item says of its object: it is there, however it moves; it is there and still; it is there and moves so; it isn't there.
+#[derive(Clone, Copy, PartialEq, Eq, Debug)]
+pub enum Word {
+    Present,
+    Still,
+    Toward(Dir),
+    Absent,
+}
+
+/// An object, with its layer, and what is said of it.
+#[derive(Clone, Copy, PartialEq, Eq, Debug)]
+pub struct Item {
+    pub object: usize,
+    pub layer: usize,
+    pub word: Word,
+}
+
+/// A cell of a rule's row: it holds where all its items hold.
+#[derive(Drop, Debug)]
+pub struct Pattern {
+    items: Vec<Item>,
+}
+
+impl Model for Pattern {
+    ghost use Rattle.std.specs.Prelude.{List};
+    ghost use Rattle.pz_game.specs.declared.pattern.Item.{Item};
+
+    ghost Value = { List Item };
+
+    ghost view = { λ p. p.items.items };
+}
+
+impl Pattern {
+    pub fn new(items: Vec<Item>) -> Pattern
+        ensures { result ≡ items.items }
+    {
+        Pattern { items }
+    }
+
+    pub fn items(&self) -> &[Item]
+        ensures { result.now ≡ self.now }
+    {
+        self.items.as_slice()
+    }
+}
+
+/// A row of a rule. Its gap, if it has one, stands before the cell of that number.
+#[derive(Drop, Debug)]
+pub struct Row {
+    cells: Vec<Pattern>,
+    gap_at: Option<u32>,
+}
+
+impl Model for Row {
+    ghost use Rattle.pz_game.specs.Pattern.{RuleRow, IsRow};
+
+    ghost Value = { RuleRow };
+
+    ghost view = { λ r. record { cells = r.cells.items; gap_at = r.gap_at } };
+
+    ghost invariant = { λ r. IsRow (record { cells = r.cells.items; gap_at = r.gap_at }) };
+}
+
+impl Row {
+    pub fn new(cells: Vec<Pattern>, gap_at: Option<u32>) -> Row
+        requires { IsRow (record { cells = cells.items; gap_at = gap_at }) }
+        ensures { result ≡ record { cells = cells.items; gap_at = gap_at } }
+    {
+        Row { cells, gap_at }
+    }
+
+    pub fn cells(&self) -> &[Pattern]
+        ensures cells { result.now ≡ self.now.cells }
+        ensures row { IsRow self.now }
+    {
+        self.cells.as_slice()
+    }
+
+    /// The number of the cell before which the gap stands.
+    pub fn gap_at(&self) -> Option<u32>
+        ensures { result ≡ self.now.gap_at }
+    {
+        self.gap_at
+    }
+}
+
+/// The rows of one side of a rule.
+pub type Rows = Listed<Row>;

@@ -1,0 +1,17 @@
+//! The lines of WINCONDITIONS, with names as numbers.
+
+/// How many cells a win line speaks of.
+#[derive(Clone, Copy, Debug, PartialEq, Eq)]
+pub enum Quantifier {
+    All,
+    Some,
+    No,
+}
+
+/// A line of WINCONDITIONS: what it is about and, where it has `on`, what that is to be on, as numbers of names.
+#[derive(Clone, Copy, Debug, PartialEq, Eq)]
+pub struct WinLine {
+    pub quantifier: Quantifier,
+    pub subject: usize,
+    pub on: Option<usize>,
+}

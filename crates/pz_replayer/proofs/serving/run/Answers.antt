@@ -1,6 +1,0 @@
-use Rattle.std.proofs.Common.{refl}
-use Rattle.pz_replayer.proofs.Deciding.{too_long_if}
-use Rattle.pz_replayer.proofs.serving.run.Goals as goal
-
-pub returns-in-Err-TooLong-clause-served : goal.returns-in-Err-TooLong-clause-served
-returns-in-Err-TooLong-clause-served g c = (refl, too_long_if _ (c.in-Err-TooLong.ensures.long c.in-Err-TooLong.field-0-is))

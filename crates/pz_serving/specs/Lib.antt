@@ -1,0 +1,4 @@
+pub mod CommandLine
+pub mod Options
+pub mod Reading
+pub mod Serving

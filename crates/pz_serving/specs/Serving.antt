@@ -1,0 +1,99 @@
+-- From the bytes of a file of sessions to the lines of their recording and an exit status.
+use Rattle.std.specs.Prelude.{◌≡◌, ◌≢◌, ◌⊎◌, ℕ, Bool, true, false, List, ◌++◌, length, take, nat_lt, if◌then◌else◌, Option, IfSome, Result, Ok, Err, codes, decimal}
+use Rattle.std.specs.List.{list_all, list_any}
+use Rattle.std.specs.Str.{is_utf8}
+use Rattle.std.specs.Io.KnownBytes.{Appends}
+use Rattle.pz_record.specs.declared.entry.Entry.{Entry}
+use Rattle.pz_record.specs.declared.fault.FileFault.{FileFault}
+use Rattle.pz_record.specs.declared.fault.FileFault.TheVariants as fault
+use Rattle.pz_record.specs.declared.file.TheConstants.{MOST_BYTES}
+use Rattle.pz_record.specs.declared.order.Order.{Order}
+use Rattle.pz_record.specs.File.{entries_of}
+use Rattle.pz_session.specs.declared.item.Item.{Item}
+use Rattle.pz_session.specs.declared.item.Item.TheVariants.{Close}
+use Rattle.pz_session.specs.declared.item.Verdict.TheVariants.{Passed}
+use Rattle.pz_job.specs.Job.{job_of}
+use Rattle.pz_replay.specs.declared.fault.WriteFault.{WriteFault}
+use Rattle.pz_replay.specs.declared.recording.Record.{Record}
+use Rattle.pz_replay.specs.Lines.{text_of}
+use Rattle.pz_replay.specs.Recording.{recording}
+use Rattle.pz_replay.specs.Writing.{Writes, EndsFor, HasWritten}
+use Rattle.pz_serving.specs.declared.refusal.Refusal.{Refusal}
+use Rattle.pz_serving.specs.declared.refusal.Refusal.TheVariants as refusal
+
+-- the entries that the bytes of a file hold, or its first fault: its length, that it is UTF-8, what it says
+unfoldable pub sessions_in : List ℕ → Result (List Entry) FileFault
+sessions_in bytes = if nat_lt MOST_BYTES (length bytes) then Err fault.TooMany else (if is_utf8 bytes then entries_of bytes else Err fault.NotJson)
+
+-- what the sessions of the entries show, the cells of each level in this order
+abbrev pub shown_of : Order → List Entry → List Record
+shown_of order entries = recording (job_of order entries)
+
+abbrev pub is_pass : Item → Bool
+is_pass (Close Passed) = true
+is_pass other = false
+
+-- a session passed if it closed so
+abbrev pub has_passed : Record → Bool
+has_passed shown = list_any is_pass shown.items
+
+abbrev pub all_passed : List Record → Bool
+all_passed shown = list_all has_passed shown
+
+-- all lines went out, and whether every session passed is told
+pub record WritesAll (order : Order) (bytes : List ℕ) (passed : Bool) (old new : Writes) : Type 0 where
+  pub entries : List Entry
+  pub read : sessions_in bytes ≡ Ok entries
+  pub told : passed ≡ all_passed (shown_of order entries)
+  pub written : HasWritten (text_of (shown_of order entries)) old new
+
+-- of the lines, as many first bytes went out as the fault tells
+pub record WritesPart (order : Order) (bytes : List ℕ) (cut : WriteFault) (old new : Writes) : Type 0 where
+  pub entries : List Entry
+  pub read : sessions_in bytes ≡ Ok entries
+  pub ended : EndsFor cut (text_of (shown_of order entries)) old new
+
+-- what a run over this input leaves in its output, where it ends so: nothing but for sessions that were read and replayed;
+-- the command line and the opening of FILE come before it
+abbrev pub Serves : Order → Option (List ℕ) → Writes → Writes → Result Bool Refusal → Type 0
+Serves order input old new (Ok passed) = IfSome input (λ bytes. WritesAll order bytes passed old new)
+Serves order input old new (Err (refusal.WriteFault cut)) = IfSome input (λ bytes. WritesPart order bytes cut old new)
+Serves order input old new (Err (refusal.File cause)) = (new ≡ old) × IfSome input (λ bytes. cause ≢ fault.Memory → sessions_in bytes ≡ Err cause)
+Serves order input old new (Err refusal.BadLine) = ⊥
+Serves order input old new (Err refusal.OpenFault) = ⊥
+Serves order input old new (Err other) = new ≡ old
+
+-- 0: every session passed; 1: some didn't; 2: there is no whole recording
+abbrev pub status_of : Result Bool Refusal → ℕ
+status_of (Ok passed) = if passed then 0 else 1
+status_of (Err refusal) = 2
+
+abbrev pub file_line : FileFault → List ℕ
+file_line fault.Memory = codes "memory\n"
+file_line fault.NotJson = codes "not-json\n"
+file_line (fault.BadEntry n) = codes "bad-entry " ++ decimal n ++ codes "\n"
+file_line (fault.BadLevel n) = codes "bad-level " ++ decimal n ++ codes "\n"
+file_line fault.TooMany = codes "too-many\n"
+
+-- the line that says why there is none
+abbrev pub refusal_line : Refusal → List ℕ
+refusal_line refusal.Memory = codes "memory\n"
+refusal_line refusal.BadLine = codes "bad command line\n"
+refusal_line refusal.OpenFault = codes "open-fault\n"
+refusal_line refusal.ReadFault = codes "read-fault\n"
+refusal_line (refusal.File cause) = file_line cause
+refusal_line refusal.LaneLost = codes "lane-lost\n"
+refusal_line (refusal.WriteFault cut) = codes "write-fault " ++ decimal cut.written ++ codes "\n"
+
+-- a front of a line goes out, and then a write fails
+abbrev pub IsCut : List ℕ → Writes → Writes → Type 0
+IsCut line old new = (new.has_failed ≡ true) × (count : ℕ) × Appends old.contents new.contents (take count line)
+
+-- a line goes out whole, or a front of it before a write fails
+abbrev pub IsReported : List ℕ → Writes → Writes → Type 0
+IsReported line old new = HasWritten line old new ⊎ IsCut line old new
+
+-- a refusal has its line, and nothing else has one
+abbrev pub Reports : Writes → Writes → Result Bool Refusal → Type 0
+Reports old new (Ok passed) = new ≡ old
+Reports old new (Err cause) = IsReported (refusal_line cause) old new

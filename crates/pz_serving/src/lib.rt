@@ -1,0 +1,12 @@
+//! The serving of a command line: from its words and the bytes of a file of sessions to the lines of their recording and an exit
+//! status.
+#![tactic(auto)]
+
+pub mod command_line;
+mod counted;
+mod input;
+pub mod options;
+pub mod refusal;
+pub mod serving;
+#[cfg(test)]
+mod tests;

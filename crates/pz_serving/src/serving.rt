@@ -1,0 +1,160 @@
+//! The serving of a file of sessions.
+
+ghost use Rattle.std.specs.Prelude.{◌≡◌, ◌≢◌, ◌≤◌, ◌+◌, ◌⊎◌, ◌↔◌, Bool, true, false, Result, Ok, Err, IfOk, IfErr, length};
+ghost use Rattle.pz_record.specs.declared.fault.FileFault.TheVariants as fault;
+ghost use Rattle.pz_serving.specs.declared.refusal.Refusal.{Refusal};
+ghost use Rattle.pz_serving.specs.Serving.{Reports, Serves, all_passed, has_passed, sessions_in, shown_of, status_of};
+
+use crate::counted::Counted;
+use crate::input::{InputFault, read_input};
+use crate::options::Options;
+use crate::refusal::{Refusal, refuse};
+use pz_job::job::prepare;
+use pz_record::entry::Entry;
+use pz_record::fault::FileFault;
+use pz_record::file::{MOST_BYTES, MOST_ENTRIES, read_sessions};
+use pz_record::order::Order;
+use pz_replay::fault::ReplayFault;
+use pz_replay::gate::Always;
+use pz_replay::output::Output;
+use pz_replay::recording::{Record, Recording};
+use pz_replay::replaying::replay;
+use pz_replay::writing::write_recording;
+use pz_session::item::{Item, Verdict};
+use std::alloc::Global;
+use std::io::{Read, Write};
+use std::sync::Wait;
+use std::thread::Threads;
+
+/// The entries that the bytes of a file hold, or its first fault.
+fn decode(alloc: Global, bytes: &[u8]) -> Result<Vec<Entry>, FileFault>
+    requires { length bytes.now ≤ MOST_BYTES }
+    ensures read { IfOk result (λ entries. sessions_in bytes.now ≡ Ok entries.items) }
+    ensures few { IfOk result (λ entries. length entries.items ≤ MOST_ENTRIES) }
+    ensures refused { IfErr result (λ cause. cause ≢ fault.Memory → sessions_in bytes.now ≡ Err cause) }
+{
+    let Ok(text) = str::from_utf8(bytes) else {
+        return Err(FileFault::NotJson);
+    };
+    read_sessions(alloc, text)
+}
+
+/// What the sessions of the entries show, which the workers play.
+fn record<T: Threads + Wait + Sync>(
+    rt: &T,
+    alloc: Global,
+    entries: Vec<Entry>,
+    options: Options,
+) -> Result<Recording, Refusal>
+    requires entries { length entries.items ≤ MOST_ENTRIES }
+    requires some { 1 ≤ options.workers }
+    requires few { options.workers ≤ 64 }
+    ensures shown { IfOk result (λ shown. shown ≡ shown_of options.order entries.items) }
+    ensures refused { IfErr result (λ refusal. (refusal ≡ Refusal.Memory) ⊎ (refusal ≡ Refusal.LaneLost)) }
+{
+    let job = prepare(alloc, entries, options.order)?;
+    match replay(rt, alloc, &job, options.workers, &Always) {
+        Ok(recording) => Ok(recording),
+        Err(ReplayFault::Memory) => Err(Refusal::Memory),
+        Err(ReplayFault::LaneLost) => Err(Refusal::LaneLost),
+        Err(ReplayFault::Workers | ReplayFault::GateClosed) => unreachable!(),
+    }
+}
+
+/// Whether a session passed.
+fn has_passed(shown: &Record) -> bool
+    ensures { result ≡ has_passed shown.now }
+{
+    shown
+        .items
+        .items()
+        .iter()
+        .any(|item| matches!(item, Item::Close(Verdict::Passed)))
+}
+
+/// Whether every session passed.
+fn all_passed(shown: &Recording) -> bool
+    ensures { result ≡ all_passed shown.now }
+{
+    shown.records().iter().all(|shown| has_passed(shown))
+}
+
+/// Reads the sessions, replays them and writes their lines; tells whether every session passed.
+fn run<T: Threads + Wait + Sync, R: Read, W: Write>(
+    rt: &T,
+    alloc: Global,
+    input: &mut Counted<R>,
+    output: &mut Output<W>,
+    options: Options,
+) -> Result<bool, Refusal>
+    requires fresh { (input.old.calls ≡ 0) × (input.old.has_failed ≡ false) }
+    requires some { 1 ≤ options.workers }
+    requires few { options.workers ≤ 64 }
+    ensures called { input.new.calls ≤ MOST_BYTES + 1 }
+    ensures failed { (result ≡ Err Refusal.ReadFault) ↔ (input.new.has_failed ≡ true) }
+    ensures served { Serves options.order input.old.remaining output.old output.new result }
+{
+    let bytes = match read_input(alloc, input) {
+        Ok(bytes) => bytes,
+        Err(InputFault::Memory) => return Err(Refusal::Memory),
+        Err(InputFault::Device) => return Err(Refusal::ReadFault),
+        Err(InputFault::TooLong) => return Err(Refusal::File(FileFault::TooMany)),
+    };
+    let entries = match decode(alloc, &bytes) {
+        Ok(entries) => entries,
+        Err(fault) => return Err(Refusal::File(fault)),
+    };
+    let recording = record(rt, alloc, entries, options)?;
+    match write_recording(alloc, &recording, output) {
+        Ok(()) => Ok(all_passed(&recording)),
+        Err(fault) => Err(Refusal::WriteFault(fault)),
+    }
+}
+
+/// Serves as `serve` does, from a reader that was not called yet and is called at most 16,777,217 times. It ends for a failed read exactly where a
+/// call of the reader answered an error.
+pub fn serve_counted<T: Threads + Wait + Sync, R: Read, W: Write, E: Write>(
+    rt: &T,
+    alloc: Global,
+    input: &mut Counted<R>,
+    output: &mut Output<W>,
+    errors: &mut Output<E>,
+    options: Options,
+) -> u8
+    requires fresh { (input.old.calls ≡ 0) × (input.old.has_failed ≡ false) }
+    requires some { 1 ≤ options.workers }
+    requires few { options.workers ≤ 64 }
+    ensures called { input.new.calls ≤ MOST_BYTES + 1 }
+    ensures served { (end : Result Bool Refusal) × (result ≡ status_of end) × ((end ≡ Err Refusal.ReadFault) ↔ (input.new.has_failed ≡ true))
+        × Serves options.order input.old.remaining output.old output.new end
+        × Reports errors.old errors.new end }
+{
+    match run(rt, alloc, input, output, options) {
+        Ok(true) => 0,
+        Ok(false) => 1,
+        Err(refusal) => refuse(refusal, errors),
+    }
+}
+
+/// Reads a file of sessions to its end, replays them on as many threads as there are workers, writes the lines of their recording,
+/// and answers the exit status: 0 where every session passed, 1 where some didn't, 2 where there is no whole recording. In that case
+/// one line says why, and nothing is written to the output but, where the writing itself failed, the first bytes of the recording.
+/// The reader is called through `Counted` alone, and so at most 16,777,217 times.
+pub fn serve<T: Threads + Wait + Sync, R: Read, W: Write, E: Write>(
+    rt: &T,
+    alloc: Global,
+    input: R,
+    output: &mut Output<W>,
+    errors: &mut Output<E>,
+    options: Options,
+) -> u8
+where
+    R: Drop,
+    requires some { 1 ≤ options.workers }
+    requires few { options.workers ≤ 64 }
+    ensures { (end : Result Bool Refusal) × (result ≡ status_of end)
+        × Serves options.order (R.remaining input) output.old output.new end
+        × Reports errors.old errors.new end }
+{
+    serve_counted(rt, alloc, &mut Counted::new(input), output, errors, options)
+}

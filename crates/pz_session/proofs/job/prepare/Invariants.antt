@@ -1,6 +1,0 @@
-use Rattle.std.proofs.Common.{◌≡◌, map}
-use Rattle.pz_session.specs.Job.{case_of}
-use Rattle.pz_session.proofs.job.prepare.Given as goal
-
-abbrev pub invariant-loop-entry : goal.invariant-loop-entry
-invariant-loop-entry l = l.cases.items ≡ map (case_of l.order) l.yielded
