@@ -20,3 +20,4 @@ pub mod CountLemmas
 pub mod WorkedPlaces
 pub mod WorkedMarks
 pub mod WorkedLevels
+pub mod ObjectLemmas

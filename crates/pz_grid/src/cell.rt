@@ -1,10 +1,12 @@
 //! Cells: for each collision layer nothing, or an object with where it heads.
 
-ghost use Rattle.std.specs.Prelude.{◌≡◌, ◌<◌, length, slice_index_or, slice_set, All, IfOk, Some, None, MatchOption};
+ghost use Rattle.std.specs.Prelude.{◌≡◌, ℕ, ◌<◌, ◌≤◌, length, slice_index_or, slice_set, All, IfOk, Some, None, MatchOption, is_some};
+ghost use Rattle.pz_sets.specs.Sets.{member};
 ghost use Rattle.pz_grid.specs.Cell.{IsCell, empty_cell, still_piece};
 ghost use Rattle.pz_grid.specs.Standing.{standing};
 
 use pz_game::direction::Dir;
+use pz_sets::set::{CAPACITY, NumberSet};
 use std::alloc::{AllocError, Global};
 use std::marker::Model;
 
@@ -79,6 +81,22 @@ impl Cell {
         ensures { self.new ≡ slice_set self.old layer place }
     {
         self.places[layer] = place;
+    }
+
+    /// The objects that stand in the cell. The layers are those of the game's objects.
+    pub fn objects(&self, depth: usize, layers: &[usize]) -> NumberSet
+        requires cell { IsCell depth layers.now self.now }
+        requires few { length layers.now ≤ CAPACITY }
+        ensures { (object : ℕ) → member result object ≡ is_some (standing self.now object) }
+    {
+        let mut objects = NumberSet::empty();
+        for layer in 0..self.depth() {
+            match self.place(layer) {
+                Some(piece) => objects.insert(piece.object as usize),
+                None => {}
+            }
+        }
+        objects
     }
 
     /// The object's piece, if it stands there. The layers are those of the game's objects.

@@ -1,7 +1,8 @@
 //! Levels of a game: loaded, read, compared, matched, rewritten, pushed and moved.
 #![tactic(auto)]
 
-ghost use Rattle.std.specs.Prelude.{◌≡◌, Some, None, MatchOption, IfOk};
+ghost use Rattle.std.specs.Prelude.{◌≡◌, ℕ, Some, None, MatchOption, IfOk};
+ghost use Rattle.pz_sets.specs.Sets.{member};
 ghost use Rattle.pz_grid.specs.Grid.{IsLawful};
 ghost use Rattle.pz_grid.specs.Marks.{IsMarked};
 ghost use Rattle.pz_grid.specs.Standing.{standing_at, stands, heading_at};
@@ -101,6 +102,17 @@ impl BareLevel {
         self.height
     }
 
+    fn objects_at(&self, x: u32, y: u32) -> NumberSet
+        ensures { (object : ℕ) → member result object ≡ stands self.now.grid x y object }
+    {
+        if x < self.width && y < self.height {
+            let number = y as usize * self.width as usize + x as usize;
+            self.cells[number].objects(self.depth, &self.layers)
+        } else {
+            NumberSet::empty()
+        }
+    }
+
     fn piece(&self, x: u32, y: u32, object: usize) -> Option<Piece>
         ensures { MatchOption result (standing_at self.now.grid x y object ≡ None) (λ piece. standing_at self.now.grid x y object ≡ Some piece.heading) }
     {
@@ -143,6 +155,13 @@ impl Level {
             Some(_) => true,
             None => false,
         }
+    }
+
+    /// The objects that stand at the position: off the map, none.
+    pub fn objects_at(&self, x: u32, y: u32) -> NumberSet
+        ensures { (object : ℕ) → member result object ≡ stands self.now.grid x y object }
+    {
+        self.bare.objects_at(x, y)
     }
 
     /// Where the object at the position heads; None: it is still, or not there.

@@ -12,3 +12,5 @@ pub mod RoundTrip
 pub mod Rows
 pub mod Sets
 pub mod WorkedRecords
+pub mod CellTexts
+pub mod LabelTexts

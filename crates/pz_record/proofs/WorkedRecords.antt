@@ -16,6 +16,7 @@ use Rattle.pz_record.specs.Equality.{equals_recorded}
 use Rattle.pz_record.specs.File.{listed_entries}
 use Rattle.pz_record.specs.Input.{input_of, inputs_of}
 use Rattle.pz_record.specs.Json.{list_of}
+use Rattle.pz_record.specs.Labels.{text_at, set_text}
 use Rattle.pz_record.specs.LevelNames.{standing_names}
 use Rattle.pz_record.specs.LevelText.{with_cell, piece, text_of_level}
 use Rattle.pz_record.specs.Order.{cells_in}
@@ -46,6 +47,21 @@ other_order = refl
 one_more : same_set (codes "a" ∷ []) (codes "a" ∷ codes "b" ∷ []) ≡ false
 unfolding same_set
 one_more = refl
+
+-- the labels of cells
+
+-- the set of the objects 0 and 2 is the word 5; its text has their names in the order of their bytes
+two_objects : set_text (codes "player" ∷ codes "crate" ∷ codes "background" ∷ []) (5 ∷ []) ≡ codes "background player"
+unfolding with_name
+two_objects = refl
+
+no_objects : set_text (codes "player" ∷ codes "crate" ∷ []) (0 ∷ []) ≡ []
+unfolding with_name
+no_objects = refl
+
+-- the label of a text is its place among those that are known
+second_text : text_at (codes "crate" ∷ codes "player" ∷ []) 1 ≡ codes "player"
+second_text = refl
 
 -- the text of a level
 

@@ -8,3 +8,4 @@ pub mod Order
 pub mod LevelNames
 pub mod LevelText
 pub mod Equality
+pub mod Labels

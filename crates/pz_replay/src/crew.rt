@@ -148,7 +148,13 @@ fn open_lane(alloc: Global, capacity: usize, desks: &mut Vec<Desk>) -> Option<Se
     ensures none { IfNone result (desks.new.items ≡ desks.old.items) }
 {
     let (sender, taker) = lane(alloc, capacity).ok()?;
-    desks.push(Desk { taker, end: None }).ok()?;
+    desks
+        .push(Desk {
+            taker,
+            end: None,
+            is_quiet: false,
+        })
+        .ok()?;
     Some(sender)
 }
 

@@ -11,5 +11,6 @@ pub mod output;
 mod recorder;
 pub mod recording;
 pub mod replaying;
+mod waiting;
 pub mod work;
 pub mod writing;

@@ -5,11 +5,11 @@ ghost use Rattle.pz_replay.specs.Recorded.{GoesOn, HasEnded, IsRecorded, IsVisit
 ghost use Rattle.pz_replay.specs.declared.lane.Message.TheVariants.{Piece};
 
 use crate::lane::{End, Message, Taker};
+use crate::waiting::pause;
 use pz_session::item::Item;
 use std::alloc::{AllocError, Global};
 use std::marker::Model;
 use std::sync::Wait;
-use std::thread;
 
 /// The items of each session so far, by session number.
 #[derive(Drop)]
@@ -58,11 +58,12 @@ impl Sessions {
     }
 }
 
-/// A lane at the recorder, and how it ended, once its last message was taken.
+/// A lane at the recorder; how it ended, once its last message was taken; and whether nothing was there when it was visited last.
 #[derive(Drop)]
 pub(crate) struct Desk {
     pub(crate) taker: Taker,
     pub(crate) end: Option<End>,
+    pub(crate) is_quiet: bool,
 }
 
 /// Takes one message, if there is one and the lane has not ended, and says whether it has. Without memory for an item there are no sessions any more.
@@ -75,12 +76,17 @@ fn visit(desk: &mut Desk, sessions: &mut Option<Sessions>) -> bool
         return true;
     }
     match desk.taker.try_take() {
-        None => false,
+        None => {
+            desk.is_quiet = true;
+            false
+        }
         Some(Message::Last(end)) => {
             desk.end = Some(end);
+            desk.is_quiet = true;
             true
         }
         Some(Message::Piece(session, item)) => {
+            desk.is_quiet = false;
             if let Some(so_far) = sessions {
                 if so_far.keep(session, item).is_err() {
                     *sessions = None;
@@ -106,7 +112,12 @@ fn round(desks: &mut [Desk], sessions: &mut Option<Sessions>) -> bool
     all
 }
 
-/// Takes from every lane in turn until each has ended, also when there was no memory for an item: else a worker would wait for room on its lane.
+/// Whether no lane had a message in the last round.
+fn are_quiet(desks: &[Desk]) -> bool {
+    desks.iter().all(|desk| desk.is_quiet)
+}
+
+/// Takes from every lane in turn until each has ended, with a pause after each round in which no lane had a message, also when there was no memory for an item: else a worker would wait for room on its lane.
 pub(crate) fn record<R: Wait>(rt: &R, desks: &mut [Desk], sessions: &mut Option<Sessions>)
     requires { IsRecorded desks.old sessions.old }
     ensures recorded { IsRecorded desks.new sessions.new }
@@ -117,7 +128,9 @@ pub(crate) fn record<R: Wait>(rt: &R, desks: &mut [Desk], sessions: &mut Option<
         if round(desks, sessions) {
             return;
         }
-        thread::yield_now();
+        if are_quiet(desks) {
+            pause(rt);
+        }
     }
     unreachable!()
 }

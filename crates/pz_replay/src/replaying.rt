@@ -19,8 +19,8 @@ use std::sync::Wait;
 use std::thread;
 use std::thread::Threads;
 
-/// How many messages a lane holds at once.
-const CAPACITY: usize = 64;
+/// How many messages a lane holds at once: more than a worker sends while the recorder pauses.
+const CAPACITY: usize = 1024;
 
 /// The most workers that play a job.
 const MOST_WORKERS: usize = 64;

@@ -9,13 +9,13 @@ ghost use Rattle.pz_replay.specs.declared.lane.Message.TheVariants.{Last};
 
 use crate::gate::Gate;
 use crate::lane::{End, Message, Sender, SentAll};
+use crate::waiting::pause;
 use pz_claims::{Claimed, Claims, Ended, Seat};
 use pz_session::case::Case;
 use pz_session::job::Job;
 use pz_session::run::Run;
 use std::alloc::Global;
 use std::sync::Wait;
-use std::thread;
 
 /// What a worker hands back.
 #[derive(Drop)]
@@ -25,7 +25,7 @@ pub struct Worked {
     pub sent: Option<SentAll>,
 }
 
-/// Tries until the message is sent.
+/// Tries until the message is sent, with a pause after each time that the lane was full.
 fn send<R: Wait>(rt: &R, sender: &mut Sender, message: Message)
     ensures { sender.new ≡ record sender.old { sent = sender.old.sent ++ message ∷ [] } }
 {
@@ -35,7 +35,7 @@ fn send<R: Wait>(rt: &R, sender: &mut Sender, message: Message)
             Ok(()) => return,
             Err(back) => message = back,
         }
-        thread::yield_now();
+        pause(rt);
     }
     unreachable!()
 }

@@ -20,9 +20,9 @@ use pz_game::instance::Program;
 use pz_grid::Level;
 use pz_record::equality::equals;
 use pz_record::input::Input;
-use pz_record::level_text::level_text;
 use pz_record::order::Order;
 use pz_record::recorded::Recorded;
+use pz_record::text_writer::TextWriter;
 use pz_turn::step::StepEnd;
 use pz_turn::win::won;
 use std::alloc::{AllocError, Global};
@@ -43,10 +43,11 @@ pub struct Board<'a> {
     past: Vec<Level>,
     before: Option<Level>,
     is_over: bool,
+    texts: TextWriter<'a>,
 }
 
 impl<'a> Model for Board<'a> {
-    ghost use Rattle.std.specs.Prelude.{map, option_map, reverse};
+    ghost use Rattle.std.specs.Prelude.{◌≡◌, map, option_map, reverse};
     ghost use Rattle.pz_session.specs.Board.{State, IsOneGame};
 
     ghost Value = { State };
@@ -75,7 +76,7 @@ impl<'a> Model for Board<'a> {
       past = reverse (map (λ level. level.grid) b.past.items);
       before = option_map (λ level. level.grid) b.before;
       is_over = b.is_over;
-    }) };
+    }) × ((b.texts.table.game ≡ b.game.now) × (b.texts.order ≡ b.order)) };
 }
 
 impl<'a> Board<'a> {
@@ -109,6 +110,7 @@ impl<'a> Board<'a> {
             past: Vec::new(alloc),
             before: None,
             is_over: false,
+            texts: TextWriter::new(alloc, game, order),
         })
     }
 
@@ -121,16 +123,17 @@ impl<'a> Board<'a> {
 
     /// The level, shown.
     #[tactic(auto, unfolding(crate::specs::Board::frame_of))]
-    fn frame(&self, kind: FrameKind) -> Result<Frame, AllocError>
-        ensures { IfOk result (λ frame. frame ≡ frame_of self.now kind) }
+    fn frame(&mut self, kind: FrameKind) -> Result<Frame, AllocError>
+        ensures frame { IfOk result (λ frame. frame ≡ frame_of self.old kind) }
+        ensures same { self.new ≡ self.old }
     {
-        let level_text = level_text(self.alloc, self.game, self.order, &self.level)?;
+        let level_text = self.texts.write(&self.level)?;
         Ok(Frame { kind, level_text })
     }
 
     /// Shows the level, and whether one more tick follows.
-    fn show(&self, kind: FrameKind, goes_on: bool) -> Result<Shown, AllocError>
-        ensures { IfOk result (λ shown. GivesLink (Ok (showing kind self.now goes_on)) self.now (Ok shown)) }
+    fn show(&mut self, kind: FrameKind, goes_on: bool) -> Result<Shown, AllocError>
+        ensures { IfOk result (λ shown. GivesLink (Ok (showing kind self.old goes_on)) self.new (Ok shown)) }
     {
         let frame = self.frame(kind)?;
         Ok(Shown {
@@ -142,10 +145,11 @@ impl<'a> Board<'a> {
 
     /// The start of a session shows its level.
     #[tactic(auto, unfolding(crate::specs::Board::start_link))]
-    pub fn start(&self) -> Result<Shown, AllocError>
-        ensures { IfOk result (λ shown. GivesLink (Ok (start_link self.now)) self.now (Ok shown)) }
+    pub fn start(&mut self) -> Result<Shown, AllocError>
+        ensures { IfOk result (λ shown. GivesLink (Ok (start_link self.old)) self.new (Ok shown)) }
     {
-        self.show(FrameKind::Start, self.ticks_at_start())
+        let goes_on = self.ticks_at_start();
+        self.show(FrameKind::Start, goes_on)
     }
 
     /// The level is the target again.
@@ -154,7 +158,8 @@ impl<'a> Board<'a> {
         ensures { IfOk result (λ shown. GivesLink (Ok (restarted self.old)) self.new (Ok shown)) }
     {
         self.level = self.target.copy()?;
-        self.show(FrameKind::Restart, self.ticks_at_start())
+        let goes_on = self.ticks_at_start();
+        self.show(FrameKind::Restart, goes_on)
     }
 
     /// The level of an entry, as it is loaded: it is the target, and there is no past.

@@ -34,7 +34,7 @@ fn play(alloc: Global, plan: &Plan) -> Result<Session<'_, Board<'_>>, AllocError
     ensures items { IfOk result (λ session. session.items ≡ played_items plan.now) }
     ensures healthy { IfOk result (λ session. session.has_failed ≡ false) }
 {
-    let board = Board::load(
+    let mut board = Board::load(
         alloc,
         plan.game(),
         plan.program(),

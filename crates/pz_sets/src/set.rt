@@ -1,6 +1,6 @@
 //! Sets of numbers.
 
-ghost use Rattle.std.specs.Prelude.{◌≡◌, ℕ, ◌<◌, false, ◌||◌, nat_eq};
+ghost use Rattle.std.specs.Prelude.{◌≡◌, ℕ, ◌<◌, ◌↔◌, true, false, ◌||◌, nat_eq};
 ghost use Rattle.pz_sets.specs.Sets.{member};
 
 use crate::word;
@@ -11,7 +11,7 @@ pub const CAPACITY: usize = 512;
 
 /// A set of numbers: four words of 128 bits, the least numbers first. Contracts see it as the list of these words, and read it by `member`
 /// alone.
-#[derive(Clone, Copy)]
+#[derive(Clone, Copy, PartialEq, Eq, Hash)]
 pub struct NumberSet {
     words: [u128; 4],
 }
@@ -60,6 +60,13 @@ impl NumberSet {
         ensures { (other : ℕ) → member self.new other ≡ (nat_eq other number || member self.old other) }
     {
         self.words[number / 128] = word::with(self.words[number / 128], number % 128);
+    }
+
+    /// Whether both are the same set.
+    pub fn same(&self, other: &NumberSet) -> bool
+        ensures { (result ≡ true) ↔ (self.now ≡ other.now) }
+    {
+        self.words == other.words
     }
 
     /// The numbers of either set.

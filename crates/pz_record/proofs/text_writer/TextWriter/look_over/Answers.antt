@@ -1,0 +1,33 @@
+use Rattle.std.proofs.Common.{◌≡◌, ◌<◌, ◌+◌, ◌*◌, ◌∷◌, [], ◌++◌, take, ap, ap₂, ◌∙◌, arith}
+use Rattle.pz_record.specs.Labels.{text_of_cell}
+use Rattle.pz_record.proofs.CellTexts.{front_long, front_more, all_looked}
+use Rattle.pz_record.proofs.text_writer.TextWriter.look_over.Goals as goal
+
+pub loop-number-preserved : goal.loop-number-preserved
+loop-number-preserved c =
+    let game = c.args.self.now.table.game in
+    let order = c.args.self.now.order in
+    let grid = c.args.level.now.grid in
+    let n = c.loop-number.number in
+    let old = c.loop-number.self.cells in
+    let all : c.width.result * c.height.result ≡ grid.width * grid.height = ap₂ (λ w h. w * h) c.width.ensures.width c.height.ensures.height in
+    let within : n < grid.width * grid.height = rw (← all) c.loop-number-test.true in
+    let text : text_of_cell c.loop-number.self.table.game c.loop-number.self.order grid n ≡ text_of_cell game order grid n = ap₂ (λ g o. text_of_cell g o grid n) c.loop-number.invariant.game c.loop-number.invariant.order in
+    let more : take (n + 1) c.look.new.self.cells ≡ take n old ++ text_of_cell game order grid n ∷ [] = c.in_ok-look.ensures.cells ∙ ap (λ t. take n old ++ t ∷ []) text in
+    record {
+      cells = front_more game order grid c.look.new.self.cells old n within c.loop-number.invariant.cells more;
+      long = front_long c.look.new.self.cells old n (text_of_cell game order grid n) c.loop-number.invariant.long more;
+      game = c.look.ensures.game ∙ c.loop-number.invariant.game;
+      order = c.look.ensures.order ∙ c.loop-number.invariant.order;
+    }
+
+pub returns-clause-cells : goal.returns-clause-cells
+returns-clause-cells c =
+    let game = c.args.self.now.table.game in
+    let order = c.args.self.now.order in
+    let grid = c.args.level.now.grid in
+    let n = c.loop-number.number in
+    let count = c.width.result * c.height.result in
+    let all : count ≡ grid.width * grid.height = ap₂ (λ w h. w * h) c.width.ensures.width c.height.ensures.height in
+    let at : n ≡ count = omega (arith, c.loop-number-test.false, c.loop-number.auto.number-end) in
+    c.keep.ensures.cells ∙ all_looked game order grid c.loop-number.self.cells n count all at c.loop-number.invariant.cells

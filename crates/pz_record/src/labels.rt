@@ -1,0 +1,149 @@
+//! The labels of cells: texts of which none stands twice, each with a number; and the text of cells of these labels.
+
+ghost use Rattle.std.specs.Prelude.{◌≡◌, ◌<◌, ◌^◌, ◌++◌, ◌∷◌, [], length, false, All, IfOk, None, OnOk, decimal, map, replicate, take, ◌≤◌, string_bytes};
+ghost use Rattle.pz_base.specs.NameSet.{is_name_of, number_in};
+ghost use Rattle.pz_record.specs.Labels.{AreDistinct, text_at};
+ghost use Rattle.pz_record.specs.LevelText.{line_end, text_of_cells};
+
+use crate::labelled_set::LabelledSet;
+use indexmap::IndexSet;
+use itoa::Buffer;
+use std::alloc::{AllocError, Global};
+use std::marker::Model;
+
+/// Different texts of cells, by their numbers.
+#[derive(Drop)]
+pub(crate) struct KnownTexts {
+    texts: IndexSet<String>,
+}
+
+impl Model for KnownTexts {
+    ghost use Rattle.std.specs.Prelude.{List, ℕ, map, string_bytes};
+    ghost use Rattle.pz_record.specs.Labels.{AreDistinct};
+
+    ghost Value = { List (List ℕ) };
+
+    ghost view = { λ n. map string_bytes n.texts.keys };
+
+    ghost invariant = { λ n. AreDistinct (map string_bytes n.texts.keys) };
+}
+
+impl KnownTexts {
+    pub fn new(alloc: Global) -> KnownTexts
+        ensures { result ≡ [] }
+    {
+        KnownTexts {
+            texts: IndexSet::new(alloc),
+        }
+    }
+
+    pub fn len(&self) -> usize
+        ensures count { result ≡ length self.now }
+        ensures small { result < 2 ^ 63 }
+        ensures distinct { AreDistinct self.now }
+    {
+        self.texts.len()
+    }
+
+    /// The text of a label.
+    pub fn text(&self, label: usize) -> &str
+        requires { label < length self.now }
+        ensures { result.now ≡ text_at self.now label }
+    {
+        match self.texts.get_index(label) {
+            Some(text) => text.as_str(),
+            None => "",
+        }
+    }
+
+    /// The label of a text, if it is known.
+    pub fn number_of(&self, text: &str) -> Option<usize>
+        ensures { result ≡ number_in self.now text.now }
+    {
+        self.texts.get_index_of(text)
+    }
+
+    /// Puts a new text behind the others.
+    pub fn add(&mut self, text: String) -> Result<(), AllocError>
+        requires { is_name_of self.old (string_bytes text) ≡ false }
+        ensures added { OnOk result (self.new ≡ self.old ++ string_bytes text ∷ []) }
+        ensures kept { take (length self.old) self.new ≡ self.old }
+    {
+        self.texts.insert(text)?;
+        Ok(())
+    }
+
+    /// The label of a text, which is added where it is new.
+    pub fn label_of(&mut self, text: String) -> Result<usize, AllocError>
+        ensures label { IfOk result (λ label. (label < length self.new) × (text_at self.new label ≡ string_bytes text)) }
+        ensures kept { take (length self.old) self.new ≡ self.old }
+    {
+        match self.number_of(text.as_str()) {
+            Some(label) => Ok(label),
+            None => {
+                let label = self.len();
+                self.add(text)?;
+                Ok(label)
+            }
+        }
+    }
+}
+
+/// Writes a number and a comma.
+fn write_number(text: &mut String, number: usize) -> Result<(), AllocError>
+    ensures { OnOk result (string_bytes text.new ≡ string_bytes text.old ++ (decimal number ++ 44 ∷ [])) }
+{
+    let mut digits = Buffer::new();
+    text.push_str(digits.format(number))?;
+    text.push_str(",")?;
+    Ok(())
+}
+
+/// Ends the line where it has as many cells as the level is wide.
+fn end_line(text: &mut String, width: usize, count: usize) -> Result<(), AllocError>
+    requires { 0 < width }
+    ensures { OnOk result (string_bytes text.new ≡ string_bytes text.old ++ line_end width count) }
+{
+    if count % width == 0 {
+        text.push_str("\n")?;
+    }
+    Ok(())
+}
+
+/// As yet no label has a number.
+fn no_numbers(alloc: Global, count: usize) -> Result<Vec<Option<usize>>, AllocError>
+    ensures { IfOk result (λ numbers. numbers.items ≡ replicate count None) }
+{
+    vec![in alloc; None; count]
+}
+
+/// The text of cells of these labels.
+pub(crate) fn text_of_labels(
+    alloc: Global,
+    texts: &KnownTexts,
+    cells: &[LabelledSet],
+    width: usize,
+) -> Result<String, AllocError>
+    requires wide { 0 < width }
+    requires within { All (λ cell. cell.label < length texts.now) cells.now }
+    ensures { IfOk result (λ text. string_bytes text ≡ text_of_cells width (map (λ cell. text_at texts.now cell.label) cells.now)) }
+{
+    let mut text = String::new(alloc);
+    let mut numbers = no_numbers(alloc, texts.len())?;
+    let mut count = 0;
+    for (place, cell) in cells.iter().enumerate() {
+        let label = cell.label;
+        match numbers[label] {
+            Some(number) => write_number(&mut text, number)?,
+            None => {
+                text.push_str(texts.text(label))?;
+                text.push_str(":")?;
+                write_number(&mut text, count)?;
+                numbers[label] = Some(count);
+                count += 1;
+            }
+        }
+        end_line(&mut text, width, place + 1)?;
+    }
+    Ok(text)
+}
