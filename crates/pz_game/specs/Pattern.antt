@@ -7,11 +7,14 @@ pub record RuleRow : Type 0 where
   pub cells : List (List Item)
   pub gap_at : Option ℕ
 
--- a row has 1 to 64 cells, and its gap stands between two of them
-pub record IsRow (row : RuleRow) : Type 0 where
-  pub some : 0 < length row.cells
-  pub short : length row.cells ≤ 64
-  pub between : IfSome row.gap_at (λ at. (0 < at) × (at < length row.cells))
+-- the law of a row: it has 1 to 64 cells, and its gap stands between two of them
+pub record HasShape (count : ℕ) (gap_at : Option ℕ) : Type 0 where
+  pub some : 0 < count
+  pub short : count ≤ 64
+  pub between : IfSome gap_at (λ at. (0 < at) × (at < count))
+
+abbrev pub IsRow : RuleRow → Type 0
+IsRow row = HasShape (length row.cells) row.gap_at
 
 -- an item of an object of the game, whose objects have these layers
 pub record IsOf (layers : List ℕ) (item : Item) : Type 0 where

@@ -1,7 +1,7 @@
 //! A game.
 
 ghost use Rattle.std.specs.Prelude.{◌≡◌, option_map, option_copied};
-ghost use Rattle.pz_game.specs.Game.{denotation_in, IsGame};
+ghost use Rattle.pz_game.specs.Game.{denotation_in, players_of, IsGame};
 ghost use Rattle.pz_base.specs.NameSet.{number_in};
 
 use crate::denotation::{Denotation, Kind};
@@ -142,6 +142,17 @@ impl Game {
         match self.denotation(name) {
             Some(denotation) => Some(denotation.members.items()),
             None => None,
+        }
+    }
+
+    /// The objects that are the player, in the order of first mention.
+    pub fn players(&self) -> &[usize]
+        ensures players { result.now ≡ players_of self.now }
+        ensures game { IsGame self.now }
+    {
+        match self.members("player") {
+            Some(members) => members,
+            None => &[],
         }
     }
 

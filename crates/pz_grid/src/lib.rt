@@ -1,7 +1,7 @@
 //! Levels of a game: loaded, read, compared, matched, rewritten, pushed and moved.
 #![tactic(auto)]
 
-ghost use Rattle.std.specs.Prelude.{◌≡◌, ℕ, Some, None, MatchOption, IfOk};
+ghost use Rattle.std.specs.Prelude.{◌≡◌, ◌+◌, ◌*◌, ◌<◌, ℕ, length, Some, None, MatchOption, IfOk};
 ghost use Rattle.pz_sets.specs.Sets.{member};
 ghost use Rattle.pz_grid.specs.Grid.{IsLawful};
 ghost use Rattle.pz_grid.specs.Marks.{IsMarked};
@@ -102,12 +102,21 @@ impl BareLevel {
         self.height
     }
 
+    /// The number of the cell at a position of the map: cells stand row by row.
+    fn index(&self, x: u32, y: u32) -> usize
+        requires x_in { x < self.now.grid.width }
+        requires y_in { y < self.now.grid.height }
+        ensures index { result ≡ y * self.now.grid.width + x }
+        ensures within { result < length self.now.grid.cells }
+    {
+        y as usize * self.width as usize + x as usize
+    }
+
     fn objects_at(&self, x: u32, y: u32) -> NumberSet
         ensures { (object : ℕ) → member result object ≡ stands self.now.grid x y object }
     {
         if x < self.width && y < self.height {
-            let number = y as usize * self.width as usize + x as usize;
-            self.cells[number].objects(self.depth, &self.layers)
+            self.cells[self.index(x, y)].objects(self.depth, &self.layers)
         } else {
             NumberSet::empty()
         }
@@ -117,8 +126,7 @@ impl BareLevel {
         ensures { MatchOption result (standing_at self.now.grid x y object ≡ None) (λ piece. standing_at self.now.grid x y object ≡ Some piece.heading) }
     {
         if x < self.width && y < self.height {
-            let cell = &self.cells[y as usize * self.width as usize + x as usize];
-            cell.piece_of(self.depth, &self.layers, object)
+            self.cells[self.index(x, y)].piece_of(self.depth, &self.layers, object)
         } else {
             None
         }

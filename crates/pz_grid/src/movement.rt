@@ -45,7 +45,7 @@ impl BareLevel {
         ensures on_layer { IsOnLayer self.now.grid.layers layer result }
         ensures low { IfSome result (λ piece. piece.object < CAPACITY) }
     {
-        self.cells[y as usize * self.width as usize + x as usize].place(layer)
+        self.cells[self.index(x, y)].place(layer)
     }
 
     /// Puts a piece, or nothing, on a layer of a position of the map.
@@ -57,7 +57,8 @@ impl BareLevel {
         ensures put { self.new.grid ≡ with_place self.old.grid x y layer place }
         ensures there { place_at self.new.grid x y layer ≡ place }
     {
-        self.cells[y as usize * self.width as usize + x as usize].put(layer, place);
+        let index = self.index(x, y);
+        self.cells[index].put(layer, place);
     }
 
     /// The next position in a direction, on the map.

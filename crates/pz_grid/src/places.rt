@@ -87,7 +87,7 @@ impl BareLevel {
         match position {
             None => false,
             Some((x, y)) => {
-                let cell = &self.cells[y as usize * self.width as usize + x as usize];
+                let cell = &self.cells[self.index(x, y)];
                 pattern_holds(cell, self.depth, &self.layers, pattern)
             }
         }

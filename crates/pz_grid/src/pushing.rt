@@ -21,17 +21,7 @@ pub fn push_players(game: &Game, level: &mut Level, dir: Dir)
     ensures row_marks { level.new.row_marks ≡ level.old.row_marks }
     ensures column_marks { level.new.column_marks ≡ level.old.column_marks }
 {
-    level.push_all(players(game), dir);
-}
-
-/// The objects that are the player.
-fn players(game: &Game) -> &[usize]
-    ensures { result.now ≡ players_of game.now }
-{
-    match game.members("player") {
-        Some(members) => members,
-        None => &[],
-    }
+    level.push_all(game.players(), dir);
 }
 
 impl BareLevel {

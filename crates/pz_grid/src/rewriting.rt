@@ -184,7 +184,7 @@ impl BareLevel {
         ensures level { self.new.grid ≡ with_rewritten self.old.grid x y left.now right.now }
         ensures changed { result ≡ changes self.old.grid x y left.now right.now }
     {
-        let index = y as usize * self.width as usize + x as usize;
+        let index = self.index(x, y);
         rewrite_in(&mut self.cells, index, left, right)
     }
 }

@@ -2,7 +2,9 @@
 use Rattle.std.proofs.Common.{◌≡◌, ℕ, zero, suc, ◌+◌, ◌-◌, ◌<◌, ◌≤◌, nat_lt, Bool, true, false, cond, ◌&&◌, ◌||◌, if◌then◌else◌, List, [], ◌∷◌, filter, map, length, Option, Some, None, IfSome, option_map, Result, Ok, Err, refl, ap, sym, ◌∙◌, subst, arith}
 use Rattle.std.specs.List.{list_any, list_all, flat_map, position_or_len, count_by}
 use Rattle.std.proofs.lemmas.Bool.{and_parts, and_from, or_parts, ltb-true, ltb-false, false≢true}
-use Rattle.std.proofs.lemmas.List.Sums.{length-filter, AllPass-from_list_all}
+use Rattle.std.proofs.lemmas.List.Elements.{All-nil, All-cons, All-head, All-tail}
+use Rattle.std.proofs.lemmas.List.Sums.{length-filter}
+use Rattle.pz_game.specs.Pattern.{HasShape}
 use Rattle.pz_game.specs.declared.denotation.Denotation.{Denotation}
 use Rattle.pz_plan.specs.declared.fault.RuleFault.{RuleFault}
 use Rattle.pz_plan.specs.declared.plan.Choice.{Choice}
@@ -19,7 +21,7 @@ use Rattle.pz_plan.specs.Checks.{has_more_gaps, is_long, is_large, in_rule, is_u
 use Rattle.pz_plan.specs.Deciding.{joined, decided_terms, decided_cells, decided_row, decided_rows}
 use Rattle.pz_plan.specs.Numbering.{choices_in_rows, asked_in, asked_count, cells_of, rows_of}
 use Rattle.pz_plan.specs.Planning.{with_right, planned, plan_of}
-use Rattle.pz_plan.specs.Shape.{has_shape, is_shaped, AreShaped}
+use Rattle.pz_plan.specs.Shape.{IsShaped, AreShaped}
 use Rattle.pz_plan.specs.Spelling.{cell_of, is_gap, gap_of, row_spelled_out, rows_spelled_out}
 use Rattle.pz_grammar.specs.Written.{is_prefix, has_cells, has_rows, is_whole}
 
@@ -54,10 +56,7 @@ gap-before_end s t (cell.Items ps ∷ row) (suc n) size few last at =
     let later = gap-before_end s t row n (omega (arith, size)) few last (omega (arith, at)) in
     omega (arith, later)
 
-abbrev cell_shape : Side → List Denotation → List Cell → Bool
-cell_shape s t row = has_shape (cells s t row) (gap_of row)
-
-shaped-row : (s : Side) (t : List Denotation) (row : List Cell) → has_cells row ≡ true → has_more_gaps row ≡ false → is_long row ≡ false → has_loose_gap row ≡ false → cell_shape s t row ≡ true
+shaped-row : (s : Side) (t : List Denotation) (row : List Cell) → has_cells row ≡ true → has_more_gaps row ≡ false → is_long row ≡ false → has_loose_gap row ≡ false → HasShape (cells s t row) (gap_of row)
 unfolding has_more_gaps is_long has_loose_gap gap_of is_gap cell_of
 shaped-row s t [] some few short loose = absurd (false≢true some)
 shaped-row s t (cell.Gap ∷ row) some few short loose = absurd (false≢true (sym (or_parts true (has_gap_at (cell.Gap ∷ row) (length (cell.Gap ∷ row) - 1)) loose).0))
@@ -68,37 +67,36 @@ shaped-row s t (cell.Items ps ∷ row) some few short loose =
     let last : has_gap_at all (length row) ≡ false = subst (λ k. has_gap_at all k ≡ false) (omega arith) (or_parts (has_gap_at all 0) (has_gap_at all (length all - 1)) loose).1 in
     let one : gaps all ≤ 1 = omega (arith, ltb-false 1 (count_by is_gap all) few, length-filter is_gap all) in
     let small : n < 65 = omega (arith, ltb-false 64 (length all) short, cells-few s t all) in
-    let by : (b : Bool) → nat_lt p (length all) ≡ b → has_shape n (cond b (Some p) None) ≡ true = λ b. elim b as (λ b. nat_lt p (length all) ≡ b → has_shape n (cond b (Some p) None) ≡ true) [
+    let by : (b : Bool) → nat_lt p (length all) ≡ b → HasShape n (cond b (Some p) None) = λ b. elim b as (λ b. nat_lt p (length all) ≡ b → HasShape n (cond b (Some p) None)) [
       | true ↦ λ e.
           let before : p < n = gap-before_end s t all (length row) (omega arith) one last (ltb-true p (length all) e) in
-          grind (arith, before, small)
-      | false ↦ λ e. grind (arith, small)
+          record { some = omega (arith, before); short = omega (arith, small); between = (omega arith, before) }
+      | false ↦ λ e. record { some = omega arith; short = omega (arith, small); between = tt }
     ] in
     by (nat_lt p (length all)) refl
 
-shaped-rows : (s : Side) (t : List Denotation) (rows : List (List Cell)) → list_all has_cells rows ≡ true → list_any has_more_gaps rows ≡ false → list_any is_long rows ≡ false → list_any has_loose_gap rows ≡ false → list_all is_shaped (map (row_spelled_out s t) rows) ≡ true
+shaped-rows : (s : Side) (t : List Denotation) (rows : List (List Cell)) → list_all has_cells rows ≡ true → list_any has_more_gaps rows ≡ false → list_any is_long rows ≡ false → list_any has_loose_gap rows ≡ false → AreShaped (map (row_spelled_out s t) rows)
 unfolding row_spelled_out
-shaped-rows s t [] some few short loose = refl
+shaped-rows s t [] some few short loose = All-nil IsShaped
 shaped-rows s t (row ∷ rows) some few short loose =
     let p = and_parts (has_cells row) (list_all has_cells rows) some in
     let q = or_parts (has_more_gaps row) (list_any has_more_gaps rows) few in
     let r = or_parts (is_long row) (list_any is_long rows) short in
     let u = or_parts (has_loose_gap row) (list_any has_loose_gap rows) loose in
-    and_from (cell_shape s t row) (list_all is_shaped (map (row_spelled_out s t) rows)) (shaped-row s t row p.0 q.0 r.0 u.0) (shaped-rows s t rows p.1 q.1 r.1 u.1)
+    All-cons IsShaped (row_spelled_out s t row) (map (row_spelled_out s t) rows) (shaped-row s t row p.0 q.0 r.0 u.0) (shaped-rows s t rows p.1 q.1 r.1 u.1)
 
 length-cells_of : (n : ℕ) (cells : List (List Mention)) → length (cells_of n cells) ≡ length cells
 unfolding cells_of
 length-cells_of n [] = refl
 length-cells_of n (c ∷ cells) = ap suc (length-cells_of (n + asked_in c) cells)
 
-shaped-rows_of : (n : ℕ) (rows : List (PlanRow Mention)) → list_all is_shaped rows ≡ true → list_all is_shaped (rows_of n rows) ≡ true
+shaped-rows_of : (n : ℕ) (rows : List (PlanRow Mention)) → AreShaped rows → AreShaped (rows_of n rows)
 unfolding rows_of
-shaped-rows_of n [] h = refl
+shaped-rows_of n [] h = All-nil IsShaped
 shaped-rows_of n (row ∷ rows) h =
-    let p = and_parts (is_shaped row) (list_all is_shaped rows) h in
-    and_from (has_shape (length (cells_of n row.cells)) row.gap) (list_all is_shaped (rows_of (n + asked_count row.cells) rows))
-    (ap (λ k. has_shape k row.gap) (length-cells_of n row.cells) ∙ p.0)
-    (shaped-rows_of (n + asked_count row.cells) rows p.1)
+    All-cons IsShaped (record { cells = cells_of n row.cells; gap = row.gap }) (rows_of (n + asked_count row.cells) rows)
+    (subst (λ k. HasShape k row.gap) (sym (length-cells_of n row.cells)) (All-head IsShaped row rows h))
+    (shaped-rows_of (n + asked_count row.cells) rows (All-tail IsShaped row rows h))
 
 joined-length : {X : Type 0} (n : ℕ) (o : Option X) (p : Option (List X)) → IfSome p (λ xs. length xs ≡ n) → IfSome (joined o p) (λ xs. length xs ≡ suc n)
 joined-length n (Some x) (Some xs) h = ap suc h
@@ -110,36 +108,35 @@ unfolding decided_cells
 length-decided cs r n [] = refl
 length-decided cs r n (c ∷ cells) = joined-length (length cells) (decided_terms cs (record { row = r; cell = n }) c) (decided_cells cs r (n + 1) cells) (length-decided cs r (n + 1) cells)
 
-joined-shaped : (o : Option (PlanRow Term)) (p : Option (List (PlanRow Term))) → IfSome o (λ row. is_shaped row ≡ true) → IfSome p (λ rows. list_all is_shaped rows ≡ true) → IfSome (joined o p) (λ rows. list_all is_shaped rows ≡ true)
-joined-shaped (Some row) (Some rows) h k = and_from (is_shaped row) (list_all is_shaped rows) h k
+joined-shaped : (o : Option (PlanRow Term)) (p : Option (List (PlanRow Term))) → IfSome o IsShaped → IfSome p AreShaped → IfSome (joined o p) AreShaped
+joined-shaped (Some row) (Some rows) h k = All-cons IsShaped row rows h k
 joined-shaped (Some row) None h k = tt
 joined-shaped None p h k = tt
 
 abbrev row_with : Option ℕ → List (List Term) → PlanRow Term
 row_with gap cs = record { cells = cs; gap = gap }
 
-shaped-decided_row : (cs : List Choice) (n : ℕ) (row : PlanRow Mention) → is_shaped row ≡ true → IfSome (decided_row cs n row) (λ row. is_shaped row ≡ true)
+shaped-decided_row : (cs : List Choice) (n : ℕ) (row : PlanRow Mention) → IsShaped row → IfSome (decided_row cs n row) IsShaped
 unfolding decided_row
 shaped-decided_row cs n row h =
-    let by : (o : Option (List (List Term))) → IfSome o (λ xs. length xs ≡ length row.cells) → IfSome (option_map (row_with row.gap) o) (λ row. is_shaped row ≡ true) =
-    λ o. elim o as (λ o. IfSome o (λ xs. length xs ≡ length row.cells) → IfSome (option_map (row_with row.gap) o) (λ row. is_shaped row ≡ true)) [
+    let by : (o : Option (List (List Term))) → IfSome o (λ xs. length xs ≡ length row.cells) → IfSome (option_map (row_with row.gap) o) IsShaped =
+    λ o. elim o as (λ o. IfSome o (λ xs. length xs ≡ length row.cells) → IfSome (option_map (row_with row.gap) o) IsShaped) [
       | None ↦ λ e. tt
-      | Some cs ↦ λ e. ap (λ k. has_shape k row.gap) e ∙ h
+      | Some cs ↦ λ e. subst (λ k. HasShape k row.gap) (sym e) h
     ] in
     by (decided_cells cs n 0 row.cells) (length-decided cs n 0 row.cells)
 
-shaped-decided : (cs : List Choice) (n : ℕ) (rows : List (PlanRow Mention)) → list_all is_shaped rows ≡ true → IfSome (decided_rows cs n rows) (λ rows. list_all is_shaped rows ≡ true)
+shaped-decided : (cs : List Choice) (n : ℕ) (rows : List (PlanRow Mention)) → AreShaped rows → IfSome (decided_rows cs n rows) AreShaped
 unfolding decided_rows
-shaped-decided cs n [] h = refl
+shaped-decided cs n [] h = All-nil IsShaped
 shaped-decided cs n (row ∷ rows) h =
-    let p = and_parts (is_shaped row) (list_all is_shaped rows) h in
-    joined-shaped (decided_row cs n row) (decided_rows cs (n + 1) rows) (shaped-decided_row cs n row p.0) (shaped-decided cs (n + 1) rows p.1)
+    joined-shaped (decided_row cs n row) (decided_rows cs (n + 1) rows) (shaped-decided_row cs n row (All-head IsShaped row rows h)) (shaped-decided cs (n + 1) rows (All-tail IsShaped row rows h))
 
 abbrev PlanIsShaped : Result Plan RuleFault → Type 0
-PlanIsShaped (Ok plan) = (list_all is_shaped plan.left ≡ true) × (list_all is_shaped plan.right ≡ true)
+PlanIsShaped (Ok plan) = AreShaped plan.left × AreShaped plan.right
 PlanIsShaped (Err fault) = Unit {0}
 
-shaped-with_right : (rule : Rule) (left : List (PlanRow Mention)) (right : Option (List (PlanRow Term))) → list_all is_shaped left ≡ true → IfSome right (λ rows. list_all is_shaped rows ≡ true) → PlanIsShaped (with_right rule left right)
+shaped-with_right : (rule : Rule) (left : List (PlanRow Mention)) (right : Option (List (PlanRow Term))) → AreShaped left → IfSome right AreShaped → PlanIsShaped (with_right rule left right)
 unfolding with_right
 shaped-with_right rule left None h k = tt
 shaped-with_right rule left (Some right) h k = (shaped-rows_of 0 left h, k)
@@ -196,5 +193,4 @@ shaped-plan t late rule whole =
 
 pub shaped : (t : List Denotation) (late : Bool) (rule : Rule) (plan : Plan) → is_whole rule ≡ true → plan_of t late rule ≡ Ok plan → AreShaped plan.left × AreShaped plan.right
 shaped t late rule plan whole e =
-    let is : PlanIsShaped (Ok plan) = subst PlanIsShaped e (shaped-plan t late rule whole) in
-    (AllPass-from_list_all is_shaped plan.left is.0, AllPass-from_list_all is_shaped plan.right is.1)
+    subst PlanIsShaped e (shaped-plan t late rule whole)

@@ -103,16 +103,6 @@ fn with_input(game: &Game, level: &Level, input: Option<Dir>) -> Result<Level, S
     }
 }
 
-/// The objects that are the player.
-fn players(game: &Game) -> &[usize]
-    ensures { result.now ≡ players_of game.now }
-{
-    match game.members("player") {
-        Some(members) => members,
-        None => &[],
-    }
-}
-
 fn some_player(players: &[usize], level: &Level) -> bool
     ensures { result ≡ list_any (holds_one players.now) level.now.grid.cells }
 {
@@ -154,7 +144,7 @@ fn must_cancel(game: &Game, input: Option<Dir>, before: &Level, after: &Level) -
     ensures { result ≡ must_cancel game.now input before.now.grid after.now.grid }
 {
     game.options().require_player_movement
-        && (input.is_some() && has_stayed(players(game), before, after))
+        && (input.is_some() && has_stayed(game.players(), before, after))
 }
 
 fn with_cancel(cancelled: bool, commands: Commands) -> Commands

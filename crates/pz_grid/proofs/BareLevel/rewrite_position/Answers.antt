@@ -1,4 +1,4 @@
-use Rattle.std.proofs.Common.{ℕ, ◌+◌, ◌*◌, ◌<◌, List, length, arith, ap, sym, subst}
+use Rattle.std.proofs.Common.{◌≡◌, ℕ, ◌+◌, ◌*◌, ◌<◌, List, length, arith, ap, sym, ◌∙◌, subst}
 use Rattle.std.proofs.lemmas.Nat.{mul-add-lt}
 use Rattle.pz_game.specs.Pattern.{AreOf}
 use Rattle.pz_grid.specs.Grid.{Grid, BareState}
@@ -22,4 +22,5 @@ invariant_of-self c =
     let high : c.args.y < a.height = omega (arith, ap (λ (s : BareState). s.grid.height) c.self.view_is) in
     let within : at < length a.cells.items = omega (arith, mul-add-lt c.args.y a.width c.args.x a.height high wide, c.self.invariant.covers) in
     let are : AreOf a.layers.items right = subst (λ (layers : List ℕ). AreOf layers right) (sym (ap (λ (s : BareState). s.grid.layers) c.self.view_is)) c.requires.right_of in
-    rw c.rewrite_in.ensures.cells (lawful-with_rewritten grid c.args.x c.args.y left right are within c.self.invariant)
+    let here : c.index-index.result ≡ at = c.index-index.ensures.index ∙ sym (ap (λ (s : BareState). c.args.y * s.grid.width + c.args.x) c.self.view_is) in
+    rw (c.rewrite_in.ensures.cells, here) (lawful-with_rewritten grid c.args.x c.args.y left right are within c.self.invariant)
