@@ -1,6 +1,6 @@
 -- A list up to an element, the element, and what follows it; and the lines that these make.
-use Rattle.std.proofs.Common.{◌≡◌, ℕ, ◌+◌, ◌<◌, suc, List, [], ◌∷◌, ◌++◌, length, take, drop, get_or, flat_map, refl, ap, ◌∙◌, sym, arith}
-use Rattle.std.proofs.lemmas.List.{append_assoc, append-nil, take-append-drop, at_drop_more, drop-take, take-take, length-take-le}
+use Rattle.std.proofs.Common.{◌≡◌, ℕ, ◌+◌, ◌<◌, ◌≤◌, suc, List, [], ◌∷◌, ◌++◌, length, take, drop, get_or, flat_map, refl, ap, ◌∙◌, sym, arith}
+use Rattle.std.proofs.lemmas.List.{append_assoc, append-nil, take-append-drop, take_all, at_drop_more, drop-take, take-take, length-take-le}
 use Rattle.std.proofs.lemmas.Grind.{flat_map-append}
 use Rattle.pz_replay.specs.declared.recording.Record.{Record}
 use Rattle.pz_session.specs.declared.item.Item.{Item}
@@ -54,3 +54,8 @@ sessions_cut recording xs i x e h is = rw (← e) (ap (lines_from 0) (cut_at xs 
 pub shown_cut : (session : ℕ) (shown : Record) (items : List Item) (frames i : ℕ) (x : Item) → items ≡ shown.items → frames ≡ frame_count items → i < length items → x ≡ get_or items i x
     → lines_of session shown ≡ flat_map (item_line session shown.name frames) (take i items) ++ (item_line session shown.name frames x ++ flat_map (item_line session shown.name frames) (drop (i + 1) items))
 shown_cut session shown items frames i x e count h is = rw (← e, ← count) (items_cut (item_line session shown.name frames) items i x h is)
+
+-- behind the last item all lines stand
+pub shown_all : (session : ℕ) (shown : Record) (items : List Item) (frames i : ℕ) → items ≡ shown.items → frames ≡ frame_count items → length items ≤ i
+    → lines_of session shown ≡ flat_map (item_line session shown.name frames) (take i items)
+shown_all session shown items frames i e count h = rw (← e, ← count) (ap (flat_map (item_line session shown.name frames)) (sym (take_all i items h)))

@@ -1,5 +1,5 @@
 -- Texts that go out one after the other.
-use Rattle.std.proofs.Common.{◌≡◌, ◌⊎◌, inl, inr, ℕ, ◌+◌, ◌≤◌, ◌^◌, List, [], ◌++◌, length, take, Option, Some, None, ap, ◌∙◌, sym, refl, arith}
+use Rattle.std.proofs.Common.{◌≡◌, ◌⊎◌, inl, inr, Result, Ok, Err, IfErr, ℕ, ◌+◌, ◌≤◌, ◌^◌, List, [], ◌++◌, length, take, Option, Some, None, ap, ◌∙◌, sym, refl, arith}
 use Rattle.std.proofs.lemmas.List.{append_assoc, append-nil, length-append, take-append-le, take_all}
 use Rattle.std.proofs.Math.Seq.{take-append-add}
 use Rattle.std.specs.Io.KnownBytes.{Appends}
@@ -73,3 +73,23 @@ pub ended_for : (text : List ℕ) (fault : WriteFault) (a b : Writes) → IsSent
 ended_for text fault a b p =
     let is : fault.written ≡ p.count = omega (arith, p.counted) in
     record { within = rw is p.within; sent = rw is p.sent; why = λ other. reaches (2 ^ 64) (0 + length text) (length text) (omega arith) (p.why other) }
+
+-- of a text a front went out and the rest is kept back; a line more, of all that is kept back some goes out, and the rest is kept back
+pub kept_more : (whole front line sent held more now left : List ℕ) → whole ≡ front ++ line → front ≡ sent ++ held → more ≡ held ++ line → more ≡ now ++ left → whole ≡ (sent ++ now) ++ left
+kept_more whole front line sent held more now left e p q r =
+    e ∙ (ap (λ t. t ++ line) p ∙ (append_assoc sent held line ∙ (ap (λ t. sent ++ t) (sym q ∙ r) ∙ sym (append_assoc sent now left))))
+
+-- what is kept back stands behind what went out, and before what follows
+pub kept_before : (whole front sent held rest : List ℕ) → whole ≡ front ++ rest → front ≡ sent ++ held → whole ≡ sent ++ (held ++ rest)
+kept_before whole front sent held rest e p = e ∙ (ap (λ t. t ++ rest) p ∙ append_assoc sent held rest)
+
+pub line_before : (whole front sent held line more rest : List ℕ) → whole ≡ front ++ (line ++ rest) → front ≡ sent ++ held → more ≡ held ++ line → whole ≡ sent ++ (more ++ rest)
+line_before whole front sent held line more rest e p q =
+    kept_before whole front sent held (line ++ rest) e p ∙ ap (λ t. sent ++ t) (sym (append_assoc held line rest) ∙ ap (λ t. t ++ rest) (sym q))
+
+-- what was kept back to the end goes out, or a part of it does
+pub all_behind : (whole front sent held now : List ℕ) (l m n : ℕ) (a b c : Writes) (result : Result (Unit {0}) Cause) → whole ≡ front → front ≡ sent ++ held → now ≡ held → IsSent sent l m a b
+    → IfErr result (IsSentInPart now m n b c) → IfErr result (IsSentInPart whole l n a c)
+all_behind whole front sent held now l m n a b c (Ok done) e f q p h = h
+all_behind whole front sent held now l m n a b c (Err cause) e f q p h =
+    part_is whole (sent ++ (held ++ [])) l n a c cause (e ∙ (f ∙ ap (λ t. sent ++ t) (sym (append-nil held)))) (part_behind sent held [] l m n a b c cause p (rw q at h))

@@ -1,136 +1,99 @@
-//! The line of an item: compact JSON, its keys in the order of their bytes, and a line feed.
+//! The line of an item: compact JSON, its keys in the order of their bytes, and a line feed. It is written behind the lines before it.
 
-ghost use Rattle.std.specs.Prelude.{◌≡◌, ◌++◌, ◌∷◌, [], IfOk, None, Some, codes, false, length, string_bytes};
-ghost use Rattle.serde_json.specs.Data.{member, no_members, number, object, string, unsigned};
-ghost use Rattle.serde_json.specs.View.{view as data_of};
-ghost use Rattle.serde_json.specs.Written.{compact_text, has_float};
-ghost use Rattle.pz_replay.specs.Lines.{frame_count, frame_line, close_line, item_line, verdict_line};
+ghost use Rattle.std.specs.Prelude.{◌≡◌, ◌++◌, IfOk, OnOk, codes, decimal};
+ghost use Rattle.json.specs.Print.{quoted};
+ghost use Rattle.pz_replay.specs.Lines.{frame_count, frame_line, close_line, item_line, with_cause};
+ghost use Rattle.pz_replay.specs.Naming.{cause_name};
 
 use crate::naming::{cause_name, close_name, kind_name};
+use itoa::Buffer;
+use json::Writer;
 use pz_session::item::{Frame, Item, Verdict};
-use serde_json::{Value, json};
 use std::alloc::{AllocError, Global};
 
-fn frame_value(
-    alloc: Global,
-    session: u64,
-    frame: u64,
-    at: u64,
-    kind: &str,
-    level: &str,
-) -> Result<Value, AllocError>
-    ensures { IfOk result (λ v. data_of v ≡ object (member (codes "at") (number (unsigned at))
-        (member (codes "frame") (number (unsigned frame)) (member (codes "kind") (string kind.now)
-        (member (codes "level") (string level.now) (member (codes "session") (number (unsigned session)) no_members)))))) }
+/// Writes a text in quotation marks.
+fn quote(lines: Vec<u8>, text: &str) -> Result<Vec<u8>, AllocError>
+    ensures { IfOk result (λ written. written.items ≡ lines.items ++ quoted text.now) }
 {
-    json!(in alloc; {"at": at, "frame": frame, "kind": kind, "level": level, "session": session})
+    let mut writer = Writer::new(lines);
+    writer.string(text)?;
+    Ok(writer.into_inner())
 }
 
-fn close_value(
-    alloc: Global,
-    session: u64,
-    name: &str,
-    frames: u64,
-    close: &str,
-) -> Result<Value, AllocError>
-    ensures { IfOk result (λ v. data_of v ≡ object (member (codes "close") (string close.now)
-        (member (codes "frames") (number (unsigned frames)) (member (codes "name") (string name.now)
-        (member (codes "session") (number (unsigned session)) no_members))))) }
+/// Writes a key, with what stands before it, and its text.
+fn put_text(lines: Vec<u8>, key: &[u8], text: &str) -> Result<Vec<u8>, AllocError>
+    ensures { IfOk result (λ written. written.items ≡ lines.items ++ (key.now ++ quoted text.now)) }
 {
-    json!(in alloc; {"close": close, "frames": frames, "name": name, "session": session})
+    let mut lines = lines;
+    lines.extend_from_slice(key)?;
+    let written = quote(lines, text)?;
+    Ok(written)
 }
 
-fn caused_value(
-    alloc: Global,
-    session: u64,
-    name: &str,
-    frames: u64,
-    cause: &str,
-    close: &str,
-) -> Result<Value, AllocError>
-    ensures { IfOk result (λ v. data_of v ≡ object (member (codes "cause") (string cause.now) (member (codes "close") (string close.now)
-        (member (codes "frames") (number (unsigned frames)) (member (codes "name") (string name.now)
-        (member (codes "session") (number (unsigned session)) no_members)))))) }
+/// Writes a key, with what stands before it, and its number.
+fn put_number(lines: &mut Vec<u8>, key: &[u8], number: u64) -> Result<(), AllocError>
+    ensures { OnOk result (lines.new.items ≡ lines.old.items ++ (key.now ++ decimal number)) }
 {
-    json!(in alloc; {"cause": cause, "close": close, "frames": frames, "name": name, "session": session})
+    let mut digits = Buffer::new();
+    lines.extend_from_slice(key)?;
+    lines.extend_from_slice(digits.format(number).as_bytes())?;
+    Ok(())
 }
 
-/// The compact text of a value without floats, and a line feed.
-fn line_of(alloc: Global, value: &Value) -> Result<String, AllocError>
-    requires { has_float (data_of value.now) ≡ false }
-    ensures { IfOk result (λ text. string_bytes text ≡ compact_text (data_of value.now) ++ 10 ∷ []) }
-{
-    let mut text = value.to_string(alloc)?;
-    text.push('\n')?;
-    Ok(text)
-}
-
-/// The line of a frame.
-fn frame_text(
-    alloc: Global,
+/// Writes the line of a frame.
+fn write_frame(
+    lines: Vec<u8>,
     session: u64,
     number: u64,
     at: u64,
     frame: &Frame,
-) -> Result<String, AllocError>
-    ensures { IfOk result (λ text. string_bytes text ≡ frame_line session number at frame.now) }
+) -> Result<Vec<u8>, AllocError>
+    ensures { IfOk result (λ written. written.items ≡ lines.items ++ frame_line session number at frame.now) }
 {
-    let value = frame_value(
-        alloc,
-        session,
-        number,
-        at,
-        kind_name(frame.kind),
-        frame.level_text.as_str(),
-    )?;
-    line_of(alloc, &value)
+    let mut lines = lines;
+    put_number(&mut lines, b"{\"at\":", at)?;
+    put_number(&mut lines, b",\"frame\":", number)?;
+    let kinded = put_text(lines, b",\"kind\":", kind_name(frame.kind))?;
+    let mut levelled = put_text(kinded, b",\"level\":", frame.level_text.as_str())?;
+    put_number(&mut levelled, b",\"session\":", session)?;
+    levelled.extend_from_slice(b"}\n")?;
+    Ok(levelled)
 }
 
-/// The line of a close that has no cause.
-fn plain_text(
-    alloc: Global,
-    session: u64,
-    name: &str,
-    frames: u64,
-    close: &str,
-) -> Result<String, AllocError>
-    ensures { IfOk result (λ text. string_bytes text ≡ verdict_line session name.now frames None close.now) }
+/// Writes the cause of a close, where it has one.
+fn put_cause(alloc: Global, lines: Vec<u8>, verdict: Verdict) -> Result<Vec<u8>, AllocError>
+    ensures { IfOk result (λ written. written.items ≡ lines.items ++ with_cause (cause_name verdict)) }
 {
-    let value = close_value(alloc, session, name, frames, close)?;
-    line_of(alloc, &value)
+    match cause_name(alloc, verdict)? {
+        None => Ok(lines),
+        Some(cause) => {
+            let mut caused = put_text(lines, b"\"cause\":", cause.as_str())?;
+            caused.extend_from_slice(b",")?;
+            Ok(caused)
+        }
+    }
 }
 
-/// The line of a close with its cause.
-fn caused_text(
+/// Writes the line of a close.
+fn write_close(
     alloc: Global,
-    session: u64,
-    name: &str,
-    frames: u64,
-    cause: &str,
-    close: &str,
-) -> Result<String, AllocError>
-    ensures { IfOk result (λ text. string_bytes text ≡ verdict_line session name.now frames (Some cause.now) close.now) }
-{
-    let value = caused_value(alloc, session, name, frames, cause, close)?;
-    line_of(alloc, &value)
-}
-
-/// The line of a close.
-#[tactic(auto, unfolding(crate::specs::Lines::close_line))]
-fn close_text(
-    alloc: Global,
+    lines: Vec<u8>,
     session: u64,
     name: &str,
     frames: u64,
     verdict: Verdict,
-) -> Result<String, AllocError>
-    ensures { IfOk result (λ text. string_bytes text ≡ close_line session name.now frames verdict) }
+) -> Result<Vec<u8>, AllocError>
+    ensures { IfOk result (λ written. written.items ≡ lines.items ++ close_line session name.now frames verdict) }
 {
-    let close = close_name(verdict);
-    match cause_name(alloc, verdict)? {
-        None => plain_text(alloc, session, name, frames, close),
-        Some(cause) => caused_text(alloc, session, name, frames, cause.as_str(), close),
-    }
+    let mut lines = lines;
+    lines.extend_from_slice(b"{")?;
+    let caused = put_cause(alloc, lines, verdict)?;
+    let mut closed = put_text(caused, b"\"close\":", close_name(verdict))?;
+    put_number(&mut closed, b",\"frames\":", frames)?;
+    let mut named = put_text(closed, b",\"name\":", name)?;
+    put_number(&mut named, b",\"session\":", session)?;
+    named.extend_from_slice(b"}\n")?;
+    Ok(named)
 }
 
 /// How many of the items are frames.
@@ -143,18 +106,19 @@ pub(crate) fn frame_count(items: &[Item]) -> u64
         .count() as u64
 }
 
-/// The line of an item of a session, whose name and number of frames the close tells.
-pub(crate) fn item_text(
+/// Writes the line of an item of a session, whose name and number of frames the close tells.
+pub(crate) fn write_item(
     alloc: Global,
+    lines: Vec<u8>,
     session: u64,
     name: &str,
     frames: u64,
     item: &Item,
-) -> Result<String, AllocError>
-    ensures { IfOk result (λ text. string_bytes text ≡ item_line session name.now frames item.now) }
+) -> Result<Vec<u8>, AllocError>
+    ensures { IfOk result (λ written. written.items ≡ lines.items ++ item_line session name.now frames item.now) }
 {
     match item {
-        Item::Frame { number, at, frame } => frame_text(alloc, session, *number, *at, frame),
-        Item::Close(verdict) => close_text(alloc, session, name, frames, *verdict),
+        Item::Frame { number, at, frame } => write_frame(lines, session, *number, *at, frame),
+        Item::Close(verdict) => write_close(alloc, lines, session, name, frames, *verdict),
     }
 }

@@ -1,26 +1,33 @@
 //! The writing of a recording.
 
-ghost use Rattle.std.specs.Prelude.{OnOk, IfErr};
+ghost use Rattle.std.specs.Prelude.{◌≡◌, ◌++◌, ℕ, List, OnOk, IfOk, IfErr};
 ghost use Rattle.pz_replay.specs.Lines.{lines_of, text_of};
 ghost use Rattle.pz_replay.specs.Writing.{EndsFor, HasWritten, IsSent, IsSentInPart};
 
 use crate::fault::{Cause, WriteFault};
-use crate::line::{frame_count, item_text};
+use crate::line::{frame_count, write_item};
 use crate::output::Output;
 use crate::recording::{Record, Recording};
 use std::alloc::Global;
 use std::io::Write;
 
-/// Writes a line and counts its bytes, those written before it included.
+/// Lines of so many bytes go out together.
+const PIECE: usize = 65_536;
+
+/// Writes lines and counts their bytes, those written before them included.
 /// A count that no u64 holds ends the writing as a device's fault: no recording is so long.
-fn write_line<W: Write>(line: &[u8], written: &mut u64, output: &mut Output<W>) -> Result<(), Cause>
-    ensures ok { OnOk result (IsSent line.now written.old written.new output.old output.new) }
-    ensures err { IfErr result (IsSentInPart line.now written.old written.new output.old output.new) }
+fn write_lines<W: Write>(
+    lines: &[u8],
+    written: &mut u64,
+    output: &mut Output<W>,
+) -> Result<(), Cause>
+    ensures ok { OnOk result (IsSent lines.now written.old written.new output.old output.new) }
+    ensures err { IfErr result (IsSentInPart lines.now written.old written.new output.old output.new) }
 {
-    let Some(all) = written.checked_add(line.len() as u64) else {
+    let Some(all) = written.checked_add(lines.len() as u64) else {
         return Err(Cause::Device);
     };
-    match output.write_whole(line) {
+    match output.write_whole(lines) {
         Ok(()) => {
             *written = all;
             Ok(())
@@ -30,6 +37,23 @@ fn write_line<W: Write>(line: &[u8], written: &mut u64, output: &mut Output<W>) 
             Err(fault.cause)
         }
     }
+}
+
+/// Writes lines where they are many enough to go out together, and answers those that are left.
+fn write_full<W: Write>(
+    lines: Vec<u8>,
+    written: &mut u64,
+    output: &mut Output<W>,
+) -> Result<Vec<u8>, Cause>
+    ensures ok { IfOk result (λ left. (sent : List ℕ) × (lines.items ≡ sent ++ left.items) × IsSent sent written.old written.new output.old output.new) }
+    ensures err { IfErr result (IsSentInPart lines.items written.old written.new output.old output.new) }
+{
+    let mut lines = lines;
+    if lines.len() >= PIECE {
+        write_lines(lines.as_slice(), written, output)?;
+        lines.clear();
+    }
+    Ok(lines)
 }
 
 /// Writes the lines of what a session showed.
@@ -45,13 +69,15 @@ fn write_session<W: Write>(
 {
     let items = shown.items.items();
     let frames = frame_count(items);
+    let mut lines = Vec::new(alloc);
     for item in items {
-        let Ok(line) = item_text(alloc, session, shown.name.as_str(), frames, item) else {
+        let name = shown.name.as_str();
+        let Ok(more) = write_item(alloc, lines, session, name, frames, item) else {
             return Err(Cause::Memory);
         };
-        write_line(line.as_bytes(), written, output)?;
+        lines = write_full(more, written, output)?;
     }
-    Ok(())
+    write_lines(&lines, written, output)
 }
 
 /// Writes the text of a recording: all of it, or its first bytes, as many as the fault tells.
