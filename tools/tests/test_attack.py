@@ -32,7 +32,8 @@ class Attack(unittest.TestCase):
         self.write("crates/small/src/lib.rt", CRATE)
         self.write("tools/attack", "")
         self.tool = self.room / "tools/attack"
-        shutil.copy(TOP / "tools/attack", self.tool)
+        for name in ("attack", "crates.py"):
+            shutil.copy(TOP / "tools" / name, self.tool.parent)
 
     def write(self, path, text):
         file = self.room / path

@@ -1,6 +1,6 @@
 //! The items of a case, one by one.
 
-ghost use Rattle.std.specs.Prelude.{◌≡◌, true, false, MatchResult, IsErr, IfOk};
+ghost use Rattle.std.specs.Prelude.{◌≡◌, ◌++◌, ◌<◌, [], true, false, length, MatchResult, IsErr, IfOk, OnOk};
 ghost use Rattle.pz_session.specs.Case.{items_of, played_items};
 
 use crate::board::Board;
@@ -82,14 +82,35 @@ impl<'a> Run<'a> {
     }
 }
 
+/// Puts the next item behind those that were taken; false: there is none.
+fn take_next(run: &mut Run<'_>, items: &mut Vec<Item>) -> Result<bool, AllocError>
+    ensures kept { IfOk result (λ _. items.new.items ++ run.new.items ≡ items.old.items ++ run.old.items) }
+    ensures fewer { IfOk result (λ found. found ≡ true → length run.new.items < length run.old.items) }
+    ensures end { IfOk result (λ found. found ≡ false → run.new.items ≡ []) }
+{
+    match run.next()? {
+        Some(item) => {
+            items.push(item)?;
+            Ok(true)
+        }
+        None => Ok(false),
+    }
+}
+
+/// Puts all items that are still to come behind those that were taken.
+fn take_all(run: &mut Run<'_>, items: &mut Vec<Item>) -> Result<(), AllocError>
+    ensures { OnOk result (items.new.items ≡ items.old.items ++ run.old.items) }
+{
+    'items: while take_next(run, items)? {}
+    Ok(())
+}
+
 /// All items of a case: the frames of a session that is played and its close, or the close of one that is refused.
 pub fn frames(alloc: Global, case: &Case) -> Result<Vec<Item>, AllocError>
     ensures { IfOk result (λ items. items.items ≡ items_of case.now) }
 {
     let mut run = Run::new(alloc, case)?;
     let mut items = Vec::new(alloc);
-    'items: while let Some(item) = run.next()? {
-        items.push(item)?;
-    }
+    take_all(&mut run, &mut items)?;
     Ok(items)
 }

@@ -1,0 +1,29 @@
+"""What crates.txt says, for the tools that prove crates side by side."""
+import os
+import re
+from pathlib import Path
+
+
+def read_crates(top):
+    """The crates of crates.txt, each with those of them that it names."""
+    named = {}
+    for line in (top / "crates.txt").read_text(encoding="utf-8").splitlines():
+        name, mark, uses = line.partition("#")[0].partition(":")
+        if mark:
+            named[name.split()[0]] = uses.split()
+    return {name: [use for use in uses if use in named] for name, uses in named.items()}
+
+
+def all_below(crates, name):
+    """The crates that a crate stands on, lowest first."""
+    found = []
+    for use in crates[name]:
+        found += [it for it in [*all_below(crates, use), use] if it not in found]
+    return found
+
+
+def lanes_for_checks(memory_of_a_check):
+    """How many checks that take at most so many bytes run side by side."""
+    available = re.search(r"MemAvailable:\s+(\d+) kB", Path("/proc/meminfo").read_text(encoding="utf-8"))
+    memory = int(available[1]) * 1024 if available else memory_of_a_check
+    return max(1, min(len(os.sched_getaffinity(0)), memory // memory_of_a_check))
