@@ -1,44 +1,15 @@
 """tools/attack: on a repository of one crate with a wrong body on either shelf, one of which can't be made."""
-import shutil
-import tempfile
 import unittest
-from pathlib import Path
 
-from tool import TOP, run
+from tool import CRATE, OnSmallCrates, run
 
-CRATE = """//! A crate of one function.
-
-#![tactic(auto)]
-
-ghost use Rattle.std.specs.Prelude.{◌≡◌};
-
-/// The number itself.
-pub fn same(number: u32) -> u32
-    ensures { result ≡ number }
-{
-    number
-}
-"""
 ANSWERS_NULL = "Answers 0 for every number.\nfile: src/lib.rt\nold:     number\nnew:     0\n"
 NAMES_WHAT_IS_NOT_THERE = "Changes a text that is not there.\nfile: src/lib.rt\nold: other\nnew: number\n"
 
 
-class Attack(unittest.TestCase):
+class Attack(OnSmallCrates):
     def setUp(self):
-        room = tempfile.TemporaryDirectory()
-        self.addCleanup(room.cleanup)
-        self.room = Path(room.name)
-        self.write("crates.txt", "small:\n")
-        self.write("crates/small/src/lib.rt", CRATE)
-        self.write("tools/attack", "")
-        self.tool = self.room / "tools/attack"
-        for name in ("attack", "crates.py"):
-            shutil.copy(TOP / "tools" / name, self.tool.parent)
-
-    def write(self, path, text):
-        file = self.room / path
-        file.parent.mkdir(parents=True, exist_ok=True)
-        file.write_text(text, encoding="utf-8")
+        self.found("attack", "small:\n")
 
     def test_an_edit_that_can_not_be_made_is_not_refused(self):
         self.write("crates/small/must-fail/answers_null.edit", ANSWERS_NULL)

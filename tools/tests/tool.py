@@ -1,6 +1,9 @@
-"""Runs a tool as its user does."""
+"""Runs a tool as its user does, where it is wanted on a small repository of its own."""
+import shutil
 import subprocess
 import sys
+import tempfile
+import unittest
 from pathlib import Path
 
 TOP = Path(__file__).resolve().parent.parent.parent
@@ -18,3 +21,42 @@ def run(tool, *words):
     """Runs the tool of this repository, or the one at a path, with these words."""
     path = tool if isinstance(tool, Path) else TOP / "tools" / tool
     return Answer(subprocess.run([sys.executable, path, *map(str, words)], stdout=subprocess.PIPE, stderr=subprocess.PIPE))
+
+
+# A crate of one function, which is proved.
+CRATE = """//! A crate of one function.
+
+#![tactic(auto)]
+
+ghost use Rattle.std.specs.Prelude.{◌≡◌};
+
+/// The number itself.
+pub fn same(number: u32) -> u32
+    ensures { result ≡ number }
+{
+    number
+}
+"""
+
+
+class OnSmallCrates(unittest.TestCase):
+    """Tests a tool on a repository of small crates, which is there for one test."""
+
+    def found(self, name, crates):
+        """Writes the repository: its crates.txt, each crate that it names, and the tool with what it imports."""
+        room = tempfile.TemporaryDirectory()
+        self.addCleanup(room.cleanup)
+        self.room = Path(room.name)
+        self.write("crates.txt", crates)
+        self.write("HANDLES", "Handles allowed: none.\n")
+        for line in crates.splitlines():
+            self.write(f"crates/{line.partition(':')[0]}/src/lib.rt", CRATE)
+        self.tool = self.room / "tools" / name
+        self.tool.parent.mkdir()
+        for file in (name, "crates.py"):
+            shutil.copy(TOP / "tools" / file, self.tool.parent)
+
+    def write(self, path, text):
+        file = self.room / path
+        file.parent.mkdir(parents=True, exist_ok=True)
+        file.write_text(text, encoding="utf-8")
