@@ -1,12 +1,8 @@
 pub mod Completing
 pub mod Crewing
-pub mod Cut
 pub mod Finishing
 pub mod Gathering
 pub mod Named
 pub mod Sending
-pub mod Sent
 pub mod Settling
-pub mod Texts
 pub mod Visiting
-pub mod WorkedLines

@@ -2,6 +2,7 @@
 use Rattle.std.proofs.Common.{◌≡◌, ℕ, ◌+◌, ◌<◌, List, [], ◌∷◌, ◌++◌, Some, map, length, take, get_or, refl, sym, ap, ◌∙◌, arith}
 use Rattle.std.specs.Prelude.{slice_get}
 use Rattle.std.proofs.lemmas.List.{length-map, length-append, length-take-le, get_or-map, map-append}
+use Rattle.std.proofs.lemmas.Grind.{take_at_read}
 use Rattle.std.proofs.lemmas.Option.{get_or_from_slice_get}
 use Rattle.std.specs.Vec.Iter.{into_iter_items, into_iter_steps}
 use Rattle.std.specs.declared.vec.IntoIter.{IntoIter}
@@ -9,10 +10,9 @@ use Rattle.std.specs.Iterator.{Yields}
 use Rattle.pz_session.specs.declared.case.Case.{Case}
 use Rattle.pz_session.specs.declared.item.Item.{Item}
 use Rattle.pz_session.specs.Case.{items_of}
-use Rattle.pz_replay.specs.declared.recording.Record.{Record}
-use Rattle.pz_replay.specs.Recording.{shown_by}
+use Rattle.pz_session.specs.declared.recording.Record.{Record}
+use Rattle.pz_session.specs.Recording.{shown_by}
 use Rattle.pz_replay.specs.Pieces.{sessions_of}
-use Rattle.pz_replay.proofs.Cut.{front_more}
 
 -- what the iterator of a vector has given is a front of its items
 pub taken_front : {X A : Type 0} (s : IntoIter X A) (xs : List X) (t : IntoIter X A) → Yields into_iter_steps s xs t → into_iter_items s ≡ xs ++ into_iter_items t
@@ -39,5 +39,5 @@ named_more {X = X} f job all front rest x case records count same is so_far coun
     ap f (sym (ap (λ (xs : List X). get_or xs n x) is ∙ at_seam front rest x x)) ∙ sym (get_or-map f all n x [] here) ∙ ap (λ (ls : List (List Item)). get_or ls n []) same ∙ get_or-map items_of job n case [] there ∙ ap items_of here_is in
     let longer : length (front ++ x ∷ []) ≡ n + 1 = length-append front (x ∷ []) in
     let shown : map shown_by (take (n + 1) job) ≡ map shown_by (take n job) ++ shown_by case ∷ [] =
-    ap (map shown_by) (front_more job n case there (sym here_is)) ∙ map-append shown_by (take n job) (case ∷ []) in
+    ap (map shown_by) ((take_at_read job n case there).1 ∙ ap (λ (it : Case). take n job ++ it ∷ []) here_is) ∙ map-append shown_by (take n job) (case ∷ []) in
     rw (longer, shown, so_far, mine) refl

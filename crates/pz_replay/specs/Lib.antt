@@ -1,9 +1,5 @@
 pub mod Crew
 pub mod Lane
-pub mod Lines
-pub mod Naming
 pub mod Pieces
 pub mod Recorded
-pub mod Recording
 pub mod Worked
-pub mod Writing

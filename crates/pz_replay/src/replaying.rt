@@ -3,17 +3,17 @@
 ghost use Rattle.std.specs.Prelude.{◌≡◌, ◌≢◌, ◌↔◌, ◌⊎◌, ◌<◌, ◌≤◌, [], length, replicate, Err, IfOk};
 ghost use Rattle.pz_replay.specs.Crew.{IsAll};
 ghost use Rattle.pz_replay.specs.Pieces.{sessions_of};
-ghost use Rattle.pz_replay.specs.Recording.{recording};
+ghost use Rattle.pz_session.specs.Recording.{recording};
 
 use crate::crew::{Shared, all_started};
 use crate::fault::ReplayFault;
 use crate::gate::Gate;
 use crate::recorder::Sessions;
-use crate::recording::{Record, Recording};
 use pz_base::listed::Listed;
 use pz_base::text::Text;
 use pz_claims::{Claims, Maker};
 use pz_session::job::Job;
+use pz_session::recording::{Record, Recording};
 use std::alloc::{AllocError, Global};
 use std::sync::Wait;
 use std::thread;

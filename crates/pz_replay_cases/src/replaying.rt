@@ -3,13 +3,13 @@
 use crate::sessions::{ClosedTo, LONG, REFUSED, STALE, WALK, job_of};
 use pz_base::listed::Listed;
 use pz_base::text::Text;
+use pz_lines::output::Output;
+use pz_lines::writing::write_recording;
 use pz_replay::fault::ReplayFault;
 use pz_replay::gate::{Always, Gate};
-use pz_replay::output::Output;
-use pz_replay::recording::{Record, Recording};
 use pz_replay::replaying::{replay, replay_with};
-use pz_replay::writing::write_recording;
 use pz_session::job::Job;
+use pz_session::recording::{Record, Recording};
 use pz_session::run::frames;
 use std::alloc::{AllocError, Global};
 use std::sync::Wait;

@@ -1,12 +1,15 @@
 //! The work of one worker.
 
+ghost use Rattle.std.specs.Prelude.{◌≡◌};
+
 use crate::sessions::{ClosedTo, WALK, job_of};
 use pz_claims::Claims;
-use pz_replay::gate::Always;
-use pz_replay::lane::{End, Message, Taker, lane};
+use pz_replay::gate::{Always, Gate};
+use pz_replay::lane::{End, Message, SentAll, Taker, lane};
 use pz_replay::work::work;
 use pz_session::job::Job;
-use std::alloc::Global;
+use std::alloc::{AllocError, Global};
+use std::sync::Wait;
 use std::test::Fail;
 
 /// Two walks, each of three frames and its close.
@@ -31,56 +34,71 @@ fn take_next(taker: &mut Taker) -> Taken {
     }
 }
 
+/// All that was taken from a lane behind which nothing is sent any more.
+fn take_all(alloc: Global, taker: &mut Taker, all: &mut SentAll) -> Result<Vec<Taken>, AllocError>
+    requires { all.old.lane ≡ taker.old.lane }
+{
+    let mut taken = Vec::new(alloc);
+    for _ in 0..taker.left(all) {
+        taken.push(take_next(taker))?;
+    }
+    Ok(taken)
+}
+
+/// How a worker ends that plays two walks, and what it sends; another may have claimed the first.
+fn played<R: Wait, G: Gate>(
+    rt: &R,
+    alloc: Global,
+    is_claimed: bool,
+    gate: &G,
+) -> Result<(End, Vec<Taken>), Fail> {
+    let job = walks(alloc)?;
+    let (claims, maker) = Claims::new(alloc, job.len())?;
+    let (maker, other) = claims.split(maker);
+    let (_, seat) = claims.split(maker);
+    if is_claimed {
+        let _ = claims.claim(other);
+    }
+    let (sender, mut taker) = lane(alloc, 16)?;
+    let worked = work(rt, alloc, &claims, seat, sender, &job, gate);
+    let mut all = worked.sent.ok_or("the taker is there")?;
+    Ok((worked.end, take_all(alloc, &mut taker, &mut all)?))
+}
+
+const FIRST: Taken = Taken::ItemOf(0);
+
+const SECOND: Taken = Taken::ItemOf(1);
+
 #[test]
 fn sends_two_walks(rt: HostRuntime) -> Result<(), Fail> {
-    let job = walks(rt.alloc())?;
-    let (claims, maker) = Claims::new(rt.alloc(), job.len())?;
-    let (_, seat) = claims.split(maker);
-    let (sender, mut taker) = lane(rt.alloc(), 16)?;
-    let worked = work(&rt, rt.alloc(), &claims, seat, sender, &job, &Always);
-    let mut all = worked.sent.ok_or("the taker is there")?;
-    let mut sent = Vec::new(rt.alloc());
-    for _ in 0..taker.left(&mut all) {
-        sent.push(take_next(&mut taker))?;
-    }
-    let (first, second) = (Taken::ItemOf(0), Taken::ItemOf(1));
+    let (end, sent) = played(&rt, rt.alloc(), false, &Always)?;
     let last = Taken::LastOf(End::Finished);
     assert!(rt;
         sent.as_slice()
             == [
-                first, first, first, first, second, second, second, second, last
+                FIRST, FIRST, FIRST, FIRST, SECOND, SECOND, SECOND, SECOND, last
             ]
             .as_slice()
     );
+    assert_eq!(rt; end, End::Finished);
     Ok(())
 }
 
 #[test]
 fn leaves_what_others_claimed(rt: HostRuntime) -> Result<(), Fail> {
-    let job = walks(rt.alloc())?;
-    let (claims, maker) = Claims::new(rt.alloc(), job.len())?;
-    let (maker, other) = claims.split(maker);
-    let (_, seat) = claims.split(maker);
-    let (sender, mut taker) = lane(rt.alloc(), 16)?;
-    let _ = claims.claim(other);
-    let worked = work(&rt, rt.alloc(), &claims, seat, sender, &job, &Always);
-    let mut all = worked.sent.ok_or("the taker is there")?;
-    assert_eq!(rt; taker.left(&mut all), 5);
+    let (_, sent) = played(&rt, rt.alloc(), true, &Always)?;
+    let last = Taken::LastOf(End::Finished);
+    assert!(rt; sent.as_slice() == [SECOND, SECOND, SECOND, SECOND, last].as_slice());
     Ok(())
 }
 
 #[test]
 fn ends_where_the_gate_is_closed(rt: HostRuntime) -> Result<(), Fail> {
-    let job = walks(rt.alloc())?;
-    let (claims, maker) = Claims::new(rt.alloc(), job.len())?;
-    let (_, seat) = claims.split(maker);
-    let (sender, mut taker) = lane(rt.alloc(), 16)?;
     let gate = ClosedTo {
         session: 1,
         item: 3,
     };
-    let worked = work(&rt, rt.alloc(), &claims, seat, sender, &job, &gate);
-    let mut all = worked.sent.ok_or("the taker is there")?;
-    assert_eq!(rt; (worked.end, taker.left(&mut all)), (End::GateClosed, 8));
+    let (end, sent) = played(&rt, rt.alloc(), false, &gate)?;
+    assert_eq!(rt; (end, sent.len()), (End::GateClosed, 8));
     Ok(())
 }

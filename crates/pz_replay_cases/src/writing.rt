@@ -2,11 +2,11 @@
 
 use pz_base::listed::Listed;
 use pz_base::text::Text;
-use pz_replay::fault::{Cause, WriteFault};
-use pz_replay::output::Output;
-use pz_replay::recording::{Record, Recording};
-use pz_replay::writing::write_recording;
+use pz_lines::fault::{Cause, WriteFault};
+use pz_lines::output::Output;
+use pz_lines::writing::write_recording;
 use pz_session::item::{Frame, FrameKind, Item, Verdict};
+use pz_session::recording::{Record, Recording};
 use std::alloc::{AllocError, Global};
 use std::io;
 use std::io::Write;

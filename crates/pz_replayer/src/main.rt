@@ -1,9 +1,9 @@
 //! The program: replays recorded PuzzleScript sessions, over its words and its streams.
 #![tactic(auto)]
 
-use pz_replay::output::Output;
+use pz_console::refusal::{Refusal, refuse};
+use pz_lines::output::Output;
 use pz_serving::command_line::serve_words;
-use pz_serving::refusal::{Refusal, refuse};
 use std::env;
 use std::env::Env;
 use std::io::ErrorKind;

@@ -1,13 +1,14 @@
 -- What a run over the chosen sessions leaves is what a run over the words leaves.
 use Rattle.std.proofs.Common.{◌≡◌, ◌⊎◌, inl, inr, ℕ, Bool, List, Option, Some, IsSome, IsNone, Result, Ok, Err, refl}
 use Rattle.clap.specs.Words.{Text}
-use Rattle.pz_replay.specs.Writing.{Writes}
+use Rattle.pz_lines.specs.Writing.{Writes}
 use Rattle.pz_serving.specs.CommandLine.{Obeys}
-use Rattle.pz_serving.specs.Options.{options_of}
-use Rattle.pz_serving.specs.Serving.{Serves, Reports, IsReported, refusal_line, status_of}
-use Rattle.pz_serving.specs.declared.options.Chosen.{Chosen}
-use Rattle.pz_serving.specs.declared.refusal.Refusal.{Refusal}
-use Rattle.pz_serving.specs.declared.refusal.Refusal.TheVariants.{Memory, BadLine, OpenFault, ReadFault, File, LaneLost, WriteFault}
+use Rattle.pz_console.specs.Options.{options_of}
+use Rattle.pz_serving.specs.Serving.{Serves, Reports, status_of}
+use Rattle.pz_console.specs.Refusing.{IsReported, refusal_line}
+use Rattle.pz_console.specs.declared.options.Chosen.{Chosen}
+use Rattle.pz_console.specs.declared.refusal.Refusal.{Refusal}
+use Rattle.pz_console.specs.declared.refusal.Refusal.TheVariants.{Memory, BadLine, OpenFault, ReadFault, File, LaneLost, WriteFault}
 
 obeyed : (words : List Text) (chosen : Chosen) (input bytes : Option (List ℕ)) (old new : Writes) (end : Result Bool Refusal) → options_of words ≡ Some chosen
     → (IsNone chosen.file → bytes ≡ input) → Serves chosen.options.order bytes old new end → Obeys words input old new end

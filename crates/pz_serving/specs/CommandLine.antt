@@ -1,12 +1,12 @@
 -- From the words of a command line to the lines of a recording and an exit status.
 use Rattle.std.specs.Prelude.{◌≡◌, ℕ, Bool, List, Option, Some, None, IsSome, IsNone, Result, Err}
 use Rattle.clap.specs.Words.{Text}
-use Rattle.pz_replay.specs.Writing.{Writes}
-use Rattle.pz_serving.specs.Options.{options_of}
+use Rattle.pz_lines.specs.Writing.{Writes}
+use Rattle.pz_console.specs.Options.{options_of}
 use Rattle.pz_serving.specs.Serving.{Serves}
-use Rattle.pz_serving.specs.declared.options.Chosen.{Chosen}
-use Rattle.pz_serving.specs.declared.refusal.Refusal.{Refusal}
-use Rattle.pz_serving.specs.declared.refusal.Refusal.TheVariants.{Memory, BadLine, OpenFault}
+use Rattle.pz_console.specs.declared.options.Chosen.{Chosen}
+use Rattle.pz_console.specs.declared.refusal.Refusal.{Refusal}
+use Rattle.pz_console.specs.declared.refusal.Refusal.TheVariants.{Memory, BadLine, OpenFault}
 
 -- the sessions are those of the input where the words name no FILE; of the bytes of a FILE nothing is said
 pub record ServesChosen (words : List Text) (input : Option (List ℕ)) (old new : Writes) (end : Result Bool Refusal) : Type 0 where

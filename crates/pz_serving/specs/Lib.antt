@@ -1,4 +1,2 @@
 pub mod CommandLine
-pub mod Options
-pub mod Reading
 pub mod Serving

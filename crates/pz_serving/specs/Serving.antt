@@ -1,8 +1,7 @@
 -- From the bytes of a file of sessions to the lines of their recording and an exit status.
-use Rattle.std.specs.Prelude.{◌≡◌, ◌≢◌, ◌⊎◌, ℕ, Bool, true, false, List, ◌++◌, length, take, nat_lt, if◌then◌else◌, Option, IfSome, Result, Ok, Err, codes, decimal}
+use Rattle.std.specs.Prelude.{◌≡◌, ◌≢◌, ℕ, Bool, true, false, List, length, nat_lt, if◌then◌else◌, Option, IfSome, Result, Ok, Err}
 use Rattle.std.specs.List.{list_all, list_any}
 use Rattle.std.specs.Str.{is_utf8}
-use Rattle.std.specs.Io.KnownBytes.{Appends}
 use Rattle.pz_record.specs.declared.entry.Entry.{Entry}
 use Rattle.pz_record.specs.declared.fault.FileFault.{FileFault}
 use Rattle.pz_record.specs.declared.fault.FileFault.TheVariants as fault
@@ -13,13 +12,14 @@ use Rattle.pz_session.specs.declared.item.Item.{Item}
 use Rattle.pz_session.specs.declared.item.Item.TheVariants.{Close}
 use Rattle.pz_session.specs.declared.item.Verdict.TheVariants.{Passed}
 use Rattle.pz_job.specs.Job.{job_of}
-use Rattle.pz_replay.specs.declared.fault.WriteFault.{WriteFault}
-use Rattle.pz_replay.specs.declared.recording.Record.{Record}
-use Rattle.pz_replay.specs.Lines.{text_of}
-use Rattle.pz_replay.specs.Recording.{recording}
-use Rattle.pz_replay.specs.Writing.{Writes, EndsFor, HasWritten}
-use Rattle.pz_serving.specs.declared.refusal.Refusal.{Refusal}
-use Rattle.pz_serving.specs.declared.refusal.Refusal.TheVariants as refusal
+use Rattle.pz_lines.specs.declared.fault.WriteFault.{WriteFault}
+use Rattle.pz_session.specs.declared.recording.Record.{Record}
+use Rattle.pz_lines.specs.Lines.{text_of}
+use Rattle.pz_session.specs.Recording.{recording}
+use Rattle.pz_lines.specs.Writing.{Writes, EndsFor, HasWritten}
+use Rattle.pz_console.specs.declared.refusal.Refusal.{Refusal}
+use Rattle.pz_console.specs.declared.refusal.Refusal.TheVariants as refusal
+use Rattle.pz_console.specs.Refusing.{IsReported, refusal_line}
 
 -- the entries that the bytes of a file hold, or its first fault: its length, that it is UTF-8, what it says
 unfoldable pub sessions_in : List ℕ → Result (List Entry) FileFault
@@ -67,31 +67,6 @@ Serves order input old new (Err other) = new ≡ old
 abbrev pub status_of : Result Bool Refusal → ℕ
 status_of (Ok passed) = if passed then 0 else 1
 status_of (Err refusal) = 2
-
-abbrev pub file_line : FileFault → List ℕ
-file_line fault.Memory = codes "memory\n"
-file_line fault.NotJson = codes "not-json\n"
-file_line (fault.BadEntry n) = codes "bad-entry " ++ decimal n ++ codes "\n"
-file_line (fault.BadLevel n) = codes "bad-level " ++ decimal n ++ codes "\n"
-file_line fault.TooMany = codes "too-many\n"
-
--- the line that says why there is none
-abbrev pub refusal_line : Refusal → List ℕ
-refusal_line refusal.Memory = codes "memory\n"
-refusal_line refusal.BadLine = codes "bad command line\n"
-refusal_line refusal.OpenFault = codes "open-fault\n"
-refusal_line refusal.ReadFault = codes "read-fault\n"
-refusal_line (refusal.File cause) = file_line cause
-refusal_line refusal.LaneLost = codes "lane-lost\n"
-refusal_line (refusal.WriteFault cut) = codes "write-fault " ++ decimal cut.written ++ codes "\n"
-
--- a front of a line goes out, and then a write fails
-abbrev pub IsCut : List ℕ → Writes → Writes → Type 0
-IsCut line old new = (new.has_failed ≡ true) × (count : ℕ) × Appends old.contents new.contents (take count line)
-
--- a line goes out whole, or a front of it before a write fails
-abbrev pub IsReported : List ℕ → Writes → Writes → Type 0
-IsReported line old new = HasWritten line old new ⊎ IsCut line old new
 
 -- a refusal has its line, and nothing else has one
 abbrev pub Reports : Writes → Writes → Result Bool Refusal → Type 0

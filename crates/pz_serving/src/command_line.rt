@@ -3,12 +3,12 @@
 ghost use Rattle.std.specs.Prelude.{◌≡◌, ◌⊎◌, Bool, Result, IfErr, map, string_bytes};
 ghost use Rattle.pz_serving.specs.CommandLine.{Obeys};
 ghost use Rattle.pz_serving.specs.Serving.{Reports, status_of};
-ghost use Rattle.pz_serving.specs.declared.refusal.Refusal.{Refusal};
+ghost use Rattle.pz_console.specs.declared.refusal.Refusal.{Refusal};
 
-use crate::options::{Chosen, OptionsFault, read_options};
-use crate::refusal::{Refusal, refuse};
 use crate::serving::serve;
-use pz_replay::output::Output;
+use pz_console::options::{Chosen, OptionsFault, read_options};
+use pz_console::refusal::{Refusal, refuse};
+use pz_lines::output::Output;
 use std::fs;
 use std::fs::Files;
 use std::io::{ErrorKind, Read, Write};

@@ -3,10 +3,4 @@
 #![tactic(auto)]
 
 pub mod command_line;
-mod counted;
-mod input;
-pub mod options;
-pub mod refusal;
 pub mod serving;
-#[cfg(test)]
-mod tests;

@@ -2,25 +2,25 @@
 
 ghost use Rattle.std.specs.Prelude.{◌≡◌, ◌≢◌, ◌≤◌, ◌+◌, ◌⊎◌, ◌↔◌, Bool, true, false, Result, Ok, Err, IfOk, IfErr, length};
 ghost use Rattle.pz_record.specs.declared.fault.FileFault.TheVariants as fault;
-ghost use Rattle.pz_serving.specs.declared.refusal.Refusal.{Refusal};
+ghost use Rattle.pz_console.specs.declared.refusal.Refusal.{Refusal};
 ghost use Rattle.pz_serving.specs.Serving.{Reports, Serves, all_passed, has_passed, sessions_in, shown_of, status_of};
 
-use crate::counted::Counted;
-use crate::input::{InputFault, read_input};
-use crate::options::Options;
-use crate::refusal::{Refusal, refuse};
+use pz_console::counted::Counted;
+use pz_console::input::{InputFault, read_input};
+use pz_console::options::Options;
+use pz_console::refusal::{Refusal, refuse};
 use pz_job::job::prepare;
+use pz_lines::output::Output;
+use pz_lines::writing::write_recording;
 use pz_record::entry::Entry;
 use pz_record::fault::FileFault;
 use pz_record::file::{MOST_BYTES, MOST_ENTRIES, read_sessions};
 use pz_record::order::Order;
 use pz_replay::fault::ReplayFault;
 use pz_replay::gate::Always;
-use pz_replay::output::Output;
-use pz_replay::recording::{Record, Recording};
 use pz_replay::replaying::replay;
-use pz_replay::writing::write_recording;
 use pz_session::item::{Item, Verdict};
+use pz_session::recording::{Record, Recording};
 use std::alloc::Global;
 use std::io::{Read, Write};
 use std::sync::Wait;

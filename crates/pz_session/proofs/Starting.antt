@@ -1,5 +1,5 @@
 -- The items of a session that begins.
-use Rattle.std.proofs.Common.{◌≡◌, ℕ, List, Ok, ap, ap₂, ◌∙◌}
+use Rattle.std.proofs.Common.{◌≡◌, ℕ, List, Result, Ok, Err, IfOk, ap, ap₂, ◌∙◌}
 use Rattle.pz_game.specs.declared.game.GameParts.{GameParts}
 use Rattle.pz_game.specs.declared.instance.Program.{Program}
 use Rattle.pz_record.specs.declared.order.Order.{Order}
@@ -10,7 +10,7 @@ use Rattle.pz_session.specs.Board.{State, board_links, start_link, loaded_at}
 use Rattle.pz_session.specs.Plan.{PlanState}
 use Rattle.pz_session.specs.Case.{state_of, played_items}
 
-pub starts : (plan : PlanState) (state : State) (game : GameParts) (program : Program) (order : Order) (recorded : List (List (List ℕ))) (first : ℕ)
+starts : (plan : PlanState) (state : State) (game : GameParts) (program : Program) (order : Order) (recorded : List (List (List ℕ))) (first : ℕ)
     → state ≡ loaded_at game program order recorded first
     → game ≡ plan.game → program ≡ plan.program → order ≡ plan.order → recorded ≡ plan.recorded → first ≡ plan.first → state ≡ state_of plan
 starts plan state game program order recorded first is e p f g h =
@@ -22,3 +22,9 @@ pub begins : (plan : PlanState) (state : State) (inputs : List Input) (items : L
     → items ≡ left_with board_links 500 0 0 inputs (Ok (start_link state)) → items ≡ played_items plan
 unfolding played_items
 begins plan state inputs items e f g = g ∙ ap₂ (λ i s. left_with board_links 500 0 0 i (Ok (start_link s))) f e
+
+pub starts_if_ok : {E : Type 0} (plan : PlanState) (result : Result State E) (game : GameParts) (program : Program) (order : Order) (recorded : List (List (List ℕ))) (first : ℕ)
+    → IfOk result (λ state. state ≡ loaded_at game program order recorded first)
+    → game ≡ plan.game → program ≡ plan.program → order ≡ plan.order → recorded ≡ plan.recorded → first ≡ plan.first → IfOk result (λ state. state ≡ state_of plan)
+starts_if_ok plan (Ok state) game program order recorded first is e p f g h = starts plan state game program order recorded first is e p f g h
+starts_if_ok plan (Err fault) game program order recorded first is e p f g h = is

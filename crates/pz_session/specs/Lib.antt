@@ -6,5 +6,6 @@ pub mod Turn
 pub mod Board
 pub mod Plan
 pub mod Case
+pub mod Recording
 pub mod Run
 pub mod Laws

@@ -1,5 +1,5 @@
 //! A recorded session, played. A job has a case for each session: what is needed to play it, or why it is refused. The run of a case
-//! gives its items one by one: the frames that the session shows, and its close.
+//! gives its items one by one: the frames that the session shows, and its close. A recording has those of every session.
 #![tactic(auto)]
 
 mod board;
@@ -11,6 +11,7 @@ pub mod job;
 pub mod laws;
 pub mod plan;
 mod player;
+pub mod recording;
 pub mod run;
 mod session;
 mod stage;

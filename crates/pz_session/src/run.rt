@@ -1,7 +1,7 @@
 //! The items of a case, one by one.
 
 ghost use Rattle.std.specs.Prelude.{◌≡◌, ◌++◌, ◌<◌, [], true, false, length, MatchResult, IsErr, IfOk, OnOk};
-ghost use Rattle.pz_session.specs.Case.{items_of, played_items};
+ghost use Rattle.pz_session.specs.Case.{items_of, state_of, played_items};
 
 use crate::board::Board;
 use crate::case::Case;
@@ -29,19 +29,26 @@ impl<'a> Model for Run<'a> {
     ghost view = { λ r. remaining_in r.stage };
 }
 
-/// A session at its start.
-fn play(alloc: Global, plan: &Plan) -> Result<Session<'_, Board<'_>>, AllocError>
-    ensures items { IfOk result (λ session. session.items ≡ played_items plan.now) }
-    ensures healthy { IfOk result (λ session. session.has_failed ≡ false) }
+/// The board of a plan, before its first link.
+fn board_of(alloc: Global, plan: &Plan) -> Result<Board<'_>, AllocError>
+    ensures { IfOk result (λ board. board ≡ state_of plan.now) }
 {
-    let mut board = Board::load(
+    Board::load(
         alloc,
         plan.game(),
         plan.program(),
         plan.order(),
         plan.recorded(),
         plan.first(),
-    )?;
+    )
+}
+
+/// A session at its start.
+fn play(alloc: Global, plan: &Plan) -> Result<Session<'_, Board<'_>>, AllocError>
+    ensures items { IfOk result (λ session. session.items ≡ played_items plan.now) }
+    ensures healthy { IfOk result (λ session. session.has_failed ≡ false) }
+{
+    let mut board = board_of(alloc, plan)?;
     let shown = board.start()?;
     let player = Player::start(board, Tape::new(plan.inputs().items()), shown)?;
     Ok(Session::new(player))
@@ -57,7 +64,7 @@ impl<'a> Run<'a> {
         ensures healthy { IfOk result (λ run. run.has_failed ≡ false) }
     {
         let stage = match &case.plan {
-            Err(refusal) => Stage::Refused(*refusal),
+            Err(refusal) => Stage::Refused(Some(*refusal)),
             Ok(plan) => Stage::Playing(play(alloc, plan)?),
         };
         Ok(Run { stage })
@@ -72,12 +79,10 @@ impl<'a> Run<'a> {
     {
         match &mut self.stage {
             Stage::Playing(session) => session.next(),
-            Stage::Closed => Ok(None),
-            Stage::Refused(refusal) => {
-                let close = Item::Close(Verdict::Refused(*refusal));
-                self.stage = Stage::Closed;
-                Ok(Some(close))
-            }
+            Stage::Refused(refusal) => match refusal.take() {
+                Some(refusal) => Ok(Some(Item::Close(Verdict::Refused(refusal)))),
+                None => Ok(None),
+            },
         }
     }
 }

@@ -7,10 +7,8 @@ use crate::session::Session;
 /// What is still to come in the run of a case.
 #[derive(Drop)]
 pub enum Stage<'a> {
-    /// The close of a session that is refused.
-    Refused(Refusal),
-    /// Nothing: that close was handed out.
-    Closed,
+    /// The close of a session that is refused; None: it was handed out.
+    Refused(Option<Refusal>),
     /// The items of a session in play.
     Playing(Session<'a, Board<'a>>),
 }

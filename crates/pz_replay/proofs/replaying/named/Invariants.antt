@@ -1,5 +1,5 @@
 use Rattle.std.proofs.Common.{◌≡◌, length, map, take}
-use Rattle.pz_replay.specs.Recording.{shown_by}
+use Rattle.pz_session.specs.Recording.{shown_by}
 use Rattle.pz_replay.proofs.replaying.named.Given as goal
 
 abbrev pub invariant-loop-items : goal.invariant-loop-items

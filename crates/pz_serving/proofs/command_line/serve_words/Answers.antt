@@ -1,5 +1,5 @@
 use Rattle.std.proofs.Common.{refl, rules, Err}
-use Rattle.pz_serving.specs.declared.refusal.Refusal.TheVariants.{Memory, BadLine}
+use Rattle.pz_console.specs.declared.refusal.Refusal.TheVariants.{Memory, BadLine}
 use Rattle.pz_serving.proofs.Obeying.{ends_served, ends_unopened}
 use Rattle.pz_serving.proofs.command_line.serve_words.Goals as goal
 

@@ -1,0 +1,61 @@
+-- A list up to an element, the element, and what follows it; and the lines that these make.
+use Rattle.std.proofs.Common.{◌≡◌, ℕ, ◌+◌, ◌<◌, ◌≤◌, suc, List, [], ◌∷◌, ◌++◌, length, take, drop, get_or, flat_map, refl, ap, ◌∙◌, sym, arith}
+use Rattle.std.proofs.lemmas.List.{append_assoc, append-nil, take-append-drop, take_all, at_drop_more, drop-take, take-take, length-take-le}
+use Rattle.std.proofs.lemmas.Grind.{flat_map-append}
+use Rattle.pz_session.specs.declared.recording.Record.{Record}
+use Rattle.pz_session.specs.declared.item.Item.{Item}
+use Rattle.pz_lines.specs.Lines.{frame_count, item_line, lines_of, lines_from}
+
+-- w elements, and k more of what is left
+pub take_more_of : {X : Type 0} (w k : ℕ) (xs : List X) → take (w + k) xs ≡ take w xs ++ take k (drop w xs)
+take_more_of w k xs =
+    let whole : take w (take (w + k) xs) ++ drop w (take (w + k) xs) ≡ take (w + k) xs = take-append-drop w (take (w + k) xs) in
+    sym whole ∙ rw (take-take w (w + k) xs (omega arith), drop-take w k xs) refl
+
+left_at : {X : Type 0} (xs : List X) (i : ℕ) (x : X) → i < length xs → x ≡ get_or xs i x → drop i xs ≡ x ∷ drop (i + 1) xs
+left_at xs i x h is = rw (← is) at (at_drop_more (λ ys. ys) xs i x h)
+
+pub front_more : {X : Type 0} (xs : List X) (i : ℕ) (x : X) → i < length xs → x ≡ get_or xs i x → take (i + 1) xs ≡ take i xs ++ x ∷ []
+front_more xs i x h is = take_more_of i 1 xs ∙ rw (left_at xs i x h is) refl
+
+pub cut_at : {X : Type 0} (xs : List X) (i : ℕ) (x : X) → i < length xs → x ≡ get_or xs i x → xs ≡ take i xs ++ x ∷ drop (i + 1) xs
+cut_at xs i x h is = sym (take-append-drop i xs) ∙ ap (λ ys. take i xs ++ ys) (left_at xs i x h is)
+
+-- the lines of the items up to an item, and its line
+pub items_more : {X : Type 0} (f : X → List ℕ) (xs : List X) (i : ℕ) (x : X) → i < length xs → x ≡ get_or xs i x
+    → flat_map f (take (i + 1) xs) ≡ flat_map f (take i xs) ++ f x
+items_more f xs i x h is = ap (flat_map f) (front_more xs i x h is) ∙ (flat_map-append f (take i xs) (x ∷ []) ∙ ap (λ t. flat_map f (take i xs) ++ t) (append-nil (f x)))
+
+pub items_cut : {X : Type 0} (f : X → List ℕ) (xs : List X) (i : ℕ) (x : X) → i < length xs → x ≡ get_or xs i x
+    → flat_map f xs ≡ flat_map f (take i xs) ++ (f x ++ flat_map f (drop (i + 1) xs))
+items_cut f xs i x h is = ap (flat_map f) (cut_at xs i x h is) ∙ flat_map-append f (take i xs) (x ∷ drop (i + 1) xs)
+
+lines_from-append : (n : ℕ) (xs ys : List Record) → lines_from n (xs ++ ys) ≡ lines_from n xs ++ lines_from (n + length xs) ys
+lines_from-append n [] ys = ap (λ k. lines_from k ys) (omega arith)
+lines_from-append n (x ∷ xs) ys =
+    ap (λ t. lines_of n x ++ t) (lines_from-append (suc n) xs ys) ∙ (sym (append_assoc (lines_of n x) (lines_from (suc n) xs) (lines_from (suc n + length xs) ys))
+    ∙ ap (λ k. lines_of n x ++ lines_from (suc n) xs ++ lines_from k ys) (omega arith))
+
+before_it : (xs : List Record) (i : ℕ) → i < length xs → 0 + length (take i xs) ≡ i
+before_it xs i h = omega (arith, length-take-le i xs (omega arith))
+
+-- the lines of the sessions up to a session, and its lines
+pub sessions_more : (recording xs : List Record) (i : ℕ) (x : Record) → xs ≡ recording → i < length xs → x ≡ get_or xs i x
+    → lines_from 0 (take (i + 1) recording) ≡ lines_from 0 (take i recording) ++ lines_of i x
+sessions_more recording xs i x e h is = rw (← e) (ap (lines_from 0) (front_more xs i x h is) ∙ (lines_from-append 0 (take i xs) (x ∷ [])
+    ∙ rw (before_it xs i h) (ap (λ t. lines_from 0 (take i xs) ++ t) (append-nil (lines_of i x)))))
+
+pub sessions_cut : (recording xs : List Record) (i : ℕ) (x : Record) → xs ≡ recording → i < length xs → x ≡ get_or xs i x
+    → lines_from 0 recording ≡ lines_from 0 (take i recording) ++ (lines_of i x ++ lines_from (suc i) (drop (i + 1) recording))
+sessions_cut recording xs i x e h is = rw (← e) (ap (lines_from 0) (cut_at xs i x h is) ∙ (lines_from-append 0 (take i xs) (x ∷ drop (i + 1) xs)
+    ∙ ap (λ k. lines_from 0 (take i xs) ++ lines_from k (x ∷ drop (i + 1) xs)) (before_it xs i h)))
+
+-- the same of what a session showed, whose items and number of frames were read off
+pub shown_cut : (session : ℕ) (shown : Record) (items : List Item) (frames i : ℕ) (x : Item) → items ≡ shown.items → frames ≡ frame_count items → i < length items → x ≡ get_or items i x
+    → lines_of session shown ≡ flat_map (item_line session shown.name frames) (take i items) ++ (item_line session shown.name frames x ++ flat_map (item_line session shown.name frames) (drop (i + 1) items))
+shown_cut session shown items frames i x e count h is = rw (← e, ← count) (items_cut (item_line session shown.name frames) items i x h is)
+
+-- behind the last item all lines stand
+pub shown_all : (session : ℕ) (shown : Record) (items : List Item) (frames i : ℕ) → items ≡ shown.items → frames ≡ frame_count items → length items ≤ i
+    → lines_of session shown ≡ flat_map (item_line session shown.name frames) (take i items)
+shown_all session shown items frames i e count h = rw (← e, ← count) (ap (flat_map (item_line session shown.name frames)) (sym (take_all i items h)))

@@ -1,0 +1,4 @@
+pub mod Cut
+pub mod Sent
+pub mod Texts
+pub mod WorkedLines

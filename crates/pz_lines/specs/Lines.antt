@@ -1,0 +1,54 @@
+-- The text of a recording: a line for each item, compact JSON with its keys in the order of their bytes.
+use Rattle.std.specs.Prelude.{ℕ, Bool, true, false, suc, List, [], ◌∷◌, ◌++◌, filter, flat_map, length, Option, Some, None, codes, decimal}
+use Rattle.json.specs.Print.{quoted}
+use Rattle.pz_session.specs.declared.item.Frame.{Frame}
+use Rattle.pz_session.specs.declared.item.Item.{Item}
+use Rattle.pz_session.specs.declared.item.Item.TheVariants as item
+use Rattle.pz_session.specs.declared.item.Verdict.{Verdict}
+use Rattle.pz_session.specs.declared.recording.Record.{Record}
+use Rattle.pz_lines.specs.Naming.{kind_name, close_name, cause_name}
+
+abbrev pub frame_parts : ℕ → ℕ → ℕ → List ℕ → List ℕ → List ℕ
+frame_parts session number at kind level =
+    codes "{\"at\":" ++ decimal at ++ codes ",\"frame\":" ++ decimal number ++ codes ",\"kind\":" ++ quoted kind
+    ++ codes ",\"level\":" ++ quoted level ++ codes ",\"session\":" ++ decimal session ++ codes "}\n"
+
+-- a frame: how many inputs were taken when it was shown, its number, why it was shown, the level
+unfoldable pub frame_line : ℕ → ℕ → ℕ → Frame → List ℕ
+frame_line session number at frame = frame_parts session number at (kind_name frame.kind) frame.level_text
+
+abbrev pub with_cause : Option (List ℕ) → List ℕ
+with_cause None = []
+with_cause (Some cause) = codes "\"cause\":" ++ quoted cause ++ codes ","
+
+unfoldable pub verdict_line : ℕ → List ℕ → ℕ → Option (List ℕ) → List ℕ → List ℕ
+verdict_line session name frames cause close =
+    codes "{" ++ with_cause cause ++ codes "\"close\":" ++ quoted close ++ codes ",\"frames\":" ++ decimal frames
+    ++ codes ",\"name\":" ++ quoted name ++ codes ",\"session\":" ++ decimal session ++ codes "}\n"
+
+-- a close: its cause where it has one, how many frames were shown, the session's name
+unfoldable pub close_line : ℕ → List ℕ → ℕ → Verdict → List ℕ
+close_line session name frames verdict = verdict_line session name frames (cause_name verdict) (close_name verdict)
+
+abbrev pub is_frame : Item → Bool
+is_frame (item.Frame number at frame) = true
+is_frame (item.Close verdict) = false
+
+abbrev pub frame_count : List Item → ℕ
+frame_count items = length (filter is_frame items)
+
+abbrev pub item_line : ℕ → List ℕ → ℕ → Item → List ℕ
+item_line session name frames (item.Frame number at frame) = frame_line session number at frame
+item_line session name frames (item.Close verdict) = close_line session name frames verdict
+
+-- the lines of what a session showed
+abbrev pub lines_of : ℕ → Record → List ℕ
+lines_of session shown = flat_map (item_line session shown.name (frame_count shown.items)) shown.items
+
+-- the lines of the sessions, which are numbered from this number on
+abbrev pub lines_from : ℕ → List Record → List ℕ
+lines_from session [] = []
+lines_from session (shown ∷ later) = lines_of session shown ++ lines_from (suc session) later
+
+unfoldable pub text_of : List Record → List ℕ
+text_of recording = lines_from 0 recording

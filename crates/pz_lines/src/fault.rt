@@ -1,0 +1,22 @@
+//! Why a recording was not written whole.
+
+use thiserror::Error;
+
+/// What ended the writing.
+#[derive(Clone, Copy, Debug, PartialEq, Eq)]
+pub enum Cause {
+    /// There was no memory for a line.
+    Memory,
+    /// A write answered an error.
+    Device,
+    /// A write took nothing.
+    Zero,
+}
+
+/// The end of a writing that is not whole: how many bytes of the text went out, and why no more did.
+#[derive(Clone, Copy, Debug, PartialEq, Eq, Error)]
+#[error("writing ended after {written} bytes")]
+pub struct WriteFault {
+    pub written: u64,
+    pub cause: Cause,
+}

@@ -1,0 +1,8 @@
+//! The text of a recording, one line for each item, in the order of the sessions; and its writing.
+#![tactic(auto)]
+
+pub mod fault;
+mod line;
+mod naming;
+pub mod output;
+pub mod writing;

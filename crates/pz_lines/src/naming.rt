@@ -1,0 +1,103 @@
+//! What the lines of a recording call the kinds of frames, the closes and their causes.
+
+ghost use Rattle.std.specs.Prelude.{◌≡◌, ◌++◌, IfOk, codes, decimal, option_map, string_bytes};
+ghost use Rattle.pz_lines.specs.Naming.{kind_name, code_name, stop_name, refusal_name, close_name, cause_name};
+
+use pz_base::fault::Code;
+use pz_session::item::{FrameKind, Refusal, Stop, Verdict};
+use std::alloc::{AllocError, Global};
+
+#[tactic(auto, unfolding(crate::specs::Naming::kind_name))]
+pub(crate) fn kind_name(kind: FrameKind) -> &'static str
+    ensures { result.now ≡ kind_name kind }
+{
+    match kind {
+        FrameKind::Start => "start",
+        FrameKind::Move => "move",
+        FrameKind::Tick => "tick",
+        FrameKind::Undo => "undo",
+        FrameKind::Restart => "restart",
+        FrameKind::Load => "load",
+        FrameKind::Over => "over",
+    }
+}
+
+#[tactic(auto, unfolding(crate::specs::Naming::code_name))]
+fn code_name(code: Code) -> &'static str
+    ensures { result.now ≡ code_name code }
+{
+    match code {
+        Code::Memory => "Memory",
+        Code::TooLong => "TooLong",
+        Code::OutsideProfile => "OutsideProfile",
+        Code::Section => "Section",
+        Code::BadObject => "BadObject",
+        Code::BadLegend => "BadLegend",
+        Code::Duplicate => "Duplicate",
+        Code::Unknown => "Unknown",
+        Code::Mixed => "Mixed",
+        Code::NoLayer => "NoLayer",
+        Code::Missing => "Missing",
+        Code::BadRule => "BadRule",
+        Code::Shape => "Shape",
+        Code::AmbiguousRight => "AmbiguousRight",
+        Code::RightClash => "RightClash",
+        Code::TooManyRules => "TooManyRules",
+        Code::BadWin => "BadWin",
+        Code::BadGlyph => "BadGlyph",
+        Code::NoLevel => "NoLevel",
+        Code::TooLarge => "TooLarge",
+        Code::LateMovement => "LateMovement",
+    }
+}
+
+#[tactic(auto, unfolding(crate::specs::Naming::stop_name))]
+fn stop_name(stop: Stop) -> &'static str
+    ensures { result.now ≡ stop_name stop }
+{
+    match stop {
+        Stop::LoopLimit => "loop-limit",
+        Stop::AgainLimit => "again-limit",
+        Stop::MatchLimit => "match-limit",
+    }
+}
+
+fn located(alloc: Global, name: &str, line: u32) -> Result<String, AllocError>
+    ensures { IfOk result (λ text. string_bytes text ≡ name.now ++ codes ":" ++ decimal line) }
+{
+    format!(in alloc; "{name}:{line}")
+}
+
+#[tactic(auto, unfolding(crate::specs::Naming::refusal_name))]
+fn refusal_name(alloc: Global, refusal: Refusal) -> Result<String, AllocError>
+    ensures { IfOk result (λ text. string_bytes text ≡ refusal_name refusal) }
+{
+    match refusal {
+        Refusal::Source(fault) => located(alloc, code_name(fault.code), fault.line),
+        Refusal::NoLevel => String::from_str(alloc, "no-level"),
+    }
+}
+
+#[tactic(auto, unfolding(crate::specs::Naming::close_name))]
+pub(crate) fn close_name(verdict: Verdict) -> &'static str
+    ensures { result.now ≡ close_name verdict }
+{
+    match verdict {
+        Verdict::Passed => "passed",
+        Verdict::Differs => "differs",
+        Verdict::Stopped(_) => "stopped",
+        Verdict::Refused(_) => "refused",
+    }
+}
+
+/// The cause of a stop or a refusal; a session that was played to its end has none.
+#[tactic(auto, unfolding(crate::specs::Naming::cause_name))]
+pub(crate) fn cause_name(alloc: Global, verdict: Verdict) -> Result<Option<String>, AllocError>
+    ensures { IfOk result (λ cause. option_map string_bytes cause ≡ cause_name verdict) }
+{
+    match verdict {
+        Verdict::Passed | Verdict::Differs => Ok(None),
+        Verdict::Stopped(stop) => Ok(Some(String::from_str(alloc, stop_name(stop))?)),
+        Verdict::Refused(refusal) => Ok(Some(refusal_name(alloc, refusal)?)),
+    }
+}

@@ -1,0 +1,100 @@
+//! The writing of a recording.
+
+ghost use Rattle.std.specs.Prelude.{◌≡◌, ◌++◌, ℕ, List, OnOk, IfOk, IfErr};
+ghost use Rattle.pz_lines.specs.Lines.{lines_of, text_of};
+ghost use Rattle.pz_lines.specs.Writing.{EndsFor, HasWritten, IsSent, IsSentInPart};
+
+use crate::fault::{Cause, WriteFault};
+use crate::line::{frame_count, write_item};
+use crate::output::Output;
+use pz_session::recording::{Record, Recording};
+use std::alloc::Global;
+use std::io::Write;
+
+/// Lines of so many bytes go out together.
+const PIECE: usize = 65_536;
+
+/// Writes lines and counts their bytes, those written before them included.
+/// A count that no u64 holds ends the writing as a device's fault: no recording is so long.
+fn write_lines<W: Write>(
+    lines: &[u8],
+    written: &mut u64,
+    output: &mut Output<W>,
+) -> Result<(), Cause>
+    ensures ok { OnOk result (IsSent lines.now written.old written.new output.old output.new) }
+    ensures err { IfErr result (IsSentInPart lines.now written.old written.new output.old output.new) }
+{
+    let Some(all) = written.checked_add(lines.len() as u64) else {
+        return Err(Cause::Device);
+    };
+    match output.write_whole(lines) {
+        Ok(()) => {
+            *written = all;
+            Ok(())
+        }
+        Err(fault) => {
+            *written += fault.written;
+            Err(fault.cause)
+        }
+    }
+}
+
+/// Writes lines where they are many enough to go out together, and answers those that are left.
+fn write_full<W: Write>(
+    lines: Vec<u8>,
+    written: &mut u64,
+    output: &mut Output<W>,
+) -> Result<Vec<u8>, Cause>
+    ensures ok { IfOk result (λ left. (sent : List ℕ) × (lines.items ≡ sent ++ left.items) × IsSent sent written.old written.new output.old output.new) }
+    ensures err { IfErr result (IsSentInPart lines.items written.old written.new output.old output.new) }
+{
+    let mut lines = lines;
+    if lines.len() >= PIECE {
+        write_lines(lines.as_slice(), written, output)?;
+        lines.clear();
+    }
+    Ok(lines)
+}
+
+/// Writes the lines of what a session showed.
+fn write_session<W: Write>(
+    alloc: Global,
+    session: u64,
+    shown: &Record,
+    written: &mut u64,
+    output: &mut Output<W>,
+) -> Result<(), Cause>
+    ensures ok { OnOk result (IsSent (lines_of session shown.now) written.old written.new output.old output.new) }
+    ensures err { IfErr result (IsSentInPart (lines_of session shown.now) written.old written.new output.old output.new) }
+{
+    let items = shown.items.items();
+    let frames = frame_count(items);
+    let mut lines = Vec::new(alloc);
+    for item in items {
+        let name = shown.name.as_str();
+        let Ok(more) = write_item(alloc, lines, session, name, frames, item) else {
+            return Err(Cause::Memory);
+        };
+        lines = write_full(more, written, output)?;
+    }
+    write_lines(&lines, written, output)
+}
+
+/// Writes the text of a recording: all of it, or its first bytes, as many as the fault tells.
+#[tactic(auto, unfolding(crate::specs::Lines::text_of))]
+pub fn write_recording<W: Write>(
+    alloc: Global,
+    recording: &Recording,
+    output: &mut Output<W>,
+) -> Result<(), WriteFault>
+    ensures ok { OnOk result (HasWritten (text_of recording.now) output.old output.new) }
+    ensures err { IfErr result (λ fault. EndsFor fault (text_of recording.now) output.old output.new) }
+{
+    let mut written = 0;
+    for (session, shown) in recording.records().iter().enumerate() {
+        if let Err(cause) = write_session(alloc, session as u64, shown, &mut written, output) {
+            return Err(WriteFault { written, cause });
+        }
+    }
+    Ok(())
+}
