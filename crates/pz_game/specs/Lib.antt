@@ -3,8 +3,11 @@ pub mod Denotation
 pub mod Direction
 pub mod Drawing
 pub mod Game
+pub mod Headings
 pub mod Instance
+pub mod Items
 pub mod Level
+pub mod Masks
 pub mod Pattern
 pub mod Size
 pub mod Word

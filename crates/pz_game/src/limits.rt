@@ -1,10 +1,10 @@
 //! The limits of a game.
 
 /// The most objects that a source may have.
-pub const MAX_OBJECTS: usize = 128;
+pub const MAX_OBJECTS: usize = 512;
 
 /// The most layers that a source may have.
-pub const MAX_LAYERS: usize = 25;
+pub const MAX_LAYERS: usize = 100;
 
 /// The most columns and rows that a level may have.
 pub const MAX_SIDE: usize = 255;

@@ -1,9 +1,11 @@
 //! The rows of rules: cells with items.
 
-ghost use Rattle.std.specs.Prelude.{◌≡◌};
+ghost use Rattle.std.specs.Prelude.{◌≡◌, All};
+ghost use Rattle.pz_game.specs.Masks.{IsLow, AreMasksOf};
 ghost use Rattle.pz_game.specs.Pattern.{IsRow};
 
 use crate::direction::Dir;
+use crate::masks::Masks;
 use pz_base::listed::Listed;
 use std::marker::Model;
 
@@ -24,26 +26,38 @@ pub struct Item {
     pub word: Word,
 }
 
-/// A cell of a rule's row: it holds where all its items hold.
+/// A cell of a rule's row, with its items as sets: it holds where all its items hold.
 #[derive(Drop, Debug)]
 pub struct Pattern {
     items: Vec<Item>,
+    masks: Masks,
 }
 
 impl Model for Pattern {
-    ghost use Rattle.std.specs.Prelude.{List};
+    ghost use Rattle.std.specs.Prelude.{List, All};
     ghost use Rattle.pz_game.specs.declared.pattern.Item.{Item};
+    ghost use Rattle.pz_game.specs.Masks.{IsLow, AreMasksOf};
 
     ghost Value = { List Item };
 
     ghost view = { λ p. p.items.items };
+
+    ghost invariant = { λ p. All IsLow p.items.items → AreMasksOf p.items.items p.masks };
 }
 
 impl Pattern {
     pub fn new(items: Vec<Item>) -> Pattern
         ensures { result ≡ items.items }
     {
-        Pattern { items }
+        let masks = Masks::of(&items);
+        Pattern { items, masks }
+    }
+
+    /// What the items say, as sets, where their objects and layers are within the limits of games.
+    pub fn masks(&self) -> &Masks
+        ensures { All IsLow self.now → AreMasksOf self.now result.now }
+    {
+        &self.masks
     }
 
     pub fn items(&self) -> &[Item]

@@ -1,7 +1,7 @@
 //! The texts of sources, the games that they are, and their levels.
 
 ghost use Rattle.std.specs.Prelude.{◌≡◌, IfOk};
-ghost use Rattle.pz_grid.specs.Grid.{IsOfGame};
+ghost use Rattle.pz_sheet.specs.Grid.{IsOfGame};
 
 use pz_base::fault::SourceFault;
 use pz_game::game::Game;

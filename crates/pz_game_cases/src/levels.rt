@@ -1,7 +1,7 @@
 //! A level, loaded, pushed and moved. No test owns a game or a level, and no function both: such a one is dear to prove.
 
 ghost use Rattle.std.specs.Prelude.{◌≡◌, IfOk};
-ghost use Rattle.pz_grid.specs.Grid.{IsOfGame};
+ghost use Rattle.pz_sheet.specs.Grid.{IsOfGame};
 
 use crate::game::{game_of, joined, loaded};
 use pz_game::direction::Dir;

@@ -1,5 +1,9 @@
 //! The lines in which a row of a rule is searched for, and the start cells that are tested. No test owns a game or a level, and no function both.
 
+ghost use Rattle.std.specs.Prelude.{◌≡◌, true, IfOk, OnOk};
+ghost use Rattle.pz_game.specs.Pattern.{IsOf, AreOf, IsRowOf};
+ghost use Rattle.pz_sheet.specs.Grid.{IsOfGame};
+
 use crate::game::{game_of, joined, loaded};
 use pz_game::direction::Dir;
 use pz_game::game::Game;
@@ -104,7 +108,49 @@ fn row_with_gap(alloc: Global, first: &[Item], second: &[Item]) -> Result<Row, A
     Ok(Row::new(cells, Some(1)))
 }
 
-fn search_level(alloc: Global, level: &Level, row: &Row, dir: Dir) -> Result<Search, Fail> {
+/// Whether an item is of an object of the game, whose objects have these layers.
+fn is_item_of(layers: &[usize], item: Item) -> bool
+    ensures { result ≡ true → IsOf layers.now item }
+{
+    item.object < layers.len() && layers[item.object] == item.layer
+}
+
+fn is_cell_of(layers: &[usize], cell: &Pattern) -> bool
+    ensures { result ≡ true → AreOf layers.now cell.now }
+{
+    for item in cell.items() {
+        if !is_item_of(layers, *item) {
+            return false;
+        }
+    }
+    true
+}
+
+fn is_row_of(layers: &[usize], row: &Row) -> bool
+    ensures { result ≡ true → IsRowOf layers.now row.now }
+{
+    for cell in row.cells() {
+        if !is_cell_of(layers, cell) {
+            return false;
+        }
+    }
+    true
+}
+
+/// Fails for a row that is of another game.
+fn test_row(game: &Game, row: &Row) -> Result<(), Fail>
+    ensures { OnOk result (IsRowOf game.now.layers row.now) }
+{
+    if is_row_of(game.layers(), row) {
+        Ok(())
+    } else {
+        Err(Fail::new("a row of another game"))
+    }
+}
+
+fn search_level(alloc: Global, level: &Level, row: &Row, dir: Dir) -> Result<Search, Fail>
+    requires of_game { IsRowOf level.now.grid.layers row.now }
+{
     match places_counted(alloc, level, row, dir) {
         Ok((found, tested)) => Ok(Search {
             admitted: admitted(level, row, dir),
@@ -116,7 +162,9 @@ fn search_level(alloc: Global, level: &Level, row: &Row, dir: Dir) -> Result<Sea
 }
 
 /// The first level of a game after the player was pushed down and moved.
-fn moved_down(alloc: Global, game: &Game) -> Result<Level, Fail> {
+fn moved_down(alloc: Global, game: &Game) -> Result<Level, Fail>
+    ensures { IfOk result (λ level. IsOfGame game.now level.grid) }
+{
     let mut level = loaded(alloc, game)?;
     push_players(game, &mut level, Dir::Down);
     resolve(game, &mut level);
@@ -124,11 +172,13 @@ fn moved_down(alloc: Global, game: &Game) -> Result<Level, Fail> {
 }
 
 fn search_in(alloc: Global, game: &Game, row: &Row, dir: Dir) -> Result<Search, Fail> {
+    test_row(game, row)?;
     let level = loaded(alloc, game)?;
     search_level(alloc, &level, row, dir)
 }
 
 fn search_moved(alloc: Global, game: &Game, row: &Row, dir: Dir) -> Result<Search, Fail> {
+    test_row(game, row)?;
     let level = moved_down(alloc, game)?;
     search_level(alloc, &level, row, dir)
 }

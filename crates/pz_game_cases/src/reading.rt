@@ -279,7 +279,7 @@ fn objects(alloc: Global, count: usize) -> Result<String, AllocError> {
 
 #[test]
 fn keeps_the_limit_of_objects(rt: HostRuntime) -> Result<(), Fail> {
-    for (count, fault) in [(128, None), (129, at(Code::TooLarge, 258))] {
+    for (count, fault) in [(512, None), (513, at(Code::TooLarge, 1026))] {
         let text = objects(rt.alloc(), count)?;
         expect(rt.alloc(), "objects", text.as_str(), fault)?;
     }
@@ -288,7 +288,7 @@ fn keeps_the_limit_of_objects(rt: HostRuntime) -> Result<(), Fail> {
 
 #[test]
 fn keeps_the_limit_of_layers(rt: HostRuntime) -> Result<(), Fail> {
-    for (further, fault) in [(21, None), (22, at(Code::TooLarge, 46))] {
+    for (further, fault) in [(96, None), (97, at(Code::TooLarge, 121))] {
         let mut line = String::from_str(rt.alloc(), "Mark")?;
         for _layer in 0..further {
             line.push_str("\nMark")?;

@@ -2,9 +2,9 @@
 use Rattle.std.proofs.Common.{◌≡◌, ◌≢◌, ℕ, suc, zero, ◌<◌, ◌≤◌, List, [], ◌∷◌, Option, Some, None, length, get_or, cond, arith, ap, sym, ◌∙◌, refl, subst}
 use Rattle.std.specs.Prelude.{IfSome}
 use Rattle.std.proofs.lemmas.Bool.{eq-eqb, ne_eqb}
-use Rattle.pz_grid.specs.declared.cell.Piece.{Piece}
-use Rattle.pz_grid.specs.Standing.{standing}
-use Rattle.pz_grid.specs.Cell.{IsOnLayer}
+use Rattle.pz_cells.specs.declared.piece.Piece.{Piece}
+use Rattle.pz_cells.specs.Standing.{standing}
+use Rattle.pz_cells.specs.Cell.{IsOnLayer}
 
 -- each object of a cell stands on its layer
 abbrev pub OnItsLayer : List ℕ → List (Option Piece) → Type 0

@@ -5,11 +5,12 @@ use Rattle.std.proofs.lemmas.Bool.{cases_lt, cases_eq}
 use Rattle.std.proofs.lemmas.List.{length-map, length-set, get_or-map, get_or_past, get_or-set_same, get_or-set_other, set_past}
 use Rattle.std.proofs.lemmas.List.Elements.{All-get_or, All-from_get_or, All-set}
 use Rattle.pz_game.specs.declared.direction.Dir.{Dir}
-use Rattle.pz_grid.specs.declared.cell.Piece.{Piece}
-use Rattle.pz_grid.specs.Cell.{IsCell, IsOnLayer, still_piece, still_place}
-use Rattle.pz_grid.specs.Grid.{Grid, IsLawful, cell_at, place_at, with_place}
-use Rattle.pz_grid.specs.Movement.{Pass, Spot, heading_goal, in_pass, moved_to, move_place, move_at, spots, pass_of, moving, settle, stilled, resolved}
-use Rattle.pz_grid.specs.Pushing.{pushed_place, pushed, is_one_of}
+use Rattle.pz_cells.specs.declared.piece.Piece.{Piece}
+use Rattle.pz_cells.specs.Cell.{IsCell, IsOnLayer, still_piece, still_place}
+use Rattle.pz_sheet.specs.Grid.{Grid, IsLawful, cell_at, place_at, with_place}
+use Rattle.pz_grid.specs.Movement.{Pass, Spot, heading_goal, in_pass, moved_to, move_place, move_at, spots, pass_of, moving, settle, resolved}
+use Rattle.pz_sheet.specs.Movement.{stilled}
+use Rattle.pz_sheet.specs.Pushing.{pushed_place, pushed, is_one_of}
 
 -- a change of a cell leaves it a cell of the game
 abbrev pub KeepsCell : ℕ → List ℕ → (List (Option Piece) → List (Option Piece)) → Type 0

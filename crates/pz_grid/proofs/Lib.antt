@@ -4,6 +4,7 @@ pub mod SameLemmas
 pub mod GatherLemmas
 pub mod MovementLemmas
 pub mod SizeLemmas
+pub mod StillLemmas
 pub mod SettleLemmas
 pub mod StayLemmas
 pub mod MarkLemmas

@@ -14,10 +14,11 @@ use Rattle.pz_game.specs.Drawing.{Drawing, IsDrawing}
 use Rattle.pz_game.specs.Game.{IsGame, glyph_objects}
 use Rattle.pz_game.specs.declared.game.GameParts.{GameParts}
 use Rattle.pz_game.specs.Denotation.{IsDenoted}
-use Rattle.pz_grid.specs.declared.cell.Piece.{Piece}
-use Rattle.pz_grid.specs.Cell.{IsCell, IsOnLayer, still_piece, empty_cell}
-use Rattle.pz_grid.specs.Grid.{Grid, IsLawful}
-use Rattle.pz_grid.specs.Loading.{first_of, with_object, glyph_cell, drawn, filled_cell, filled, entry_at}
+use Rattle.pz_cells.specs.declared.piece.Piece.{Piece}
+use Rattle.pz_cells.specs.Cell.{IsCell, IsOnLayer, still_piece, empty_cell}
+use Rattle.pz_sheet.specs.Grid.{Grid, IsLawful}
+use Rattle.pz_grid.specs.Loading.{first_of, entry_at}
+use Rattle.pz_sheet.specs.Loading.{with_object, glyph_cell, drawn, filled_cell, filled}
 use Rattle.pz_grid.proofs.LawfulLemmas.{lawful-map, is_cell-set}
 
 first_split : {X : Type 0} (f : ℕ → Option X) (a n : ℕ) (r : Option X) → first_of (map f (range_with_len a n)) ≡ None → (more : List ℕ) → first_of (map f (range_with_len a n ++ more)) ≡ first_of (map f more)

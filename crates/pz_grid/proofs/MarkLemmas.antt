@@ -9,14 +9,16 @@ use Rattle.std.proofs.lemmas.List.Folds.{list_any-append}
 use Rattle.pz_sets.specs.Sets.{member}
 use Rattle.pz_game.specs.declared.direction.Dir.{Dir}
 use Rattle.pz_game.specs.declared.pattern.Item.{Item}
-use Rattle.pz_grid.specs.declared.cell.Piece.{Piece}
-use Rattle.pz_grid.specs.Cell.{still_place}
-use Rattle.pz_grid.specs.Standing.{standing}
-use Rattle.pz_grid.specs.Presence.{is_in}
-use Rattle.pz_grid.specs.Grid.{Grid, LevelState, cell_at, with_place}
-use Rattle.pz_grid.specs.Movement.{stilled}
-use Rattle.pz_grid.specs.Pushing.{pushed_place, pushed, is_one_of}
-use Rattle.pz_grid.specs.Rewriting.{names, names_object, forbids_object, placed_on, is_on, tells_of, kept, replaced, rewritten_place, rewritten_cell, with_rewritten}
+use Rattle.pz_cells.specs.declared.piece.Piece.{Piece}
+use Rattle.pz_cells.specs.Cell.{still_place}
+use Rattle.pz_cells.specs.Standing.{standing}
+use Rattle.pz_sheet.specs.Presence.{is_in}
+use Rattle.pz_sheet.specs.Grid.{Grid, LevelState, cell_at, with_place}
+use Rattle.pz_sheet.specs.Movement.{stilled}
+use Rattle.pz_sheet.specs.Pushing.{pushed_place, pushed, is_one_of}
+use Rattle.pz_game.specs.Items.{names, names_object, forbids_object, placed_on, is_on, tells_of}
+use Rattle.pz_cells.specs.Rewriting.{kept, replaced, rewritten_place, rewritten_cell}
+use Rattle.pz_sheet.specs.Rewriting.{with_rewritten}
 use Rattle.pz_grid.specs.Marks.{in_row, in_column, is_marked, IsMarked, IsMarkedAt}
 use Rattle.pz_grid.proofs.GatherLemmas.{range_more}
 

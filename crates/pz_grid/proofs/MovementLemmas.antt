@@ -6,8 +6,8 @@ use Rattle.std.proofs.lemmas.List.FromFn.{map-range_with_len_more}
 use Rattle.std.proofs.lemmas.List.Sums.{fold-append}
 use Rattle.std.proofs.lemmas.List.{length-append, length-map, length-take, length-drop, get_or_default}
 use Rattle.std.proofs.lemmas.List.Edits.{map_over_more}
-use Rattle.pz_grid.specs.declared.cell.Piece.{Piece}
-use Rattle.pz_grid.specs.Grid.{Grid, SameSize, place_at}
+use Rattle.pz_cells.specs.declared.piece.Piece.{Piece}
+use Rattle.pz_sheet.specs.Grid.{Grid, SameSize, place_at}
 use Rattle.pz_grid.specs.Movement.{Pass, Spot, move_at, move_place, moved_to, heading_goal}
 use Rattle.pz_grid.proofs.GatherLemmas.{gather, gather_more}
 

@@ -9,11 +9,13 @@ use Rattle.std.proofs.lemmas.List.Edits.{fill_by_more}
 use Rattle.std.proofs.lemmas.List.Elements.{All-set, All-get_or}
 use Rattle.pz_game.specs.declared.pattern.Item.{Item}
 use Rattle.pz_game.specs.Pattern.{AreOf}
-use Rattle.pz_grid.specs.declared.cell.Piece.{Piece}
-use Rattle.pz_grid.specs.Cell.{IsCell, IsOnLayer}
-use Rattle.pz_grid.specs.Grid.{Grid, IsLawful, cell_at}
-use Rattle.pz_grid.specs.Rewriting.{names, places_on, placed_on, tells_of, kept, replaced, rewritten_place, rewritten_cell, with_rewritten, names_object, forbids_object}
-use Rattle.pz_grid.specs.Sameness.{same_place, same_cell}
+use Rattle.pz_cells.specs.declared.piece.Piece.{Piece}
+use Rattle.pz_cells.specs.Cell.{IsCell, IsOnLayer}
+use Rattle.pz_sheet.specs.Grid.{Grid, IsLawful, cell_at}
+use Rattle.pz_game.specs.Items.{names, places_on, placed_on, tells_of, names_object, forbids_object}
+use Rattle.pz_cells.specs.Rewriting.{kept, replaced, rewritten_place, rewritten_cell}
+use Rattle.pz_sheet.specs.Rewriting.{with_rewritten}
+use Rattle.pz_cells.specs.Sameness.{same_place, same_cell}
 use Rattle.pz_grid.proofs.SameLemmas.{same_cell_self}
 
 both_true : (a b : Bool) → (a && b) ≡ true → b ≡ true
@@ -64,7 +66,7 @@ lawful-with_rewritten grid x y left right are within h = record {
 }
 
 -- objects of a game are few
-pub low_from_of : (layers : List ℕ) (right : List Item) → AreOf layers right → length layers ≤ 128 → All (λ item. item.object < 65536) right
+pub low_from_of : (layers : List ℕ) (right : List Item) → AreOf layers right → length layers ≤ 512 → All (λ item. item.object < 65536) right
 low_from_of layers right are few = λ k d q. let of = are k d q in omega (arith, of.object, few)
 
 pub placed_low : (layer : ℕ) (right : List Item) (item : Item) → All (λ i. i.object < 65536) right → placed_on layer right ≡ Some item → item.object < 65536

@@ -9,11 +9,11 @@ use Rattle.pz_game.specs.declared.level.LevelEntry.TheVariants.{Message, Level}
 use Rattle.pz_game.specs.Game.{players_of}
 use Rattle.pz_game.specs.declared.game.GameParts.{GameParts}
 use Rattle.pz_game.specs.Drawing.{Drawing}
-use Rattle.pz_grid.specs.declared.cell.Piece.{Piece}
-use Rattle.pz_grid.specs.Grid.{Grid}
-use Rattle.pz_grid.specs.Standing.{stands, heading_at}
-use Rattle.pz_grid.specs.Sameness.{same_grid}
-use Rattle.pz_grid.specs.Pushing.{pushed}
+use Rattle.pz_cells.specs.declared.piece.Piece.{Piece}
+use Rattle.pz_sheet.specs.Grid.{Grid}
+use Rattle.pz_sheet.specs.Standing.{stands, heading_at}
+use Rattle.pz_sheet.specs.Sameness.{same_grid}
+use Rattle.pz_sheet.specs.Pushing.{pushed}
 use Rattle.pz_grid.specs.Movement.{resolved}
 use Rattle.pz_grid.specs.Loading.{loaded}
 

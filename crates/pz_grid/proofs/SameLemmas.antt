@@ -1,13 +1,14 @@
 -- The test of two cells decides whether they are the same.
 use Rattle.std.proofs.Common.{◌≡◌, ℕ, List, [], ◌∷◌, Option, Some, None, true, ap, sym, ◌∙◌, refl}
 use Rattle.std.specs.Prelude.{nat_eq, IsTrue, ◌↔◌}
-use Rattle.pz_grid.specs.Grid.{Grid}
+use Rattle.pz_sheet.specs.Grid.{Grid}
 use Rattle.std.proofs.lemmas.Bool.{and_parts, and_from, eqb-true, eq-eqb}
 use Rattle.pz_game.specs.declared.direction.Dir.{Dir}
 use Rattle.pz_game.specs.declared.direction.Dir.TheVariants.{Up, Down, Left, Right, Action}
-use Rattle.pz_grid.specs.declared.cell.Piece.{Piece}
+use Rattle.pz_cells.specs.declared.piece.Piece.{Piece}
 use Rattle.pz_game.specs.Direction.{same_dir}
-use Rattle.pz_grid.specs.Sameness.{same_heading, same_place, same_cell, same_cells, same_layers, same_size, same_grid}
+use Rattle.pz_cells.specs.Sameness.{same_heading, same_place, same_cell}
+use Rattle.pz_sheet.specs.Sameness.{same_cells, same_layers, same_size, same_grid}
 
 same_dir_is : (a b : Dir) → same_dir a b ≡ true → a ≡ b
 same_dir_is Up Up h = refl

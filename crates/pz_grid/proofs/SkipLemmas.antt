@@ -12,13 +12,13 @@ use Rattle.pz_game.specs.declared.pattern.Word.{Word}
 use Rattle.pz_game.specs.declared.pattern.Word.TheVariants.{Present, Still, Toward, Absent}
 use Rattle.pz_game.specs.declared.pattern.Item.{Item}
 use Rattle.pz_game.specs.Pattern.{RuleRow}
-use Rattle.pz_grid.specs.declared.cell.Piece.{Piece}
+use Rattle.pz_cells.specs.declared.piece.Piece.{Piece}
 use Rattle.pz_grid.specs.declared.places.Place.{Place}
-use Rattle.pz_grid.specs.Standing.{standing}
-use Rattle.pz_grid.specs.Presence.{is_in}
-use Rattle.pz_grid.specs.Grid.{Grid, LevelState, cell_at}
-use Rattle.pz_grid.specs.Rewriting.{names}
-use Rattle.pz_grid.specs.Pattern.{word_holds, item_holds, pattern_holds}
+use Rattle.pz_cells.specs.Standing.{standing}
+use Rattle.pz_sheet.specs.Presence.{is_in}
+use Rattle.pz_sheet.specs.Grid.{Grid, LevelState, cell_at}
+use Rattle.pz_game.specs.Items.{names}
+use Rattle.pz_cells.specs.Pattern.{word_holds, item_holds, pattern_holds}
 use Rattle.pz_grid.specs.Places.{on_map, along, distance, position_of, holds_at, cell_holds, row_holds, place_in, gap_count, line_length, line_count, pairs, places}
 use Rattle.pz_grid.specs.Marks.{IsMarked}
 use Rattle.pz_grid.specs.Admitted.{marks_of, marks_item, marks_cell, admits, admits_line, admitted, searches_level, searches_line, line_of, start_of, starts_at, starts_in, start_count}

@@ -3,9 +3,9 @@ use Rattle.std.proofs.Common.{◌≡◌, ◌≢◌, inl, inr, ℕ, ◌<◌, List
 use Rattle.std.specs.Prelude.{IfSome}
 use Rattle.std.proofs.lemmas.List.{ext_get_or}
 use Rattle.std.proofs.lemmas.Bool.{cases_eq}
-use Rattle.pz_grid.specs.declared.cell.Piece.{Piece}
+use Rattle.pz_cells.specs.declared.piece.Piece.{Piece}
 use Rattle.pz_game.specs.declared.direction.Dir.{Dir}
-use Rattle.pz_grid.specs.Standing.{standing}
+use Rattle.pz_cells.specs.Standing.{standing}
 use Rattle.pz_grid.proofs.CellLemmas.{OnItsLayer, standing_on_layer, standing_off_layer}
 
 -- a piece of one cell stands in the other

@@ -3,10 +3,10 @@ use Rattle.std.proofs.Common.{◌≡◌, ◌≢◌, inl, inr, ℕ, zero, suc, �
 use Rattle.std.specs.Prelude.{fold}
 use Rattle.std.proofs.lemmas.Bool.{cases_lt, cases_eq}
 use Rattle.std.proofs.lemmas.List.{get_or-set_same, get_or-set_other, set_past}
-use Rattle.pz_grid.specs.declared.cell.Piece.{Piece}
+use Rattle.pz_cells.specs.declared.piece.Piece.{Piece}
 use Rattle.pz_game.specs.declared.direction.Dir.{Dir}
-use Rattle.pz_grid.specs.Cell.{still_piece}
-use Rattle.pz_grid.specs.Grid.{Grid, place_at}
+use Rattle.pz_cells.specs.Cell.{still_piece}
+use Rattle.pz_sheet.specs.Grid.{Grid, place_at}
 use Rattle.pz_grid.specs.Staying.{IsStill, KeepsStill}
 use Rattle.pz_grid.specs.Movement.{Pass, Spot, neighbour, unless_taken, free, heading_goal, in_pass, moved_to, move_place, move_at, spots, pass_of, settle}
 

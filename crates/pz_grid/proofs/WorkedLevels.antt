@@ -14,17 +14,18 @@ use Rattle.pz_game.specs.declared.pattern.Word.TheVariants.{Present, Still, Towa
 use Rattle.pz_game.specs.declared.commands.Commands.{Commands}
 use Rattle.pz_game.specs.declared.instance.Instance.{Instance}
 use Rattle.pz_game.specs.Pattern.{RuleRow}
-use Rattle.pz_grid.specs.declared.cell.Piece.{Piece}
+use Rattle.pz_cells.specs.declared.piece.Piece.{Piece}
 use Rattle.pz_grid.specs.declared.places.Place.{Place}
-use Rattle.pz_grid.specs.Grid.{Grid}
+use Rattle.pz_sheet.specs.Grid.{Grid}
 use Rattle.pz_grid.specs.Loading.{loaded_from}
 use Rattle.pz_grid.specs.Movement.{moving, pass_of, resolved}
-use Rattle.pz_grid.specs.Pattern.{pattern_holds}
-use Rattle.pz_grid.specs.Presence.{holds_one, holds_each}
-use Rattle.pz_grid.specs.Pushing.{pushed}
-use Rattle.pz_grid.specs.Rewriting.{rewritten_cell, rewritten, in_rewrite}
-use Rattle.pz_grid.specs.Sameness.{same_grid}
-use Rattle.pz_grid.specs.Standing.{stands, standing_at}
+use Rattle.pz_cells.specs.Pattern.{pattern_holds}
+use Rattle.pz_sheet.specs.Presence.{holds_one, holds_each}
+use Rattle.pz_sheet.specs.Pushing.{pushed}
+use Rattle.pz_cells.specs.Rewriting.{rewritten_cell}
+use Rattle.pz_grid.specs.Rewriting.{rewritten, in_rewrite}
+use Rattle.pz_sheet.specs.Sameness.{same_grid}
+use Rattle.pz_sheet.specs.Standing.{stands, standing_at}
 
 -- objects by number: 0 grass and 1 sand on the background's layer; 2 the player, 3 a crate and 4 a wall on one layer; 5 a mark,
 -- alone on the last

@@ -8,11 +8,12 @@ use Rattle.pz_game.specs.declared.pattern.Word.TheVariants.{Present, Toward, Abs
 use Rattle.pz_game.specs.declared.commands.Commands.{Commands}
 use Rattle.pz_game.specs.declared.instance.Instance.{Instance}
 use Rattle.pz_game.specs.Pattern.{RuleRow}
-use Rattle.pz_grid.specs.declared.cell.Piece.{Piece}
+use Rattle.pz_cells.specs.declared.piece.Piece.{Piece}
 use Rattle.pz_grid.specs.declared.places.Place.{Place}
-use Rattle.pz_grid.specs.Grid.{Grid}
+use Rattle.pz_sheet.specs.Grid.{Grid}
 use Rattle.pz_grid.specs.Places.{places, searched, still_matches}
-use Rattle.pz_grid.specs.Rewriting.{rewritten_cell, rewritten, in_rewrite}
+use Rattle.pz_cells.specs.Rewriting.{rewritten_cell}
+use Rattle.pz_grid.specs.Rewriting.{rewritten, in_rewrite}
 
 -- objects by number: 0 the background, alone on its layer; 1 a target, alone on its own; 2 the player, 3 a wall, 4 a crate and
 -- 5 a spike on one layer; 6 a mark, alone on the last

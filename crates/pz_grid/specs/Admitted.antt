@@ -8,8 +8,8 @@ use Rattle.pz_game.specs.declared.direction.Dir.TheVariants.{Up, Down}
 use Rattle.pz_game.specs.declared.pattern.Item.{Item}
 use Rattle.pz_game.specs.Pattern.{RuleRow}
 use Rattle.pz_grid.specs.declared.places.Place.{Place}
-use Rattle.pz_grid.specs.Grid.{Grid, LevelState}
-use Rattle.pz_grid.specs.Rewriting.{names}
+use Rattle.pz_sheet.specs.Grid.{Grid, LevelState}
+use Rattle.pz_game.specs.Items.{names}
 use Rattle.pz_grid.specs.Places.{line_count, line_length}
 
 -- the set of a line: of a column for up and down, else of a row

@@ -1,13 +1,13 @@
 -- Laws of levels and their movement.
 use Rattle.std.specs.Prelude.{◌≡◌, ℕ, ◌<◌, List, true, false, Option, IsTrue, ◌↔◌}
 use Rattle.pz_game.specs.declared.direction.Dir.{Dir}
-use Rattle.pz_grid.specs.declared.cell.Piece.{Piece}
-use Rattle.pz_grid.specs.Cell.{IsCell}
-use Rattle.pz_grid.specs.Grid.{Grid, IsLawful}
-use Rattle.pz_grid.specs.Standing.{standing}
-use Rattle.pz_grid.specs.Sameness.{same_grid}
+use Rattle.pz_cells.specs.declared.piece.Piece.{Piece}
+use Rattle.pz_cells.specs.Cell.{IsCell}
+use Rattle.pz_sheet.specs.Grid.{Grid, IsLawful}
+use Rattle.pz_cells.specs.Standing.{standing}
+use Rattle.pz_sheet.specs.Sameness.{same_grid}
 use Rattle.pz_grid.specs.Movement.{pass_of, moving, settle, resolved}
-use Rattle.pz_grid.specs.Pushing.{pushed}
+use Rattle.pz_sheet.specs.Pushing.{pushed}
 
 -- the test of two levels decides whether they are equal
 abbrev pub Decides : Type 0

@@ -1,13 +1,7 @@
-pub mod Cell
-pub mod Grid
-pub mod Standing
-pub mod Sameness
+pub mod Bare
 pub mod Movement
-pub mod Pushing
 pub mod Loading
 pub mod Laws
-pub mod Pattern
-pub mod Presence
 pub mod Places
 pub mod Rewriting
 pub mod RuleLaws

@@ -3,9 +3,9 @@ use Rattle.std.specs.Prelude.{◌≡◌, ℕ, ◌<◌, List, [], Bool, true, ◌
 use Rattle.std.specs.List.{list_any, range_with_len}
 use Rattle.pz_sets.specs.Sets.{member}
 use Rattle.pz_game.specs.Pattern.{RuleRow}
-use Rattle.pz_grid.specs.Grid.{Grid, LevelState, cell_at}
-use Rattle.pz_grid.specs.Presence.{is_in}
-use Rattle.pz_grid.specs.Rewriting.{names_object}
+use Rattle.pz_sheet.specs.Grid.{Grid, LevelState, cell_at}
+use Rattle.pz_sheet.specs.Presence.{is_in}
+use Rattle.pz_game.specs.Items.{names_object}
 
 -- an object stands in a row
 abbrev pub in_row : Grid → ℕ → ℕ → Bool

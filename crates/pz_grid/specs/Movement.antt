@@ -5,9 +5,10 @@ use Rattle.std.specs.Prelude.{ℕ, zero, suc, ◌+◌, ◌-◌, List, map, fold,
 use Rattle.std.specs.List.{flat_map, range_with_len, sum_by}
 use Rattle.pz_game.specs.declared.direction.Dir.{Dir}
 use Rattle.pz_game.specs.declared.direction.Dir.TheVariants.{Up, Down, Left, Right, Action}
-use Rattle.pz_grid.specs.declared.cell.Piece.{Piece}
-use Rattle.pz_grid.specs.Cell.{still_piece, still_place}
-use Rattle.pz_grid.specs.Grid.{Grid, place_at, with_place}
+use Rattle.pz_cells.specs.declared.piece.Piece.{Piece}
+use Rattle.pz_cells.specs.Cell.{still_piece}
+use Rattle.pz_sheet.specs.Grid.{Grid, place_at, with_place}
+use Rattle.pz_sheet.specs.Movement.{stilled}
 
 -- the next position in a direction, on the map
 abbrev pub neighbour : Grid → Dir → ℕ → ℕ → Option (ℕ × ℕ)
@@ -91,9 +92,6 @@ moving grid = sum_by (sum_by heads) grid.cells
 abbrev pub settle : ℕ → Grid → Grid
 settle zero grid = grid
 settle (suc n) grid = if (pass_of grid).moved then settle n (pass_of grid).grid else grid
-
-abbrev pub stilled : Grid → Grid
-stilled grid = record grid { cells = map (map still_place) grid.cells }
 
 -- the movement: each pass with a move stills a piece, so no more passes are needed than pieces head somewhere
 abbrev pub resolved : Grid → Grid

@@ -12,8 +12,8 @@ use Rattle.pz_grid.specs.declared.places.GridFault.{GridFault}
 use Rattle.pz_grid.specs.declared.places.GridFault.TheVariants.{MatchLimit}
 use Rattle.pz_grid.specs.declared.places.Place.{Place}
 use Rattle.pz_grid.specs.declared.places.TheConstants.{MATCH_LIMIT}
-use Rattle.pz_grid.specs.Grid.{Grid, cell_at}
-use Rattle.pz_grid.specs.Pattern.{pattern_holds}
+use Rattle.pz_sheet.specs.Grid.{Grid, cell_at}
+use Rattle.pz_cells.specs.Pattern.{pattern_holds}
 
 -- a position, if it is on the map
 abbrev pub on_map : Grid → ℕ → ℕ → Option (ℕ × ℕ)

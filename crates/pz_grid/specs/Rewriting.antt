@@ -2,89 +2,16 @@
 -- stands. It heads where its word says; without a word it is still if the left has a movement word on an object of that layer,
 -- else it heads where what stood there did. On other layers what the left names as present, or the right has under `no`, is
 -- removed; what stays heads where it did.
-use Rattle.std.specs.Prelude.{ℕ, ◌+◌, ◌*◌, List, map, fold, find, Bool, true, false, not, ◌&&◌, ◌||◌, Option, Some, None, nat_eq, if◌then◌else◌, length, slice_index_or, slice_set}
-use Rattle.std.specs.List.{list_any, enumerate_from, range_with_len, zip}
+use Rattle.std.specs.Prelude.{ℕ, List, fold, Bool, ◌||◌, Option, Some, None}
+use Rattle.std.specs.List.{enumerate_from, zip}
 use Rattle.pz_game.specs.declared.direction.Dir.{Dir}
 use Rattle.pz_game.specs.declared.instance.Instance.{Instance}
 use Rattle.pz_game.specs.declared.pattern.Item.{Item}
-use Rattle.pz_game.specs.declared.pattern.Word.{Word}
-use Rattle.pz_game.specs.declared.pattern.Word.TheVariants.{Still, Toward, Absent}
 use Rattle.pz_game.specs.Pattern.{RuleRow}
-use Rattle.pz_grid.specs.declared.cell.Piece.{Piece}
 use Rattle.pz_grid.specs.declared.places.Place.{Place}
-use Rattle.pz_grid.specs.Grid.{Grid, cell_at}
+use Rattle.pz_sheet.specs.Grid.{Grid}
+use Rattle.pz_sheet.specs.Rewriting.{with_rewritten, changes}
 use Rattle.pz_grid.specs.Places.{position_of}
-use Rattle.pz_grid.specs.Sameness.{same_cell}
-
--- a word under which an object is named as present
-abbrev pub names : Word → Bool
-names Absent = false
-names _ = true
-
--- a movement word: `stationary` or a direction
-abbrev pub tells_movement : Word → Bool
-tells_movement Still = true
-tells_movement (Toward _) = true
-tells_movement _ = false
-
-abbrev pub is_on : ℕ → Item → Bool
-is_on layer item = nat_eq item.layer layer
-
-abbrev pub places_on : ℕ → Item → Bool
-places_on layer item = names item.word && is_on layer item
-
--- the item of a right cell that places an object on a layer
-abbrev pub placed_on : ℕ → List Item → Option Item
-placed_on layer right = find (places_on layer) right
-
--- a left cell has a movement word on an object of a layer
-abbrev pub tells_of : ℕ → List Item → Bool
-tells_of layer left = list_any (λ item. tells_movement item.word && is_on layer item) left
-
--- a cell names an object as present
-abbrev pub names_object : ℕ → List Item → Bool
-names_object object cell = list_any (λ item. names item.word && nat_eq item.object object) cell
-
--- a cell has an object under `no`
-abbrev pub forbids_object : ℕ → List Item → Bool
-forbids_object object cell = list_any (λ item. not (names item.word) && nat_eq item.object object) cell
-
-abbrev pub heading_of : Option Piece → Option Dir
-heading_of None = None
-heading_of (Some piece) = piece.heading
-
--- where a placed object heads: where its word says; without a word nowhere if the left told of its layer, else where what stood there did
-abbrev pub new_heading : Word → Bool → Option Piece → Option Dir
-new_heading Still told here = None
-new_heading (Toward dir) told here = Some dir
-new_heading _ told here = if told then None else heading_of here
-
--- what stays on a layer where nothing is placed
-abbrev pub kept : List Item → List Item → Option Piece → Option Piece
-kept left right None = None
-kept left right (Some piece) = if names_object piece.object left || forbids_object piece.object right then None else Some piece
-
-abbrev pub replaced : Option Item → Bool → List Item → List Item → Option Piece → Option Piece
-replaced None told left right here = kept left right here
-replaced (Some item) told left right here = Some (record { object = item.object; heading = new_heading item.word told here })
-
--- what stands on a layer after the rewriting
-abbrev pub rewritten_place : List Item → List Item → ℕ → Option Piece → Option Piece
-rewritten_place left right layer here = replaced (placed_on layer right) (tells_of layer left) left right here
-
--- a cell rewritten from a left cell of a rule to its right cell
-abbrev pub rewritten_cell : List Item → List Item → List (Option Piece) → List (Option Piece)
-rewritten_cell left right cell =
-    map (λ layer. rewritten_place left right layer (slice_index_or cell layer None)) (range_with_len 0 (length cell))
-
--- a level with one cell rewritten
-abbrev pub with_rewritten : Grid → ℕ → ℕ → List Item → List Item → Grid
-with_rewritten grid x y left right =
-    record grid { cells = slice_set grid.cells (y * grid.width + x) (rewritten_cell left right (cell_at grid x y)) }
-
--- the rewriting of a cell gives another one
-abbrev pub changes : Grid → ℕ → ℕ → List Item → List Item → Bool
-changes grid x y left right = not (same_cell (rewritten_cell left right (cell_at grid x y)) (cell_at grid x y))
 
 -- a level that is rewritten, and whether some rewriting gave another cell so far
 pub record Rewriting : Type 0 where

@@ -3,14 +3,14 @@ use Rattle.std.specs.Prelude.{ℕ, ◌≡◌, ◌≤◌, ◌*◌, false, List, I
 use Rattle.pz_game.specs.declared.direction.Dir.{Dir}
 use Rattle.pz_game.specs.declared.pattern.Item.{Item}
 use Rattle.pz_game.specs.Pattern.{RuleRow, IsRow, AreOf}
-use Rattle.pz_grid.specs.declared.cell.Piece.{Piece}
+use Rattle.pz_cells.specs.declared.piece.Piece.{Piece}
 use Rattle.pz_grid.specs.declared.places.Place.{Place}
-use Rattle.pz_grid.specs.Cell.{IsCell}
-use Rattle.pz_grid.specs.Grid.{Grid, LevelState, IsLawful}
+use Rattle.pz_cells.specs.Cell.{IsCell}
+use Rattle.pz_sheet.specs.Grid.{Grid, LevelState, IsLawful}
 use Rattle.pz_grid.specs.Places.{places, searched, still_holds, row_holds, line_length}
 use Rattle.pz_grid.specs.Marks.{IsMarked}
 use Rattle.pz_grid.specs.Admitted.{admits_line, admitted, line_of, start_count}
-use Rattle.pz_grid.specs.Rewriting.{rewritten_cell}
+use Rattle.pz_cells.specs.Rewriting.{rewritten_cell}
 
 -- a pair of a start and a gap is a place of a row exactly if the row holds there, with the gap 0 where the row has none
 abbrev pub ArePlaces : Type 0

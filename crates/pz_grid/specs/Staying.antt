@@ -1,8 +1,8 @@
 -- What stays in a movement: a piece that has landed is still, nothing moves it, and nothing enters its place.
 use Rattle.std.specs.Prelude.{◌≡◌, ℕ, ◌+◌, ◌*◌, ◌<◌, List, [], true, ◌⊎◌, Option, Some, None, slice_index_or}
-use Rattle.pz_grid.specs.declared.cell.Piece.{Piece}
-use Rattle.pz_grid.specs.Cell.{still_piece}
-use Rattle.pz_grid.specs.Grid.{Grid, LevelState}
+use Rattle.pz_cells.specs.declared.piece.Piece.{Piece}
+use Rattle.pz_cells.specs.Cell.{still_piece}
+use Rattle.pz_sheet.specs.Grid.{Grid, LevelState}
 use Rattle.pz_grid.specs.Marks.{is_marked}
 
 -- an object stands still on a layer of the cell of a number

@@ -2,6 +2,7 @@
 
 ghost use Rattle.std.specs.Prelude.{◌≡◌, ◌<◌, false, []};
 ghost use Rattle.std.specs.List.{list_all};
+ghost use Rattle.pz_game.specs.Pattern.{IsRowOf};
 ghost use Rattle.pz_grid.specs.Admitted.{marks_of, marks_item, marks_cell, admits, admits_line, searches_level, searches_line};
 ghost use Rattle.pz_grid.specs.Places.{line_count, places};
 ghost use Rattle.pz_game.specs.declared.direction.Dir.{Dir};
@@ -54,6 +55,7 @@ impl Level {
 
     /// Whether a place of the row may be in the level, as far as the level's own set tells: false says that none is, in no direction.
     pub fn is_searched_for(&self, row: &Row) -> bool
+        requires of_game { IsRowOf self.now.grid.layers row.now }
         ensures searched { result ≡ searches_level self.now row.now }
         ensures none { result ≡ false → (dir : Dir) → places self.now.grid row.now dir ≡ [] }
     {
@@ -64,7 +66,8 @@ impl Level {
 
     /// Whether a line is admitted for a row.
     pub(crate) fn admits_line(&self, row: &Row, dir: Dir, line: u32) -> bool
-        requires { line < line_count self.now.grid dir }
+        requires of_game { IsRowOf self.now.grid.layers row.now }
+        requires line_in { line < line_count self.now.grid dir }
         ensures { result ≡ admits_line self.now row.now dir line }
     {
         admits(self.marks_of(dir, line), row)
@@ -72,7 +75,8 @@ impl Level {
 
     /// Whether a place of the row may start in the line, as far as the line's set tells.
     pub(crate) fn searches_line(&self, row: &Row, dir: Dir, line: u32) -> bool
-        requires { line < line_count self.now.grid dir }
+        requires of_game { IsRowOf self.now.grid.layers row.now }
+        requires line_in { line < line_count self.now.grid dir }
         ensures { result ≡ searches_line self.now row.now dir line }
     {
         marks_all(self.marks_of(dir, line), row)

@@ -3,13 +3,15 @@
 ghost use Rattle.std.specs.Prelude.{◌≡◌, ◌<◌, IfOk, All, length, map, fold, slice_index, true};
 ghost use Rattle.pz_game.specs.Level.{is_playable};
 ghost use Rattle.pz_game.specs.Game.{background_of};
-ghost use Rattle.pz_grid.specs.Cell.{IsOnLayer};
-ghost use Rattle.pz_grid.specs.Grid.{IsLawful};
+ghost use Rattle.pz_cells.specs.Cell.{IsOnLayer};
+ghost use Rattle.pz_sheet.specs.Grid.{IsLawful};
 ghost use Rattle.pz_grid.specs.Marks.{IsExact};
-ghost use Rattle.pz_grid.specs.Loading.{with_object, glyph_cell, drawn, first_in_column, first_on, filled_cell, filled, with_background, entry_at, loaded_from, loaded};
+ghost use Rattle.pz_sheet.specs.Loading.{with_object, glyph_cell, drawn, filled_cell, filled};
+ghost use Rattle.pz_grid.specs.Loading.{first_in_column, first_on, with_background, entry_at, loaded_from, loaded};
 
-use crate::cell::{Cell, Piece};
-use crate::{BareLevel, Level};
+use crate::Level;
+use crate::bare::BareLevel;
+use pz_cells::piece::Piece;
 use pz_game::game::Game;
 use pz_game::level::{DrawnLevel, LevelEntry};
 use std::alloc::{AllocError, Global};
@@ -50,22 +52,6 @@ impl BareLevel {
         let mut bare = BareLevel::drawn(alloc, game, drawing)?;
         bare.lay_background(layer, object as u16);
         Ok(bare)
-    }
-
-    /// The level as it is drawn, before the background is laid.
-    fn drawn(alloc: Global, game: &Game, drawing: &DrawnLevel) -> Result<BareLevel, AllocError>
-        requires { All (λ number. number < length game.now.values) drawing.now.cells }
-        ensures { IfOk result (λ bare. bare.grid ≡ drawn game.now drawing.now) }
-    {
-        let layers = Vec::from_slice(alloc, game.layers())?;
-        let cells = glyph_cells(alloc, game, drawing.cells())?;
-        Ok(BareLevel {
-            width: drawing.width(),
-            height: drawing.height(),
-            depth: game.depth(),
-            layers,
-            cells,
-        })
     }
 
     /// Puts a piece on its layer in each cell where nothing stands there: what the first cell has that has something on it, else
@@ -111,16 +97,6 @@ impl BareLevel {
         }
         None
     }
-
-    /// Puts a piece on a layer of each cell where nothing stands there.
-    fn fill(&mut self, layer: usize, piece: Piece)
-        requires layer_in { layer < self.old.grid.depth }
-        requires on_layer { (piece.object < length self.old.grid.layers) × (slice_index self.old.grid.layers piece.object ≡ layer) }
-        ensures filled { self.new.grid ≡ filled layer piece self.old.grid }
-        ensures lawful { IsLawful self.new.grid }
-    {
-        fill_cells(&mut self.cells, layer, piece);
-    }
 }
 
 /// The first object of the background.
@@ -132,58 +108,4 @@ fn background(game: &Game) -> usize
         Some(members) => members[0],
         None => unreachable!(),
     }
-}
-
-fn glyph_cells(alloc: Global, game: &Game, numbers: &[usize]) -> Result<Vec<Cell>, AllocError>
-    requires { All (λ number. number < length game.now.values) numbers.now }
-    ensures { IfOk result (λ cells. cells.items ≡ map (glyph_cell game.now) numbers.now) }
-{
-    let mut cells = Vec::new(alloc);
-    for number in numbers {
-        let cell = glyph_cell(alloc, game, *number)?;
-        cells.push(cell)?;
-    }
-    Ok(cells)
-}
-
-/// A cell with the objects of the glyph of a number.
-fn glyph_cell(alloc: Global, game: &Game, number: usize) -> Result<Cell, AllocError>
-    requires { number < length game.now.values }
-    ensures { IfOk result (λ cell. cell ≡ glyph_cell game.now number) }
-{
-    let mut cell = Cell::empty(alloc, game.depth())?;
-    add_objects(game, &mut cell, game.values()[number].members.items());
-    Ok(cell)
-}
-
-/// Puts objects on their layers, one after another.
-fn add_objects(game: &Game, cell: &mut Cell, objects: &[usize])
-    requires deep { length cell.old ≡ game.now.depth }
-    requires objects { All (λ object. object < length game.now.objects) objects.now }
-    ensures { cell.new ≡ fold (with_object game.now.layers) cell.old objects.now }
-{
-    for object in objects {
-        let layer = game.layers()[*object];
-        cell.put(layer, Some(Piece::still(*object as u16)));
-    }
-}
-
-fn fill_cells(cells: &mut Vec<Cell>, layer: usize, piece: Piece)
-    requires { All (λ cell. layer < length cell) cells.old.items }
-    ensures { cells.new.items ≡ map (filled_cell layer piece) cells.old.items }
-{
-    for cell in cells.iter_mut() {
-        fill_cell(cell, layer, piece);
-    }
-}
-
-fn fill_cell(cell: &mut Cell, layer: usize, piece: Piece)
-    requires { layer < length cell.old }
-    ensures { cell.new ≡ filled_cell layer piece cell.old }
-{
-    let place = match cell.place(layer) {
-        Some(here) => here,
-        None => piece,
-    };
-    cell.put(layer, Some(place));
 }

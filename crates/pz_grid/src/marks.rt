@@ -3,14 +3,14 @@
 ghost use Rattle.std.specs.Prelude.{◌≡◌, ◌≤◌, ℕ, ◌<◌, ◌&&◌, ◌||◌, Bool, All, IfOk, true, length, nat_eq, Option, IfSome, [], ◌∷◌};
 ghost use Rattle.pz_sets.specs.Sets.{member};
 ghost use Rattle.pz_sets.specs.declared.set.TheConstants.{CAPACITY};
-ghost use Rattle.pz_grid.specs.Grid.{IsLawful, cell_at};
-ghost use Rattle.pz_grid.specs.Presence.{is_in};
-ghost use Rattle.pz_grid.specs.Rewriting.{names, names_object};
+ghost use Rattle.pz_sheet.specs.Grid.{IsLawful, cell_at};
+ghost use Rattle.pz_sheet.specs.Presence.{is_in};
+ghost use Rattle.pz_game.specs.Items.{names, names_object};
 ghost use Rattle.pz_grid.specs.Marks.{in_row, in_column, is_marked, IsExact, IsMore};
 
-use crate::cell::Piece;
+use crate::Level;
+use crate::bare::BareLevel;
 use crate::rewriting::names;
-use crate::{BareLevel, Level};
 use pz_game::pattern::{Item, Pattern};
 use pz_sets::set::NumberSet;
 use std::alloc::{AllocError, Global};
@@ -22,18 +22,7 @@ impl Level {
         ensures lawful { IfOk result (λ level. IsLawful level.grid) }
         ensures exact { IfOk result IsExact }
     {
-        let bare = self.bare.copy()?;
-        let mut row_marks = self.row_marks.clone()?;
-        let mut column_marks = self.column_marks.clone()?;
-        mark_rows(&bare, &mut row_marks);
-        mark_columns(&bare, &mut column_marks);
-        let level_marks = all_of(&row_marks);
-        Ok(Level {
-            bare,
-            row_marks,
-            column_marks,
-            level_marks,
-        })
+        Level::marked(*self.row_marks.allocator(), self.bare.copy()?)
     }
 
     /// A level with its marks, each set exactly what stands in its line. Err: memory was refused.
@@ -150,22 +139,7 @@ fn add_cell(bare: &BareLevel, x: u32, y: u32, set: &mut NumberSet)
     requires y_in { y < bare.now.grid.height }
     ensures { (object : ℕ) → member set.new object ≡ (is_in (cell_at bare.now.grid x y) object || member set.old object) }
 {
-    // (brings the proof the law of levels)
-    let _ = bare.width();
-    for layer in 0..bare.depth() {
-        add_piece(bare.place(x, y, layer), set);
-    }
-}
-
-/// Adds the object of a piece.
-fn add_piece(place: Option<Piece>, set: &mut NumberSet)
-    requires { IfSome place (λ piece. piece.object < CAPACITY) }
-    ensures { (object : ℕ) → member set.new object ≡ (is_in (place ∷ []) object || member set.old object) }
-{
-    match place {
-        None => {}
-        Some(piece) => set.insert(piece.object as usize),
-    }
+    *set = bare.objects_at(x, y).union(set);
 }
 
 /// The objects of some sets.

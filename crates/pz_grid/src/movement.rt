@@ -1,15 +1,17 @@
 // The movement of pieces that head somewhere.
 
-ghost use Rattle.std.specs.Prelude.{◌≡◌, ◌<◌, IfSome, fold, map, nat_eq};
-ghost use Rattle.pz_grid.specs.Cell.{IsOnLayer, still_place};
+ghost use Rattle.std.specs.Prelude.{◌≡◌, ◌<◌, IfSome, fold, map, nat_eq, true};
+ghost use Rattle.pz_cells.specs.Cell.{IsOnLayer, still_place};
 ghost use Rattle.pz_sets.specs.declared.set.TheConstants.{CAPACITY};
-ghost use Rattle.pz_grid.specs.Grid.{IsLawful, IsOfGame, SameSize, place_at, with_place};
+ghost use Rattle.pz_sheet.specs.Grid.{cell_at, IsLawful, IsOfGame, SameSize, place_at, with_place};
 ghost use Rattle.pz_grid.specs.Marks.{in_row, in_column, IsMarked, IsMarkedAt, IsWidened};
 ghost use Rattle.pz_grid.specs.Staying.{IsMove};
-ghost use Rattle.pz_grid.specs.Movement.{neighbour, heading_goal, spot, in_pass, move_at, spots_at, spots_in, pass_of, moving, settle, resolved, stilled};
+ghost use Rattle.pz_grid.specs.Movement.{neighbour, heading_goal, spot, in_pass, move_at, spots_at, spots_in, pass_of, moving, settle, resolved};
+ghost use Rattle.pz_sheet.specs.Movement.{stilled};
 
-use crate::cell::{Cell, Piece};
-use crate::{BareLevel, Level};
+use crate::Level;
+use crate::bare::BareLevel;
+use pz_cells::piece::Piece;
 use pz_game::direction::Dir;
 use pz_game::game::Game;
 
@@ -29,38 +31,6 @@ pub fn resolve(game: &Game, level: &mut Level)
 }
 
 impl BareLevel {
-    /// The number of layers.
-    pub(crate) fn depth(&self) -> usize
-        ensures { result ≡ self.now.grid.depth }
-    {
-        self.depth
-    }
-
-    /// What stands on a layer of a position of the map.
-    pub(crate) fn place(&self, x: u32, y: u32, layer: usize) -> Option<Piece>
-        requires x_in { x < self.now.grid.width }
-        requires y_in { y < self.now.grid.height }
-        requires layer_in { layer < self.now.grid.depth }
-        ensures place { result ≡ place_at self.now.grid x y layer }
-        ensures on_layer { IsOnLayer self.now.grid.layers layer result }
-        ensures low { IfSome result (λ piece. piece.object < CAPACITY) }
-    {
-        self.cells[self.index(x, y)].place(layer)
-    }
-
-    /// Puts a piece, or nothing, on a layer of a position of the map.
-    fn put(&mut self, x: u32, y: u32, layer: usize, place: Option<Piece>)
-        requires x_in { x < self.old.grid.width }
-        requires y_in { y < self.old.grid.height }
-        requires layer_in { layer < self.old.grid.depth }
-        requires on_layer { IsOnLayer self.old.grid.layers layer place }
-        ensures put { self.new.grid ≡ with_place self.old.grid x y layer place }
-        ensures there { place_at self.new.grid x y layer ≡ place }
-    {
-        let index = self.index(x, y);
-        self.cells[index].put(layer, place);
-    }
-
     /// The next position in a direction, on the map.
     fn neighbour(&self, dir: Dir, x: u32, y: u32) -> Option<(u32, u32)>
         requires x_in { x < self.now.grid.width }
@@ -68,11 +38,12 @@ impl BareLevel {
         ensures next { result ≡ neighbour self.now.grid dir x y }
         ensures on_map { IfSome result (λ next. (next.0 < self.now.grid.width) × (next.1 < self.now.grid.height)) }
     {
+        let (width, height) = (self.width(), self.height());
         match dir {
             Dir::Up if y > 0 => Some((x, y - 1)),
-            Dir::Down if y + 1 < self.height => Some((x, y + 1)),
+            Dir::Down if y + 1 < height => Some((x, y + 1)),
             Dir::Left if x > 0 => Some((x - 1, y)),
-            Dir::Right if x + 1 < self.width => Some((x + 1, y)),
+            Dir::Right if x + 1 < width => Some((x + 1, y)),
             _ => None,
         }
     }
@@ -95,14 +66,6 @@ impl BareLevel {
                 },
             },
         }
-    }
-
-    /// Stills every piece.
-    fn still_all(&mut self)
-        ensures stilled { self.new.grid ≡ stilled self.old.grid }
-        ensures lawful { IsLawful self.new.grid }
-    {
-        still_cells(&mut self.cells);
     }
 }
 
@@ -132,6 +95,15 @@ impl Level {
         ensures on_map { IfSome result (λ next. (next.0 < self.now.grid.width) × (next.1 < self.now.grid.height)) }
     {
         self.bare.goal(x, y, layer, heading)
+    }
+
+    /// Whether nothing at a position of the map heads anywhere.
+    fn is_still(&self, x: u32, y: u32) -> bool
+        requires x_in { x < self.now.grid.width }
+        requires y_in { y < self.now.grid.height }
+        ensures { result ≡ true → cell_at self.now.grid x y ≡ map still_place (cell_at self.now.grid x y) }
+    {
+        self.bare.is_still(x, y)
     }
 
     /// Puts a piece that is marked, or nothing, on a layer of a position of the map.
@@ -190,6 +162,9 @@ impl Level {
         ensures size { SameSize self.old.grid self.new.grid }
         ensures marks { IsMove self.old self.new }
     {
+        if self.is_still(x, y) {
+            return moved_before;
+        }
         let mut moved = moved_before;
         for layer in 0..self.depth() {
             moved = self.move_at(x, y, layer, moved);
@@ -234,34 +209,5 @@ impl Level {
                 break;
             }
         }
-    }
-}
-
-/// Stills every piece of the cells.
-fn still_cells(cells: &mut Vec<Cell>)
-    ensures { cells.new.items ≡ map (map still_place) cells.old.items }
-{
-    for cell in cells.iter_mut() {
-        still_cell(cell);
-    }
-}
-
-/// Stills every piece of a cell.
-fn still_cell(cell: &mut Cell)
-    ensures { cell.new ≡ map still_place cell.old }
-{
-    for layer in 0..cell.depth() {
-        let place = still(cell.place(layer));
-        cell.put(layer, place);
-    }
-}
-
-/// What stands there, still.
-fn still(place: Option<Piece>) -> Option<Piece>
-    ensures { result ≡ still_place place }
-{
-    match place {
-        None => None,
-        Some(piece) => Some(Piece::still(piece.object)),
     }
 }

@@ -1,11 +1,12 @@
 //! The places of a row of a rule: where it holds.
 
 ghost use Rattle.std.specs.Prelude.{◌≡◌, ◌≢◌, ℕ, ◌+◌, ◌*◌, ◌<◌, ◌≤◌, cond, [], ◌∷◌, ◌++◌, ◌^◌, filter, length, OnOk, IfOk, IfErr, IfSome, Ok, Err};
+ghost use Rattle.pz_game.specs.Pattern.{AreOf, IsRowOf, AreRowsOf};
 ghost use Rattle.pz_grid.specs.Admitted.{admitted, searches_line, start_count};
 ghost use Rattle.pz_grid.specs.Places.{on_map, along, holds_at, position_of, distance, row_holds, line_count, line_length, place_in, gap_count, pairs_at, pairs_in, places, searched, still_holds, still_matches};
 
-use crate::pattern::pattern_holds;
-use crate::{BareLevel, Level};
+use crate::Level;
+use crate::bare::BareLevel;
 use pz_game::direction::Dir;
 use pz_game::instance::Instance;
 use pz_game::pattern::{Pattern, Row};
@@ -34,7 +35,7 @@ impl BareLevel {
         ensures position { result ≡ on_map self.now.grid x y }
         ensures inside { IfSome result (λ at. (at.0 < self.now.grid.width) × (at.1 < self.now.grid.height)) }
     {
-        if x < self.width as usize && y < self.height as usize {
+        if x < self.width() as usize && y < self.height() as usize {
             Some((x as u32, y as u32))
         } else {
             None
@@ -82,14 +83,12 @@ impl BareLevel {
 
     fn holds_at(&self, pattern: &Pattern, position: Option<(u32, u32)>) -> bool
         requires inside { IfSome position (λ at. (at.0 < self.now.grid.width) × (at.1 < self.now.grid.height)) }
+        requires of_game { AreOf self.now.grid.layers pattern.now }
         ensures { result ≡ holds_at self.now.grid pattern.now position }
     {
         match position {
             None => false,
-            Some((x, y)) => {
-                let cell = &self.cells[self.index(x, y)];
-                pattern_holds(cell, self.depth, &self.layers, pattern)
-            }
+            Some((x, y)) => self.holds(x, y, pattern),
         }
     }
 }
@@ -125,6 +124,7 @@ fn distance(gap_at: Option<u32>, gap: u32, index: usize) -> usize
 
 /// Whether all cells of a row are on the map and hold, where it starts at a place.
 fn row_holds(bare: &BareLevel, row: &Row, dir: Dir, place: Place) -> bool
+    requires of_game { IsRowOf bare.now.grid.layers row.now }
     ensures { result ≡ row_holds bare.now.grid row.now dir place }
 {
     for (index, pattern) in row.cells().iter().enumerate() {
@@ -141,8 +141,8 @@ fn line_count(bare: &BareLevel, dir: Dir) -> u32
     ensures small { result ≤ 255 }
 {
     match dir {
-        Dir::Up | Dir::Down => bare.width,
-        Dir::Left | Dir::Right | Dir::Action => bare.height,
+        Dir::Up | Dir::Down => bare.width(),
+        Dir::Left | Dir::Right | Dir::Action => bare.height(),
     }
 }
 
@@ -151,8 +151,8 @@ fn line_length(bare: &BareLevel, dir: Dir) -> u32
     ensures small { result ≤ 255 }
 {
     match dir {
-        Dir::Up | Dir::Down => bare.height,
-        Dir::Left | Dir::Right | Dir::Action => bare.width,
+        Dir::Up | Dir::Down => bare.height(),
+        Dir::Left | Dir::Right | Dir::Action => bare.width(),
     }
 }
 
@@ -193,6 +193,7 @@ fn add_place(
     place: Place,
     found: &mut Vec<Place>,
 ) -> Result<(), GridFault>
+    requires of_game { IsRowOf bare.now.grid.layers row.now }
     requires room { length found.old.items ≤ MATCH_LIMIT }
     ensures added { OnOk result (found.new.items ≡ found.old.items ++ filter (row_holds bare.now.grid row.now dir) (place ∷ [])) }
     ensures room { OnOk result (length found.new.items ≤ MATCH_LIMIT) }
@@ -218,6 +219,7 @@ fn add_places_at(
     start: u32,
     found: &mut Vec<Place>,
 ) -> Result<(), GridFault>
+    requires of_game { IsRowOf bare.now.grid.layers row.now }
     requires room { length found.old.items ≤ MATCH_LIMIT }
     ensures added { OnOk result (found.new.items ≡ found.old.items ++ filter (row_holds bare.now.grid row.now dir) (pairs_at bare.now.grid row.now dir line start)) }
     ensures room { OnOk result (length found.new.items ≤ MATCH_LIMIT) }
@@ -238,6 +240,7 @@ fn add_places_in(
     found: &mut Vec<Place>,
     tested: u64,
 ) -> Result<u64, GridFault>
+    requires of_game { IsRowOf bare.now.grid.layers row.now }
     requires room { length found.old.items ≤ MATCH_LIMIT }
     requires few { tested ≤ 65536 }
     ensures added { OnOk result (found.new.items ≡ found.old.items ++ filter (row_holds bare.now.grid row.now dir) (pairs_in bare.now.grid row.now dir line)) }
@@ -271,6 +274,7 @@ impl Level {
         found: &mut Vec<Place>,
         tested: u64,
     ) -> Result<u64, GridFault>
+        requires of_game { IsRowOf self.now.grid.layers row.now }
         requires line_in { line < line_count self.now.grid dir }
         requires room { length found.old.items ≤ MATCH_LIMIT }
         requires few { tested ≤ 65536 }
@@ -292,6 +296,7 @@ impl Level {
 /// The places of a row in a level, in the order of the scan: by rows from the top for left and right, by columns from the left for
 /// up and down, for one start with ascending gaps. MatchLimit: there are more than `MATCH_LIMIT`.
 pub fn places(alloc: Global, level: &Level, row: &Row, dir: Dir) -> Result<Vec<Place>, GridFault>
+    requires of_game { IsRowOf level.now.grid.layers row.now }
     ensures found { IfOk result (λ found. searched level.now.grid row.now dir ≡ Ok found.items) }
     ensures fault { IfErr result (λ fault. fault ≢ GridFault.Memory → searched level.now.grid row.now dir ≡ Err fault) }
 {
@@ -307,6 +312,7 @@ pub fn places_counted(
     row: &Row,
     dir: Dir,
 ) -> Result<(Vec<Place>, u64), GridFault>
+    requires of_game { IsRowOf level.now.grid.layers row.now }
     ensures found { IfOk result (λ r. searched level.now.grid row.now dir ≡ Ok r.0.items) }
     ensures fault { IfErr result (λ fault. fault ≢ GridFault.Memory → searched level.now.grid row.now dir ≡ Err fault) }
     ensures low { IfOk result (λ r. start_count level.now.grid dir r.0.items ≤ r.1) }
@@ -328,6 +334,7 @@ pub fn places_counted(
 /// The number of lines that are admitted for a row: those whose set of objects has every object that the row's first cell names as
 /// present. A line is a row of the level for left and right, a column for up and down. No place starts in another line.
 pub fn admitted(level: &Level, row: &Row, dir: Dir) -> u32
+    requires of_game { IsRowOf level.now.grid.layers row.now }
     ensures { result ≡ admitted level.now row.now dir }
 {
     let mut count = 0;
@@ -341,6 +348,7 @@ pub fn admitted(level: &Level, row: &Row, dir: Dir) -> u32
 
 /// Whether a row still holds at a place, whose gap is 0 where the row has none.
 fn still_holds(level: &Level, dir: Dir, row: &Row, place: Place) -> bool
+    requires of_game { IsRowOf level.now.grid.layers row.now }
     ensures { result ≡ still_holds level.now.grid dir (row.now, place) }
 {
     (row.gap_at().is_some() || place.gap == 0) && row_holds(&level.bare, row, dir, place)
@@ -349,6 +357,7 @@ fn still_holds(level: &Level, dir: Dir, row: &Row, place: Place) -> bool
 /// Whether the rows of an instance's left all hold at these places, one for each: false for another number of places, for a cell
 /// off the map, and for a gap above 0 where the row has none.
 pub fn still_matches(level: &Level, instance: &Instance, places: &[Place]) -> bool
+    requires of_game { AreRowsOf level.now.grid.layers instance.now.left }
     ensures { result ≡ still_matches level.now.grid instance.now places.now }
 {
     let rows = instance.left.items();

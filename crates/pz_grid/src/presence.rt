@@ -1,27 +1,9 @@
 // Which objects are in a cell.
 
 ghost use Rattle.std.specs.Prelude.{◌≡◌, ◌<◌, length};
-ghost use Rattle.pz_grid.specs.Presence.{is_in, holds_one, holds_each, cell_of};
+ghost use Rattle.pz_sheet.specs.Presence.{is_in, holds_one, holds_each, cell_of};
 
-use crate::{BareLevel, Level};
-
-impl BareLevel {
-    fn cell_count(&self) -> usize
-        ensures { result ≡ length self.now.grid.cells }
-    {
-        self.cells.len()
-    }
-
-    fn is_in(&self, index: usize, object: usize) -> bool
-        requires { index < length self.now.grid.cells }
-        ensures { result ≡ is_in (cell_of self.now.grid index) object }
-    {
-        match self.cells[index].piece_of(self.depth, &self.layers, object) {
-            Some(_) => true,
-            None => false,
-        }
-    }
-}
+use crate::Level;
 
 impl Level {
     /// The number of cells.

@@ -2,12 +2,11 @@
 
 ghost use Rattle.std.specs.Prelude.{◌≡◌, map};
 ghost use Rattle.pz_game.specs.Game.{players_of};
-ghost use Rattle.pz_grid.specs.Grid.{IsLawful, IsOfGame, SameSize};
+ghost use Rattle.pz_sheet.specs.Grid.{IsLawful, IsOfGame, SameSize};
 ghost use Rattle.pz_grid.specs.Marks.{IsMarked};
-ghost use Rattle.pz_grid.specs.Pushing.{is_one_of, pushed_place, pushed};
+ghost use Rattle.pz_sheet.specs.Pushing.{is_one_of, pushed_place, pushed};
 
-use crate::cell::{Cell, Piece};
-use crate::{BareLevel, Level};
+use crate::Level;
 use pz_game::direction::Dir;
 use pz_game::game::Game;
 
@@ -24,15 +23,6 @@ pub fn push_players(game: &Game, level: &mut Level, dir: Dir)
     level.push_all(game.players(), dir);
 }
 
-impl BareLevel {
-    fn push_all(&mut self, players: &[usize], dir: Dir)
-        ensures pushed { self.new.grid ≡ pushed players.now dir self.old.grid }
-        ensures lawful { IsLawful self.new.grid }
-    {
-        push_cells(&mut self.cells, players, dir);
-    }
-}
-
 impl Level {
     fn push_all(&mut self, players: &[usize], dir: Dir)
         ensures pushed { self.new.grid ≡ pushed players.now dir self.old.grid }
@@ -43,45 +33,4 @@ impl Level {
     {
         self.bare.push_all(players, dir);
     }
-}
-
-fn push_cells(cells: &mut Vec<Cell>, players: &[usize], dir: Dir)
-    ensures { cells.new.items ≡ map (map (pushed_place players.now dir)) cells.old.items }
-{
-    for cell in cells.iter_mut() {
-        push_cell(cell, players, dir);
-    }
-}
-
-fn push_cell(cell: &mut Cell, players: &[usize], dir: Dir)
-    ensures { cell.new ≡ map (pushed_place players.now dir) cell.old }
-{
-    for layer in 0..cell.depth() {
-        let place = pushed_place(cell.place(layer), players, dir);
-        cell.put(layer, place);
-    }
-}
-
-fn pushed_place(place: Option<Piece>, players: &[usize], dir: Dir) -> Option<Piece>
-    ensures { result ≡ pushed_place players.now dir place }
-{
-    match place {
-        None => None,
-        Some(piece) => {
-            if is_one_of(players, piece.object as usize) {
-                Some(Piece {
-                    object: piece.object,
-                    heading: Some(dir),
-                })
-            } else {
-                Some(piece)
-            }
-        }
-    }
-}
-
-fn is_one_of(objects: &[usize], object: usize) -> bool
-    ensures { result ≡ is_one_of objects.now object }
-{
-    objects.iter().any(|other| *other == object)
 }

@@ -4,14 +4,16 @@ ghost use Rattle.std.specs.Prelude.{not, false, ◌≡◌, ◌<◌, ◌^◌, [],
 ghost use Rattle.pz_game.specs.Game.{IsGame};
 ghost use Rattle.pz_game.specs.Instance.{IsInstanceOf};
 ghost use Rattle.pz_game.specs.Pattern.{AreOf, IsRowOf, AreRowsOf};
-ghost use Rattle.pz_grid.specs.Grid.{IsLawful, IsOfGame, SameSize};
+ghost use Rattle.pz_sheet.specs.Grid.{IsLawful, IsOfGame, SameSize};
 ghost use Rattle.pz_grid.specs.Marks.{IsMarked, IsMarkedAt, IsWidenedBy, row_places, places_object};
-ghost use Rattle.pz_grid.specs.Rewriting.{names, tells_movement, is_on, places_on, placed_on, tells_of, names_object, forbids_object, new_heading, kept, rewritten_place, rewritten_cell, with_rewritten, changes, in_rewrite, rewritten_at, rewritten_along, rewritten_row, rewritten};
-ghost use Rattle.pz_grid.specs.Sameness.{same_place, same_cell};
+ghost use Rattle.pz_game.specs.Items.{names, tells_movement, is_on, places_on, placed_on, tells_of, names_object, forbids_object};
+ghost use Rattle.pz_cells.specs.Rewriting.{new_heading, kept, rewritten_place, rewritten_cell};
+ghost use Rattle.pz_sheet.specs.Rewriting.{with_rewritten, changes};
+ghost use Rattle.pz_grid.specs.Rewriting.{in_rewrite, rewritten_at, rewritten_along, rewritten_row, rewritten};
+ghost use Rattle.pz_cells.specs.Sameness.{same_place, same_cell};
 
-use crate::cell::{Cell, Piece};
+use crate::Level;
 use crate::places::Place;
-use crate::{BareLevel, Level};
 use pz_game::direction::Dir;
 use pz_game::game::Game;
 use pz_game::instance::Instance;
@@ -27,173 +29,12 @@ pub(crate) fn names(word: Word) -> bool
     }
 }
 
-fn tells_movement(word: Word) -> bool
-    ensures { result ≡ tells_movement word }
-{
-    match word {
-        Word::Still | Word::Toward(_) => true,
-        Word::Present | Word::Absent => false,
-    }
-}
-
-fn is_on(layer: usize, item: Item) -> bool
-    ensures { result ≡ is_on layer item }
-{
-    item.layer == layer
-}
-
-fn places_on(layer: usize, item: Item) -> bool
-    ensures { result ≡ places_on layer item }
-{
-    names(item.word) && is_on(layer, item)
-}
-
-fn placed_on(layer: usize, right: &Pattern) -> Option<Item>
-    ensures { result ≡ placed_on layer right.now }
-{
-    right
-        .items()
-        .iter()
-        .copied()
-        .find(|item| places_on(layer, *item))
-}
-
-fn tells_of(layer: usize, left: &Pattern) -> bool
-    ensures { result ≡ tells_of layer left.now }
-{
-    left.items()
-        .iter()
-        .any(|item| tells_movement(item.word) && is_on(layer, *item))
-}
-
-fn names_object(object: usize, cell: &Pattern) -> bool
-    ensures { result ≡ names_object object cell.now }
-{
-    cell.items()
-        .iter()
-        .any(|item| names(item.word) && item.object == object)
-}
-
-fn forbids_object(object: usize, cell: &Pattern) -> bool
-    ensures { result ≡ forbids_object object cell.now }
-{
-    cell.items()
-        .iter()
-        .any(|item| !names(item.word) && item.object == object)
-}
-
-fn new_heading(word: Word, told: bool, here: Option<Piece>) -> Option<Dir>
-    ensures { result ≡ new_heading word told here }
-{
-    match word {
-        Word::Still => None,
-        Word::Toward(dir) => Some(dir),
-        Word::Present | Word::Absent => {
-            if told {
-                None
-            } else {
-                match here {
-                    None => None,
-                    Some(piece) => piece.heading,
-                }
-            }
-        }
-    }
-}
-
-/// What stays where nothing is placed.
-fn kept(left: &Pattern, right: &Pattern, here: Option<Piece>) -> Option<Piece>
-    ensures { result ≡ kept left.now right.now here }
-{
-    match here {
-        None => None,
-        Some(piece) => {
-            let object = piece.object as usize;
-            if names_object(object, left) || forbids_object(object, right) {
-                None
-            } else {
-                Some(piece)
-            }
-        }
-    }
-}
-
-fn rewritten_place(
-    left: &Pattern,
-    right: &Pattern,
-    layer: usize,
-    here: Option<Piece>,
-) -> Option<Piece>
-    requires low { All (λ item. item.object < 2 ^ 16) right.now }
-    ensures { result ≡ rewritten_place left.now right.now layer here }
-{
-    match placed_on(layer, right) {
-        None => kept(left, right, here),
-        Some(item) => {
-            let told = tells_of(layer, left);
-            Some(Piece {
-                object: item.object as u16,
-                heading: new_heading(item.word, told, here),
-            })
-        }
-    }
-}
-
-/// Rewrites what stands on a layer, and says whether that changed it.
-fn rewrite_place(cell: &mut Cell, left: &Pattern, right: &Pattern, layer: usize) -> bool
-    requires within { layer < length cell.old }
-    requires low { All (λ item. item.object < 2 ^ 16) right.now }
-    ensures cell { cell.new ≡ slice_set cell.old layer (rewritten_place left.now right.now layer (slice_index_or cell.old layer None)) }
-    ensures changed { result ≡ not (same_place (rewritten_place left.now right.now layer (slice_index_or cell.old layer None)) (slice_index_or cell.old layer None)) }
-{
-    let here = cell.place(layer);
-    let new = rewritten_place(left, right, layer, here);
-    cell.put(layer, new);
-    new != here
-}
-
-/// Rewrites a cell, and says whether that gave another one.
-fn rewrite_cell(cell: &mut Cell, left: &Pattern, right: &Pattern) -> bool
-    requires low { All (λ item. item.object < 2 ^ 16) right.now }
-    ensures cell { cell.new ≡ rewritten_cell left.now right.now cell.old }
-    ensures changed { result ≡ not (same_cell (rewritten_cell left.now right.now cell.old) cell.old) }
-{
-    let mut changed = false;
-    for layer in 0..cell.depth() {
-        changed |= rewrite_place(cell, left, right, layer);
-    }
-    changed
-}
-
-/// Rewrites the cell of a number.
-fn rewrite_in(cells: &mut Vec<Cell>, index: usize, left: &Pattern, right: &Pattern) -> bool
-    requires within { index < length cells.old.items }
-    requires low { All (λ item. item.object < 2 ^ 16) right.now }
-    ensures cells { cells.new.items ≡ slice_set cells.old.items index (rewritten_cell left.now right.now (slice_index_or cells.old.items index [])) }
-    ensures changed { result ≡ not (same_cell (rewritten_cell left.now right.now (slice_index_or cells.old.items index [])) (slice_index_or cells.old.items index [])) }
-{
-    rewrite_cell(&mut cells[index], left, right)
-}
-
-impl BareLevel {
-    /// Rewrites the cell at a position, and says whether that gave another one.
-    fn rewrite_position(&mut self, x: u32, y: u32, left: &Pattern, right: &Pattern) -> bool
-        requires x_in { x < self.old.grid.width }
-        requires y_in { y < self.old.grid.height }
-        requires right_of { AreOf self.old.grid.layers right.now }
-        ensures level { self.new.grid ≡ with_rewritten self.old.grid x y left.now right.now }
-        ensures changed { result ≡ changes self.old.grid x y left.now right.now }
-    {
-        let index = self.index(x, y);
-        rewrite_in(&mut self.cells, index, left, right)
-    }
-}
-
 impl Level {
     /// Rewrites the cell at a position, whose row and column are marked with what the right places.
     fn rewrite_marked(&mut self, x: u32, y: u32, left: &Pattern, right: &Pattern) -> bool
         requires x_in { x < self.old.grid.width }
         requires y_in { y < self.old.grid.height }
+        requires left_of { AreOf self.old.grid.layers left.now }
         requires right_of { AreOf self.old.grid.layers right.now }
         requires marked { IsMarkedAt self.old x y (λ object. names_object object right.now) }
         ensures level { self.new.grid ≡ with_rewritten self.old.grid x y left.now right.now }
@@ -201,13 +42,14 @@ impl Level {
         ensures row_marks { self.new.row_marks ≡ self.old.row_marks }
         ensures column_marks { self.new.column_marks ≡ self.old.column_marks }
     {
-        self.bare.rewrite_position(x, y, left, right)
+        self.bare.rewrite(x, y, left, right)
     }
 
     /// Rewrites the cell at a position, and says whether that gave another one.
     fn rewrite_position(&mut self, x: u32, y: u32, left: &Pattern, right: &Pattern) -> bool
         requires x_in { x < self.old.grid.width }
         requires y_in { y < self.old.grid.height }
+        requires left_of { AreOf self.old.grid.layers left.now }
         requires right_of { AreOf self.old.grid.layers right.now }
         ensures level { self.new.grid ≡ with_rewritten self.old.grid x y left.now right.now }
         ensures changed { result ≡ changes self.old.grid x y left.now right.now }
@@ -228,6 +70,7 @@ impl Level {
         changed: bool,
     ) -> bool
         requires inside { IfSome position (λ at. (at.0 < self.old.grid.width) × (at.1 < self.old.grid.height)) }
+        requires left_of { AreOf self.old.grid.layers left.now }
         requires right_of { AreOf self.old.grid.layers right.now }
         ensures rewritten { in_rewrite self.new.grid result ≡ rewritten_at (in_rewrite self.old.grid changed) left.now right.now position }
         ensures size { SameSize self.old.grid self.new.grid }
@@ -254,6 +97,7 @@ impl Level {
         changed: bool,
     ) -> bool
         requires near { index < 2 ^ 32 }
+        requires left_of { AreOf self.old.grid.layers left.now }
         requires right_of { AreOf self.old.grid.layers right.now }
         ensures rewritten { in_rewrite self.new.grid result ≡ rewritten_along dir gap_at place (in_rewrite self.old.grid changed) (index, (left.now, right.now)) }
         ensures size { SameSize self.old.grid self.new.grid }
@@ -272,6 +116,7 @@ impl Level {
         right: &Row,
         changed_before: bool,
     ) -> bool
+        requires left_of { IsRowOf self.old.grid.layers left.now }
         requires right_of { IsRowOf self.old.grid.layers right.now }
         ensures rewritten { in_rewrite self.new.grid result ≡ rewritten_row dir (in_rewrite self.old.grid changed_before) (place, (left.now, right.now)) }
         ensures size { SameSize self.old.grid self.new.grid }
@@ -303,6 +148,7 @@ impl Level {
         places: &[Place],
         changed_before: bool,
     ) -> bool
+        requires left_of { AreRowsOf self.old.grid.layers instance.now.left }
         requires right_of { AreRowsOf self.old.grid.layers instance.now.right }
         ensures rewritten { in_rewrite self.new.grid result ≡ rewritten instance.now places.now (in_rewrite self.old.grid changed_before) }
         ensures size { SameSize self.old.grid self.new.grid }

@@ -58,13 +58,13 @@ passed true false true wide e = absurd (cc)
 passed true true many wide e = absurd (cc)
 passed false repeat many wide e = absurd (cc)
 
-few_above : (before : List Block) (block : Block) → misnames before block ≡ None → length before < 128
+few_above : (before : List Block) (block : Block) → misnames before block ≡ None → length before < 512
 few_above before block e =
     let above = object_names (map name_line_of before) in
-    let few = passed block.is_whole (has_repeat above block.line.names) (nat_le 128 (length before)) (nat_lt 1024 (length (above ++ block.line.names))) e in
+    let few = passed block.is_whole (has_repeat above block.line.names) (nat_le 512 (length before)) (nat_lt 1024 (length (above ++ block.line.names))) e in
     grind (arith, nat_tests)
 
-few_blocks : (before blocks : List Block) → first_fault block_at misnames before blocks ≡ None → length before ≤ 128 → length before + length blocks ≤ 128
+few_blocks : (before blocks : List Block) → first_fault block_at misnames before blocks ≡ None → length before ≤ 512 → length before + length blocks ≤ 512
 few_blocks before [] e h = omega arith
 few_blocks before (block ∷ blocks) e h =
     let p = first_fault-none block_at misnames before block blocks e in
@@ -74,10 +74,10 @@ few_blocks before (block ∷ blocks) e h =
     omega arith
 
 -- OBJECTS gives at most so many objects
-pub objects_of-few : (lines : List Line) (objects : List NameLine) → objects_of lines ≡ Ok objects → length objects ≤ 128
+pub objects_of-few : (lines : List Line) (objects : List NameLine) → objects_of lines ≡ Ok objects → length objects ≤ 512
 objects_of-few lines objects e = by (first_fault block_at misnames [] (blocks_of lines)) refl
   where
-    by : (o : Option SourceFault) → first_fault block_at misnames [] (blocks_of lines) ≡ o → length objects ≤ 128
+    by : (o : Option SourceFault) → first_fault block_at misnames [] (blocks_of lines) ≡ o → length objects ≤ 512
     by (Some fault) p = absurd (let t : Err fault ≡ Ok objects = rw p at e in cc)
     by None p =
         let same : map name_line_of (blocks_of lines) ≡ objects = (let t : Ok (map name_line_of (blocks_of lines)) ≡ Ok objects = rw p at e in cc) in

@@ -3,9 +3,9 @@ use Rattle.std.proofs.Common.{◌≡◌, ℕ, zero, suc, ◌+◌, ◌*◌, ◌<�
 use Rattle.std.proofs.lemmas.List.{length-take, length-map, map-set, take_more, take_more_set, take_all}
 use Rattle.std.proofs.lemmas.List.Elements.{All-head, All-tail}
 use Rattle.pz_game.specs.declared.game.GameParts.{GameParts}
-use Rattle.pz_grid.specs.Grid.{Grid}
+use Rattle.pz_sheet.specs.Grid.{Grid}
 use Rattle.pz_sets.specs.Sets.{member}
-use Rattle.pz_grid.specs.Standing.{stands}
+use Rattle.pz_sheet.specs.Standing.{stands}
 use Rattle.pz_record.specs.declared.order.Order.{Order}
 use Rattle.pz_record.specs.declared.labelled_set.LabelledSet.{LabelledSet}
 use Rattle.pz_record.specs.CellNames.{set_of}

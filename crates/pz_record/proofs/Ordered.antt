@@ -3,7 +3,7 @@ use Rattle.std.proofs.Common.{◌≡◌, ℕ, Bool, suc, ◌+◌, ◌*◌, ◌<�
 use Rattle.std.proofs.lemmas.List.{length-map, get_or-map, drop_more, drop_all}
 use Rattle.std.proofs.lemmas.List.FromFn.{length-map-range_with_len, get_or-map-range_with_len}
 use Rattle.pz_game.specs.declared.game.GameParts.{GameParts}
-use Rattle.pz_grid.specs.Grid.{Grid}
+use Rattle.pz_sheet.specs.Grid.{Grid}
 use Rattle.pz_record.specs.declared.order.Order.{Order}
 use Rattle.pz_record.specs.CellNames.{set_of, same_set}
 use Rattle.pz_record.specs.Order.{position_of, column_of, row_of, cells_in}

@@ -5,8 +5,8 @@ use Rattle.std.specs.Fmt.{digits}
 use Rattle.serde_json.specs.Data.{Data, Items, null, number, string, array, object, unsigned, no_items, item, no_members}
 use Rattle.pz_game.specs.declared.direction.Dir.TheVariants.{Up, Down, Left, Right, Action}
 use Rattle.pz_game.specs.declared.game.GameParts.{GameParts}
-use Rattle.pz_grid.specs.declared.cell.Piece.{Piece}
-use Rattle.pz_grid.specs.Grid.{Grid}
+use Rattle.pz_cells.specs.declared.piece.Piece.{Piece}
+use Rattle.pz_sheet.specs.Grid.{Grid}
 use Rattle.pz_record.specs.declared.order.Order.TheVariants.{Rows, Columns}
 use Rattle.pz_record.specs.declared.input.Input.TheVariants.{Press, Undo, Restart, Tick}
 use Rattle.pz_record.specs.declared.fault.FileFault.TheVariants.{BadEntry, BadLevel}

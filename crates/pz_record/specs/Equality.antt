@@ -1,7 +1,7 @@
 -- A level that is as it was recorded.
 use Rattle.std.specs.Prelude.{ℕ, Bool, true, false, ◌&&◌, List, [], ◌∷◌}
 use Rattle.pz_game.specs.declared.game.GameParts.{GameParts}
-use Rattle.pz_grid.specs.Grid.{Grid}
+use Rattle.pz_sheet.specs.Grid.{Grid}
 use Rattle.pz_record.specs.declared.order.Order.{Order}
 use Rattle.pz_record.specs.CellNames.{same_set}
 use Rattle.pz_record.specs.LevelNames.{sets_in}

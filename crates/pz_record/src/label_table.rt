@@ -2,7 +2,7 @@
 
 ghost use Rattle.std.specs.Prelude.{◌≡◌, ℕ, [], length, take, IfOk, IfSome};
 ghost use Rattle.pz_sets.specs.Sets.{member};
-ghost use Rattle.pz_grid.specs.Standing.{stands};
+ghost use Rattle.pz_sheet.specs.Standing.{stands};
 ghost use Rattle.pz_record.specs.Labels.{IsLabelOf};
 
 use crate::labelled_set::LabelledSet;

@@ -3,7 +3,7 @@
 ghost use Rattle.std.specs.Prelude.{◌≡◌, ℕ, ◌+◌, ◌*◌, ◌<◌, ◌≤◌, ◌++◌, ◌∷◌, [], length, map, slice_index_or, take, IfOk, IfSome, OnOk};
 ghost use Rattle.std.specs.Bool.{OnTrue};
 ghost use Rattle.pz_sets.specs.Sets.{member};
-ghost use Rattle.pz_grid.specs.Standing.{stands};
+ghost use Rattle.pz_sheet.specs.Standing.{stands};
 ghost use Rattle.pz_record.specs.Labels.{IsLabelOf, set_text, text_at, text_of_cell};
 ghost use Rattle.pz_record.specs.LevelNames.{sets_in};
 ghost use Rattle.pz_record.specs.LevelText.{joined, text_of_cells, text_of_level};

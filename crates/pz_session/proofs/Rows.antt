@@ -13,8 +13,8 @@ use Rattle.pz_game.specs.declared.instance.Block.TheVariants.{One}
 use Rattle.pz_game.specs.declared.instance.Program.{Program}
 use Rattle.pz_game.specs.declared.pattern.Word.TheVariants.{Toward}
 use Rattle.pz_game.specs.Pattern.{RuleRow}
-use Rattle.pz_grid.specs.declared.cell.Piece.{Piece}
-use Rattle.pz_grid.specs.Grid.{Grid}
+use Rattle.pz_cells.specs.declared.piece.Piece.{Piece}
+use Rattle.pz_sheet.specs.Grid.{Grid}
 use Rattle.pz_grid.specs.Places.{searched}
 use Rattle.pz_turn.specs.Instance.{applied}
 use Rattle.pz_turn.specs.Rest.{rest_of}

@@ -12,8 +12,8 @@ use Rattle.pz_game.specs.Commands as command
 use Rattle.pz_game.specs.declared.commands.Commands.{Commands}
 use Rattle.pz_game.specs.Commands.{either}
 use Rattle.pz_game.specs.declared.instance.Program.{Program}
-use Rattle.pz_grid.specs.declared.cell.Piece.{Piece}
-use Rattle.pz_grid.specs.Grid.{Grid}
+use Rattle.pz_cells.specs.declared.piece.Piece.{Piece}
+use Rattle.pz_sheet.specs.Grid.{Grid}
 use Rattle.pz_turn.specs.Outcome.{Outcome}
 use Rattle.pz_turn.specs.Step.{blocks_run, rules_run, step_of}
 use Rattle.pz_turn.specs.Win.{has_won}

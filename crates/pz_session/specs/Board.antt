@@ -6,9 +6,9 @@ use Rattle.pz_game.specs.declared.commands.Commands.{Commands}
 use Rattle.pz_game.specs.declared.instance.Program.{Program}
 use Rattle.pz_game.specs.Commands as command
 use Rattle.pz_game.specs.Instance.{IsProgramOf}
-use Rattle.pz_grid.specs.Grid.{Grid, IsOfGame}
+use Rattle.pz_sheet.specs.Grid.{Grid, IsOfGame}
 use Rattle.pz_grid.specs.Loading.{loaded}
-use Rattle.pz_grid.specs.Sameness.{same_grid}
+use Rattle.pz_sheet.specs.Sameness.{same_grid}
 use Rattle.pz_turn.specs.declared.outcome.StepFault.{StepFault}
 use Rattle.pz_turn.specs.Outcome.{Outcome}
 use Rattle.pz_turn.specs.Step.{step_of}

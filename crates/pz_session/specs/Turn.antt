@@ -1,7 +1,7 @@
 -- What a session makes of the end of a step.
 use Rattle.std.specs.Prelude.{Bool, not, ◌||◌}
 use Rattle.pz_game.specs.Commands.{has, cancel, restart, win}
-use Rattle.pz_grid.specs.Grid.{Grid}
+use Rattle.pz_sheet.specs.Grid.{Grid}
 use Rattle.pz_turn.specs.declared.outcome.StepFault.{StepFault}
 use Rattle.pz_turn.specs.declared.outcome.StepFault.TheVariants as step
 use Rattle.pz_turn.specs.Outcome.{Outcome}

@@ -3,7 +3,7 @@
 ghost use Rattle.std.specs.Prelude.{◌≡◌, ◌<◌, ◌+◌, true, length, IfOk, OnOk, Ok};
 ghost use Rattle.pz_game.specs.Level.{is_playable};
 ghost use Rattle.pz_game.specs.Instance.{IsProgramOf};
-ghost use Rattle.pz_grid.specs.Grid.{IsOfGame};
+ghost use Rattle.pz_sheet.specs.Grid.{IsOfGame};
 ghost use Rattle.pz_grid.specs.Loading.{entry_at};
 ghost use Rattle.pz_session.specs.Chain.{GivesLink};
 ghost use Rattle.pz_session.specs.FirstLevel.{level_from};

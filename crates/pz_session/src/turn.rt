@@ -2,7 +2,7 @@
 
 ghost use Rattle.std.specs.Prelude.{◌≡◌, ◌≢◌, IfOk, IfErr, Ok, Err};
 ghost use Rattle.pz_game.specs.Instance.{IsProgramOf};
-ghost use Rattle.pz_grid.specs.Grid.{IsOfGame};
+ghost use Rattle.pz_sheet.specs.Grid.{IsOfGame};
 ghost use Rattle.pz_turn.specs.Step.{step_of};
 ghost use Rattle.pz_turn.specs.declared.outcome.StepFault.TheVariants.{Memory};
 ghost use Rattle.pz_session.specs.Turn.{is_idle};

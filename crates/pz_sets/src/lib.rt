@@ -1,5 +1,6 @@
-//! Sets of the objects of a game, which are numbers below 512, kept as bits of four words.
+//! Sets of numbers, kept as bits of words: those of a length of its own (`NumberSet`), and operations on slices of words.
 #![tactic(auto)]
 
 pub mod set;
 mod word;
+pub mod words;

@@ -1,9 +1,10 @@
 //! Sets of numbers.
 
-ghost use Rattle.std.specs.Prelude.{◌≡◌, ℕ, ◌<◌, ◌↔◌, true, false, ◌||◌, nat_eq};
+ghost use Rattle.std.specs.Prelude.{◌≡◌, ℕ, ◌<◌, ◌≤◌, ◌↔◌, true, false, ◌&&◌, ◌||◌, nat_eq, length};
 ghost use Rattle.pz_sets.specs.Sets.{member};
 
 use crate::word;
+use crate::words::word_at;
 use std::marker::Model;
 
 /// The numbers of a set are below this one.
@@ -11,7 +12,7 @@ pub const CAPACITY: usize = 512;
 
 /// A set of numbers: four words of 128 bits, the least numbers first. Contracts see it as the list of these words, and read it by `member`
 /// alone.
-#[derive(Clone, Copy, PartialEq, Eq, Hash)]
+#[derive(Clone, Copy, PartialEq, Eq, Hash, Debug)]
 pub struct NumberSet {
     words: [u128; 4],
 }
@@ -34,6 +35,21 @@ impl NumberSet {
         NumberSet { words: [0; 4] }
     }
 
+    /// The numbers of a set in words.
+    pub fn from_words(words: &[u128]) -> NumberSet
+        requires { length words.now ≤ 4 }
+        ensures { (number : ℕ) → member result number ≡ member words.now number }
+    {
+        NumberSet {
+            words: [
+                word_at(words, 0),
+                word_at(words, 1),
+                word_at(words, 2),
+                word_at(words, 3),
+            ],
+        }
+    }
+
     /// Whether a number that a set may have is in it.
     fn has_bit(&self, number: usize) -> bool
         requires { number < CAPACITY }
@@ -52,6 +68,14 @@ impl NumberSet {
         } else {
             false
         }
+    }
+
+    /// The words of the set.
+    pub fn words(&self) -> &[u128]
+        ensures words { result.now ≡ self.now }
+        ensures long { length result.now ≡ 4 }
+    {
+        &self.words
     }
 
     /// Adds a number.
@@ -79,6 +103,20 @@ impl NumberSet {
                 word::union(self.words[1], added.words[1]),
                 word::union(self.words[2], added.words[2]),
                 word::union(self.words[3], added.words[3]),
+            ],
+        }
+    }
+
+    /// The numbers of both sets.
+    pub fn common(&self, other: &NumberSet) -> NumberSet
+        ensures { (number : ℕ) → member result number ≡ (member self.now number && member other.now number) }
+    {
+        NumberSet {
+            words: [
+                word::common(self.words[0], other.words[0]),
+                word::common(self.words[1], other.words[1]),
+                word::common(self.words[2], other.words[2]),
+                word::common(self.words[3], other.words[3]),
             ],
         }
     }

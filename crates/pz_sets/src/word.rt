@@ -1,6 +1,6 @@
-// The bits of a word.
+//! The bits of a word.
 
-ghost use Rattle.std.specs.Prelude.{◌≡◌, ℕ, ◌<◌, ◌||◌, nat_eq};
+ghost use Rattle.std.specs.Prelude.{◌≡◌, ℕ, ◌<◌, ◌≤◌, ◌↔◌, IsTrue, true, false, not, ◌&&◌, ◌||◌, nat_eq, MatchOption};
 ghost use Rattle.pz_sets.specs.Sets.{in_word};
 
 pub fn has(word: u128, bit: usize) -> bool
@@ -17,8 +17,66 @@ pub fn with(word: u128, bit: usize) -> u128
     word | 1u128 << bit
 }
 
+pub fn without(word: u128, bit: usize) -> u128
+    requires { bit < 128 }
+    ensures { (other : ℕ) → other < 128 → in_word result other ≡ (not (nat_eq other bit) && in_word word other) }
+{
+    word & !(1u128 << bit)
+}
+
 pub fn union(word: u128, added: u128) -> u128
     ensures { (bit : ℕ) → in_word result bit ≡ (in_word word bit || in_word added bit) }
 {
     word | added
+}
+
+pub fn common(word: u128, other: u128) -> u128
+    ensures { (bit : ℕ) → in_word result bit ≡ (in_word word bit && in_word other bit) }
+{
+    word & other
+}
+
+pub fn minus(word: u128, removed: u128) -> u128
+    ensures { (bit : ℕ) → bit < 128 → in_word result bit ≡ (in_word word bit && not (in_word removed bit)) }
+{
+    word & !removed
+}
+
+/// Whether a word has each bit of another.
+pub fn covers(word: u128, wanted: u128) -> bool
+    ensures { IsTrue result ↔ ((bit : ℕ) → bit < 128 → in_word wanted bit ≡ true → in_word word bit ≡ true) }
+{
+    word & wanted == wanted
+}
+
+/// Whether a word has no bit of another.
+pub fn is_apart(word: u128, unwanted: u128) -> bool
+    ensures { IsTrue result ↔ ((bit : ℕ) → bit < 128 → in_word unwanted bit ≡ true → in_word word bit ≡ false) }
+{
+    word & unwanted == 0
+}
+
+pub fn same(word: u128, other: u128) -> bool
+    ensures { IsTrue result ↔ ((bit : ℕ) → bit < 128 → in_word word bit ≡ in_word other bit) }
+{
+    word == other
+}
+
+/// The lowest bit of a word that has one.
+pub fn lowest(word: u128) -> usize
+    requires { 0 < word }
+    ensures there { in_word word result ≡ true }
+    ensures below { result < 128 }
+    ensures least { (bit : ℕ) → bit < result → in_word word bit ≡ false }
+{
+    word.trailing_zeros() as usize
+}
+
+/// The lowest bit of a word from a place on.
+pub fn lowest_from(word: u128, start: usize) -> Option<usize>
+    requires { start < 128 }
+    ensures { MatchOption result ((bit : ℕ) → start ≤ bit → bit < 128 → in_word word bit ≡ false) (λ found. (start ≤ found) × (found < 128) × (in_word word found ≡ true) × ((bit : ℕ) → start ≤ bit → bit < found → in_word word bit ≡ false)) }
+{
+    let rest = word & u128::MAX << start;
+    if rest == 0 { None } else { Some(lowest(rest)) }
 }

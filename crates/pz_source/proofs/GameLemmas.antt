@@ -81,7 +81,7 @@ firsts-worded objects named =
     (All-weaker IsNamed (λ (line : NameLine). IsWord (get_or line.names 0 [])) (λ line n. All-get_or IsWord line.names 0 [] n.0 n.1) objects named)
 
 -- the facts of a game, where it is made
-module _ (objects : List NameLine) (names : List (List ℕ)) (values : List Denotation) (few : length objects ≤ 128) (named : All IsNamed objects) (all : length values ≡ length names)
+module _ (objects : List NameLine) (names : List (List ℕ)) (values : List Denotation) (few : length objects ≤ 512) (named : All IsNamed objects) (all : length values ≡ length names)
     (denoted : All (IsDenoted (length objects)) values) (needed : fault_of_needs names values ≡ None) (lines : List Line) (placed : fault_of_layers objects names values lines ≡ None)
     (drawing : List Line) (entries : List LevelEntry) (drawn : levels_of (glyph_of names values) drawing ≡ Ok entries) (rules : List RuleLine) (wins : List WinLine) (options : Options) where
   made : IsGame (record {

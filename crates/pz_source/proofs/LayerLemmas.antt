@@ -47,9 +47,9 @@ nowhere-none f before (x ∷ rest) none k lt = by k lt (f (length before)) refl 
         let same : length (before ++ x ∷ []) + j ≡ length before + suc j = omega (arith, long) in
         rest n j (omega arith) (ap f same ∙ none)
 
--- where no layer is named, there are at most 25
-few : (names : List (List ℕ)) (values : List Denotation) (before rest : List NameLine) → length before ≤ 25 → first_fault name_line_at (misplaces names values) before rest ≡ None
-    → length before + length rest ≤ 25
+-- where no layer is named, there are at most 100
+few : (names : List (List ℕ)) (values : List Denotation) (before rest : List NameLine) → length before ≤ 100 → first_fault name_line_at (misplaces names values) before rest ≡ None
+    → length before + length rest ≤ 100
 few names values before [] low none = omega arith
 few names values before (x ∷ rest) low none =
     by (list_any (λ name. not (is_name_of names name)) x.names) (list_any (λ name. is_of_kind Aggregate (kind_in names values name)) x.names) (nat_le MAX_LAYERS (length before)) refl none
@@ -58,14 +58,14 @@ few names values before (x ∷ rest) low none =
     by : (a b d : Bool) → nat_le MAX_LAYERS (length before) ≡ d
         → option_map_or (λ c. Some (record { code = c; line = name_line_at x })) (if a then Some code.Unknown else (if b then Some code.Mixed else (if d then Some code.TooLarge else None)))
         (first_fault name_line_at (misplaces names values) (before ++ x ∷ []) rest) ≡ None
-        → (length (before ++ x ∷ []) ≤ 25 → first_fault name_line_at (misplaces names values) (before ++ x ∷ []) rest ≡ None → length (before ++ x ∷ []) + length rest ≤ 25)
-        → length before + suc (length rest) ≤ 25
+        → (length (before ++ x ∷ []) ≤ 100 → first_fault name_line_at (misplaces names values) (before ++ x ∷ []) rest ≡ None → length (before ++ x ∷ []) + length rest ≤ 100)
+        → length before + suc (length rest) ≤ 100
     by true b d e n more = cc
     by false true d e n more = cc
     by false false true e n more = cc
     by false false false e n more =
         let long = length-append before (x ∷ []) in
-        let room = leb-false 25 (length before) e in
+        let room = leb-false 100 (length before) e in
         let all = more (omega (arith, long)) n in
         omega (arith, long)
 
@@ -105,7 +105,7 @@ module _ (objects : List NameLine) (names : List (List ℕ)) (values : List Deno
       sym (or_else-later (first_fault name_line_at (misplaces names values) [] (layer_lines lines))
       (first_fault name_line_at (lies_nowhere (layer_of (holds names values) (layer_lines lines))) [] objects) misplaced_none) ∙ sound
 
-  pub shallow : length (layer_lines lines) ≤ 25
+  pub shallow : length (layer_lines lines) ≤ 100
   shallow = let all = few names values [] (layer_lines lines) (omega arith) misplaced_none in omega arith
 
   pub layered : All (λ layer. layer < length (layer_lines lines)) (layers_of objects names values lines)

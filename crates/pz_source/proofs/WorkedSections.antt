@@ -104,12 +104,12 @@ layers_before_objects : fault_of_layers objects names values (lines_at section.L
 unfolding encode_utf8
 layers_before_objects = refl
 
--- the 25th layer is the last that may be
-layer_25 : misplaced names values 24 (codes "wall" ∷ []) ≡ None
-layer_25 = refl
+-- the hundredth layer is the last that may be
+layer_100 : misplaced names values 99 (codes "wall" ∷ []) ≡ None
+layer_100 = refl
 
-layer_26 : misplaced names values 25 (codes "wall" ∷ []) ≡ Some code.TooLarge
-layer_26 = refl
+layer_101 : misplaced names values 100 (codes "wall" ∷ []) ≡ Some code.TooLarge
+layer_101 = refl
 
 -- LEVELS
 

@@ -1,4 +1,3 @@
-pub mod Belonging
 pub mod Applying
 pub mod Combining
 pub mod Limits

@@ -6,7 +6,7 @@ use Rattle.pz_game.specs.declared.direction.Dir.{Dir}
 use Rattle.pz_game.specs.declared.instance.Instance.{Instance}
 use Rattle.pz_game.specs.Pattern.{RuleRow}
 use Rattle.pz_grid.specs.declared.places.Place.{Place}
-use Rattle.pz_grid.specs.Grid.{Grid, IsLawful}
+use Rattle.pz_sheet.specs.Grid.{Grid, IsLawful}
 use Rattle.pz_grid.specs.Places.{places}
 use Rattle.pz_grid.proofs.FoundLemmas.{searched-within}
 use Rattle.pz_grid.proofs.CountLemmas.{searched-gapless}

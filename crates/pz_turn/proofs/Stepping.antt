@@ -1,10 +1,10 @@
 -- How a step ends.
-use Rattle.std.proofs.Common.{◌≡◌, ℕ, List, Option, None, Some, Ok, Err, ap, sym, ◌∙◌}
+use Rattle.std.proofs.Common.{◌≡◌, Option, Ok, Err, ap, sym, ◌∙◌}
 use Rattle.pz_game.specs.declared.direction.Dir.{Dir}
 use Rattle.pz_game.specs.declared.instance.Program.{Program}
 use Rattle.pz_game.specs.Game.{players_of}
 use Rattle.pz_game.specs.declared.game.GameParts.{GameParts}
-use Rattle.pz_grid.specs.Grid.{Grid}
+use Rattle.pz_sheet.specs.Grid.{Grid}
 use Rattle.pz_turn.specs.declared.outcome.StepFault.{StepFault}
 use Rattle.pz_turn.specs.Outcome.{Outcome}
 use Rattle.pz_turn.specs.Step.{rules_run, given_input, must_cancel, with_cancel, ended, step_ended, step_of}
@@ -18,8 +18,3 @@ pub step_ends : (game : GameParts) (program : Program) (grid start : Grid) (inpu
 unfolding step_of
 step_ends game program grid start input end starts ends =
     ap (λ (g : Grid). step_ended game input grid (rules_run program g)) (sym starts) ∙ ap (step_ended game input grid) ends
-
--- the input leaves the layers of the level
-pub layers-given : (layers players : List ℕ) (input : Option Dir) (grid start : Grid) → start ≡ given_input players input grid → grid.layers ≡ layers → start.layers ≡ layers
-layers-given layers players None grid start is of = ap (λ (g : Grid). g.layers) is ∙ of
-layers-given layers players (Some dir) grid start is of = ap (λ (g : Grid). g.layers) is ∙ of

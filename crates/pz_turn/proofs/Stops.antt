@@ -13,7 +13,7 @@ use Rattle.pz_game.specs.Pattern.{RuleRow}
 use Rattle.pz_grid.specs.declared.places.GridFault.TheVariants as grid
 use Rattle.pz_grid.specs.declared.places.Place.{Place}
 use Rattle.pz_grid.specs.declared.places.TheConstants.{MATCH_LIMIT}
-use Rattle.pz_grid.specs.Grid.{Grid}
+use Rattle.pz_sheet.specs.Grid.{Grid}
 use Rattle.pz_grid.specs.Places.{places, searched}
 use Rattle.pz_turn.specs.declared.outcome.StepFault.{StepFault}
 use Rattle.pz_turn.specs.declared.outcome.StepFault.TheVariants.{Memory, MatchLimit}

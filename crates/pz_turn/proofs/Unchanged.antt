@@ -7,12 +7,13 @@ use Rattle.pz_game.specs.declared.direction.Dir.{Dir}
 use Rattle.pz_game.specs.declared.pattern.Item.{Item}
 use Rattle.pz_game.specs.declared.instance.Instance.{Instance}
 use Rattle.pz_game.specs.Pattern.{RuleRow}
-use Rattle.pz_grid.specs.declared.cell.Piece.{Piece}
+use Rattle.pz_cells.specs.declared.piece.Piece.{Piece}
 use Rattle.pz_grid.specs.declared.places.Place.{Place}
-use Rattle.pz_grid.specs.Grid.{Grid, cell_at}
+use Rattle.pz_sheet.specs.Grid.{Grid, cell_at}
 use Rattle.pz_grid.specs.Places.{position_of, still_matches}
-use Rattle.pz_grid.specs.Rewriting.{Rewriting, in_rewrite, rewritten_at, rewritten_along, rewritten_row, rewritten, rewritten_cell}
-use Rattle.pz_grid.specs.Sameness.{same_cell}
+use Rattle.pz_grid.specs.Rewriting.{Rewriting, in_rewrite, rewritten_at, rewritten_along, rewritten_row, rewritten}
+use Rattle.pz_cells.specs.Rewriting.{rewritten_cell}
+use Rattle.pz_cells.specs.Sameness.{same_cell}
 use Rattle.pz_grid.proofs.SameLemmas.{same_cell_is}
 use Rattle.pz_turn.specs.declared.outcome.StepFault.{StepFault}
 use Rattle.pz_turn.specs.Combinations.{combinations}

@@ -10,7 +10,7 @@ use Rattle.pz_game.specs.Pattern.{RuleRow}
 use Rattle.pz_grid.specs.declared.places.GridFault.{GridFault}
 use Rattle.pz_grid.specs.declared.places.GridFault.TheVariants as grid
 use Rattle.pz_grid.specs.declared.places.Place.{Place}
-use Rattle.pz_grid.specs.Grid.{Grid}
+use Rattle.pz_sheet.specs.Grid.{Grid}
 use Rattle.pz_grid.specs.Places.{searched, still_matches}
 use Rattle.pz_grid.specs.Rewriting.{Rewriting, in_rewrite, rewritten}
 use Rattle.pz_turn.specs.declared.outcome.StepFault.{StepFault}

@@ -6,7 +6,7 @@ use Rattle.pz_base.specs.Lists.{product_of}
 use Rattle.pz_game.specs.declared.instance.Instance.{Instance}
 use Rattle.pz_game.specs.declared.instance.Program.{Program}
 use Rattle.pz_grid.specs.declared.places.Place.{Place}
-use Rattle.pz_grid.specs.Grid.{Grid}
+use Rattle.pz_sheet.specs.Grid.{Grid}
 use Rattle.pz_turn.specs.declared.outcome.StepFault.TheVariants.{Memory}
 use Rattle.pz_turn.specs.declared.rest.TheConstants.{PASSES}
 use Rattle.pz_turn.specs.Combinations.{combinations}

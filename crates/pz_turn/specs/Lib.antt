@@ -1,4 +1,3 @@
-pub mod Belonging
 pub mod Outcome
 pub mod Combinations
 pub mod Instance

@@ -12,12 +12,12 @@ use Rattle.pz_game.specs.declared.instance.Block.{Block}
 use Rattle.pz_game.specs.declared.instance.Block.TheVariants.{One, Loop}
 use Rattle.pz_game.specs.declared.instance.Program.{Program}
 use Rattle.pz_game.specs.Commands.{has, either}
-use Rattle.pz_grid.specs.declared.cell.Piece.{Piece}
-use Rattle.pz_grid.specs.Grid.{Grid}
+use Rattle.pz_cells.specs.declared.piece.Piece.{Piece}
+use Rattle.pz_sheet.specs.Grid.{Grid}
 use Rattle.pz_grid.specs.Movement.{resolved}
-use Rattle.pz_grid.specs.Presence.{holds_one}
-use Rattle.pz_grid.specs.Pushing.{pushed}
-use Rattle.pz_grid.specs.Sameness.{same_grid}
+use Rattle.pz_sheet.specs.Presence.{holds_one}
+use Rattle.pz_sheet.specs.Pushing.{pushed}
+use Rattle.pz_sheet.specs.Sameness.{same_grid}
 use Rattle.pz_turn.specs.declared.outcome.StepFault.{StepFault}
 use Rattle.pz_turn.specs.declared.rest.TheConstants.{PASSES}
 use Rattle.pz_turn.specs.Instance.{applied}

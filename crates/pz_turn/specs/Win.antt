@@ -9,9 +9,9 @@ use Rattle.pz_game.specs.declared.win_line.Quantifier.{Quantifier}
 use Rattle.pz_game.specs.declared.win_line.Quantifier.TheVariants as quantifier
 use Rattle.pz_game.specs.declared.win_line.WinLine.{WinLine}
 use Rattle.pz_game.specs.declared.game.GameParts.{GameParts}
-use Rattle.pz_grid.specs.declared.cell.Piece.{Piece}
-use Rattle.pz_grid.specs.Grid.{Grid}
-use Rattle.pz_grid.specs.Presence.{holds_one, holds_each}
+use Rattle.pz_cells.specs.declared.piece.Piece.{Piece}
+use Rattle.pz_sheet.specs.Grid.{Grid}
+use Rattle.pz_sheet.specs.Presence.{holds_one, holds_each}
 
 -- a cell fits an aggregate that it holds wholly, and an object or a property of which it holds a member
 abbrev pub fits_kind : Kind → List ℕ → List (Option Piece) → Bool

@@ -1,10 +1,11 @@
 //! An instance of a rule, applied at all combinations of the places of its rows.
 
 ghost use Rattle.std.specs.Prelude.{◌≡◌, ◌≢◌, ◌≤◌, ◌<◌, ◌+◌, ◌++◌, IfOk, IfErr, Ok, Err, true, length, drop, map, fold, min};
-ghost use Rattle.pz_grid.specs.Grid.{SameSize};
+ghost use Rattle.pz_game.specs.Instance.{IsInstanceOf};
+ghost use Rattle.pz_game.specs.Pattern.{IsRowOf, AreRowsOf};
+ghost use Rattle.pz_sheet.specs.Grid.{SameSize};
 ghost use Rattle.pz_grid.specs.Places.{searched};
 ghost use Rattle.pz_grid.specs.Rewriting.{in_rewrite};
-ghost use Rattle.pz_turn.specs.Belonging.{PlacesObjectsOf};
 ghost use Rattle.pz_turn.specs.Combinations.{combinations};
 ghost use Rattle.pz_turn.specs.Instance.{found_or_stop, taken, applied_at, applied, given};
 ghost use Rattle.pz_turn.specs.Outcome.{GivesOutcome, untouched};
@@ -27,6 +28,7 @@ pub const COMBINATION_LIMIT: u64 = 1_048_576;
 
 /// The places of a row, unless there are too many.
 fn search(alloc: Global, level: &Level, row: &Row, dir: Dir) -> Result<Listed<Place>, StepFault>
+    requires of_game { IsRowOf level.now.grid.layers row.now }
     ensures found { IfOk result (λ found. found_or_stop (searched level.now.grid row.now dir) ≡ Ok found) }
     ensures fault { IfErr result (λ fault. fault ≢ Memory → found_or_stop (searched level.now.grid row.now dir) ≡ Err fault) }
 {
@@ -40,6 +42,7 @@ fn search(alloc: Global, level: &Level, row: &Row, dir: Dir) -> Result<Listed<Pl
 /// Whether the marks of a level tell at once that an instance has no combination: some row has no place, and none of those before it has a
 /// gap. (One with a gap could have too many places, and that is answered first.)
 fn is_left_out(level: &Level, instance: &Instance) -> bool
+    requires of_game { AreRowsOf level.now.grid.layers instance.now.left }
     ensures { result ≡ true → applied instance.now level.now.grid ≡ Ok (untouched level.now.grid) }
 {
     // (brings the proof the law of levels)
@@ -61,6 +64,7 @@ fn take_places(
     level: &Level,
     instance: &Instance,
 ) -> Result<Vec<Listed<Place>>, StepFault>
+    requires of_game { AreRowsOf level.now.grid.layers instance.now.left }
     ensures taken { IfOk result (λ lists. taken level.now.grid instance.now.scan instance.now.left ≡ Ok lists.items) }
     ensures fault { IfErr result (λ fault. fault ≢ Memory → taken level.now.grid instance.now.scan instance.now.left ≡ Err fault) }
 {
@@ -93,7 +97,7 @@ fn combination_count(lists: &[Listed<Place>]) -> u64
 
 /// Rewrites an instance at places, if all its rows still hold there.
 fn apply_at(level: &mut Level, instance: &Instance, places: &[Place], changed: bool) -> bool
-    requires places_of { PlacesObjectsOf level.old.grid.layers instance.now }
+    requires of_game { IsInstanceOf level.old.grid.layers instance.now }
     ensures applied { in_rewrite level.new.grid result ≡ applied_at instance.now (in_rewrite level.old.grid changed) places.now }
     ensures size { SameSize level.old.grid level.new.grid }
 {
@@ -113,7 +117,7 @@ fn apply_all(
     changed_before: bool,
 ) -> bool
     requires room { length lists.now ≤ length chosen.old }
-    requires places_of { PlacesObjectsOf level.old.grid.layers instance.now }
+    requires of_game { IsInstanceOf level.old.grid.layers instance.now }
     ensures applied { in_rewrite level.new.grid result ≡ fold (applied_at instance.now) (in_rewrite level.old.grid changed_before) (map (λ places. places ++ drop (length lists.now) chosen.old) (combinations lists.now)) }
     ensures size { SameSize level.old.grid level.new.grid }
     ensures chosen { drop (length lists.now) chosen.new ≡ drop (length lists.now) chosen.old }
@@ -158,8 +162,8 @@ fn given(lists: &[Listed<Place>], commands: Commands) -> Commands
 
 /// Applies an instance to a level. MatchLimit: a row before the first one without a place has too many places, or there are more
 /// than `COMBINATION_LIMIT` combinations.
-pub fn apply(alloc: Global, level: &mut Level, instance: &Instance) -> Result<Given, StepFault>
-    requires places_of { PlacesObjectsOf level.old.grid.layers instance.now }
+fn apply(alloc: Global, level: &mut Level, instance: &Instance) -> Result<Given, StepFault>
+    requires of_game { IsInstanceOf level.old.grid.layers instance.now }
     ensures outcome { GivesOutcome (applied instance.now level.old.grid) level.new.grid result }
     ensures size { SameSize level.old.grid level.new.grid }
 {
@@ -177,7 +181,7 @@ pub fn apply(alloc: Global, level: &mut Level, instance: &Instance) -> Result<Gi
 }
 
 impl Runnable for Instance {
-    ghost places_of = { PlacesObjectsOf };
+    ghost is_of = { IsInstanceOf };
 
     ghost runs = { applied };
 

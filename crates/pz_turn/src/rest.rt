@@ -2,8 +2,7 @@
 
 ghost use Rattle.std.specs.Prelude.{◌≡◌, ◌≢◌, Ok, All};
 ghost use Rattle.pz_game.specs.Instance.{IsGroupOf};
-ghost use Rattle.pz_grid.specs.Grid.{IsLawful, IsOfGame, SameSize};
-ghost use Rattle.pz_turn.specs.Belonging.{GroupPlacesObjectsOf};
+ghost use Rattle.pz_sheet.specs.Grid.{IsLawful, IsOfGame, SameSize};
 ghost use Rattle.pz_turn.specs.Instance.{applied};
 ghost use Rattle.pz_turn.specs.Outcome.{GivesOutcome, GivesBoth};
 ghost use Rattle.pz_turn.specs.Rest.{pass_of, rest_of, group_runs};
@@ -21,15 +20,15 @@ pub const PASSES: u64 = 200;
 /// What runs on a level: an instance, a group of a loop, a block.
 pub(crate) trait Runnable {
     ghost use Rattle.std.specs.Prelude.{ℕ, List};
-    ghost use Rattle.pz_grid.specs.Grid.{Grid};
+    ghost use Rattle.pz_sheet.specs.Grid.{Grid};
     ghost use Rattle.pz_turn.specs.Rest.{Runs};
 
-    ghost places_of: { List ℕ → Self → Type 0 };
+    ghost is_of: { List ℕ → Self → Type 0 };
 
     ghost runs: { Self → Runs Grid };
 
     fn run(&self, alloc: Global, level: &mut Level) -> Result<Given, StepFault>
-        requires places_of { places_of level.old.grid.layers self.now }
+        requires of_game { is_of level.old.grid.layers self.now }
         ensures outcome { GivesOutcome (runs self.now level.old.grid) level.new.grid result }
         ensures size { SameSize level.old.grid level.new.grid };
 }
@@ -40,7 +39,7 @@ pub(crate) fn pass<T: Runnable>(
     level: &mut Level,
     items: &[T],
 ) -> Result<Given, StepFault>
-    requires places_of { All (T.places_of level.old.grid.layers) items.now }
+    requires of_game { All (T.is_of level.old.grid.layers) items.now }
     ensures outcome { GivesOutcome (pass_of T.runs items.now level.old.grid) level.new.grid result }
     ensures size { SameSize level.old.grid level.new.grid }
 {
@@ -58,7 +57,7 @@ pub(crate) fn to_rest<T: Runnable>(
     level: &mut Level,
     items: &[T],
 ) -> Result<Given, StepFault>
-    requires places_of { All (T.places_of level.old.grid.layers) items.now }
+    requires of_game { All (T.is_of level.old.grid.layers) items.now }
     ensures outcome { GivesOutcome (rest_of PASSES (pass_of T.runs items.now) level.old.grid) level.new.grid result }
     ensures size { SameSize level.old.grid level.new.grid }
 {
@@ -77,7 +76,7 @@ pub(crate) fn to_rest<T: Runnable>(
 impl Runnable for Group {
     ghost use Rattle.pz_turn.specs.declared.rest.TheConstants.{PASSES};
 
-    ghost places_of = { GroupPlacesObjectsOf };
+    ghost is_of = { IsGroupOf };
 
     ghost runs = { group_runs PASSES applied };
 

@@ -1,12 +1,11 @@
 //! A step: the input, the early blocks, the movement, the late blocks.
 
-ghost use Rattle.std.specs.Prelude.{◌≡◌, ◌≢◌, ◌<◌, not, All, IfOk, IfErr, Ok, Err, length};
+ghost use Rattle.std.specs.Prelude.{◌≡◌, ◌≢◌, ◌<◌, not, IfOk, IfErr, Ok, Err, length};
 ghost use Rattle.std.specs.List.{list_any, list_all, zip};
 ghost use Rattle.pz_game.specs.Game.{players_of};
-ghost use Rattle.pz_game.specs.Instance.{IsProgramOf};
-ghost use Rattle.pz_grid.specs.Grid.{IsLawful, IsOfGame, SameSize};
-ghost use Rattle.pz_grid.specs.Presence.{holds_one, cell_of};
-ghost use Rattle.pz_turn.specs.Belonging.{BlockPlacesObjectsOf};
+ghost use Rattle.pz_game.specs.Instance.{IsBlockOf, AreBlocksOf, IsProgramOf};
+ghost use Rattle.pz_sheet.specs.Grid.{IsLawful, IsOfGame, SameSize};
+ghost use Rattle.pz_sheet.specs.Presence.{holds_one, cell_of};
 ghost use Rattle.pz_turn.specs.Outcome.{GivesOutcome};
 ghost use Rattle.pz_turn.specs.Step.{block_runs, blocks_run, rules_run, given_input, keeps_player, has_stayed, must_cancel, with_cancel, ended, step_of};
 ghost use Rattle.pz_turn.specs.declared.outcome.StepFault.TheVariants.{Memory};
@@ -30,7 +29,7 @@ pub struct StepEnd {
 }
 
 impl Runnable for Block {
-    ghost places_of = { BlockPlacesObjectsOf };
+    ghost is_of = { IsBlockOf };
 
     ghost runs = { block_runs };
 
@@ -47,7 +46,7 @@ impl Runnable for Block {
 /// Runs blocks, one after another.
 #[tactic(auto, unfolding(crate::specs::Step::blocks_run))]
 fn run_blocks(alloc: Global, level: &mut Level, blocks: &[Block]) -> Result<Given, StepFault>
-    requires places_of { All (BlockPlacesObjectsOf level.old.grid.layers) blocks.now }
+    requires of_game { AreBlocksOf level.old.grid.layers blocks.now }
     ensures outcome { GivesOutcome (blocks_run blocks.now level.old.grid) level.new.grid result }
     ensures size { SameSize level.old.grid level.new.grid }
 {
@@ -63,8 +62,7 @@ fn run_rules(
     program: &Program,
 ) -> Result<Given, StepFault>
     requires level_of { IsOfGame game.now level.old.grid }
-    requires early { All (BlockPlacesObjectsOf level.old.grid.layers) program.now.early }
-    requires late { All (BlockPlacesObjectsOf level.old.grid.layers) program.now.late }
+    requires program_of { IsProgramOf level.old.grid.layers program.now }
     ensures outcome { GivesOutcome (rules_run program.now level.old.grid) level.new.grid result }
     ensures size { SameSize level.old.grid level.new.grid }
 {

@@ -2,7 +2,7 @@
 
 ghost use Rattle.std.specs.Prelude.{◌≡◌, ◌<◌, length};
 ghost use Rattle.std.specs.List.{list_any, list_all};
-ghost use Rattle.pz_grid.specs.Presence.{cell_of};
+ghost use Rattle.pz_sheet.specs.Presence.{cell_of};
 ghost use Rattle.pz_turn.specs.Win.{fits_kind, fits, fits_on, fits_both, fits_if, line_holds, has_won};
 
 use pz_game::denotation::{Denotation, Kind};

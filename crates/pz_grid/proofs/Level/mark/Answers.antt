@@ -1,7 +1,7 @@
 use Rattle.std.proofs.Common.{◌<◌, ℕ, List, [], ◌||◌, nat_eq, length, arith, ap, ◌∙◌}
 use Rattle.std.proofs.lemmas.List.{get_or_read}
 use Rattle.pz_sets.specs.Sets.{member}
-use Rattle.pz_grid.specs.Grid.{LevelState}
+use Rattle.pz_sheet.specs.Grid.{LevelState}
 use Rattle.pz_grid.proofs.MarkLemmas.{IsOneMore, marked_mark}
 use Rattle.pz_grid.proofs.Level.mark.Goals as goal
 

@@ -1,5 +1,5 @@
 use Rattle.std.proofs.Common.{◌≡◌, take}
-use Rattle.pz_grid.specs.Rewriting.{names_object}
+use Rattle.pz_game.specs.Items.{names_object}
 use Rattle.pz_grid.specs.Marks.{IsMore}
 use Rattle.pz_grid.proofs.Level.mark_placed.Given as goal
 

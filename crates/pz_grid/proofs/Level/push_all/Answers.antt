@@ -1,4 +1,4 @@
-use Rattle.pz_grid.specs.Grid.{LevelState}
+use Rattle.pz_sheet.specs.Grid.{LevelState}
 use Rattle.pz_grid.proofs.MarkLemmas.{marked_pushed}
 use Rattle.pz_grid.proofs.Level.push_all.Goals as goal
 

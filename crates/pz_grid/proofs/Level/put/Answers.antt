@@ -1,7 +1,7 @@
 use Rattle.std.proofs.Common.{◌<◌, ℕ, Option, Some, None, arith, ap, nat_eq, sym, subst}
 use Rattle.std.specs.Prelude.{IfSome}
-use Rattle.pz_grid.specs.declared.cell.Piece.{Piece}
-use Rattle.pz_grid.specs.Grid.{LevelState, with_place}
+use Rattle.pz_cells.specs.declared.piece.Piece.{Piece}
+use Rattle.pz_sheet.specs.Grid.{LevelState, with_place}
 use Rattle.pz_grid.specs.Marks.{IsMarked, IsMarkedAt}
 use Rattle.pz_grid.proofs.MarkLemmas.{marked_lift, marked_put}
 use Rattle.pz_grid.proofs.Level.put.Goals as goal

@@ -3,7 +3,8 @@ use Rattle.std.specs.Prelude.{fold, Option}
 use Rattle.std.specs.List.{enumerate_from, zip, list_any}
 use Rattle.std.proofs.lemmas.List.Folds.{list_any_at}
 use Rattle.pz_game.specs.declared.pattern.Item.{Item}
-use Rattle.pz_grid.specs.Rewriting.{Rewriting, in_rewrite, rewritten_along, names_object}
+use Rattle.pz_grid.specs.Rewriting.{Rewriting, in_rewrite, rewritten_along}
+use Rattle.pz_game.specs.Items.{names_object}
 use Rattle.pz_grid.specs.Marks.{IsWidenedBy}
 use Rattle.pz_grid.proofs.MoveLemmas.{widened_on}
 use Rattle.pz_grid.proofs.MovementLemmas.{same_size_on}

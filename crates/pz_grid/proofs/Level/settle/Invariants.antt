@@ -1,5 +1,5 @@
 use Rattle.std.proofs.Common.{◌≡◌}
-use Rattle.pz_grid.specs.Grid.{SameSize}
+use Rattle.pz_sheet.specs.Grid.{SameSize}
 use Rattle.pz_grid.specs.Staying.{IsMove}
 use Rattle.pz_grid.specs.Movement.{moving, settle}
 use Rattle.pz_grid.proofs.Level.settle.Given as goal

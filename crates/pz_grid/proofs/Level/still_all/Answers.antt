@@ -1,4 +1,4 @@
-use Rattle.pz_grid.specs.Grid.{LevelState}
+use Rattle.pz_sheet.specs.Grid.{LevelState}
 use Rattle.pz_grid.proofs.MarkLemmas.{marked_stilled}
 use Rattle.pz_grid.proofs.Level.still_all.Goals as goal
 

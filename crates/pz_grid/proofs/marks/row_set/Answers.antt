@@ -1,7 +1,7 @@
 use Rattle.std.proofs.Common.{◌≡◌, ℕ, ◌||◌, Bool, true, false, ap, sym, ◌∙◌, refl}
 use Rattle.std.specs.List.{list_any, range_with_len}
-use Rattle.pz_grid.specs.Grid.{cell_at}
-use Rattle.pz_grid.specs.Presence.{is_in}
+use Rattle.pz_sheet.specs.Grid.{cell_at}
+use Rattle.pz_sheet.specs.Presence.{is_in}
 use Rattle.pz_grid.proofs.MarkLemmas.{any_more}
 use Rattle.pz_grid.proofs.marks.row_set.Goals as goal
 

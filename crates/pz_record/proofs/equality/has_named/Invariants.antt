@@ -1,5 +1,5 @@
 use Rattle.std.proofs.Common.{◌≡◌, drop}
-use Rattle.pz_grid.specs.Standing.{stands}
+use Rattle.pz_sheet.specs.Standing.{stands}
 use Rattle.pz_record.specs.CellNames.{has_name}
 use Rattle.pz_record.specs.LevelNames.{chosen_from, standing_names}
 use Rattle.pz_record.proofs.equality.has_named.Given as goal

@@ -1,6 +1,6 @@
 use Rattle.std.proofs.Common.{◌≡◌, drop}
 use Rattle.std.specs.List.{list_all}
-use Rattle.pz_grid.specs.Standing.{stands}
+use Rattle.pz_sheet.specs.Standing.{stands}
 use Rattle.pz_record.specs.CellNames.{has_name}
 use Rattle.pz_record.specs.LevelNames.{chosen_from, standing_names}
 use Rattle.pz_record.proofs.equality.is_within.Given as goal

@@ -1,5 +1,5 @@
 use Rattle.std.proofs.Common.{◌≡◌, drop, map, fold}
-use Rattle.pz_grid.specs.Standing.{stands}
+use Rattle.pz_sheet.specs.Standing.{stands}
 use Rattle.pz_record.specs.CellNames.{with_name, set_of}
 use Rattle.pz_record.specs.LevelNames.{chosen_from, standing_names}
 use Rattle.pz_record.proofs.level_names.names_at.Given as goal

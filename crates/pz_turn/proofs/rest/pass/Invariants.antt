@@ -1,5 +1,5 @@
 use Rattle.std.proofs.Common.{◌≡◌, Ok, drop, fold}
-use Rattle.pz_grid.specs.Grid.{SameSize}
+use Rattle.pz_sheet.specs.Grid.{SameSize}
 use Rattle.pz_turn.specs.Outcome.{followed_by}
 use Rattle.pz_turn.specs.Rest.{pass_of}
 use Rattle.pz_turn.proofs.rest.pass.Given as goal

@@ -1,4 +1,4 @@
-use Rattle.pz_grid.specs.Grid.{SameSize}
+use Rattle.pz_sheet.specs.Grid.{SameSize}
 use Rattle.pz_turn.specs.Rest.{pass_of}
 use Rattle.pz_turn.proofs.Resting.{Running}
 use Rattle.pz_turn.proofs.rest.to_rest.Given as goal

@@ -1,6 +1,6 @@
 use Rattle.std.proofs.Common.{◌≡◌, take, false}
 use Rattle.std.specs.List.{list_any}
-use Rattle.pz_grid.specs.Presence.{holds_one}
+use Rattle.pz_sheet.specs.Presence.{holds_one}
 use Rattle.pz_turn.proofs.step.some_player.Given as goal
 
 abbrev pub invariant-loop-index : goal.invariant-loop-index

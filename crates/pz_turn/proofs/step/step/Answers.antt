@@ -2,15 +2,8 @@ use Rattle.std.proofs.Common.{ap, sym, ◌∙◌, Ok}
 use Rattle.std.proofs.lemmas.Result.{err_from_is_err_and, IfOk-weaker}
 use Rattle.pz_game.specs.declared.commands.Commands.{Commands}
 use Rattle.pz_turn.specs.Step.{ended, with_cancel}
-use Rattle.pz_turn.proofs.Belonging.{blocks_place}
-use Rattle.pz_turn.proofs.Stepping.{step_stops, step_ends, layers-given}
+use Rattle.pz_turn.proofs.Stepping.{step_stops, step_ends}
 use Rattle.pz_turn.proofs.step.step.Goals as goal
-
-pub run_rules-requires-clause-early : goal.run_rules-requires-clause-early
-run_rules-requires-clause-early c = blocks_place c.args.game.now.layers c.in_ok-work.work.grid.layers c.args.program.now.early (layers-given c.args.game.now.layers _ c.args.input c.args.level.now.grid _ c.in_ok-work.ensures.given c.requires.level_of.layers) c.requires.program_of.early
-
-pub run_rules-requires-clause-late : goal.run_rules-requires-clause-late
-run_rules-requires-clause-late c = blocks_place c.args.game.now.layers c.in_ok-work.work.grid.layers c.args.program.now.late (layers-given c.args.game.now.layers _ c.args.input c.args.level.now.grid _ c.in_ok-work.ensures.given c.requires.level_of.layers) c.requires.program_of.late
 
 pub returns-in_err-given-clause-fault : goal.returns-in_err-given-clause-fault
 returns-in_err-given-clause-fault c =

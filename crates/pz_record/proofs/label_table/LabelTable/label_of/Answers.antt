@@ -1,6 +1,6 @@
 use Rattle.std.proofs.Common.{◌≡◌, ℕ, List, ap, sym, ◌∙◌}
 use Rattle.pz_sets.specs.Sets.{member}
-use Rattle.pz_grid.specs.Standing.{stands}
+use Rattle.pz_sheet.specs.Standing.{stands}
 use Rattle.pz_record.specs.CellNames.{set_of}
 use Rattle.pz_record.specs.LevelNames.{chosen_from, standing_names}
 use Rattle.pz_record.specs.LevelText.{joined}

@@ -1,5 +1,5 @@
 use Rattle.std.proofs.Common.{List, map, reverse, ap, ◌∙◌}
-use Rattle.pz_grid.specs.Grid.{LevelState}
+use Rattle.pz_sheet.specs.Grid.{LevelState}
 use Rattle.pz_session.specs.Board.{State, loaded_at}
 use Rattle.pz_session.proofs.board.Board.enter.Goals as goal
 

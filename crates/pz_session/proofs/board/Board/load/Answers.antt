@@ -1,5 +1,5 @@
 use Rattle.std.proofs.Common.{ap, ◌∙◌}
-use Rattle.pz_grid.specs.Grid.{LevelState, IsOfGame}
+use Rattle.pz_sheet.specs.Grid.{LevelState, IsOfGame}
 use Rattle.pz_record.specs.Labels.{WriterView}
 use Rattle.pz_session.proofs.BoardLemmas.{loaded_of_game, none_past}
 use Rattle.pz_session.proofs.board.Board.load.Goals as goal

@@ -1,6 +1,6 @@
 use Rattle.std.proofs.Common.{map, reverse}
 use Rattle.std.proofs.lemmas.List.Elements.{All-head, All-tail}
-use Rattle.pz_grid.specs.Grid.{LevelState, IsOfGame}
+use Rattle.pz_sheet.specs.Grid.{LevelState, IsOfGame}
 use Rattle.pz_session.proofs.BoardLemmas.{newest_holds}
 use Rattle.pz_session.proofs.board.Board.step_back.Goals as goal
 

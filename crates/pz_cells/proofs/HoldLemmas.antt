@@ -1,0 +1,281 @@
+-- What holds in a cell, by sets.
+use Rattle.std.proofs.Common.{◌≡◌, ◌≢◌, inl, inr, ℕ, suc, ◌<◌, ◌≤◌, List, [], ◌∷◌, Option, Some, None, Bool, true, false, not, cond, ◌&&◌, length, get_or, arith, ap, sym, ◌∙◌, refl, subst, nat_eq, eq-eqb}
+use Rattle.std.specs.Prelude.{All, IfSome, IsTrue, ◌↔◌}
+use Rattle.std.proofs.lemmas.Bool.{cases_lt, eqb-true, and_parts, or_cases, or_left, or_right, and_from}
+use Rattle.std.proofs.lemmas.List.{get_or_past}
+use Rattle.std.proofs.lemmas.List.FromFn.{get_or-map-range_with_len, length-map-range_with_len}
+use Rattle.pz_sets.specs.Sets.{member, IsWithin, AreApart}
+use Rattle.pz_cells.specs.declared.piece.Piece.{Piece}
+use Rattle.pz_game.specs.declared.direction.Dir.{Dir}
+use Rattle.pz_game.specs.declared.direction.Dir.TheVariants.{Up, Down, Left, Right, Action}
+use Rattle.pz_game.specs.declared.pattern.Word.{Word}
+use Rattle.pz_game.specs.declared.pattern.Word.TheVariants.{Present, Still, Toward, Absent}
+use Rattle.pz_game.specs.declared.pattern.Item.{Item}
+use Rattle.pz_game.specs.Direction.{same_dir}
+use Rattle.pz_cells.specs.Cell.{IsOnLayer}
+use Rattle.pz_game.specs.Pattern.{AreOf}
+use Rattle.pz_cells.specs.Standing.{standing}
+use Rattle.pz_cells.specs.Pattern.{word_holds, item_holds, pattern_holds}
+use Rattle.pz_game.specs.Items.{names, is_on, names_object, forbids_object}
+use Rattle.pz_cells.proofs.CellLemmas.{OnItsLayer, standing_on_layer, standing_off_layer, standing_past}
+use Rattle.pz_game.specs.Headings.{is_toward, flag, heads, heading_in}
+use Rattle.pz_cells.specs.Shown.{place_of, cell_of, Shows, AreLawful}
+use Rattle.pz_cells.proofs.PlaceLemmas.{place_some, object_there}
+use Rattle.pz_cells.proofs.ShowLemmas.{first_toward}
+use Rattle.pz_game.proofs.FlagLemmas.{each_number}
+use Rattle.pz_game.specs.declared.masks.Masks.{Masks}
+use Rattle.pz_game.specs.Masks.{toward, is_still, asks_toward, asks_still, IsLow, AreMasksOf}
+
+pub place_seen : (depth : ℕ) (layers objects movement : List ℕ) (layer : ℕ) → layer < depth → get_or (cell_of depth layers objects movement) layer None ≡ place_of layers objects movement layer
+place_seen depth layers objects movement layer low = get_or-map-range_with_len (place_of layers objects movement) 0 depth layer layer None low (omega arith)
+
+-- each object of the seen cell stands on its layer
+pub on_its_layer : (depth : ℕ) (layers objects movement : List ℕ) → AreLawful layers objects movement → OnItsLayer layers (cell_of depth layers objects movement)
+on_its_layer depth layers objects movement lawful layer = elim (cases_lt layer depth) [
+  | inl low ↦ subst (IsOnLayer layers layer) (sym (place_seen depth layers objects movement layer low)) (by_place (place_of layers objects movement layer) refl)
+  | inr past ↦ subst (IsOnLayer layers layer) (sym (get_or_past (cell_of depth layers objects movement) layer None (omega (arith, length-map-range_with_len (place_of layers objects movement) 0 depth)))) tt
+] where
+  by_place : (place : Option Piece) → place_of layers objects movement layer ≡ place → IsOnLayer layers layer place
+  by_place None e = tt
+  by_place (Some piece) e = (let there = object_there layers objects movement layer piece lawful e in (there.2, there.1))
+
+-- what the seen cell says of an object
+abbrev pub standing_by : Bool → Option Dir → Option (Option Dir)
+standing_by there heading = cond there (Some heading) None
+
+pub standing_seen : (depth : ℕ) (layers objects movement : List ℕ) (object : ℕ) → All (λ layer. layer < depth) layers → AreLawful layers objects movement → standing (cell_of depth layers objects movement) object ≡ standing_by (member objects object) (heading_in movement (get_or layers object 0))
+standing_seen depth layers objects movement object low lawful = by_member (member objects object) refl where
+  cell : List (Option Piece)
+  cell = cell_of depth layers objects movement
+
+  all : OnItsLayer layers (cell_of depth layers objects movement)
+  all = on_its_layer depth layers objects movement lawful
+
+  absent : member objects object ≡ false → (place : Option Piece) → place_of layers objects movement (get_or layers object 0) ≡ place → IfSome place (λ p. p.object ≢ object)
+  absent none None e = tt
+  absent none (Some piece) e = λ same. (let there = object_there layers objects movement (get_or layers object 0) piece lawful e in let f : false ≡ true = sym none ∙ ap (member objects) (sym same) ∙ there.0 in cc)
+
+  by_member : (b : Bool) → member objects object ≡ b → standing (cell_of depth layers objects movement) object ≡ standing_by b (heading_in movement (get_or layers object 0))
+  by_member true there =
+      let within = lawful.of_game object there in
+      let layer = get_or layers object 0 in
+      let here : get_or (cell_of depth layers objects movement) layer None ≡ Some (record { object = object; heading = heading_in movement layer }) = place_seen depth layers objects movement layer (low object 0 within) ∙ sym (place_some layers objects movement layer object lawful there refl) in
+      standing_on_layer layers (cell_of depth layers objects movement) (record { object = object; heading = heading_in movement layer }) all here
+  by_member false none = elim (cases_lt object (length layers)) [
+    | inl within ↦ standing_off_layer layers (cell_of depth layers objects movement) object all (subst (λ (v : Option Piece). IfSome v (λ p. p.object ≢ object)) (sym (place_seen depth layers objects movement (get_or layers object 0) (low object 0 within))) (absent none (place_of layers objects movement (get_or layers object 0)) refl))
+    | inr past ↦ standing_past layers (cell_of depth layers objects movement) object all past
+  ]
+
+-- the directions of a layer are its heading
+pub heads_toward : (layers objects movement : List ℕ) (layer : ℕ) (dir : Dir) → AreLawful layers objects movement → heads movement layer dir ≡ is_toward (heading_in movement layer) dir
+heads_toward layers objects movement layer dir lawful = by_place (place_of layers objects movement layer) (lawful.shows layer) where
+  by_place : (place : Option Piece) → Shows layers (member objects) (heads movement layer) layer place → heads movement layer dir ≡ is_toward (heading_in movement layer) dir
+  by_place None shown = shown.1 dir ∙ sym (ap (λ (h : Option Dir). is_toward h dir) (first_toward (heads movement layer) None shown.1))
+  by_place (Some piece) shown = shown.3 dir ∙ sym (ap (λ (h : Option Dir). is_toward h dir) (first_toward (heads movement layer) piece.heading shown.3))
+
+-- ---- what the items of a cell ask of the words
+pub record AreMet (items : List Item) (objects movement : List ℕ) : Type 0 where
+  pub present : (object : ℕ) → names_object object items ≡ true → member objects object ≡ true
+  pub absent : (object : ℕ) → forbids_object object items ≡ true → member objects object ≡ false
+  pub required : (layer : ℕ) (dir : Dir) → asks_toward layer dir items ≡ true → heads movement layer dir ≡ true
+  pub forbidden : (layer : ℕ) (dir : Dir) → asks_still layer items ≡ true → heads movement layer dir ≡ false
+
+-- what one item asks
+pub record IsMet (item : Item) (objects movement : List ℕ) : Type 0 where
+  pub present : names item.word ≡ true → member objects item.object ≡ true
+  pub absent : not (names item.word) ≡ true → member objects item.object ≡ false
+  pub required : (dir : Dir) → is_toward (toward true item.word) dir ≡ true → heads movement item.layer dir ≡ true
+  pub forbidden : is_still item.word ≡ true → (dir : Dir) → heads movement item.layer dir ≡ false
+
+same_dir_is : (a b : Dir) → same_dir a b ≡ true → a ≡ b
+same_dir_is Up Up h = refl
+same_dir_is Down Down h = refl
+same_dir_is Left Left h = refl
+same_dir_is Right Right h = refl
+same_dir_is Action Action h = refl
+same_dir_is _ _ h = cc
+
+same_dir_self : (a : Dir) → same_dir a a ≡ true
+same_dir_self Up = refl
+same_dir_self Down = refl
+same_dir_self Left = refl
+same_dir_self Right = refl
+same_dir_self Action = refl
+
+-- a heading without a direction
+none_toward : (heading : Option Dir) → ((dir : Dir) → is_toward heading dir ≡ false) → heading ≡ None
+none_toward None h = refl
+none_toward (Some dir) h = absurd (let e : false ≡ true = sym (h dir) ∙ same_dir_self dir in cc)
+
+-- one item: the word, whether the object is there, and where its layer heads
+met_word : (word : Word) (there : Bool) (heading : Option Dir) → (names word ≡ true → there ≡ true) → (not (names word) ≡ true → there ≡ false) → ((dir : Dir) → is_toward (toward true word) dir ≡ true → is_toward heading dir ≡ true) → (is_still word ≡ true → (dir : Dir) → is_toward heading dir ≡ false) → word_holds word (standing_by there heading) ≡ true
+met_word Absent there heading p a r f = ap (λ b. word_holds Absent (standing_by b heading)) (a refl)
+met_word Present there heading p a r f = ap (λ b. word_holds Present (standing_by b heading)) (p refl)
+met_word Still there heading p a r f = ap (λ b. word_holds Still (standing_by b heading)) (p refl) ∙ ap (λ (h : Option Dir). word_holds Still (Some h)) (none_toward heading (f refl))
+met_word (Toward dir) there None p a r f = (let e : false ≡ true = r dir (same_dir_self dir) in cc)
+met_word (Toward dir) there (Some heading) p a r f = ap (λ b. word_holds (Toward dir) (standing_by b (Some heading))) (p refl) ∙ r dir (same_dir_self dir)
+
+word_present : (word : Word) (there : Bool) (heading : Option Dir) → word_holds word (standing_by there heading) ≡ true → names word ≡ true → there ≡ true
+word_present word true heading h n = refl
+word_present Absent false heading h n = cc
+word_present Present false heading h n = h
+word_present Still false heading h n = h
+word_present (Toward dir) false heading h n = h
+
+word_absent : (word : Word) (there : Bool) (heading : Option Dir) → word_holds word (standing_by there heading) ≡ true → not (names word) ≡ true → there ≡ false
+word_absent word false heading h n = refl
+word_absent Absent true heading h n = sym h
+word_absent Present true heading h n = cc
+word_absent Still true heading h n = cc
+word_absent (Toward dir) true heading h n = cc
+
+word_required : (word : Word) (there : Bool) (heading : Option Dir) → word_holds word (standing_by there heading) ≡ true → (dir : Dir) → is_toward (toward true word) dir ≡ true → is_toward heading dir ≡ true
+word_required Absent there heading h dir t = cc
+word_required Present there heading h dir t = cc
+word_required Still there heading h dir t = cc
+word_required (Toward way) false heading h dir t = cc
+word_required (Toward way) true None h dir t = cc
+word_required (Toward way) true (Some heading) h dir t = ap (λ (d : Dir). same_dir d dir) (same_dir_is heading way h) ∙ t
+
+word_forbidden : (word : Word) (there : Bool) (heading : Option Dir) → word_holds word (standing_by there heading) ≡ true → is_still word ≡ true → (dir : Dir) → is_toward heading dir ≡ false
+word_forbidden Absent there heading h s dir = cc
+word_forbidden Present there heading h s dir = cc
+word_forbidden (Toward way) there heading h s dir = cc
+word_forbidden Still false heading h s dir = cc
+word_forbidden Still true None h s dir = refl
+word_forbidden Still true (Some heading) h s dir = cc
+
+-- an item holds in the seen cell
+abbrev Seen : ℕ → List ℕ → List ℕ → List ℕ → Item → Type 0
+Seen depth layers objects movement item = item_holds (cell_of depth layers objects movement) item ≡ word_holds item.word (standing_by (member objects item.object) (heading_in movement item.layer))
+
+item_seen : (depth : ℕ) (layers objects movement : List ℕ) (item : Item) → All (λ layer. layer < depth) layers → AreLawful layers objects movement → get_or layers item.object 0 ≡ item.layer → Seen depth layers objects movement item
+item_seen depth layers objects movement item low lawful on =
+    ap (word_holds item.word) (standing_seen depth layers objects movement item.object low lawful) ∙ ap (λ (l : ℕ). word_holds item.word (standing_by (member objects item.object) (heading_in movement l))) on
+
+item_met : (depth : ℕ) (layers objects movement : List ℕ) (item : Item) → AreLawful layers objects movement → Seen depth layers objects movement item → IsMet item objects movement → item_holds (cell_of depth layers objects movement) item ≡ true
+item_met depth layers objects movement item lawful seen met =
+    seen ∙ met_word item.word (member objects item.object) (heading_in movement item.layer) met.present met.absent
+    (λ dir t. sym (heads_toward layers objects movement item.layer dir lawful) ∙ met.required dir t)
+    (λ s dir. sym (heads_toward layers objects movement item.layer dir lawful) ∙ met.forbidden s dir)
+
+met_item : (depth : ℕ) (layers objects movement : List ℕ) (item : Item) → AreLawful layers objects movement → Seen depth layers objects movement item → item_holds (cell_of depth layers objects movement) item ≡ true → IsMet item objects movement
+met_item depth layers objects movement item lawful seen holds =
+    let h = sym seen ∙ holds in
+    let there = member objects item.object in
+    let heading = heading_in movement item.layer in
+    record {
+      present = word_present item.word there heading h;
+      absent = word_absent item.word there heading h;
+      required = λ dir t. heads_toward layers objects movement item.layer dir lawful ∙ word_required item.word there heading h dir t;
+      forbidden = λ s dir. heads_toward layers objects movement item.layer dir lawful ∙ word_forbidden item.word there heading h s dir;
+    }
+
+-- all items hold if what they ask is met, and only then
+pub all_met : (depth : ℕ) (layers objects movement : List ℕ) (items : List Item) → All (λ layer. layer < depth) layers → AreLawful layers objects movement → AreOf layers items → AreMet items objects movement → pattern_holds (cell_of depth layers objects movement) items ≡ true
+all_met depth layers objects movement [] low lawful are met = refl
+all_met depth layers objects movement (x ∷ xs) low lawful are met =
+    let is = are 0 x (omega arith) in
+    and_from _ _
+    (item_met depth layers objects movement x lawful (item_seen depth layers objects movement x low lawful is.layer) (record {
+      present = λ n. met.present x.object (or_left _ _ (and_from _ _ n (eq-eqb x.object x.object refl)));
+      absent = λ n. met.absent x.object (or_left _ _ (and_from _ _ n (eq-eqb x.object x.object refl)));
+      required = λ dir t. met.required x.layer dir (or_left _ _ (and_from _ _ t (eq-eqb x.layer x.layer refl)));
+      forbidden = λ s dir. met.forbidden x.layer dir (or_left _ _ (and_from _ _ s (eq-eqb x.layer x.layer refl)));
+    }))
+    (all_met depth layers objects movement xs low lawful (λ k d h. are (suc k) d (omega arith)) (record {
+      present = λ o e. met.present o (or_right _ _ e);
+      absent = λ o e. met.absent o (or_right _ _ e);
+      required = λ l d e. met.required l d (or_right _ _ e);
+      forbidden = λ l d e. met.forbidden l d (or_right _ _ e);
+    }))
+
+pub met_all : (depth : ℕ) (layers objects movement : List ℕ) (items : List Item) → All (λ layer. layer < depth) layers → AreLawful layers objects movement → AreOf layers items → pattern_holds (cell_of depth layers objects movement) items ≡ true → AreMet items objects movement
+met_all depth layers objects movement [] low lawful are holds = record {
+  present = λ o e. cc;
+  absent = λ o e. cc;
+  required = λ l d e. cc;
+  forbidden = λ l d e. cc;
+}
+met_all depth layers objects movement (x ∷ xs) low lawful are holds =
+    let is = are 0 x (omega arith) in
+    let parts = and_parts (item_holds (cell_of depth layers objects movement) x) (pattern_holds (cell_of depth layers objects movement) xs) holds in
+    let here = met_item depth layers objects movement x lawful (item_seen depth layers objects movement x low lawful is.layer) parts.0 in
+    let rest = met_all depth layers objects movement xs low lawful (λ k d h. are (suc k) d (omega arith)) parts.1 in
+    record {
+      present = λ o e. elim (or_cases _ _ e) [
+        | inl h ↦ (let p = and_parts (names x.word) (nat_eq x.object o) h in subst (λ (k : ℕ). member objects k ≡ true) (eqb-true _ _ p.1) (here.present p.0))
+        | inr h ↦ rest.present o h
+      ];
+      absent = λ o e. elim (or_cases _ _ e) [
+        | inl h ↦ (let p = and_parts (not (names x.word)) (nat_eq x.object o) h in subst (λ (k : ℕ). member objects k ≡ false) (eqb-true _ _ p.1) (here.absent p.0))
+        | inr h ↦ rest.absent o h
+      ];
+      required = λ l d e. elim (or_cases _ _ e) [
+        | inl h ↦ (let p = and_parts (is_toward (toward true x.word) d) (is_on l x) h in subst (λ (k : ℕ). heads movement k d ≡ true) (eqb-true _ _ p.1) (here.required d p.0))
+        | inr h ↦ rest.required l d h
+      ];
+      forbidden = λ l d e. elim (or_cases _ _ e) [
+        | inl h ↦ (let p = and_parts (is_still x.word) (is_on l x) h in subst (λ (k : ℕ). heads movement k d ≡ false) (eqb-true _ _ p.1) (here.forbidden p.0 d))
+        | inr h ↦ rest.forbidden l d h
+      ];
+    }
+
+all_four : (a b d e : Bool) → (((a && b) && d) && e) ≡ true → (a ≡ true) × (b ≡ true) × (d ≡ true) × (e ≡ true)
+all_four true true true true h = (refl, refl, refl, refl)
+all_four true true true false h = cc
+all_four true true false e h = cc
+all_four true false d e h = cc
+all_four false b d e h = cc
+
+from_four : (a b d e : Bool) → a ≡ true → b ≡ true → d ≡ true → e ≡ true → (((a && b) && d) && e) ≡ true
+from_four a b d e p q r s = ap (λ x. ((x && b) && d) && e) p ∙ ap (λ x. (x && d) && e) q ∙ ap (λ x. x && e) r ∙ s
+
+both_ways : (x y : Bool) → (x ≡ true → y ≡ true) → (y ≡ true → x ≡ true) → x ≡ y
+both_ways true y f g = sym (f refl)
+both_ways false true f g = g refl
+both_ways false false f g = refl
+
+-- the sets of a cell of a rule are met by those of a cell
+abbrev pub AreMetBy : List ℕ → List ℕ → Masks → Type 0
+AreMetBy objects movement masks = (IsWithin masks.present objects × AreApart masks.absent objects) × (IsWithin masks.required movement × AreApart masks.forbidden movement)
+
+pub holds_by_sets : (depth : ℕ) (layers objects movement : List ℕ) (items : List Item) (masks : Masks) → AreMasksOf items masks → All (λ layer. layer < depth) layers → AreLawful layers objects movement → AreOf layers items
+    → AreMetBy objects movement masks ↔ (pattern_holds (cell_of depth layers objects movement) items ≡ true)
+holds_by_sets depth layers objects movement items masks m low lawful are = (forth, back) where
+  forth : AreMetBy objects movement masks → pattern_holds (cell_of depth layers objects movement) items ≡ true
+  forth h =
+      all_met depth layers objects movement items low lawful are (record {
+        present = λ o n. h.0.0 o (m.present o ∙ n);
+        absent = λ o n. h.0.1 o (m.absent o ∙ n);
+        required = λ l dir n. h.1.0 (flag l dir) (m.required l dir ∙ n);
+        forbidden = λ l dir n. h.1.1 (flag l dir) (m.forbidden l dir ∙ n);
+      })
+
+  back : pattern_holds (cell_of depth layers objects movement) items ≡ true → AreMetBy objects movement masks
+  back h =
+      let met = met_all depth layers objects movement items low lawful are h in (
+        (λ o n. met.present o (sym (m.present o) ∙ n), λ o n. met.absent o (sym (m.absent o) ∙ n)),
+        (
+          λ k n. each_number (λ mine theirs. theirs ≡ true → mine ≡ true) movement masks.required lawful.proper m.proper_required (λ z. z) (λ l dir q. met.required l dir (sym (m.required l dir) ∙ q)) k n,
+          λ k n. each_number (λ mine theirs. theirs ≡ true → mine ≡ false) movement masks.forbidden lawful.proper m.proper_forbidden (λ z. refl) (λ l dir q. met.forbidden l dir (sym (m.forbidden l dir) ∙ q)) k n,
+        ),
+      )
+
+-- a cell of a rule of the game is within the limits of games
+pub low_of_game : (depth : ℕ) (layers : List ℕ) (items : List Item) → All (λ layer. layer < depth) layers → length layers ≤ 512 → depth ≤ 100 → AreOf layers items → All IsLow items
+low_of_game depth layers items low few shallow are k d within =
+    let is = are k d within in
+    let there = low (get_or items k d).object 0 is.object in
+    (omega (arith, is.object, few), omega (arith, there, is.layer, shallow))
+
+-- two tests that decide the parts of what a third decides
+pub both_decide : {A B : Type 0} (x y p : Bool) → (IsTrue x ↔ A) → (IsTrue y ↔ B) → ((A × B) ↔ (p ≡ true)) → x ≡ true → y ≡ p
+both_decide x true true a b h e = refl
+both_decide x true false a b h e = (let t : false ≡ true = h.0 (a.0 e, b.0 refl) in cc)
+both_decide x false true a b h e = (let t : false ≡ true = b.1 (h.1 refl).1 in cc)
+both_decide x false false a b h e = refl
+
+pub first_decides : {A B : Type 0} (x p : Bool) → (IsTrue x ↔ A) → ((A × B) ↔ (p ≡ true)) → x ≡ false → x ≡ p
+first_decides x true a h e = (let t : false ≡ true = sym e ∙ a.1 (h.1 refl).0 in cc)
+first_decides x false a h e = e

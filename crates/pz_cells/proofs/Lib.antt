@@ -1,0 +1,6 @@
+pub mod ShowLemmas
+pub mod PlaceLemmas
+pub mod CellLemmas
+pub mod SameLemmas
+pub mod HoldLemmas
+pub mod RewriteLemmas

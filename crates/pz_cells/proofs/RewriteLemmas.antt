@@ -1,0 +1,410 @@
+-- What a rewriting does to the sets of a cell.
+use Rattle.std.proofs.Common.{◌≡◌, ◌≢◌, ◌⊎◌, nat_lt, inl, inr, ℕ, suc, ◌+◌, ◌*◌, ◌/◌, ◌%◌, ◌<◌, ◌≤◌, List, [], ◌∷◌, Option, Some, None, Bool, true, false, cond, not, ◌&&◌, ◌||◌, length, get_or, arith, ap, sym, ◌∙◌, refl, subst, nat_eq, eq-eqb}
+use Rattle.std.specs.Prelude.{All, find, is_some, ◌↔◌}
+use Rattle.std.proofs.lemmas.Bool.{cases_lt, cases_eq, ne_eqb, eqb-true, and_parts, or_cases, or_left, or_right, and_from}
+use Rattle.std.proofs.lemmas.List.FromFn.{get_or-map-range_with_len, length-map-range_with_len}
+use Rattle.pz_sets.specs.Sets.{member}
+use Rattle.pz_cells.specs.declared.piece.Piece.{Piece}
+use Rattle.pz_game.specs.declared.direction.Dir.{Dir}
+use Rattle.pz_game.specs.declared.pattern.Word.{Word}
+use Rattle.pz_game.specs.declared.pattern.Word.TheVariants.{Present, Still, Toward, Absent}
+use Rattle.pz_game.specs.declared.pattern.Item.{Item}
+use Rattle.pz_game.specs.Direction.{same_dir}
+use Rattle.pz_game.specs.Pattern.{IsOf, AreOf}
+use Rattle.pz_cells.specs.Standing.{standing}
+use Rattle.pz_cells.specs.Sameness.{same_cell}
+use Rattle.pz_cells.proofs.SameLemmas.{same_cell_is, same_cell_self}
+use Rattle.pz_game.specs.Headings.{is_toward, flag, heads, IsProper}
+use Rattle.pz_cells.specs.Shown.{place_of, cell_of, Shows, AreLawful}
+use Rattle.pz_game.proofs.FlagLemmas.{each_number, flag_of, dir_bit-low}
+use Rattle.pz_cells.proofs.PlaceLemmas.{shows_alike}
+use Rattle.pz_game.specs.Items.{names, places_on, placed_on, tells_of, tells_movement, names_object, forbids_object}
+use Rattle.pz_cells.specs.Rewriting.{heading_of, new_heading, kept, replaced, rewritten_place, rewritten_cell}
+use Rattle.pz_game.specs.declared.masks.Masks.{Masks}
+use Rattle.pz_game.specs.Masks.{toward, begins, settles, AreMasksOf}
+use Rattle.pz_cells.specs.Rewrites.{ends, Leaves, removed_by}
+use Rattle.pz_cells.proofs.HoldLemmas.{standing_by, standing_seen}
+use Rattle.pz_game.specs.Headings.{heading_in}
+use Rattle.pz_cells.proofs.ShowLemmas.{lawful_from_shows, cell_from_shows}
+
+-- an object that the left names or the right forbids
+abbrev pub is_removable : List Item → List Item → ℕ → Bool
+is_removable left right object = names_object object left || forbids_object object right
+
+-- an object of the cell that goes: it is removable, on a layer where nothing is placed
+pub record Goes (layers : List ℕ) (left right : List Item) (has : ℕ → Bool) (object : ℕ) : Type 0 where
+  pub here : has object ≡ true
+  pub free : placed_on (get_or layers object 0) right ≡ None
+  pub removed : is_removable left right object ≡ true
+
+-- an object of the cell that stays
+pub record Stays (layers : List ℕ) (left right : List Item) (has : ℕ → Bool) (object : ℕ) : Type 0 where
+  pub here : has object ≡ true
+  pub free : placed_on (get_or layers object 0) right ≡ None
+  pub left_alone : is_removable left right object ≡ false
+
+-- what a rewriting does to the objects and directions of a cell
+pub record Rewrites (layers : List ℕ) (left right : List Item) (has : ℕ → Bool) (toward : ℕ → Dir → Bool) (has_new : ℕ → Bool) (toward_new : ℕ → Dir → Bool) : Type 0 where
+  pub gives : (object : ℕ) → has_new object ≡ true → Stays layers left right has object ⊎ ((item : Item) × (placed_on (get_or layers object 0) right ≡ Some item) × (item.object ≡ object))
+  pub keeps : (object : ℕ) → Stays layers left right has object → has_new object ≡ true
+  pub puts : (layer : ℕ) (item : Item) → placed_on layer right ≡ Some item → has_new item.object ≡ true
+  pub ended : (object : ℕ) (dir : Dir) → Goes layers left right has object → toward_new (get_or layers object 0) dir ≡ false
+  pub others : (layer : ℕ) (dir : Dir) → ((object : ℕ) → Goes layers left right has object → get_or layers object 0 ≡ layer → ⊥) → toward_new layer dir ≡ ((toward layer dir && not (ends (tells_of layer left) (placed_on layer right))) || begins dir (placed_on layer right))
+
+-- what is found passes the test and is an element
+find_all : {X : Type 0} (P : X → Type 0) (p : X → Bool) (xs : List X) (x : X) → All P xs → find p xs ≡ Some x → P x × (p x ≡ true)
+find_all P p [] x all e = cc
+find_all {X} P p (y ∷ ys) x all e = by_test (λ f. find_all P p ys x (λ k d h. all (suc k) d (omega arith)) f) (p y) refl e where
+  by_test : (find p ys ≡ Some x → P x × (p x ≡ true)) → (b : Bool) → p y ≡ b → cond b (Some y) (find p ys) ≡ Some x → P x × (p x ≡ true)
+  by_test rest true t f = (let same : y ≡ x = cc in (subst P same (all 0 y (omega arith)), ap p (sym same) ∙ t))
+  by_test rest false t f = rest f
+
+-- the item that is placed on a layer is of that layer and names its object
+pub placed_is : (layers : List ℕ) (layer : ℕ) (right : List Item) (item : Item) → AreOf layers right → placed_on layer right ≡ Some item → (item.object < length layers) × (get_or layers item.object 0 ≡ layer) × (names item.word ≡ true)
+placed_is layers layer right item are e =
+    let f = find_all (IsOf layers) (places_on layer) right item are e in
+    let parts = and_parts (names item.word) (nat_eq item.layer layer) f.1 in
+    (f.0.object, f.0.layer ∙ eqb-true _ _ parts.1, parts.0)
+
+drop_or : (x : Bool) → (x || false) ≡ x
+drop_or true = refl
+drop_or false = refl
+
+and_yes : (x : Bool) → (x && true) ≡ x
+and_yes true = refl
+and_yes false = refl
+
+and_no : (x : Bool) → (x && false) ≡ false
+and_no true = refl
+and_no false = refl
+
+-- where an object is placed, its direction is the definition's
+new_toward : (word : Word) (told : Bool) (here : Option Piece) (old : Bool) (dir : Dir) → names word ≡ true → old ≡ is_toward (heading_of here) dir → ((old && not (told || tells_movement word)) || is_toward (toward true word) dir) ≡ is_toward (new_heading word told here) dir
+new_toward Still true here old dir n e = ap (λ x. x || false) (and_no old)
+new_toward Still false here old dir n e = ap (λ x. x || false) (and_no old)
+new_toward (Toward way) true here old dir n e = ap (λ x. x || same_dir way dir) (and_no old)
+new_toward (Toward way) false here old dir n e = ap (λ x. x || same_dir way dir) (and_no old)
+new_toward Present true here old dir n e = ap (λ x. x || false) (and_no old)
+new_toward Present false here old dir n e = drop_or (old && true) ∙ and_yes old ∙ e
+new_toward Absent told here old dir n e = cc
+
+toward_shown : (layers : List ℕ) (has : ℕ → Bool) (toward : Dir → Bool) (layer : ℕ) (place : Option Piece) (dir : Dir) → Shows layers has toward layer place → toward dir ≡ is_toward (heading_of place) dir
+toward_shown layers has toward layer None dir h = h.1 dir
+toward_shown layers has toward layer (Some piece) dir h = h.3 dir
+
+-- each layer shows what the definition says of it
+pub rewritten_shows : (layers : List ℕ) (left right : List Item) (has : ℕ → Bool) (toward : ℕ → Dir → Bool) (has_new : ℕ → Bool) (toward_new : ℕ → Dir → Bool) → AreOf layers right → Rewrites layers left right has toward has_new toward_new → (layer : ℕ) (here : Option Piece) → Shows layers has (toward layer) layer here → Shows layers has_new (toward_new layer) layer (rewritten_place left right layer here)
+rewritten_shows layers left right has toward has_new toward_new are r layer here shown = by_placed (placed_on layer right) refl where
+  at : (object : ℕ) → get_or layers object 0 ≡ layer → (found : Option Item) → placed_on layer right ≡ found → placed_on (get_or layers object 0) right ≡ found
+  at object on found e = ap (λ (k : ℕ). placed_on k right) on ∙ e
+
+  -- nothing is placed on the layer
+  toward_kept : placed_on layer right ≡ None → ((object : ℕ) → Goes layers left right has object → get_or layers object 0 ≡ layer → ⊥) → (dir : Dir) → toward_new layer dir ≡ toward layer dir
+  toward_kept e none dir = r.others layer dir none ∙ ap (λ (o : Option Item). (toward layer dir && not (ends (tells_of layer left) o)) || begins dir o) e ∙ drop_or (toward layer dir && true) ∙ and_yes (toward layer dir)
+
+  stays_only : placed_on layer right ≡ None → (object : ℕ) → has_new object ≡ true → get_or layers object 0 ≡ layer → Stays layers left right has object
+  stays_only e object new on = elim (r.gives object new) [
+    | inl stays ↦ stays
+    | inr (item, f, same) ↦ absurd (let none : Option Item = None in let g : none ≡ Some item = sym (at object on None e) ∙ f in cc)
+  ]
+
+  by_test : placed_on layer right ≡ None → (piece : Piece) → Shows layers has (toward layer) layer (Some piece) → (b : Bool) → is_removable left right piece.object ≡ b → Shows layers has_new (toward_new layer) layer (cond b None (Some piece))
+  by_test e piece shown true f = (
+    λ object new on. (let stays = stays_only e object new on in let same : object ≡ piece.object = shown.2 object stays.here on in let g : false ≡ true = sym stays.left_alone ∙ ap (is_removable left right) same ∙ f in cc),
+    λ dir. ap (λ (k : ℕ). toward_new k dir) (sym shown.1) ∙ r.ended piece.object dir (record { here = shown.0; free = at piece.object shown.1 None e; removed = f }),
+  )
+  by_test e piece shown false f = (
+    r.keeps piece.object (record { here = shown.0; free = at piece.object shown.1 None e; left_alone = f }),
+    shown.1,
+    λ object new on. shown.2 object (stays_only e object new on).here on,
+    λ dir. toward_kept e (λ object goes on. (let same : object ≡ piece.object = shown.2 object goes.here on in let g : true ≡ false = sym goes.removed ∙ ap (is_removable left right) same ∙ f in cc)) dir ∙ shown.3 dir,
+  )
+
+  by_here : placed_on layer right ≡ None → (place : Option Piece) → Shows layers has (toward layer) layer place → Shows layers has_new (toward_new layer) layer (kept left right place)
+  by_here e None shown = (
+    λ object new on. shown.0 object (stays_only e object new on).here on,
+    λ dir. toward_kept e (λ object goes on. shown.0 object goes.here on) dir ∙ shown.1 dir,
+  )
+  by_here e (Some piece) shown = by_test e piece shown (is_removable left right piece.object) refl
+
+  -- nothing of the layer goes where something is placed
+  none_goes : (item : Item) → placed_on layer right ≡ Some item → (object : ℕ) → Goes layers left right has object → get_or layers object 0 ≡ layer → ⊥
+  none_goes item e object goes on = (let none : Option Item = None in let g : none ≡ Some item = sym goes.free ∙ at object on (Some item) e in cc)
+
+  only_placed : (item : Item) → placed_on layer right ≡ Some item → (object : ℕ) → has_new object ≡ true → get_or layers object 0 ≡ layer → object ≡ item.object
+  only_placed item e object new on = elim (r.gives object new) [
+    | inl stays ↦ absurd (let none : Option Item = None in let g : none ≡ Some item = sym stays.free ∙ at object on (Some item) e in cc)
+    | inr (other, f, same) ↦ (let g : other ≡ item = (let h : Some other ≡ Some item = sym f ∙ at object on (Some item) e in cc) in sym same ∙ ap (λ (i : Item). i.object) g)
+  ]
+
+  by_placed : (found : Option Item) → placed_on layer right ≡ found → Shows layers has_new (toward_new layer) layer (replaced found (tells_of layer left) left right here)
+  by_placed None e = by_here e here shown
+  by_placed (Some item) e =
+      let is = placed_is layers layer right item are e in (
+        r.puts layer item e,
+        is.1,
+        only_placed item e,
+        λ dir. r.others layer dir (none_goes item e) ∙ ap (λ (o : Option Item). (toward layer dir && not (ends (tells_of layer left) o)) || begins dir o) e ∙ new_toward item.word (tells_of layer left) here (toward layer dir) dir is.2 (toward_shown layers has (toward layer) layer here dir shown),
+      )
+
+none_from : (o : Option Item) → is_some o ≡ false → o ≡ None
+none_from None e = refl
+none_from (Some item) e = cc
+
+not_no : (x y : Bool) → (x && not y) ≡ true → y ≡ false
+not_no true false e = refl
+not_no true true e = cc
+not_no false y e = cc
+
+not_yes : (x y : Bool) → x ≡ true → y ≡ false → (x && not y) ≡ true
+not_yes x y e f = ap (λ b. b && not y) e ∙ ap (λ b. not b) f
+
+-- the directions that end, by the masks of the two cells
+ends_by : (told : Bool) (found : Option Item) → (settles found || (told && is_some found)) ≡ ends told found
+ends_by true None = refl
+ends_by false None = refl
+ends_by true (Some item) = or_yes (tells_movement item.word) where
+  or_yes : (b : Bool) → (b || true) ≡ true
+  or_yes true = refl
+  or_yes false = refl
+ends_by false (Some item) = drop_or (tells_movement item.word)
+
+-- what is taken from a cell, by the masks of the two cells
+abbrev pub gone_by : List ℕ → Masks → Masks → ℕ → Bool
+gone_by layers l r object = member r.layers (get_or layers object 0) || (member l.present object || member r.absent object)
+
+-- what the words of a rewritten cell are
+pub record AreRewritten (layers : List ℕ) (l r : Masks) (objects movement objects_new mid movement_new : List ℕ) : Type 0 where
+  pub is_new : (object : ℕ) → object < length layers → member objects_new object ≡ ((member objects object && not (gone_by layers l r object)) || member r.placed object)
+  pub of_game : (object : ℕ) → member objects_new object ≡ true → object < length layers
+  pub is_mid : (number : ℕ) → member mid number ≡ ((member movement number && not (member r.settled number || (member l.told number && member r.covered number))) || member r.headed number)
+  pub ended : (object : ℕ) (dir : Dir) → Leaves layers objects r.layers (removed_by l r) object → heads movement_new (get_or layers object 0) dir ≡ false
+  pub others : (layer : ℕ) (dir : Dir) → ((object : ℕ) → Leaves layers objects r.layers (removed_by l r) object → get_or layers object 0 ≡ layer → ⊥) → heads movement_new layer dir ≡ heads mid layer dir
+
+or_parts : (a b : Bool) → (a || b) ≡ false → (a ≡ false) × (b ≡ false)
+or_parts true b e = cc
+or_parts false b e = (refl, e)
+
+pub rewrites_from : (layers : List ℕ) (left right : List Item) (l r : Masks) (objects movement objects_new mid movement_new : List ℕ) → AreOf layers right → AreMasksOf left l → AreMasksOf right r → ((object : ℕ) → member objects object ≡ true → object < length layers) → AreRewritten layers l r objects movement objects_new mid movement_new → Rewrites layers left right (member objects) (heads movement) (member objects_new) (heads movement_new)
+rewrites_from layers left right l r objects movement objects_new mid movement_new are ml mr of_game w = record {
+  gives = λ object new. elim (or_cases (member objects object && not (gone_by layers l r object)) (member r.placed object) (sym (w.is_new object (w.of_game object new)) ∙ new)) [
+    | inl h ↦ (let here = (and_parts (member objects object) (not (gone_by layers l r object)) h).0 in
+        let none = or_parts (member r.layers (get_or layers object 0)) (member l.present object || member r.absent object) (not_no (member objects object) (gone_by layers l r object) h) in
+        inl (record { here = here; free = none_from (placed_on (get_or layers object 0) right) (sym (mr.layers (get_or layers object 0)) ∙ none.0); left_alone = sym (removable object) ∙ none.1 }))
+    | inr h ↦ (let p = mr.placed_only object h in
+        let is = placed_is layers p.0 right p.1 are p.2 in
+        let on : get_or layers object 0 ≡ p.0 = ap (λ (k : ℕ). get_or layers k 0) (sym p.3) ∙ is.1 in
+        inr (p.1, ap (λ (k : ℕ). placed_on k right) on ∙ p.2, p.3))
+  ];
+  keeps = λ object stays. w.is_new object (of_game object stays.here) ∙ or_left _ _ (not_yes (member objects object) (gone_by layers l r object) stays.here (ap (λ b. b || (member l.present object || member r.absent object)) (mr.layers (get_or layers object 0) ∙ ap is_some stays.free) ∙ removable object ∙ stays.left_alone));
+  puts = λ layer item e. w.is_new item.object (placed_is layers layer right item are e).0 ∙ or_right _ _ (mr.placed layer item e);
+  ended = λ object dir goes. w.ended object dir (leaves object goes);
+  others = λ layer dir none. w.others layer dir (λ object g on. none object (goes object g) on)
+      ∙ w.is_mid (flag layer dir)
+      ∙ ap (λ b. (heads movement layer dir && not (b || (heads l.told layer dir && heads r.covered layer dir))) || heads r.headed layer dir) (mr.settled layer dir)
+      ∙ ap (λ b. (heads movement layer dir && not (settles (placed_on layer right) || (b && heads r.covered layer dir))) || heads r.headed layer dir) (ml.told layer dir)
+      ∙ ap (λ b. (heads movement layer dir && not (settles (placed_on layer right) || (tells_of layer left && b))) || heads r.headed layer dir) (mr.covered layer dir)
+      ∙ ap (λ b. (heads movement layer dir && not b) || heads r.headed layer dir) (ends_by (tells_of layer left) (placed_on layer right))
+      ∙ ap (λ b. (heads movement layer dir && not (ends (tells_of layer left) (placed_on layer right))) || b) (mr.headed layer dir);
+} where
+  removable : (object : ℕ) → (member l.present object || member r.absent object) ≡ is_removable left right object
+  removable object = ap (λ b. b || member r.absent object) (ml.present object) ∙ ap (λ b. names_object object left || b) (mr.absent object)
+
+  leaves : (object : ℕ) → Goes layers left right (member objects) object → Leaves layers objects r.layers (removed_by l r) object
+  leaves object goes = record { here = goes.here; removed = removable object ∙ goes.removed; free = mr.layers (get_or layers object 0) ∙ ap is_some goes.free }
+
+  goes : (object : ℕ) → Leaves layers objects r.layers (removed_by l r) object → Goes layers left right (member objects) object
+  goes object g = record { here = g.here; free = none_from (placed_on (get_or layers object 0) right) (sym (mr.layers (get_or layers object 0)) ∙ g.free); removed = sym (removable object) ∙ g.removed }
+
+-- objects of the new cell are the game's
+pub rewritten_of_game : (layers : List ℕ) (left right : List Item) (has : ℕ → Bool) (toward : ℕ → Dir → Bool) (has_new : ℕ → Bool) (toward_new : ℕ → Dir → Bool) → AreOf layers right → Rewrites layers left right has toward has_new toward_new → ((object : ℕ) → has object ≡ true → object < length layers) → (object : ℕ) → has_new object ≡ true → object < length layers
+rewritten_of_game layers left right has toward has_new toward_new are r of_game object new = elim (r.gives object new) [
+  | inl stays ↦ of_game object stays.here
+  | inr (item, e, same) ↦ subst (λ (k : ℕ). k < length layers) same (placed_is layers (get_or layers object 0) right item are e).0
+]
+
+-- the new masks are lawful, and their view is the definition's cell
+pub lawful_rewritten : (layers : List ℕ) (left right : List Item) (objects movement objects_new movement_new : List ℕ) → AreOf layers right → AreLawful layers objects movement → Rewrites layers left right (member objects) (heads movement) (member objects_new) (heads movement_new) → IsProper movement_new → AreLawful layers objects_new movement_new
+lawful_rewritten layers left right objects movement objects_new movement_new are lawful r proper =
+    lawful_from_shows layers objects_new movement_new (λ layer. rewritten_place left right layer (place_of layers objects movement layer)) (rewritten_of_game layers left right (member objects) (heads movement) (member objects_new) (heads movement_new) are r lawful.of_game)
+    (λ layer. rewritten_shows layers left right (member objects) (heads movement) (member objects_new) (heads movement_new) are r layer (place_of layers objects movement layer) (lawful.shows layer))
+    proper
+
+pub cell_rewritten : (depth : ℕ) (layers : List ℕ) (left right : List Item) (objects movement objects_new movement_new : List ℕ) → AreOf layers right → AreLawful layers objects movement → Rewrites layers left right (member objects) (heads movement) (member objects_new) (heads movement_new) → cell_of depth layers objects_new movement_new ≡ rewritten_cell left right (cell_of depth layers objects movement)
+cell_rewritten depth layers left right objects movement objects_new movement_new are lawful r =
+    let old = cell_of depth layers objects movement in
+    let f = λ (layer : ℕ). rewritten_place left right layer (get_or old layer None) in
+    let long : length old ≡ depth = length-map-range_with_len (place_of layers objects movement) 0 depth in
+    let place = λ (layer : ℕ) (low : layer < depth). get_or-map-range_with_len (place_of layers objects movement) 0 depth layer layer None low (omega arith) in
+    cell_from_shows depth layers objects_new movement_new (rewritten_cell left right old) (length-map-range_with_len f 0 (length old) ∙ long) (rewritten_of_game layers left right (member objects) (heads movement) (member objects_new) (heads movement_new) are r lawful.of_game)
+    (λ layer low. subst (Shows layers (member objects_new) (heads movement_new layer) layer) (sym (get_or-map-range_with_len f 0 (length old) layer layer None (omega (arith, long)) (omega arith)))
+    (rewritten_shows layers left right (member objects) (heads movement) (member objects_new) (heads movement_new) are r layer (get_or old layer None) (subst (Shows layers (member objects) (heads movement layer) layer) (sym (place layer low)) (lawful.shows layer))))
+
+-- where something is placed there is a layer
+pub layers_within : (layers : List ℕ) (depth : ℕ) (right : List Item) (r : Masks) → AreOf layers right → AreMasksOf right r → All (λ layer. layer < depth) layers → (layer : ℕ) → member r.layers layer ≡ true → layer < depth
+layers_within layers depth right r are mr low layer here = by_found (placed_on layer right) refl (sym (mr.layers layer) ∙ here) where
+  by_found : (o : Option Item) → placed_on layer right ≡ o → is_some (placed_on layer right) ≡ true → layer < depth
+  by_found None e some = absurd (let f : false ≡ true = sym (ap is_some e) ∙ some in cc)
+  by_found (Some item) e some = (let is = placed_is layers layer right item are e in subst (λ (n : ℕ). n < depth) is.1 (low item.object 0 is.0))
+
+-- what is placed is of the game
+pub placed_within : (layers : List ℕ) (right : List Item) (r : Masks) → AreOf layers right → AreMasksOf right r → (object : ℕ) → member r.placed object ≡ true → object < length layers
+placed_within layers right r are mr object here = (let p = mr.placed_only object here in subst (λ (k : ℕ). k < length layers) p.3 (placed_is layers p.0 right p.1 are p.2).0)
+
+-- the directions of placed objects have their words
+pub headed_within : (layers : List ℕ) (depth count : ℕ) (right : List Item) (r : Masks) → AreOf layers right → AreMasksOf right r → All (λ layer. layer < depth) layers → depth ≤ 25 * count → (number : ℕ) → member r.headed number ≡ true → number / 128 < count
+headed_within layers depth count right r are mr low room number here = elim (cases_lt (number % 128) 125) [
+  | inl inside ↦ (let f = flag_of number inside in by_found f.0 f.1 f.2 (placed_on f.0 right) refl (sym (mr.headed f.0 f.1) ∙ ap (member r.headed) f.2 ∙ here))
+  | inr outside ↦ absurd (let e : false ≡ true = sym (mr.proper_headed number outside) ∙ here in cc)
+] where
+  by_found : (layer : ℕ) (dir : Dir) → flag layer dir ≡ number → (o : Option Item) → placed_on layer right ≡ o → begins dir (placed_on layer right) ≡ true → number / 128 < count
+  by_found layer dir is None e t = absurd (let f : false ≡ true = sym (ap (begins dir) e) ∙ t in cc)
+  by_found layer dir is (Some item) e t =
+      let p = placed_is layers layer right item are e in
+      let in_depth : layer < depth = subst (λ (n : ℕ). n < depth) p.1 (low item.object 0 p.0) in
+      let bit = dir_bit-low dir in
+      let word : number / 128 ≡ layer / 25 = omega (arith, is, bit) in
+      omega (arith, word, in_depth, room)
+
+-- the directions between have no bits between the fields
+pub mid_proper : (layers : List ℕ) (left right : List Item) (l r : Masks) (objects movement objects_new mid movement_new : List ℕ) → AreMasksOf right r → IsProper movement → AreRewritten layers l r objects movement objects_new mid movement_new → IsProper mid
+mid_proper layers left right l r objects movement objects_new mid movement_new mr proper w number high =
+    w.is_mid number ∙ ap (λ b. (b && not (member r.settled number || (member l.told number && member r.covered number))) || member r.headed number) (proper number high) ∙ mr.proper_headed number high
+
+-- ---- whether the cell changed
+pub place_in : (depth : ℕ) (layers objects movement : List ℕ) (layer : ℕ) → layer < depth → get_or (cell_of depth layers objects movement) layer None ≡ place_of layers objects movement layer
+place_in depth layers objects movement layer low = get_or-map-range_with_len (place_of layers objects movement) 0 depth layer layer None low (omega arith)
+
+-- nothing stands past the layers
+place_past : (depth : ℕ) (layers objects movement : List ℕ) (layer : ℕ) → All (λ l. l < depth) layers → AreLawful layers objects movement → depth ≤ layer → place_of layers objects movement layer ≡ None
+place_past depth layers objects movement layer low lawful past = by_place (place_of layers objects movement layer) refl (lawful.shows layer) where
+  by_place : (place : Option Piece) → place_of layers objects movement layer ≡ place → Shows layers (member objects) (heads movement layer) layer place → place_of layers objects movement layer ≡ None
+  by_place None e shown = e
+  by_place (Some piece) e shown = absurd (let at : get_or layers piece.object 0 ≡ layer = shown.1 in let below = low piece.object 0 (lawful.of_game piece.object shown.0) in omega (arith, at, below))
+
+-- words that answer alike show one cell
+pub cell_alike : (depth : ℕ) (layers objects movement objects_new movement_new : List ℕ) → AreLawful layers objects movement → AreLawful layers objects_new movement_new → ((object : ℕ) → member objects_new object ≡ member objects object) → ((layer : ℕ) (dir : Dir) → heads movement_new layer dir ≡ heads movement layer dir) → cell_of depth layers objects_new movement_new ≡ cell_of depth layers objects movement
+cell_alike depth layers objects movement objects_new movement_new lawful lawful_new same_objects same_heads =
+    cell_from_shows depth layers objects_new movement_new (cell_of depth layers objects movement) (length-map-range_with_len (place_of layers objects movement) 0 depth) lawful_new.of_game (λ layer low.
+    subst (Shows layers (member objects_new) (heads movement_new layer) layer) (sym (place_in depth layers objects movement layer low))
+    (shows_alike layers (member objects) (member objects_new) (heads movement layer) (heads movement_new layer) layer (place_of layers objects movement layer) (λ object on. same_objects object) (same_heads layer) (lawful.shows layer)))
+
+-- one cell is shown by words that answer alike
+pub member_seen : (depth : ℕ) (layers objects movement : List ℕ) (object : ℕ) → All (λ l. l < depth) layers → AreLawful layers objects movement → member objects object ≡ is_some (standing (cell_of depth layers objects movement) object)
+member_seen depth layers objects movement object low lawful = sym (ap is_some (standing_seen depth layers objects movement object low lawful) ∙ by_there (member objects object) (heading_in movement (get_or layers object 0))) where
+  by_there : (b : Bool) (heading : Option Dir) → is_some (standing_by b heading) ≡ b
+  by_there true heading = refl
+  by_there false heading = refl
+
+pub objects_alike : (depth : ℕ) (layers objects movement objects_new movement_new : List ℕ) → All (λ l. l < depth) layers → AreLawful layers objects movement → AreLawful layers objects_new movement_new → cell_of depth layers objects_new movement_new ≡ cell_of depth layers objects movement → (object : ℕ) → member objects_new object ≡ member objects object
+objects_alike depth layers objects movement objects_new movement_new low lawful lawful_new e object =
+    member_seen depth layers objects_new movement_new object low lawful_new ∙ ap (λ (c : List (Option Piece)). is_some (standing c object)) e ∙ sym (member_seen depth layers objects movement object low lawful)
+
+pub heads_alike : (depth : ℕ) (layers objects movement objects_new movement_new : List ℕ) → All (λ l. l < depth) layers → AreLawful layers objects movement → AreLawful layers objects_new movement_new → cell_of depth layers objects_new movement_new ≡ cell_of depth layers objects movement → (layer : ℕ) (dir : Dir) → heads movement_new layer dir ≡ heads movement layer dir
+heads_alike depth layers objects movement objects_new movement_new low lawful lawful_new e layer dir =
+    toward_shown layers (member objects_new) (heads movement_new layer) layer (place_of layers objects_new movement_new layer) dir (lawful_new.shows layer)
+    ∙ ap (λ (p : Option Piece). is_toward (heading_of p) dir) (elim (cases_lt layer depth) [
+      | inl within ↦ sym (place_in depth layers objects_new movement_new layer within) ∙ ap (λ (c : List (Option Piece)). get_or c layer None) e ∙ place_in depth layers objects movement layer within
+      | inr past ↦ place_past depth layers objects_new movement_new layer low lawful_new past ∙ sym (place_past depth layers objects movement layer low lawful past)
+    ])
+    ∙ sym (toward_shown layers (member objects) (heads movement layer) layer (place_of layers objects movement layer) dir (lawful.shows layer))
+
+-- where the objects stay, none of them leaves
+none_leaves : (layers : List ℕ) (right : List Item) (l r : Masks) (objects movement objects_new mid movement_new : List ℕ) → AreOf layers right → AreMasksOf right r → ((object : ℕ) → member objects object ≡ true → object < length layers) → AreRewritten layers l r objects movement objects_new mid movement_new → ((object : ℕ) → member objects_new object ≡ member objects object) → (object : ℕ) → Leaves layers objects r.layers (removed_by l r) object → ⊥
+none_leaves layers right l r objects movement objects_new mid movement_new are mr of_game w same object g =
+    let gone : gone_by layers l r object ≡ true = or_right (member r.layers (get_or layers object 0)) (member l.present object || member r.absent object) g.removed in
+    let placed : member r.placed object ≡ true = sym (and_never (member objects object) (member r.placed object)) ∙ sym (ap (λ b. (member objects object && not b) || member r.placed object) gone) ∙ sym (w.is_new object (of_game object g.here)) ∙ same object ∙ g.here in
+    let p = mr.placed_only object placed in
+    let on : get_or layers object 0 ≡ p.0 = ap (λ (k : ℕ). get_or layers k 0) (sym p.3) ∙ (placed_is layers p.0 right p.1 are p.2).1 in
+    let e : false ≡ true = sym g.free ∙ mr.layers (get_or layers object 0) ∙ ap (λ (k : ℕ). is_some (placed_on k right)) on ∙ ap is_some p.2 in
+    absurd (never e) where
+      and_never : (a b : Bool) → ((a && not true) || b) ≡ b
+      and_never true b = refl
+      and_never false b = refl
+
+      never : false ≡ true → ⊥
+      never e = cc
+
+neither : (a b : Bool) → (a || b) ≡ false → (a ≡ false) × (b ≡ false)
+neither true b e = cc
+neither false b e = (refl, e)
+
+both_false : (a b : Bool) → a ≡ false → b ≡ false → (a || b) ≡ false
+both_false a b e f = ap (λ x. x || b) e ∙ f
+
+decided : (b : Bool) (x y : List (Option Piece)) → (b ≡ false → x ≡ y) → (x ≡ y → b ≡ false) → b ≡ not (same_cell x y)
+decided false x y f g = sym (ap not (ap (λ (z : List (Option Piece)). same_cell x z) (sym (f refl)) ∙ same_cell_self x))
+decided true x y f g = by_same (same_cell x y) refl where
+  by_same : (s : Bool) → same_cell x y ≡ s → true ≡ not (same_cell x y)
+  by_same true e = absurd (let h : true ≡ false = g (same_cell_is x y e) in cc)
+  by_same false e = sym (ap not e)
+
+pub changed_by : (depth : ℕ) (layers : List ℕ) (right : List Item) (l r : Masks) (objects movement objects_new mid movement_new : List ℕ) (moved replaced : Bool) (new_cell : List (Option Piece)) → AreOf layers right → AreMasksOf right r → All (λ layer. layer < depth) layers → AreLawful layers objects movement → AreLawful layers objects_new movement_new → AreRewritten layers l r objects movement objects_new mid movement_new → IsProper mid → ((moved ≡ false) ↔ ((number : ℕ) → member mid number ≡ member movement number)) → ((replaced ≡ false) ↔ ((number : ℕ) → member objects_new number ≡ member objects number)) → cell_of depth layers objects_new movement_new ≡ new_cell → (moved || replaced) ≡ not (same_cell new_cell (cell_of depth layers objects movement))
+changed_by depth layers right l r objects movement objects_new mid movement_new moved replaced new_cell are mr low lawful lawful_new w proper is_moved is_replaced e =
+    decided (moved || replaced) new_cell (cell_of depth layers objects movement) forth back where
+      settled : ((object : ℕ) → member objects_new object ≡ member objects object) → (layer : ℕ) (dir : Dir) → heads movement_new layer dir ≡ heads mid layer dir
+      settled same layer dir = w.others layer dir (λ object g on. none_leaves layers right l r objects movement objects_new mid movement_new are mr lawful.of_game w same object g)
+
+      forth : (moved || replaced) ≡ false → new_cell ≡ cell_of depth layers objects movement
+      forth n =
+          let parts = neither moved replaced n in
+          let same = is_replaced.0 parts.1 in
+          sym e ∙ cell_alike depth layers objects movement objects_new movement_new lawful lawful_new same (λ layer dir. settled same layer dir ∙ is_moved.0 parts.0 (flag layer dir))
+
+      back : new_cell ≡ cell_of depth layers objects movement → (moved || replaced) ≡ false
+      back h =
+          let same = objects_alike depth layers objects movement objects_new movement_new low lawful lawful_new (e ∙ h) in
+          let heads_same = heads_alike depth layers objects movement objects_new movement_new low lawful lawful_new (e ∙ h) in
+          both_false moved replaced
+          (is_moved.1 (each_number (λ mine theirs. mine ≡ theirs) mid movement proper lawful.proper refl (λ layer dir. sym (settled same layer dir) ∙ heads_same layer dir)))
+          (is_replaced.1 same)
+
+-- ---- the loops
+-- the layers up to one, and that one
+pub chosen_more : (at layer : ℕ) (chosen : List ℕ) → ((nat_lt at layer && member chosen at) || (member chosen layer && nat_eq at layer)) ≡ (nat_lt at (layer + 1) && member chosen at)
+chosen_more at layer chosen = elim (cases_lt at layer) [
+  | inl below ↦ ap (λ b. (b && member chosen at) || (member chosen layer && nat_eq at layer)) (ltb-yes at layer below) ∙ ap (λ b. member chosen at || (member chosen layer && b)) (ne_eqb at layer (λ e. absurd (omega (arith, e, below)))) ∙ or_nothing (member chosen at) (member chosen layer) ∙ sym (ap (λ b. b && member chosen at) (ltb-yes at (layer + 1) (omega (arith, below))))
+  | inr above ↦ elim (cases_eq at layer) [
+    | inl same ↦ ap (λ b. (b && member chosen at) || (member chosen layer && nat_eq at layer)) (ltb-no at layer above) ∙ ap (λ b. member chosen layer && b) (eq-eqb at layer same) ∙ and_yes (member chosen layer) ∙ ap (member chosen) (sym same) ∙ sym (ap (λ b. b && member chosen at) (ltb-yes at (layer + 1) (omega (arith, same))))
+    | inr other ↦ ap (λ b. (b && member chosen at) || (member chosen layer && nat_eq at layer)) (ltb-no at layer above) ∙ ap (λ b. member chosen layer && b) (ne_eqb at layer other) ∙ and_no (member chosen layer) ∙ sym (ap (λ b. b && member chosen at) (ltb-no at (layer + 1) (omega (arith, above, other))))
+  ]
+] where
+  ltb-yes : (a b : ℕ) → a < b → nat_lt a b ≡ true
+  ltb-yes a b h = grind (arith, h)
+
+  ltb-no : (a b : ℕ) → b ≤ a → nat_lt a b ≡ false
+  ltb-no a b h = grind (arith, h)
+
+  or_nothing : (a b : Bool) → (a || (b && false)) ≡ a
+  or_nothing true b = refl
+  or_nothing false true = refl
+  or_nothing false false = refl
+
+-- the movement after the objects below one that leave
+pub record AreEnded (layers objects cleared : List ℕ) (is_removed : ℕ → Bool) (before now : List ℕ) (start : ℕ) : Type 0 where
+  pub ended : (object : ℕ) (dir : Dir) → object < start → Leaves layers objects cleared is_removed object → heads now (get_or layers object 0) dir ≡ false
+  pub others : (layer : ℕ) (dir : Dir) → ((object : ℕ) → Leaves layers objects cleared is_removed object → get_or layers object 0 ≢ layer) → heads now layer dir ≡ heads before layer dir
+
+pub ended_more : (layers objects cleared : List ℕ) (is_removed : ℕ → Bool) (before now after : List ℕ) (start found : ℕ) → AreEnded layers objects cleared is_removed before now start → start ≤ found → (member objects found && is_removed found) ≡ true
+    → ((k : ℕ) → start ≤ k → k < found → (member objects k && is_removed k) ≡ false)
+    → (member cleared (get_or layers found 0) ≡ false → (dir : Dir) → heads after (get_or layers found 0) dir ≡ false)
+    → (member cleared (get_or layers found 0) ≡ true → (other : ℕ) (dir : Dir) → heads after other dir ≡ heads now other dir)
+    → ((other : ℕ) (dir : Dir) → other ≢ get_or layers found 0 → heads after other dir ≡ heads now other dir)
+    → ((other : ℕ) (dir : Dir) → heads now other dir ≡ false → heads after other dir ≡ false)
+    → AreEnded layers objects cleared is_removed before after (found + 1)
+ended_more layers objects cleared is_removed before now after start found i from here none ends spares leaves keeps = record {
+  ended = λ object dir below g. elim (cases_lt object start) [
+    | inl early ↦ keeps (get_or layers object 0) dir (i.ended object dir early g)
+    | inr late ↦ elim (cases_lt object found) [
+      | inl between ↦ absurd (let e : false ≡ true = sym (none object late between) ∙ and_from (member objects object) (is_removed object) g.here g.removed in cc)
+      | inr past ↦ (let same : object ≡ found = omega (arith, below, past) in
+          subst (λ (o : ℕ). heads after (get_or layers o 0) dir ≡ false) (sym same) (ends (ap (λ (o : ℕ). member cleared (get_or layers o 0)) (sym same) ∙ g.free) dir))
+    ]
+  ];
+  others = λ layer dir apart. by_spared layer dir apart (member cleared (get_or layers found 0)) refl ∙ i.others layer dir apart;
+} where
+  by_spared : (layer : ℕ) (dir : Dir) → ((object : ℕ) → Leaves layers objects cleared is_removed object → get_or layers object 0 ≢ layer) → (b : Bool) → member cleared (get_or layers found 0) ≡ b → heads after layer dir ≡ heads now layer dir
+  by_spared layer dir apart true e = spares e layer dir
+  by_spared layer dir apart false e =
+      let parts = and_parts (member objects found) (is_removed found) here in
+      leaves layer dir (λ same. apart found (record { here = parts.0; removed = parts.1; free = e }) (sym same))

@@ -1,0 +1,18 @@
+use Rattle.pz_cells.proofs.HoldLemmas.{holds_by_sets, low_of_game, both_decide, first_decides}
+use Rattle.pz_cells.proofs.cell.Cell.holds.Goals as goal
+
+pub returns-then-meets : goal.returns-then-meets
+returns-then-meets g c =
+    let layers = c.args.layers.now in
+    let items = c.args.pattern.now in
+    let low = low_of_game c.args.depth layers items c.requires.layered c.requires.few c.requires.shallow c.requires.of_game in
+    both_decide c.meets.result c.meets-then-meets.result _ c.meets.ensures c.meets-then-meets.ensures
+    (holds_by_sets c.args.depth layers c.args.self.now.objects c.args.self.now.movement items c.masks-masks.result.now (c.masks-masks.ensures low) c.requires.layered c.requires.lawful c.requires.of_game) c.if-meets.true
+
+pub returns-else-meets : goal.returns-else-meets
+returns-else-meets g c =
+    let layers = c.args.layers.now in
+    let items = c.args.pattern.now in
+    let low = low_of_game c.args.depth layers items c.requires.layered c.requires.few c.requires.shallow c.requires.of_game in
+    first_decides c.meets.result _ c.meets.ensures
+    (holds_by_sets c.args.depth layers c.args.self.now.objects c.args.self.now.movement items c.masks-masks.result.now (c.masks-masks.ensures low) c.requires.layered c.requires.lawful c.requires.of_game) c.if-meets.false

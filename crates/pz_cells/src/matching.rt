@@ -1,0 +1,37 @@
+//! What holds in a cell.
+
+ghost use Rattle.std.specs.Prelude.{◌≡◌, ◌<◌, ◌≤◌, ◌↔◌, IsTrue, All, length};
+ghost use Rattle.pz_sets.specs.Sets.{IsWithin, AreApart};
+ghost use Rattle.pz_game.specs.Pattern.{AreOf};
+ghost use Rattle.pz_cells.specs.Pattern.{pattern_holds};
+ghost use Rattle.pz_cells.specs.Shown.{cell_of, AreLawful};
+
+use crate::cell::Cell;
+use pz_game::pattern::Pattern;
+use pz_sets::set::NumberSet;
+use pz_sets::words::{has_subset, is_disjoint};
+
+/// Whether a set has each of some numbers, and none of others.
+fn meets(set: &[u128], wanted: &NumberSet, unwanted: &NumberSet) -> bool
+    ensures { IsTrue result ↔ (IsWithin wanted.now set.now × AreApart unwanted.now set.now) }
+{
+    has_subset(set, wanted.words()) && is_disjoint(set, unwanted.words())
+}
+
+impl<const N: usize> Cell<N> {
+    /// Whether a rule's cell holds here. The layers are those of the game's objects.
+    pub fn holds(&self, depth: usize, layers: &[usize], pattern: &Pattern) -> bool
+        requires layered { All (λ layer. layer < depth) layers.now }
+        requires few { length layers.now ≤ 512 }
+        requires shallow { depth ≤ 100 }
+        requires of_game { AreOf layers.now pattern.now }
+        requires lawful { AreLawful layers.now self.now.objects self.now.movement }
+        ensures { result ≡ pattern_holds (cell_of depth layers.now self.now.objects self.now.movement) pattern.now }
+    {
+        let _ = depth;
+        let _ = layers;
+        let masks = pattern.masks();
+        meets(&self.objects, &masks.present, &masks.absent)
+            && meets(&self.movement, &masks.required, &masks.forbidden)
+    }
+}

@@ -1,0 +1,25 @@
+//! Pieces: objects that stand somewhere.
+
+ghost use Rattle.std.specs.Prelude.{◌≡◌};
+ghost use Rattle.pz_cells.specs.Cell.{still_piece};
+
+use pz_game::direction::Dir;
+
+/// An object in a cell, by its place among the game's objects, and where it heads; None: it is still.
+#[derive(Clone, Copy, PartialEq, Eq, Debug)]
+pub struct Piece {
+    pub object: u16,
+    pub heading: Option<Dir>,
+}
+
+impl Piece {
+    /// The object, still.
+    pub fn still(object: u16) -> Piece
+        ensures { result ≡ still_piece object }
+    {
+        Piece {
+            object,
+            heading: None,
+        }
+    }
+}

@@ -1,0 +1,65 @@
+//! What stands in a cell.
+
+ghost use Rattle.std.specs.Prelude.{◌≡◌, ℕ, ◌<◌, ◌≤◌, ◌↔◌, IsTrue, All, true, false, length, slice_index, MatchOption};
+ghost use Rattle.pz_sets.specs.Sets.{member, AreSame};
+ghost use Rattle.pz_game.specs.Headings.{heading_in};
+ghost use Rattle.pz_cells.specs.Shown.{AreLawful};
+
+use crate::cell::Cell;
+use crate::piece::Piece;
+use pz_game::headings;
+use pz_sets::set::NumberSet;
+use pz_sets::words;
+
+impl<const N: usize> Cell<N> {
+    /// Whether an object stands in the cell.
+    pub fn has(&self, object: usize) -> bool
+        ensures { result ≡ member self.now.objects object }
+    {
+        words::contains(&self.objects, object)
+    }
+
+    /// The objects that stand in the cell.
+    pub fn object_set(&self) -> NumberSet
+        requires short { N ≤ 4 }
+        ensures { (object : ℕ) → member result object ≡ member self.now.objects object }
+    {
+        // (brings the proof how many words there are)
+        let _ = self.word_count();
+        NumberSet::from_words(&self.objects)
+    }
+
+    /// Whether nothing in the cell heads anywhere.
+    pub fn is_still(&self) -> bool
+        requires short { N ≤ 4 }
+        ensures { result ≡ true → (number : ℕ) → member self.now.movement number ≡ false }
+    {
+        // (brings the proof how many words there are)
+        let _ = self.word_count();
+        words::next(&self.movement, 0).is_none()
+    }
+
+    /// The object's piece, if it stands in the cell. The layers are those of the game's objects.
+    pub fn piece(&self, layers: &[usize], object: usize) -> Option<Piece>
+        requires few { length layers.now ≤ 512 }
+        requires low { All (λ layer. layer < 100) layers.now }
+        requires lawful { AreLawful layers.now self.now.objects self.now.movement }
+        ensures { MatchOption result (member self.now.objects object ≡ false) (λ piece. (member self.now.objects object ≡ true) × (piece.object ≡ object) × (piece.heading ≡ heading_in self.now.movement (slice_index layers.now object))) }
+    {
+        if self.has(object) {
+            Some(Piece {
+                object: object as u16,
+                heading: headings::heading(&self.movement, layers[object]),
+            })
+        } else {
+            None
+        }
+    }
+
+    /// Whether both cells have the same objects, and the same layers head alike.
+    pub fn same(&self, other: &Cell<N>) -> bool
+        ensures { IsTrue result ↔ (AreSame self.now.objects other.now.objects × AreSame self.now.movement other.now.movement) }
+    {
+        words::same(&self.objects, &other.objects) && words::same(&self.movement, &other.movement)
+    }
+}

@@ -1,0 +1,108 @@
+//! Where the objects of layers head, as sets of numbers: five for each layer, those of 25 layers in a word.
+
+ghost use Rattle.std.specs.Prelude.{◌≡◌, ℕ, ◌+◌, ◌/◌, ◌%◌, ◌<◌, ◌↔◌, IsTrue, true, false, MatchOption, ◌≤◌, not, ◌&&◌, ◌||◌, nat_eq, length};
+ghost use Rattle.pz_sets.specs.Sets.{member};
+ghost use Rattle.pz_sets.specs.declared.set.TheConstants.{CAPACITY};
+ghost use Rattle.pz_game.specs.declared.direction.Dir.{Dir};
+ghost use Rattle.pz_game.specs.Direction.{same_dir};
+ghost use Rattle.pz_game.specs.Headings.{dir_bit, flag, heads, heading_in, IsProper};
+
+use crate::direction::Dir;
+use pz_sets::words;
+
+fn bit(dir: Dir) -> usize
+    ensures number { result ≡ dir_bit dir }
+    ensures low { result < 5 }
+{
+    match dir {
+        Dir::Up => 0,
+        Dir::Down => 1,
+        Dir::Left => 2,
+        Dir::Right => 3,
+        Dir::Action => 4,
+    }
+}
+
+/// The number of a layer's direction in the words.
+pub fn flag(layer: usize, dir: Dir) -> usize
+    requires { layer < 100 }
+    ensures number { result ≡ flag layer dir }
+    ensures word { result / 128 ≡ layer / 25 }
+    ensures field { result % 128 < 125 }
+    ensures low { result < CAPACITY }
+{
+    layer / 25 * 128 + layer % 25 * 5 + bit(dir)
+}
+
+/// Whether the layer heads in the direction.
+pub fn heads(set: &[u128], layer: usize, dir: Dir) -> bool
+    requires { layer < 100 }
+    ensures { result ≡ heads set.now layer dir }
+{
+    words::contains(set, flag(layer, dir))
+}
+
+/// Where the layer heads: the first of its directions.
+pub fn heading(set: &[u128], layer: usize) -> Option<Dir>
+    requires { layer < 100 }
+    ensures { result ≡ heading_in set.now layer }
+{
+    if heads(set, layer, Dir::Up) {
+        Some(Dir::Up)
+    } else if heads(set, layer, Dir::Down) {
+        Some(Dir::Down)
+    } else if heads(set, layer, Dir::Left) {
+        Some(Dir::Left)
+    } else if heads(set, layer, Dir::Right) {
+        Some(Dir::Right)
+    } else if heads(set, layer, Dir::Action) {
+        Some(Dir::Action)
+    } else {
+        None
+    }
+}
+
+/// Lets a layer head in a direction.
+pub fn set(set: &mut [u128], layer: usize, dir: Dir)
+    requires low { layer < 100 }
+    requires within { layer / 25 < length set.old }
+    ensures heads { (other : ℕ) (way : Dir) → heads set.new other way ≡ ((nat_eq other layer && same_dir dir way) || heads set.old other way) }
+    ensures proper { IsProper set.old → IsProper set.new }
+{
+    words::insert(set, flag(layer, dir));
+}
+
+/// Takes a direction from a layer.
+fn unset(set: &mut [u128], layer: usize, dir: Dir)
+    requires { layer < 100 }
+    ensures heads { (other : ℕ) (way : Dir) → heads set.new other way ≡ (not (nat_eq other layer && same_dir dir way) && heads set.old other way) }
+    ensures proper { IsProper set.old → IsProper set.new }
+{
+    words::remove(set, flag(layer, dir));
+}
+
+/// Ends the movement of a layer.
+pub fn clear(set: &mut [u128], layer: usize)
+    requires { layer < 100 }
+    ensures heads { (other : ℕ) (way : Dir) → heads set.new other way ≡ (not (nat_eq other layer) && heads set.old other way) }
+    ensures proper { IsProper set.old → IsProper set.new }
+{
+    unset(set, layer, Dir::Up);
+    unset(set, layer, Dir::Down);
+    unset(set, layer, Dir::Left);
+    unset(set, layer, Dir::Right);
+    unset(set, layer, Dir::Action);
+}
+
+/// The next layer from one on that heads somewhere.
+pub fn next(set: &[u128], start: usize) -> Option<usize>
+    requires short { length set.now ≤ 4 }
+    requires low { start ≤ 100 }
+    requires proper { IsProper set.now }
+    ensures { MatchOption result ((layer : ℕ) (dir : Dir) → start ≤ layer → heads set.now layer dir ≡ false) (λ found. (start ≤ found) × (found < 100) × ((layer : ℕ) (dir : Dir) → start ≤ layer → layer < found → heads set.now layer dir ≡ false)) }
+{
+    match words::next(set, start / 25 * 128 + start % 25 * 5) {
+        None => None,
+        Some(flag) => Some(flag / 128 * 25 + flag % 128 / 5),
+    }
+}

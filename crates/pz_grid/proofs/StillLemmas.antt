@@ -1,0 +1,28 @@
+-- A cell in which nothing heads anywhere is left as it is by a pass.
+use Rattle.std.proofs.Common.{◌≡◌, ℕ, zero, suc, List, [], ◌∷◌, Bool, Option, Some, None, map, get_or, refl, ap, ◌∙◌}
+use Rattle.std.specs.Prelude.{fold}
+use Rattle.pz_game.specs.declared.direction.Dir.{Dir}
+use Rattle.pz_cells.specs.declared.piece.Piece.{Piece}
+use Rattle.pz_cells.specs.Cell.{still_piece, still_place}
+use Rattle.pz_sheet.specs.Grid.{Grid, cell_at, place_at}
+use Rattle.pz_grid.specs.Movement.{Pass, Spot, spot, in_pass, heading_goal, moved_to, move_place, move_at}
+
+still_at : (cell : List (Option Piece)) (layer : ℕ) → get_or (map still_place cell) layer None ≡ still_place (get_or cell layer None)
+still_at [] layer = refl
+still_at (place ∷ cell) zero = refl
+still_at (place ∷ cell) (suc layer) = still_at cell layer
+
+stays : (pass : Pass) (at : Spot) (place : Option Piece) → place ≡ still_place place → move_place pass at place ≡ pass
+stays pass at None is = refl
+stays pass at (Some piece) is =
+    let same : piece ≡ still_piece piece.object = cc in
+    let still : piece.heading ≡ None = ap (λ (it : Piece). it.heading) same in
+    ap (λ (heading : Option Dir). moved_to pass at piece (heading_goal pass.grid at heading)) still
+
+pub all_stay : (grid : Grid) (moved : Bool) (x y : ℕ) (layers : List ℕ) → cell_at grid x y ≡ map still_place (cell_at grid x y)
+    → fold move_at (in_pass grid moved) (map (spot x y) layers) ≡ in_pass grid moved
+all_stay grid moved x y [] is = refl
+all_stay grid moved x y (layer ∷ layers) is =
+    let here : place_at grid x y layer ≡ still_place (place_at grid x y layer) = ap (λ (cell : List (Option Piece)). get_or cell layer None) is ∙ still_at (cell_at grid x y) layer in
+    let first : move_at (in_pass grid moved) (spot x y layer) ≡ in_pass grid moved = stays (in_pass grid moved) (spot x y layer) (place_at grid x y layer) here in
+    ap (λ (pass : Pass). fold move_at pass (map (spot x y) layers)) first ∙ all_stay grid moved x y layers is

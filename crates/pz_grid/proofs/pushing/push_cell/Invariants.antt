@@ -1,9 +1,0 @@
-use Rattle.std.proofs.Common.{◌≡◌, ◌++◌, map, take, drop, length}
-use Rattle.pz_grid.specs.Pushing.{pushed_place}
-use Rattle.pz_grid.proofs.pushing.push_cell.Given as goal
-
-abbrev pub invariant-loop-layer : goal.invariant-loop-layer
-invariant-loop-layer l = record {
-  so_far : l.cell ≡ map (pushed_place l.players l.dir) (take l.layer l.initial.cell) ++ drop l.layer l.initial.cell;
-  whole : length l.cell ≡ length l.initial.cell;
-}

@@ -1,0 +1,283 @@
+//! A level without its marks, in as many words a cell as its game needs: each call goes to the sheet that has it.
+
+ghost use Rattle.std.specs.Prelude.{◌≡◌, ℕ, ◌<◌, ◌↔◌, IsTrue, true, map, length, slice_index, All, IfOk, IfSome, Some, None, MatchOption};
+ghost use Rattle.pz_sets.specs.Sets.{member};
+ghost use Rattle.pz_sets.specs.declared.set.TheConstants.{CAPACITY};
+ghost use Rattle.pz_game.specs.Pattern.{AreOf};
+ghost use Rattle.pz_cells.specs.Cell.{IsOnLayer, still_place};
+ghost use Rattle.pz_cells.specs.Pattern.{pattern_holds};
+ghost use Rattle.pz_sheet.specs.Grid.{IsLawful, cell_at, place_at, with_place};
+ghost use Rattle.pz_sheet.specs.Loading.{drawn, filled};
+ghost use Rattle.pz_sheet.specs.Movement.{stilled};
+ghost use Rattle.pz_sheet.specs.Presence.{is_in, cell_of};
+ghost use Rattle.pz_sheet.specs.Pushing.{pushed};
+ghost use Rattle.pz_sheet.specs.Rewriting.{with_rewritten, changes};
+ghost use Rattle.pz_sheet.specs.Standing.{standing_at, stands};
+
+use pz_cells::piece::Piece;
+use pz_game::direction::Dir;
+use pz_game::game::Game;
+use pz_game::level::DrawnLevel;
+use pz_game::pattern::Pattern;
+use pz_sets::set::NumberSet;
+use pz_sheet::Sheet;
+use std::alloc::{AllocError, Global};
+use std::marker::Model;
+
+/// The cells of a level: of a game of up to 128 objects and 25 layers, of up to 256 and 50, or of more.
+#[derive(Drop)]
+enum Sized {
+    Small(Sheet<1>),
+    Middle(Sheet<2>),
+    Large(Sheet<4>),
+}
+
+/// A level without its marks.
+#[derive(Drop)]
+pub(crate) struct BareLevel {
+    sheet: Sized,
+}
+
+impl Model for BareLevel {
+    ghost use Rattle.pz_sheet.specs.Grid.{BareState};
+    ghost use Rattle.pz_grid.specs.Bare.{state_in, IsFitting};
+
+    ghost Value = { BareState };
+
+    ghost view = { λ b. state_in b.sheet };
+
+    ghost invariant = { λ b. IsFitting b.sheet };
+}
+
+impl BareLevel {
+    /// The level as it is drawn, before the background is laid. Err: memory was refused.
+    pub(crate) fn drawn(
+        alloc: Global,
+        game: &Game,
+        drawing: &DrawnLevel,
+    ) -> Result<BareLevel, AllocError>
+        requires { All (λ number. number < length game.now.values) drawing.now.cells }
+        ensures { IfOk result (λ bare. bare.grid ≡ drawn game.now drawing.now) }
+    {
+        let objects = game.layers().len();
+        let depth = game.depth();
+        let sheet = if objects <= 128 && depth <= 25 {
+            Sized::Small(Sheet::drawn(alloc, game, drawing)?)
+        } else if objects <= 256 && depth <= 50 {
+            Sized::Middle(Sheet::drawn(alloc, game, drawing)?)
+        } else {
+            Sized::Large(Sheet::drawn(alloc, game, drawing)?)
+        };
+        Ok(BareLevel { sheet })
+    }
+
+    /// The same cells once more. Err: memory was refused.
+    pub(crate) fn copy(&self) -> Result<BareLevel, AllocError>
+        ensures copied { IfOk result (λ bare. bare.grid ≡ self.now.grid) }
+    {
+        let sheet = match &self.sheet {
+            Sized::Small(sheet) => Sized::Small(sheet.copy()?),
+            Sized::Middle(sheet) => Sized::Middle(sheet.copy()?),
+            Sized::Large(sheet) => Sized::Large(sheet.copy()?),
+        };
+        Ok(BareLevel { sheet })
+    }
+
+    pub(crate) fn equals(&self, other: &BareLevel) -> bool
+        ensures { IsTrue result ↔ (self.now.grid ≡ other.now.grid) }
+    {
+        match (&self.sheet, &other.sheet) {
+            (Sized::Small(sheet), Sized::Small(other)) => sheet.equals(other),
+            (Sized::Middle(sheet), Sized::Middle(other)) => sheet.equals(other),
+            (Sized::Large(sheet), Sized::Large(other)) => sheet.equals(other),
+            _ => false,
+        }
+    }
+
+    pub(crate) fn width(&self) -> u32
+        ensures width { result ≡ self.now.grid.width }
+        ensures lawful { IsLawful self.now.grid }
+    {
+        match &self.sheet {
+            Sized::Small(sheet) => sheet.width(),
+            Sized::Middle(sheet) => sheet.width(),
+            Sized::Large(sheet) => sheet.width(),
+        }
+    }
+
+    pub(crate) fn height(&self) -> u32
+        ensures height { result ≡ self.now.grid.height }
+        ensures lawful { IsLawful self.now.grid }
+    {
+        match &self.sheet {
+            Sized::Small(sheet) => sheet.height(),
+            Sized::Middle(sheet) => sheet.height(),
+            Sized::Large(sheet) => sheet.height(),
+        }
+    }
+
+    /// The number of layers.
+    pub(crate) fn depth(&self) -> usize
+        ensures { result ≡ self.now.grid.depth }
+    {
+        match &self.sheet {
+            Sized::Small(sheet) => sheet.depth(),
+            Sized::Middle(sheet) => sheet.depth(),
+            Sized::Large(sheet) => sheet.depth(),
+        }
+    }
+
+    pub(crate) fn cell_count(&self) -> usize
+        ensures { result ≡ length self.now.grid.cells }
+    {
+        match &self.sheet {
+            Sized::Small(sheet) => sheet.cell_count(),
+            Sized::Middle(sheet) => sheet.cell_count(),
+            Sized::Large(sheet) => sheet.cell_count(),
+        }
+    }
+
+    pub(crate) fn is_in(&self, index: usize, object: usize) -> bool
+        requires { index < length self.now.grid.cells }
+        ensures { result ≡ is_in (cell_of self.now.grid index) object }
+    {
+        match &self.sheet {
+            Sized::Small(sheet) => sheet.is_in(index, object),
+            Sized::Middle(sheet) => sheet.is_in(index, object),
+            Sized::Large(sheet) => sheet.is_in(index, object),
+        }
+    }
+
+    pub(crate) fn objects_at(&self, x: u32, y: u32) -> NumberSet
+        ensures { (object : ℕ) → member result object ≡ stands self.now.grid x y object }
+    {
+        match &self.sheet {
+            Sized::Small(sheet) => sheet.objects_at(x, y),
+            Sized::Middle(sheet) => sheet.objects_at(x, y),
+            Sized::Large(sheet) => sheet.objects_at(x, y),
+        }
+    }
+
+    pub(crate) fn piece(&self, x: u32, y: u32, object: usize) -> Option<Piece>
+        ensures { MatchOption result (standing_at self.now.grid x y object ≡ None) (λ piece. standing_at self.now.grid x y object ≡ Some piece.heading) }
+    {
+        match &self.sheet {
+            Sized::Small(sheet) => sheet.piece(x, y, object),
+            Sized::Middle(sheet) => sheet.piece(x, y, object),
+            Sized::Large(sheet) => sheet.piece(x, y, object),
+        }
+    }
+
+    /// What stands on a layer of a position of the map.
+    pub(crate) fn place(&self, x: u32, y: u32, layer: usize) -> Option<Piece>
+        requires x_in { x < self.now.grid.width }
+        requires y_in { y < self.now.grid.height }
+        requires layer_in { layer < self.now.grid.depth }
+        ensures place { result ≡ place_at self.now.grid x y layer }
+        ensures on_layer { IsOnLayer self.now.grid.layers layer result }
+        ensures low { IfSome result (λ piece. piece.object < CAPACITY) }
+    {
+        match &self.sheet {
+            Sized::Small(sheet) => sheet.place(x, y, layer),
+            Sized::Middle(sheet) => sheet.place(x, y, layer),
+            Sized::Large(sheet) => sheet.place(x, y, layer),
+        }
+    }
+
+    /// Puts a piece, or nothing, on a layer of a position of the map.
+    pub(crate) fn put(&mut self, x: u32, y: u32, layer: usize, place: Option<Piece>)
+        requires x_in { x < self.old.grid.width }
+        requires y_in { y < self.old.grid.height }
+        requires layer_in { layer < self.old.grid.depth }
+        requires on_layer { IsOnLayer self.old.grid.layers layer place }
+        ensures put { self.new.grid ≡ with_place self.old.grid x y layer place }
+        ensures there { place_at self.new.grid x y layer ≡ place }
+    {
+        match &mut self.sheet {
+            Sized::Small(sheet) => sheet.put(x, y, layer, place),
+            Sized::Middle(sheet) => sheet.put(x, y, layer, place),
+            Sized::Large(sheet) => sheet.put(x, y, layer, place),
+        }
+    }
+
+    /// Whether a rule's cell holds at a position of the map.
+    pub(crate) fn holds(&self, x: u32, y: u32, pattern: &Pattern) -> bool
+        requires x_in { x < self.now.grid.width }
+        requires y_in { y < self.now.grid.height }
+        requires of_game { AreOf self.now.grid.layers pattern.now }
+        ensures { result ≡ pattern_holds (cell_at self.now.grid x y) pattern.now }
+    {
+        match &self.sheet {
+            Sized::Small(sheet) => sheet.holds(x, y, pattern),
+            Sized::Middle(sheet) => sheet.holds(x, y, pattern),
+            Sized::Large(sheet) => sheet.holds(x, y, pattern),
+        }
+    }
+
+    /// Rewrites the cell at a position, and says whether that gave another one.
+    pub(crate) fn rewrite(&mut self, x: u32, y: u32, left: &Pattern, right: &Pattern) -> bool
+        requires x_in { x < self.old.grid.width }
+        requires y_in { y < self.old.grid.height }
+        requires left_of { AreOf self.old.grid.layers left.now }
+        requires right_of { AreOf self.old.grid.layers right.now }
+        ensures level { self.new.grid ≡ with_rewritten self.old.grid x y left.now right.now }
+        ensures changed { result ≡ changes self.old.grid x y left.now right.now }
+    {
+        match &mut self.sheet {
+            Sized::Small(sheet) => sheet.rewrite(x, y, left, right),
+            Sized::Middle(sheet) => sheet.rewrite(x, y, left, right),
+            Sized::Large(sheet) => sheet.rewrite(x, y, left, right),
+        }
+    }
+
+    /// Lets each of some objects head in a direction.
+    pub(crate) fn push_all(&mut self, players: &[usize], dir: Dir)
+        ensures pushed { self.new.grid ≡ pushed players.now dir self.old.grid }
+        ensures lawful { IsLawful self.new.grid }
+    {
+        match &mut self.sheet {
+            Sized::Small(sheet) => sheet.push_all(players, dir),
+            Sized::Middle(sheet) => sheet.push_all(players, dir),
+            Sized::Large(sheet) => sheet.push_all(players, dir),
+        }
+    }
+
+    /// Whether nothing at a position of the map heads anywhere.
+    pub(crate) fn is_still(&self, x: u32, y: u32) -> bool
+        requires x_in { x < self.now.grid.width }
+        requires y_in { y < self.now.grid.height }
+        ensures { result ≡ true → cell_at self.now.grid x y ≡ map still_place (cell_at self.now.grid x y) }
+    {
+        match &self.sheet {
+            Sized::Small(sheet) => sheet.is_still(x, y),
+            Sized::Middle(sheet) => sheet.is_still(x, y),
+            Sized::Large(sheet) => sheet.is_still(x, y),
+        }
+    }
+
+    /// Stills every piece.
+    pub(crate) fn still_all(&mut self)
+        ensures stilled { self.new.grid ≡ stilled self.old.grid }
+        ensures lawful { IsLawful self.new.grid }
+    {
+        match &mut self.sheet {
+            Sized::Small(sheet) => sheet.still_all(),
+            Sized::Middle(sheet) => sheet.still_all(),
+            Sized::Large(sheet) => sheet.still_all(),
+        }
+    }
+
+    /// Puts a piece on a layer of each cell where nothing stands there.
+    pub(crate) fn fill(&mut self, layer: usize, piece: Piece)
+        requires layer_in { layer < self.old.grid.depth }
+        requires on_layer { (piece.object < length self.old.grid.layers) × (slice_index self.old.grid.layers piece.object ≡ layer) }
+        ensures filled { self.new.grid ≡ filled layer piece self.old.grid }
+        ensures lawful { IsLawful self.new.grid }
+    {
+        match &mut self.sheet {
+            Sized::Small(sheet) => sheet.fill(layer, piece),
+            Sized::Middle(sheet) => sheet.fill(layer, piece),
+            Sized::Large(sheet) => sheet.fill(layer, piece),
+        }
+    }
+}

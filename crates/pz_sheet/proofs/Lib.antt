@@ -1,0 +1,5 @@
+pub mod SheetLemmas
+pub mod MapLemmas
+pub mod PushLemmas
+pub mod LoadLemmas
+pub mod SameLemmas

@@ -1,0 +1,19 @@
+use Rattle.std.proofs.Common.{List, ap, subst}
+use Rattle.std.specs.Prelude.{IsTrue, ◌↔◌}
+use Rattle.pz_cells.specs.declared.cell.Cell.{Cell}
+use Rattle.pz_sheet.specs.Grid.{BareState}
+use Rattle.pz_sheet.specs.Seen.{HaveSame}
+use Rattle.pz_sheet.proofs.SameLemmas.{decided_both}
+use Rattle.pz_sheet.proofs.Sheet.equals.Goals as goal
+
+pub returns-then-same_size : goal.returns-then-same_size
+returns-then-same_size g c =
+    let a = c.self.inside in
+    let b = c.other.inside in
+    let e = ap (λ (s : BareState). s.grid) c.self.view_is in
+    let f = ap (λ (s : BareState). s.grid) c.other.view_is in
+    let y = c.same_cells.result in
+    let cells = subst (λ (there : List (Cell g.row.N)). IsTrue y ↔ HaveSame g.row.N a.cells.items there) c.deref-then-same_size.ensures.value
+    (subst (λ (here : List (Cell g.row.N)). IsTrue y ↔ HaveSame g.row.N here c.deref-then-same_size.result.now) c.deref.ensures.value c.same_cells.ensures) in
+    decided_both g.row.N a.width a.height a.depth a.layers.items a.sets.items a.cells.items b.width b.height b.depth b.layers.items b.sets.items b.cells.items c.self.invariant c.other.invariant
+    c.args.self.now.grid c.args.other.now.grid c.same_size.result y e f c.same_size.ensures cells c.if-same_size.true

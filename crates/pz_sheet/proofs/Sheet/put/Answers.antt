@@ -1,0 +1,94 @@
+use Rattle.std.proofs.Common.{◌≡◌, ◌+◌, ◌*◌, ◌<◌, ℕ, List, [], Option, length, set, arith, ap, sym, ◌∙◌, subst}
+use Rattle.pz_cells.specs.declared.piece.Piece.{Piece}
+use Rattle.pz_cells.specs.Cell.{IsOnLayer}
+use Rattle.pz_cells.specs.Shown.{AreLawful}
+use Rattle.pz_sheet.specs.Grid.{Grid, BareState, IsLawful, place_at, with_place}
+use Rattle.pz_sheet.proofs.SheetLemmas.{seen_within, sound_at, small_cell, set_read, place_again, lawful_seen, stored_set, grid_set, sound_changed, seen_changed, placed_there}
+use Rattle.pz_sheet.proofs.Sheet.put.Goals as goal
+
+pub place-here-requires : goal.place-here-requires
+place-here-requires g c =
+    let a = c.self.inside in
+    let e = ap (λ (s : BareState). s.grid) c.self.view_is in
+    let cell = c.index.result.now in
+    let at = c.index-index.result in
+    let within = seen_within _ _ _ a.depth a.layers.items a.cells.items _ at e c.index-index.ensures.within in
+    let same = c.deref.ensures.value in
+    let low : c.args.layer < a.depth = omega (arith, c.requires.layer_in, ap (λ (grid : Grid). grid.depth) e) in (
+      small_cell _ c.self.invariant.short,
+      (
+        c.self.invariant.short,
+        (
+          omega (arith, ap (λ (layers : List ℕ). length layers) same, c.self.invariant.few),
+          (
+            omega (arith, low, c.self.invariant.shallow),
+            (
+              subst (λ (layers : List ℕ). AreLawful layers cell.objects cell.movement) (sym same) (sound_at _ a.layers.items a.cells.items at cell c.self.invariant.sound within c.index.ensures),
+              set_read a.layers.items _ a.sets.items c.args.layer _ _ c.self.invariant.table (omega (arith, low, c.self.invariant.deep)) c.index-2.ensures c.words.ensures.words same,
+            ),
+          ),
+        ),
+      ),
+    )
+
+pub put-requires : goal.put-requires
+put-requires g c =
+    let a = c.self.inside in
+    let e = ap (λ (s : BareState). s.grid) c.self.view_is in
+    let cell = c.index_mut.result.now in
+    let at = c.index-index.result in
+    let within = seen_within _ _ _ a.depth a.layers.items a.cells.items _ at e c.index-index.ensures.within in
+    let same = c.deref-2.ensures.value in
+    let low : c.args.layer < a.depth = omega (arith, c.requires.layer_in, ap (λ (grid : Grid). grid.depth) e) in (
+      small_cell _ c.self.invariant.short,
+      (
+        c.self.invariant.short,
+        (
+          omega (arith, low, c.self.invariant.shallow),
+          (
+            omega (arith, ap (λ (layers : List ℕ). length layers) same, c.self.invariant.room),
+            (
+              omega (arith, low, c.self.invariant.movement_room),
+              (
+                subst (λ (layers : List ℕ). AreLawful layers cell.objects cell.movement) (sym same) (sound_at _ a.layers.items a.cells.items at cell c.self.invariant.sound within c.index_mut.ensures.value),
+                (
+                  place_again _ a.layers.items _ _ a.cells.items at c.args.layer c.index.result.now cell c.place-here.result within c.index.ensures c.index_mut.ensures.value c.deref.ensures.value same c.place-here.ensures,
+                  subst (λ (layers : List ℕ). IsOnLayer layers c.args.layer c.args.place) (sym (same ∙ ap (λ (grid : Grid). grid.layers) e)) c.requires.on_layer,
+                ),
+              ),
+            ),
+          ),
+        ),
+      ),
+    )
+
+pub invariant_of-self : goal.invariant_of-self
+invariant_of-self g c =
+    let a = c.self.inside in
+    let e = ap (λ (s : BareState). s.grid) c.self.view_is in
+    let at = c.index-index.result in
+    let within = seen_within _ _ _ a.depth a.layers.items a.cells.items _ at e c.index-index.ensures.within in
+    let sound = sound_at _ a.layers.items a.cells.items at c.index_mut.result.now c.self.invariant.sound within c.index_mut.ensures.value in
+    stored_set _ a.width a.height a.depth a.layers.items a.sets.items a.cells.items at c.put.new.self c.self.invariant
+    (sound_changed _ a.layers.items _ c.index_mut.result.now c.put.new.self c.args.layer c.args.place c.deref-2.ensures.value sound c.put.ensures)
+
+pub returns-clause-put : goal.returns-clause-put
+returns-clause-put g c =
+    let a = c.self.inside in
+    let e = ap (λ (s : BareState). s.grid) c.self.view_is in
+    let at = c.index-index.result in
+    let within = seen_within _ _ _ a.depth a.layers.items a.cells.items _ at e c.index-index.ensures.within in
+    let sound = sound_at _ a.layers.items a.cells.items at c.index_mut.result.now c.self.invariant.sound within c.index_mut.ensures.value in
+    let number : at ≡ c.args.y * a.width + c.args.x = c.index-index.ensures.index ∙ sym (ap (λ (grid : Grid). c.args.y * grid.width + c.args.x) e) in
+    grid_set _ a.width a.height a.depth a.layers.items a.cells.items at (c.args.y * a.width + c.args.x) c.index_mut.result.now c.put.new.self (λ (cell : List (Option Piece)). set cell c.args.layer c.args.place) within number c.index_mut.ensures.value
+    (seen_changed _ a.depth a.layers.items _ c.index_mut.result.now c.put.new.self c.args.layer c.args.place c.deref-2.ensures.value sound c.put.ensures)
+    ∙ ap (λ (grid : Grid). with_place grid c.args.x c.args.y c.args.layer c.args.place) e
+
+pub returns-clause-there : goal.returns-clause-there
+returns-clause-there g c =
+    let grid = c.args.self.now.grid in
+    let at = c.args.y * grid.width + c.args.x in
+    let lawful = subst IsLawful (ap (λ (s : BareState). s.grid) c.self.view_is) (lawful_seen _ _ _ _ _ _ _ c.self.invariant) in
+    let within : at < length grid.cells = omega (arith, c.index-index.ensures.within, c.index-index.ensures.index) in
+    ap (λ (next : Grid). place_at next c.args.x c.args.y c.args.layer) (returns-clause-put g c)
+    ∙ placed_there grid c.args.x c.args.y c.args.layer c.args.place within (omega (arith, (lawful.stacked at [] within).deep, c.requires.layer_in))

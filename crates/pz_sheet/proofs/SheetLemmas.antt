@@ -1,0 +1,140 @@
+-- A cell of a level in words, and what is seen of it.
+use Rattle.std.proofs.Common.{◌≡◌, ℕ, zero, suc, ◌+◌, ◌*◌, ◌^◌, ◌<◌, ◌≤◌, List, [], Option, Some, None, Bool, true, false, ◌&&◌, cond, map, set, length, get_or, ap, sym, ◌∙◌, subst, arith, get_or-set_same}
+use Rattle.std.specs.Prelude.{nat_lt, IfSome, MatchOption}
+use Rattle.std.proofs.lemmas.Bool.{lt-ltb}
+use Rattle.std.proofs.lemmas.List.{length-map, length-set, get_or-map, get_or_default, map-set}
+use Rattle.std.proofs.lemmas.List.FromFn.{length-map-range_with_len}
+use Rattle.std.proofs.lemmas.List.Elements.{All-map, All-set}
+use Rattle.std.specs.List.{All}
+use prog.Memory.{up}
+use Rattle.pz_game.specs.declared.direction.Dir.{Dir}
+use Rattle.pz_cells.specs.declared.cell.Cell.{Cell}
+use Rattle.pz_cells.specs.declared.piece.Piece.{Piece}
+use Rattle.pz_cells.specs.Cell.{IsCell, IsOnLayer}
+use Rattle.pz_cells.specs.Standing.{standing}
+use Rattle.pz_cells.specs.Shown.{place_of, IsSetOf, Changes}
+use Rattle.pz_cells.proofs.HoldLemmas.{on_its_layer, place_seen, standing_by}
+use Rattle.pz_cells.proofs.PlaceLemmas.{lawful_changed, cell_changed}
+use Rattle.pz_sheet.specs.Grid.{Grid, IsLawful, cell_at, place_at, with_place}
+use Rattle.pz_sheet.specs.Standing.{standing_at}
+use Rattle.pz_sheet.specs.Seen.{seen, grid_of, IsSound, IsStored}
+
+-- a number of a seen cell is one of a cell in words
+pub seen_within : (N width height depth : ℕ) (layers : List ℕ) (cells : List (Cell N)) (grid : Grid) (at : ℕ) → grid_of N width height depth layers cells ≡ grid → at < length grid.cells → at < length cells
+seen_within N width height depth layers cells grid at e h = omega (arith, h, ap (λ (g : Grid). length g.cells) e, length-map cells (seen N depth layers))
+
+-- what is seen of the cell of a number
+pub seen_at : (N width height depth : ℕ) (layers : List ℕ) (cells : List (Cell N)) (grid : Grid) (at : ℕ) (cell : Cell N) → grid_of N width height depth layers cells ≡ grid → at < length cells → cell ≡ get_or cells at cell
+    → seen N depth layers cell ≡ get_or grid.cells at []
+seen_at N width height depth layers cells grid at cell e h is =
+    ap (seen N depth layers) is ∙ (sym (get_or-map (seen N depth layers) cells at cell [] h) ∙ ap (λ (g : Grid). get_or g.cells at []) e)
+
+pub sound_at : (N : ℕ) (layers : List ℕ) (cells : List (Cell N)) (at : ℕ) (cell : Cell N) → All (IsSound N layers) cells → at < length cells → cell ≡ get_or cells at cell → IsSound N layers cell
+sound_at N layers cells at cell all h is = subst (IsSound N layers) (sym is) (all at cell h)
+
+-- a cell of up to four words is no larger than memory
+pub small_cell : (n : ℕ) → n ≤ 4 → up 16 (up 16 (0 + n * 16) + n * 16) < 2 ^ 63
+small_cell zero h = omega arith
+small_cell (suc zero) h = omega arith
+small_cell (suc (suc zero)) h = omega arith
+small_cell (suc (suc (suc zero))) h = omega arith
+small_cell (suc (suc (suc (suc zero)))) h = omega arith
+small_cell (suc (suc (suc (suc (suc n))))) h = absurd (omega (arith, h))
+
+-- lawful words are seen as a cell of the game
+pub cell_seen : (N depth : ℕ) (layers : List ℕ) (cell : Cell N) → IsSound N layers cell → IsCell depth layers (seen N depth layers cell)
+cell_seen N depth layers cell sound = record {
+  deep = length-map-range_with_len (place_of layers cell.objects cell.movement) 0 depth;
+  on_layers = on_its_layer depth layers cell.objects cell.movement sound;
+}
+
+-- a level in words is seen as a lawful one
+pub lawful_seen : (N width height depth : ℕ) (layers : List ℕ) (sets : List (List ℕ)) (cells : List (Cell N)) → IsStored N width height depth layers sets cells → IsLawful (grid_of N width height depth layers cells)
+lawful_seen N width height depth layers sets cells s = record {
+  covers = length-map cells (seen N depth layers) ∙ s.covers;
+  size = s.size;
+  shallow = s.shallow;
+  few = s.few;
+  layered = s.layered;
+  stacked = All-map (IsCell depth layers) (seen N depth layers) cells (λ k d within. cell_seen N depth layers (get_or cells k d) (s.sound k d within));
+}
+
+-- each layer has the set of its objects
+abbrev pub IsTable : List ℕ → List (List ℕ) → Type 0
+IsTable layers sets = (layer : ℕ) (other : List ℕ) → layer < length sets → IsSetOf layers (get_or sets layer other) layer
+
+-- the set of a layer, as it is read from the table
+pub set_read : (layers layers_read : List ℕ) (sets : List (List ℕ)) (layer : ℕ) (there words : List ℕ) → ((l : ℕ) (other : List ℕ) → l < length sets → IsSetOf layers (get_or sets l other) l) → layer < length sets → there ≡ get_or sets layer there → words ≡ there → layers_read ≡ layers → IsSetOf layers_read words layer
+set_read layers layers_read sets layer there words table within is read same =
+    subst (λ (all : List ℕ). IsSetOf all words layer) (sym same) (subst (λ (ws : List ℕ). IsSetOf layers ws layer) (sym (read ∙ is)) (table layer there within))
+
+-- the place of a layer of a cell that is read
+pub place_read : (N width height depth : ℕ) (layers layers_read : List ℕ) (cells : List (Cell N)) (grid : Grid) (x y layer at : ℕ) (cell : Cell N) → grid_of N width height depth layers cells ≡ grid → at < length cells → cell ≡ get_or cells at cell → at ≡ y * grid.width + x → layer < depth → layers_read ≡ layers
+    → place_of layers_read cell.objects cell.movement layer ≡ place_at grid x y layer
+place_read N width height depth layers layers_read cells grid x y layer at cell e h is number low same =
+    ap (λ (all : List ℕ). place_of all cell.objects cell.movement layer) same
+    ∙ (sym (place_seen depth layers cell.objects cell.movement layer low)
+    ∙ (ap (λ (c : List (Option Piece)). get_or c layer None) (seen_at N width height depth layers cells grid at cell e h is)
+    ∙ ap (λ (i : ℕ). get_or (get_or grid.cells i []) layer None) number))
+
+-- a cell that is read once more is the same
+pub place_again : (N : ℕ) (layers layers_read layers_again : List ℕ) (cells : List (Cell N)) (at layer : ℕ) (cell again : Cell N) (here : Option Piece) → at < length cells → cell ≡ get_or cells at cell → again ≡ get_or cells at again → layers_read ≡ layers → layers_again ≡ layers
+    → here ≡ place_of layers_read cell.objects cell.movement layer → here ≡ place_of layers_again again.objects again.movement layer
+place_again N layers layers_read layers_again cells at layer cell again here h is is_again same same_again e =
+    e ∙ (ap (λ (all : List ℕ). place_of all cell.objects cell.movement layer) (same ∙ sym same_again)
+    ∙ ap (λ (c : Cell N). place_of layers_again c.objects c.movement layer) (is ∙ (get_or_default cells at cell again h ∙ sym is_again)))
+
+pub low_place : (layers : List ℕ) (layer : ℕ) (place : Option Piece) → length layers ≤ 512 → IsOnLayer layers layer place → IfSome place (λ piece. piece.object < 512)
+low_place layers layer None few on = tt
+low_place layers layer (Some piece) few on = omega (arith, on.0, few)
+
+-- a position on the map
+pub standing_on_map : (grid : Grid) (x y object : ℕ) → x < grid.width → y < grid.height → standing_at grid x y object ≡ standing (cell_at grid x y) object
+standing_on_map grid x y object wide high =
+    ap (λ b. cond (b && nat_lt y grid.height) (standing (cell_at grid x y) object) None) (lt-ltb x grid.width wide)
+    ∙ ap (λ b. cond b (standing (cell_at grid x y) object) None) (lt-ltb y grid.height high)
+
+-- what a cell's piece says
+pub piece_seen : (there : Bool) (heading : Option Dir) (object : ℕ) (stand : Option (Option Dir)) (piece : Option Piece) → stand ≡ standing_by there heading → MatchOption piece (there ≡ false) (λ p. (there ≡ true) × (p.object ≡ object) × (p.heading ≡ heading)) → MatchOption piece (stand ≡ None) (λ p. stand ≡ Some p.heading)
+piece_seen there heading object stand None e h = e ∙ ap (λ b. standing_by b heading) h
+piece_seen there heading object stand (Some p) e h = e ∙ (ap (λ b. standing_by b heading) h.0 ∙ ap (λ (way : Option Dir). Some way) (sym h.2))
+
+-- ---- one cell anew
+pub stored_set : (N width height depth : ℕ) (layers : List ℕ) (sets : List (List ℕ)) (cells : List (Cell N)) (at : ℕ) (new : Cell N) → IsStored N width height depth layers sets cells → IsSound N layers new → IsStored N width height depth layers sets (set cells at new)
+stored_set N width height depth layers sets cells at new s sound = record {
+  size = s.size;
+  shallow = s.shallow;
+  few = s.few;
+  short = s.short;
+  room = s.room;
+  movement_room = s.movement_room;
+  layered = s.layered;
+  deep = s.deep;
+  table = s.table;
+  covers = length-set cells at new ∙ s.covers;
+  sound = All-set (IsSound N layers) cells at new sound s.sound;
+}
+
+-- the cell at a position is changed by a function
+pub grid_set : (N width height depth : ℕ) (layers : List ℕ) (cells : List (Cell N)) (at place : ℕ) (cell new : Cell N) (f : List (Option Piece) → List (Option Piece)) → at < length cells → at ≡ place → cell ≡ get_or cells at cell → seen N depth layers new ≡ f (seen N depth layers cell)
+    → grid_of N width height depth layers (set cells at new) ≡ record (grid_of N width height depth layers cells) { cells = set (map (seen N depth layers) cells) place (f (get_or (map (seen N depth layers) cells) place [])) }
+grid_set N width height depth layers cells at place cell new f h same is e =
+    let all = map (seen N depth layers) cells in
+    let here : seen N depth layers cell ≡ get_or all at [] = ap (seen N depth layers) is ∙ sym (get_or-map (seen N depth layers) cells at cell [] h) in
+    ap (λ (ys : List (List (Option Piece))). record (grid_of N width height depth layers cells) { cells = ys })
+    (map-set (seen N depth layers) cells at new ∙ (ap (set all at) (e ∙ ap f here) ∙ ap (λ (i : ℕ). set all i (f (get_or all i []))) same))
+
+-- the words of a cell change on one layer
+pub sound_changed : (N : ℕ) (layers layers_read : List ℕ) (old new : Cell N) (layer : ℕ) (place : Option Piece) → layers_read ≡ layers → IsSound N layers old → Changes layers_read old.objects old.movement new.objects new.movement layer place → IsSound N layers new
+sound_changed N layers layers_read old new layer place same sound change =
+    lawful_changed layers old.objects old.movement new.objects new.movement layer place sound (subst (λ (all : List ℕ). Changes all old.objects old.movement new.objects new.movement layer place) same change)
+
+pub seen_changed : (N depth : ℕ) (layers layers_read : List ℕ) (old new : Cell N) (layer : ℕ) (place : Option Piece) → layers_read ≡ layers → IsSound N layers old → Changes layers_read old.objects old.movement new.objects new.movement layer place → seen N depth layers new ≡ set (seen N depth layers old) layer place
+seen_changed N depth layers layers_read old new layer place same sound change =
+    cell_changed depth layers old.objects old.movement new.objects new.movement layer place sound (subst (λ (all : List ℕ). Changes all old.objects old.movement new.objects new.movement layer place) same change)
+
+-- what was put stands there
+pub placed_there : (grid : Grid) (x y layer : ℕ) (place : Option Piece) → y * grid.width + x < length grid.cells → layer < length (cell_at grid x y) → place_at (with_place grid x y layer place) x y layer ≡ place
+placed_there grid x y layer place within deep =
+    ap (λ (c : List (Option Piece)). get_or c layer None) (get_or-set_same grid.cells (y * grid.width + x) (set (cell_at grid x y) layer place) [] within)
+    ∙ get_or-set_same (cell_at grid x y) layer place None deep

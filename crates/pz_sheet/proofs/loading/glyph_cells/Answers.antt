@@ -1,0 +1,10 @@
+use Rattle.pz_sheet.specs.Loading.{glyph_cell}
+use Rattle.pz_sheet.proofs.LoadLemmas.{glyphs_more}
+use Rattle.pz_sheet.proofs.loading.glyph_cells.Goals as goal
+
+pub loop-number-preserved : goal.loop-number-preserved
+loop-number-preserved g c =
+    let game = c.args.game.now in
+    let more = glyphs_more g.row.N game.depth game.layers (glyph_cell game) c.args.numbers.now c.loop-number.number-index 0 c.loop-number.cells.items c.push.new.self.items c.glyph_cell.result c.loop-number-test.true
+    (record { sound = c.loop-number.invariant.sound; cells_are = c.loop-number.invariant.cells }) c.glyph_cell.ensures.lawful c.glyph_cell.ensures.cell c.in_ok-push.ensures.items in
+    record { sound = more.sound; cells = more.cells_are }

@@ -1,0 +1,9 @@
+pub mod Grid
+pub mod Seen
+pub mod Standing
+pub mod Sameness
+pub mod Presence
+pub mod Movement
+pub mod Pushing
+pub mod Loading
+pub mod Rewriting

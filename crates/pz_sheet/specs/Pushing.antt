@@ -1,0 +1,18 @@
+-- The direction of an input, given to the player.
+use Rattle.std.specs.Prelude.{ℕ, Bool, List, map, Option, Some, None, nat_eq, if◌then◌else◌}
+use Rattle.std.specs.List.{list_any}
+use Rattle.pz_game.specs.declared.direction.Dir.{Dir}
+use Rattle.pz_cells.specs.declared.piece.Piece.{Piece}
+use Rattle.pz_sheet.specs.Grid.{Grid}
+
+abbrev pub is_one_of : List ℕ → ℕ → Bool
+is_one_of objects object = list_any (λ other. nat_eq other object) objects
+
+-- an object that is the player heads where the input says; every other stays as it is
+abbrev pub pushed_place : List ℕ → Dir → Option Piece → Option Piece
+pushed_place players dir None = None
+pushed_place players dir (Some piece) =
+    if is_one_of players piece.object then Some (record { object = piece.object; heading = Some dir }) else Some piece
+
+abbrev pub pushed : List ℕ → Dir → Grid → Grid
+pushed players dir grid = record grid { cells = map (map (pushed_place players dir)) grid.cells }

@@ -1,0 +1,44 @@
+-- A level in words, seen by layers.
+use Rattle.std.specs.Prelude.{◌≡◌, ℕ, ◌*◌, ◌<◌, ◌≤◌, List, map, Option, length, slice_index_or, All}
+use Rattle.pz_sets.specs.Sets.{AreSame}
+use Rattle.pz_game.specs.declared.limits.TheConstants.{MAX_OBJECTS, MAX_LAYERS}
+use Rattle.pz_game.specs.Size.{IsSize}
+use Rattle.pz_cells.specs.declared.cell.Cell.{Cell}
+use Rattle.pz_cells.specs.declared.piece.Piece.{Piece}
+use Rattle.pz_cells.specs.Shown.{cell_of, IsSetOf, AreLawful}
+use Rattle.pz_sheet.specs.Grid.{Grid}
+
+-- a cell, seen by layers
+abbrev pub seen : (N : ℕ) → ℕ → List ℕ → Cell N → List (Option Piece)
+seen N depth layers cell = cell_of depth layers cell.objects cell.movement
+
+abbrev pub grid_of : (N : ℕ) → ℕ → ℕ → ℕ → List ℕ → List (Cell N) → Grid
+grid_of N width height depth layers cells = record { width = width; height = height; depth = depth; layers = layers; cells = map (seen N depth layers) cells }
+
+-- the words of a cell are of the game
+abbrev pub IsSound : (N : ℕ) → List ℕ → Cell N → Type 0
+IsSound N layers cell = AreLawful layers cell.objects cell.movement
+
+-- what holds of the words of a level: there is room for its game, the sets of its layers are there, and each cell is of the game
+pub record IsStored (N width height depth : ℕ) (layers : List ℕ) (sets : List (List ℕ)) (cells : List (Cell N)) : Type 0 where
+  pub size : IsSize width height
+  pub shallow : depth ≤ MAX_LAYERS
+  pub few : length layers ≤ MAX_OBJECTS
+  pub short : N ≤ 4
+  pub room : length layers ≤ 128 * N
+  pub movement_room : depth ≤ 25 * N
+  pub layered : All (λ layer. layer < depth) layers
+  pub deep : length sets ≡ depth
+  pub table : (layer : ℕ) (other : List ℕ) → layer < length sets → IsSetOf layers (slice_index_or sets layer other) layer
+  pub covers : length cells ≡ width * height
+  pub sound : All (IsSound N layers) cells
+
+-- cells of words that are seen as others, each made from one of those by a function
+pub record AreMapped (N depth : ℕ) (layers : List ℕ) (f : List (Option Piece) → List (Option Piece)) (old new : List (Cell N)) : Type 0 where
+  pub sound : All (IsSound N layers) new
+  pub cells : map (seen N depth layers) new ≡ map f (map (seen N depth layers) old)
+
+-- cells of words that have the same numbers, cell by cell
+pub record HaveSame (N : ℕ) (a b : List (Cell N)) : Type 0 where
+  pub long : length a ≡ length b
+  pub alike : (index : ℕ) (cell other : Cell N) → index < length a → AreSame (slice_index_or a index cell).objects (slice_index_or b index other).objects × AreSame (slice_index_or a index cell).movement (slice_index_or b index other).movement

@@ -1,0 +1,65 @@
+//! Copies of levels.
+
+ghost use Rattle.std.specs.Prelude.{◌≡◌, ◌≤◌, length, vec_capacity, IfOk, OnOk, OnErr};
+
+use crate::Sheet;
+use std::alloc::AllocError;
+
+impl<const N: usize> Sheet<N> {
+    /// The same cells once more. Err: memory was refused.
+    pub fn copy(&self) -> Result<Sheet<N>, AllocError>
+        ensures copied { IfOk result (λ sheet. sheet.grid ≡ self.now.grid) }
+    {
+        let alloc = *self.cells.allocator();
+        let layers = Vec::from_slice(alloc, &self.layers)?;
+        let sets = Vec::from_slice(alloc, &self.sets)?;
+        let cells = Vec::from_slice(alloc, &self.cells)?;
+        let copy = Sheet {
+            width: self.width,
+            height: self.height,
+            depth: self.depth,
+            layers,
+            sets,
+            cells,
+        };
+        Ok(copy)
+    }
+
+    /// Becomes the same as another, in the memory that it has if that is enough. Err: more was refused, and it is as it was.
+    pub fn copy_from(&mut self, other: &Sheet<N>) -> Result<(), AllocError>
+        ensures copied { OnOk result (self.new.grid ≡ other.now.grid) }
+        ensures kept { OnErr result (self.new.grid ≡ self.old.grid) }
+    {
+        make_room(&mut self.layers, other.layers.len())?;
+        make_room(&mut self.sets, other.sets.len())?;
+        make_room(&mut self.cells, other.cells.len())?;
+        self.width = other.width;
+        self.height = other.height;
+        self.depth = other.depth;
+        refill(&mut self.layers, &other.layers);
+        refill(&mut self.sets, &other.sets);
+        refill(&mut self.cells, &other.cells);
+        Ok(())
+    }
+}
+
+/// Makes room for so many items in all. Err: memory was refused.
+fn make_room<T>(items: &mut Vec<T>, count: usize) -> Result<(), AllocError>
+    ensures items { items.new.items ≡ items.old.items }
+    ensures room { OnOk result (count ≤ vec_capacity items.new) }
+{
+    let missing = count.saturating_sub(items.len());
+    items.reserve(missing)
+}
+
+/// Puts copies of others in the place of the items.
+fn refill<T: Copy + Drop>(items: &mut Vec<T>, others: &[T])
+    requires { length others.now ≤ vec_capacity items.old }
+    ensures { items.new.items ≡ others.now }
+{
+    items.clear();
+    match items.extend_from_slice(others) {
+        Ok(()) => {}
+        Err(_) => unreachable!(),
+    }
+}

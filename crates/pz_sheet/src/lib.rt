@@ -1,0 +1,75 @@
+//! A level in words of one size: the cells of a rectangle, read, compared, matched, rewritten, pushed and stilled.
+#![tactic(auto)]
+
+ghost use Rattle.std.specs.Prelude.{◌≡◌, ◌+◌, ◌*◌, ◌<◌, length};
+ghost use Rattle.pz_sheet.specs.Grid.{IsLawful};
+
+use pz_cells::cell::Cell;
+use pz_sets::set::NumberSet;
+use std::marker::Model;
+
+mod copying;
+mod loading;
+mod movement;
+mod place;
+mod pushing;
+mod reading;
+mod sameness;
+
+/// The cells of a level, in `N` words for the objects and `N` for their headings, with the sets of the objects of the game's layers.
+#[derive(Drop)]
+pub struct Sheet<const N: usize> {
+    width: u32,
+    height: u32,
+    depth: usize,
+    layers: Vec<usize>,
+    sets: Vec<NumberSet>,
+    cells: Vec<Cell<N>>,
+}
+
+impl<const N: usize> Model for Sheet<N> {
+    ghost use Rattle.pz_sheet.specs.Grid.{BareState};
+    ghost use Rattle.pz_sheet.specs.Seen.{grid_of, IsStored};
+
+    ghost Value = { BareState };
+
+    ghost view = { λ a. record { grid = grid_of N a.width a.height a.depth a.layers.items a.cells.items } };
+
+    ghost invariant = { λ a. IsStored N a.width a.height a.depth a.layers.items a.sets.items a.cells.items };
+}
+
+impl<const N: usize> Sheet<N> {
+    /// The number of columns.
+    pub fn width(&self) -> u32
+        ensures width { result ≡ self.now.grid.width }
+        ensures lawful { IsLawful self.now.grid }
+    {
+        self.width
+    }
+
+    /// The number of rows.
+    pub fn height(&self) -> u32
+        ensures height { result ≡ self.now.grid.height }
+        ensures lawful { IsLawful self.now.grid }
+    {
+        self.height
+    }
+
+    /// The number of layers.
+    pub fn depth(&self) -> usize
+        ensures depth { result ≡ self.now.grid.depth }
+        ensures lawful { IsLawful self.now.grid }
+    {
+        self.depth
+    }
+
+    /// The number of the cell at a position of the map: cells stand row by row.
+    fn index(&self, x: u32, y: u32) -> usize
+        requires x_in { x < self.now.grid.width }
+        requires y_in { y < self.now.grid.height }
+        ensures index { result ≡ y * self.now.grid.width + x }
+        ensures within { result < length self.now.grid.cells }
+    {
+        y as usize * self.width as usize + x as usize
+    }
+}

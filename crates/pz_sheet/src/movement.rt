@@ -1,0 +1,52 @@
+//! The end of all movement.
+
+ghost use Rattle.std.specs.Prelude.{◌≡◌, ℕ, ◌<◌, ◌≤◌, true, All, length, map};
+ghost use Rattle.pz_cells.specs.Cell.{still_place};
+ghost use Rattle.pz_cells.specs.Shown.{cell_of, AreLawful};
+ghost use Rattle.pz_sheet.specs.Grid.{IsLawful, cell_at};
+ghost use Rattle.pz_sheet.specs.Movement.{stilled};
+ghost use Rattle.pz_sheet.specs.Seen.{IsSound, AreMapped};
+
+use crate::Sheet;
+use pz_cells::cell::Cell;
+
+impl<const N: usize> Sheet<N> {
+    /// Whether nothing at a position of the map heads anywhere.
+    pub fn is_still(&self, x: u32, y: u32) -> bool
+        requires x_in { x < self.now.grid.width }
+        requires y_in { y < self.now.grid.height }
+        ensures { result ≡ true → cell_at self.now.grid x y ≡ map still_place (cell_at self.now.grid x y) }
+    {
+        let index = self.index(x, y);
+        self.cells[index].is_still()
+    }
+
+    /// Stills every piece.
+    pub fn still_all(&mut self)
+        ensures stilled { self.new.grid ≡ stilled self.old.grid }
+        ensures lawful { IsLawful self.new.grid }
+    {
+        still_cells(&mut self.cells, self.depth, &self.layers);
+    }
+}
+
+fn still_cells<const N: usize>(cells: &mut Vec<Cell<N>>, depth: usize, layers: &[usize])
+    requires short { N ≤ 4 }
+    requires sound { All (IsSound N layers.now) cells.old.items }
+    ensures { AreMapped N depth layers.now (map still_place) cells.old.items cells.new.items }
+{
+    for index in 0..cells.len() {
+        still_cell(&mut cells[index], depth, layers);
+    }
+}
+
+fn still_cell<const N: usize>(cell: &mut Cell<N>, depth: usize, layers: &[usize])
+    requires lawful { AreLawful layers.now cell.old.objects cell.old.movement }
+    ensures lawful { AreLawful layers.now cell.new.objects cell.new.movement }
+    ensures cell { cell_of depth layers.now cell.new.objects cell.new.movement ≡ map still_place (cell_of depth layers.now cell.old.objects cell.old.movement) }
+{
+    // (the contract alone speaks of the layers)
+    let _ = depth;
+    let _ = layers;
+    cell.still_all();
+}
