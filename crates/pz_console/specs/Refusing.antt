@@ -1,8 +1,8 @@
 -- The lines that say why there is no whole recording.
 use Rattle.std.specs.Prelude.{◌≡◌, ◌⊎◌, ℕ, true, List, ◌++◌, take, codes, decimal}
 use Rattle.std.specs.Io.KnownBytes.{Appends}
-use Rattle.pz_record.specs.declared.fault.FileFault.{FileFault}
-use Rattle.pz_record.specs.declared.fault.FileFault.TheVariants as fault
+use Rattle.pz_entries.specs.declared.fault.FileFault.{FileFault}
+use Rattle.pz_entries.specs.declared.fault.FileFault.TheVariants as fault
 use Rattle.pz_lines.specs.Writing.{Writes, HasWritten}
 use Rattle.pz_console.specs.declared.refusal.Refusal.{Refusal}
 use Rattle.pz_console.specs.declared.refusal.Refusal.TheVariants as refusal

@@ -4,7 +4,7 @@ ghost use Rattle.std.specs.Prelude.{◌≡◌, ◌+◌, ◌≤◌, ◌||◌, fal
 ghost use Rattle.std.specs.Io.{ReadsAtMost};
 ghost use Rattle.std.specs.Io.KnownBytes.{ReadConsumes};
 
-use pz_record::file::MOST_BYTES;
+use pz_entries::file::MOST_BYTES;
 use std::io::{self, Read};
 use std::marker::Model;
 

@@ -3,7 +3,7 @@
 ghost use Rattle.std.specs.Prelude.{◌≡◌, ◌≤◌, ◌<◌, ◌+◌, ◌↔◌, true, false, Err, IfOk, IfErr, IfSome, length};
 
 use crate::counted::Counted;
-use pz_record::file::MOST_BYTES;
+use pz_entries::file::MOST_BYTES;
 use std::alloc::Global;
 use std::io::Read;
 

@@ -6,9 +6,9 @@ ghost use Rattle.pz_console.specs.Refusing.{IsCut, IsReported, file_line, refusa
 ghost use Rattle.pz_console.specs.declared.refusal.Refusal.TheVariants.{Memory};
 
 use itoa::Buffer;
+use pz_entries::fault::FileFault;
 use pz_lines::fault::WriteFault;
 use pz_lines::output::Output;
-use pz_record::fault::FileFault;
 use std::alloc::AllocError;
 use std::io::Write;
 

@@ -5,7 +5,7 @@ use Rattle.pz_game.specs.declared.game.GameParts.{GameParts}
 use Rattle.pz_source.specs.Reading.{source_of}
 use Rattle.pz_game.specs.declared.instance.Program.{Program}
 use Rattle.pz_rules.specs.Drafts.{program_of}
-use Rattle.pz_record.specs.declared.entry.Entry.{Entry}
+use Rattle.pz_entries.specs.declared.entry.Entry.{Entry}
 use Rattle.pz_record.specs.declared.input.Input.{Input}
 use Rattle.pz_record.specs.declared.order.Order.{Order}
 use Rattle.pz_session.specs.declared.case.Case.{Case}

@@ -5,9 +5,9 @@ ghost use Rattle.pz_job.specs.Job.{plan_of, case_of, job_of};
 
 use pz_base::fault::{Code, SourceFault};
 use pz_base::text::Text;
-use pz_record::entry::Entry;
-use pz_record::file::MOST_ENTRIES;
+use pz_entries::entry::Entry;
 use pz_record::input::Inputs;
+use pz_record::limits::MOST_ENTRIES;
 use pz_record::order::Order;
 use pz_record::recorded::Recorded;
 use pz_rules::expand::expand;

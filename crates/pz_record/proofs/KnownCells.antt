@@ -1,14 +1,23 @@
 -- The sets of names that are known, and the text that they give.
-use Rattle.std.proofs.Common.{◌≡◌, ℕ, List, [], ◌∷◌, false, None, refl, ap, ◌+◌, ◌<◌, ◌++◌, length, take, get_or, flat_map, sym, ◌∙◌, nat_lt, arith}
+use Rattle.std.proofs.Common.{◌≡◌, ◌≤◌, ℕ, suc, Bool, true, cond, not, Some, List, [], ◌∷◌, false, None, refl, ap, ◌+◌, ◌<◌, ◌++◌, length, take, get_or, flat_map, sym, ◌∙◌, nat_lt, arith}
 use Rattle.std.proofs.lemmas.List.{append_assoc, append-nil, map-id}
 use Rattle.std.proofs.lemmas.List.Sums.{fold_more}
+use Rattle.std.proofs.lemmas.Bool.{ltb-false, lt-ltb, le-ltb, true≢false}
 use Rattle.std.proofs.lemmas.Grind.{flat_map-append}
 use Rattle.std.proofs.lemmas.List.FromFn.{map-range_with_len_more}
 use Rattle.std.specs.List.{position_or_len, range_with_len}
 use Rattle.std.specs.Str.{bytes_eq}
 use Rattle.pz_base.specs.NameSet.{number_in, is_name_of}
 use Rattle.pz_record.specs.LevelText.{piece, with_cell, known_of, cell_text, line_end, text_of_cells}
-use Rattle.pz_record.proofs.Cuts.{none_chosen, nothing_first}
+
+pub none_chosen : (b : Bool) (n : ℕ) → cond b (Some n) None ≡ None → b ≡ false
+none_chosen true n e = cc
+none_chosen false n e = refl
+
+-- the first element settles it, or the rest does
+pub nothing_first : (b : Bool) (n m : ℕ) → nat_lt (cond (not b) (1 + n) 0) (suc m) ≡ false → (b ≡ false) × (nat_lt n m ≡ false)
+nothing_first true n m e = absurd (true≢false (sym (lt-ltb 0 (suc m) (omega arith)) ∙ e))
+nothing_first false n m e = let past : suc m ≤ 1 + n = ltb-false (1 + n) (suc m) e in (refl, le-ltb n m (omega arith))
 
 nowhere : (known : List (List ℕ)) (cell : List ℕ) → nat_lt (position_or_len (bytes_eq cell) known) (length known) ≡ false → is_name_of known cell ≡ false
 nowhere [] cell e = refl

@@ -1,14 +1,6 @@
-pub mod Cuts
-pub mod Entries
-pub mod Gather
-pub mod InputLists
 pub mod Joining
 pub mod KnownCells
-pub mod LevelReads
-pub mod Numbers
 pub mod Ordered
-pub mod Pieces
-pub mod RoundTrip
 pub mod Rows
 pub mod Sets
 pub mod WorkedRecords

@@ -1,9 +1,4 @@
 pub mod CellNames
-pub mod Reading
-pub mod Json
-pub mod Input
-pub mod Entry
-pub mod File
 pub mod Order
 pub mod LevelNames
 pub mod LevelText

@@ -1,10 +1,8 @@
 //! The names of a cell's objects.
 
-ghost use Rattle.std.specs.Prelude.{◌≡◌, [], map, IfOk, OnOk};
-ghost use Rattle.pz_base.specs.Name.{folded};
-ghost use Rattle.pz_record.specs.CellNames.{with_name, with_word, name_set, has_name};
+ghost use Rattle.std.specs.Prelude.{◌≡◌, [], map, OnOk};
+ghost use Rattle.pz_record.specs.CellNames.{with_name, has_name};
 
-use crate::cutting::cut_first;
 use std::alloc::{AllocError, Global};
 use std::collections::BTreeSet;
 use std::marker::Model;
@@ -24,7 +22,7 @@ impl Model for CellNames {
 }
 
 impl CellNames {
-    pub(crate) fn new(alloc: Global) -> CellNames
+    pub fn new(alloc: Global) -> CellNames
         ensures { result ≡ [] }
     {
         CellNames {
@@ -38,7 +36,7 @@ impl CellNames {
         &self.names
     }
 
-    pub(crate) fn insert(&mut self, name: Vec<u8>) -> Result<(), AllocError>
+    pub fn insert(&mut self, name: Vec<u8>) -> Result<(), AllocError>
         ensures { OnOk result (self.new ≡ with_name self.old name.items) }
     {
         self.names.insert(name)?;
@@ -50,38 +48,4 @@ impl CellNames {
     {
         self.names.contains(name)
     }
-}
-
-/// The name with its ASCII letters in lower case.
-fn folded_name(alloc: Global, name: &[u8]) -> Result<Vec<u8>, AllocError>
-    ensures { IfOk result (λ lower. lower.items ≡ folded name.now) }
-{
-    name.iter()
-        .map(|byte| byte.to_ascii_lowercase())
-        .collect(alloc)
-}
-
-#[tactic(auto, unfolding(crate::specs::CellNames::with_word))]
-fn add_word(alloc: Global, names: &mut CellNames, word: &[u8]) -> Result<(), AllocError>
-    ensures { OnOk result (names.new ≡ with_word names.old word.now) }
-{
-    if word.is_empty() {
-        return Ok(());
-    }
-    let name = folded_name(alloc, word)?;
-    names.insert(name)
-}
-
-/// The names that a text parts by spaces.
-pub(crate) fn read_names(alloc: Global, text: &[u8]) -> Result<CellNames, AllocError>
-    ensures { IfOk result (λ names. names ≡ name_set text.now) }
-{
-    let mut names = CellNames::new(alloc);
-    let mut rest = text;
-    'words: while let Some((word, later)) = cut_first(rest, b' ') {
-        add_word(alloc, &mut names, word)?;
-        rest = later;
-    }
-    add_word(alloc, &mut names, rest)?;
-    Ok(names)
 }

@@ -1,19 +1,15 @@
-//! What a recorded session says: the file of the sessions, its entries, and the texts of levels, read, written and compared.
+//! What a recorded session says, and what playing it again needs of that: its inputs, the texts of levels, which are written, and
+//! the level at its end, which is compared.
 #![tactic(auto)]
 
 pub mod cell_names;
-mod cutting;
-pub mod entry;
 pub mod equality;
-pub mod fault;
-pub mod file;
 pub mod input;
 mod label_table;
 mod labelled_set;
 mod labels;
 mod level_names;
-pub mod level_text;
+pub mod limits;
 pub mod order;
-pub mod reading;
 pub mod recorded;
 pub mod text_writer;

@@ -25,7 +25,7 @@ impl Model for Recorded {
 
 impl Recorded {
     /// The level whose cells have the sets of these numbers.
-    pub(crate) fn new(sets: Vec<CellNames>, cells: Vec<usize>) -> Recorded
+    pub fn new(sets: Vec<CellNames>, cells: Vec<usize>) -> Recorded
         requires { All (λ set. set < length sets.items) cells.items }
         ensures { result ≡ map (λ set. slice_index_or sets.items set []) cells.items }
     {

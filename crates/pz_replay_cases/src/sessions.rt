@@ -1,7 +1,7 @@
 //! Sessions, and the jobs that they make.
 
+use pz_entries::file::read_sessions;
 use pz_job::job::prepare;
-use pz_record::file::read_sessions;
 use pz_record::order::Order;
 use pz_replay::gate::Gate;
 use pz_session::job::Job;

@@ -3,8 +3,8 @@ use Rattle.std.proofs.Common.{◌≡◌, ◌≢◌, ◌≤◌, ℕ, List, length
 use Rattle.std.proofs.lemmas.Bool.{lt-ltb, le-ltb, cases_Bool}
 use Rattle.std.proofs.lemmas.Str.{IsUtf8-from_is_utf8, is_utf8-from_IsUtf8}
 use Rattle.std.specs.Str.{is_utf8}
-use Rattle.pz_record.specs.declared.fault.FileFault.TheVariants.{Memory, TooMany, NotJson}
-use Rattle.pz_record.specs.File.{entries_of}
+use Rattle.pz_entries.specs.declared.fault.FileFault.TheVariants.{Memory, TooMany, NotJson}
+use Rattle.pz_entries.specs.File.{entries_of}
 use Rattle.pz_serving.specs.Serving.{sessions_in}
 
 pub too_long : (bytes : List ℕ) → 16777217 ≤ length bytes → sessions_in bytes ≡ Err TooMany

@@ -2,12 +2,12 @@
 use Rattle.std.specs.Prelude.{◌≡◌, ◌≢◌, ℕ, Bool, true, false, List, length, nat_lt, if◌then◌else◌, Option, IfSome, Result, Ok, Err}
 use Rattle.std.specs.List.{list_all, list_any}
 use Rattle.std.specs.Str.{is_utf8}
-use Rattle.pz_record.specs.declared.entry.Entry.{Entry}
-use Rattle.pz_record.specs.declared.fault.FileFault.{FileFault}
-use Rattle.pz_record.specs.declared.fault.FileFault.TheVariants as fault
-use Rattle.pz_record.specs.declared.file.TheConstants.{MOST_BYTES}
+use Rattle.pz_entries.specs.declared.entry.Entry.{Entry}
+use Rattle.pz_entries.specs.declared.fault.FileFault.{FileFault}
+use Rattle.pz_entries.specs.declared.fault.FileFault.TheVariants as fault
+use Rattle.pz_entries.specs.declared.file.TheConstants.{MOST_BYTES}
 use Rattle.pz_record.specs.declared.order.Order.{Order}
-use Rattle.pz_record.specs.File.{entries_of}
+use Rattle.pz_entries.specs.File.{entries_of}
 use Rattle.pz_session.specs.declared.item.Item.{Item}
 use Rattle.pz_session.specs.declared.item.Item.TheVariants.{Close}
 use Rattle.pz_session.specs.declared.item.Verdict.TheVariants.{Passed}

@@ -1,7 +1,7 @@
 //! The serving of a file of sessions.
 
 ghost use Rattle.std.specs.Prelude.{◌≡◌, ◌≢◌, ◌≤◌, ◌+◌, ◌⊎◌, ◌↔◌, Bool, true, false, Result, Ok, Err, IfOk, IfErr, length};
-ghost use Rattle.pz_record.specs.declared.fault.FileFault.TheVariants as fault;
+ghost use Rattle.pz_entries.specs.declared.fault.FileFault.TheVariants as fault;
 ghost use Rattle.pz_console.specs.declared.refusal.Refusal.{Refusal};
 ghost use Rattle.pz_serving.specs.Serving.{Reports, Serves, all_passed, has_passed, sessions_in, shown_of, status_of};
 
@@ -9,12 +9,13 @@ use pz_console::counted::Counted;
 use pz_console::input::{InputFault, read_input};
 use pz_console::options::Options;
 use pz_console::refusal::{Refusal, refuse};
+use pz_entries::entry::Entry;
+use pz_entries::fault::FileFault;
+use pz_entries::file::{MOST_BYTES, read_sessions};
 use pz_job::job::prepare;
 use pz_lines::output::Output;
 use pz_lines::writing::write_recording;
-use pz_record::entry::Entry;
-use pz_record::fault::FileFault;
-use pz_record::file::{MOST_BYTES, MOST_ENTRIES, read_sessions};
+use pz_record::limits::MOST_ENTRIES;
 use pz_record::order::Order;
 use pz_replay::fault::ReplayFault;
 use pz_replay::gate::Always;

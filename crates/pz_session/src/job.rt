@@ -3,7 +3,7 @@
 ghost use Rattle.std.specs.Prelude.{◌≡◌, ◌<◌, ◌≤◌, length, slice_get, Some};
 
 use crate::case::Case;
-use pz_record::file::MOST_ENTRIES;
+use pz_record::limits::MOST_ENTRIES;
 use std::marker::Model;
 
 /// The cases of a job, at most `MOST_ENTRIES`, which contracts see as their list.
@@ -14,7 +14,7 @@ pub struct Job {
 
 impl Model for Job {
     ghost use Rattle.std.specs.Prelude.{List, ◌≤◌, length};
-    ghost use Rattle.pz_record.specs.declared.file.TheConstants.{MOST_ENTRIES};
+    ghost use Rattle.pz_record.specs.declared.limits.TheConstants.{MOST_ENTRIES};
     ghost use Rattle.pz_session.specs.declared.case.Case.{Case};
 
     ghost Value = { List Case };

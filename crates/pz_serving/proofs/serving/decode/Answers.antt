@@ -1,5 +1,5 @@
 use Rattle.std.proofs.Common.{◌≡◌, ap, ◌∙◌, sym}
-use Rattle.pz_record.specs.File.{entries_of}
+use Rattle.pz_entries.specs.File.{entries_of}
 use Rattle.pz_serving.specs.Serving.{sessions_in}
 use Rattle.pz_serving.proofs.Deciding.{not_text, text_in}
 use Rattle.pz_serving.proofs.serving.decode.Goals as goal

@@ -1,0 +1,11 @@
+pub mod Cuts
+pub mod Entries
+pub mod Gather
+pub mod InputLists
+pub mod Joining
+pub mod LevelReads
+pub mod Numbers
+pub mod Pieces
+pub mod RoundTrip
+pub mod Rows
+pub mod WorkedEntries

@@ -1,0 +1,16 @@
+-- The names that a text parts by spaces.
+use Rattle.std.specs.Prelude.{ℕ, ◌==◌, Bool, List, [], length, fold, if◌then◌else◌}
+use Rattle.std.specs.List.{slice_split}
+use Rattle.pz_base.specs.Name.{folded}
+use Rattle.pz_record.specs.CellNames.{with_name}
+
+-- nothing between two spaces is no name; a name is kept in lower case
+unfoldable pub with_word : List (List ℕ) → List ℕ → List (List ℕ)
+with_word names word = if length word == 0 then names else with_name names (folded word)
+
+abbrev pub is_space : ℕ → Bool
+is_space b = b == 32
+
+-- the names of a text, as a set
+unfoldable pub name_set : List ℕ → List (List ℕ)
+name_set text = fold with_word [] (slice_split is_space text)

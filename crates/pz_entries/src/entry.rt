@@ -1,0 +1,120 @@
+//! An entry of a file of sessions.
+
+ghost use Rattle.std.specs.Prelude.{◌≡◌, ◌≢◌, IfOk, IfErr, Ok, Err, option_map, option_and_then};
+ghost use Rattle.serde_json.specs.Find.{at, as_str};
+ghost use Rattle.serde_json.specs.View.{view as data_of};
+ghost use Rattle.pz_entries.specs.declared.fault.FileFault.TheVariants.{Memory};
+ghost use Rattle.pz_entries.specs.Entry.{index_of, written_of, entry_of};
+
+use crate::fault::FileFault;
+use crate::input::read_inputs;
+use crate::reading::read_level_text;
+use pz_base::text::Text;
+use pz_record::input::Inputs;
+use pz_record::recorded::Recorded;
+use serde_json::Value;
+use std::alloc::{AllocError, Global};
+
+/// A recorded session: its name, the text of its source, its inputs, the level at its end, and the index of the entry of LEVELS
+/// at which it starts, messages counted.
+#[derive(Drop, Debug)]
+pub struct Entry {
+    pub name: Text,
+    pub source: Text,
+    pub inputs: Inputs,
+    pub recorded: Recorded,
+    pub index: u64,
+}
+
+/// A recorded session whose level is still a text.
+#[derive(Drop)]
+pub(crate) struct Written {
+    name: Text,
+    source: Text,
+    inputs: Inputs,
+    level: Text,
+    index: u64,
+}
+
+/// The text that an element of a list is.
+fn text_at(alloc: Global, value: &Value, index: usize) -> Result<Option<Text>, AllocError>
+    ensures { IfOk result (λ text. text ≡ option_and_then as_str (at index (data_of value.now))) }
+{
+    match value.get(index).and_then(Value::as_str) {
+        Some(text) => Ok(Some(Text::of_str(alloc, text)?)),
+        None => Ok(None),
+    }
+}
+
+/// The index of the entry of LEVELS: none and null stand for 0.
+fn read_index(value: Option<&Value>) -> Option<u64>
+    ensures { result ≡ index_of (option_map (λ v. data_of v.now) value.entry) }
+{
+    match value {
+        None | Some(Value::Null) => Some(0),
+        Some(value) => value.as_u64(),
+    }
+}
+
+/// What an entry says, its level as text; None: it is no entry.
+#[tactic(auto, unfolding(crate::specs::Entry::written_of))]
+fn read_written(alloc: Global, value: &Value) -> Result<Option<Written>, AllocError>
+    ensures { IfOk result (λ written. written ≡ written_of (data_of value.now)) }
+{
+    let Some(name) = text_at(alloc, value, 0)? else {
+        return Ok(None);
+    };
+    let Some(body) = value.get(1usize) else {
+        return Ok(None);
+    };
+    let Some(source) = text_at(alloc, body, 0)? else {
+        return Ok(None);
+    };
+    let Some(listed) = body.get(1usize) else {
+        return Ok(None);
+    };
+    let Some(inputs) = read_inputs(alloc, listed)? else {
+        return Ok(None);
+    };
+    let Some(level) = text_at(alloc, body, 2)? else {
+        return Ok(None);
+    };
+    let Some(index) = read_index(body.get(3usize)) else {
+        return Ok(None);
+    };
+    Ok(Some(Written {
+        name,
+        source,
+        inputs,
+        level,
+        index,
+    }))
+}
+
+/// The entry of a number, or its fault: what it says comes before its level's text.
+#[tactic(auto, unfolding(crate::specs::Entry::entry_of))]
+pub(crate) fn read_entry(alloc: Global, number: u64, value: &Value) -> Result<Entry, FileFault>
+    ensures read { IfOk result (λ entry. entry_of number (data_of value.now) ≡ Ok entry) }
+    ensures refused { IfErr result (λ fault. fault ≢ Memory → entry_of number (data_of value.now) ≡ Err fault) }
+{
+    let Some(written) = read_written(alloc, value)? else {
+        return Err(FileFault::BadEntry(number));
+    };
+    let Written {
+        name,
+        source,
+        inputs,
+        level,
+        index,
+    } = written;
+    let Some(recorded) = read_level_text(alloc, level.as_str())? else {
+        return Err(FileFault::BadLevel(number));
+    };
+    Ok(Entry {
+        name,
+        source,
+        inputs,
+        recorded,
+        index,
+    })
+}

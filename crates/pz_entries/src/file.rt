@@ -1,0 +1,54 @@
+//! A file of sessions.
+
+ghost use Rattle.std.specs.Prelude.{◌≡◌, ◌≢◌, ◌≤◌, length, map, IfOk, IfErr, Ok, Err};
+ghost use Rattle.serde_json.specs.View.{view as data_of};
+ghost use Rattle.pz_entries.specs.declared.fault.FileFault.TheVariants.{Memory};
+ghost use Rattle.pz_entries.specs.File.{entries_from, entries_of};
+
+use crate::entry::{Entry, read_entry};
+use crate::fault::FileFault;
+use pz_record::limits::MOST_ENTRIES;
+use serde_json::Value;
+use std::alloc::Global;
+
+/// The most bytes that a file has.
+pub const MOST_BYTES: usize = 16_777_216;
+
+/// The entries of the values, or the first fault.
+fn read_entries(alloc: Global, list: &[Value]) -> Result<Vec<Entry>, FileFault>
+    ensures read { IfOk result (λ entries. entries_from 0 (map data_of list.now) ≡ Ok entries.items) }
+    ensures refused { IfErr result (λ fault. fault ≢ Memory → entries_from 0 (map data_of list.now) ≡ Err fault) }
+    ensures count { IfOk result (λ entries. length entries.items ≡ length list.now) }
+{
+    let mut entries = Vec::new(alloc);
+    for (number, value) in list.iter().enumerate() {
+        let entry = read_entry(alloc, number as u64, value)?;
+        entries.push(entry)?;
+    }
+    Ok(entries)
+}
+
+/// The entries of a file, or its first fault: that it is too long, that it is no JSON list, that it has too many entries, and then
+/// entry by entry that it is none, or that its level text is none. Memory may come in place of any but the first.
+pub fn read_sessions(alloc: Global, text: &str) -> Result<Vec<Entry>, FileFault>
+    ensures read { IfOk result (λ entries. entries_of text.now ≡ Ok entries.items) }
+    ensures refused { IfErr result (λ fault. fault ≢ Memory → entries_of text.now ≡ Err fault) }
+    ensures long { IfErr result (λ fault. fault ≡ Memory → length text.now ≤ MOST_BYTES) }
+    ensures few { IfOk result (λ entries. length entries.items ≤ MOST_ENTRIES) }
+{
+    if text.len() > MOST_BYTES {
+        return Err(FileFault::TooMany);
+    }
+    let value = match Value::from_str(alloc, text) {
+        Ok(value) => value,
+        Err(error) if error.is_memory() => return Err(FileFault::Memory),
+        Err(_) => return Err(FileFault::NotJson),
+    };
+    let Some(list) = value.as_array() else {
+        return Err(FileFault::NotJson);
+    };
+    if list.len() > MOST_ENTRIES {
+        return Err(FileFault::TooMany);
+    }
+    read_entries(alloc, list)
+}

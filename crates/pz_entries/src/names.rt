@@ -1,0 +1,43 @@
+//! The names that a text parts by spaces.
+
+ghost use Rattle.std.specs.Prelude.{◌≡◌, IfOk, OnOk};
+ghost use Rattle.pz_base.specs.Name.{folded};
+ghost use Rattle.pz_entries.specs.Names.{with_word, name_set};
+
+use crate::cutting::cut_first;
+use pz_record::cell_names::CellNames;
+use std::alloc::{AllocError, Global};
+
+/// The name with its ASCII letters in lower case.
+fn folded_name(alloc: Global, name: &[u8]) -> Result<Vec<u8>, AllocError>
+    ensures { IfOk result (λ lower. lower.items ≡ folded name.now) }
+{
+    name.iter()
+        .map(|byte| byte.to_ascii_lowercase())
+        .collect(alloc)
+}
+
+#[tactic(auto, unfolding(crate::specs::Names::with_word))]
+fn add_word(alloc: Global, names: &mut CellNames, word: &[u8]) -> Result<(), AllocError>
+    ensures { OnOk result (names.new ≡ with_word names.old word.now) }
+{
+    if word.is_empty() {
+        return Ok(());
+    }
+    let name = folded_name(alloc, word)?;
+    names.insert(name)
+}
+
+/// The names that a text parts by spaces.
+pub(crate) fn read_names(alloc: Global, text: &[u8]) -> Result<CellNames, AllocError>
+    ensures { IfOk result (λ names. names ≡ name_set text.now) }
+{
+    let mut names = CellNames::new(alloc);
+    let mut rest = text;
+    'words: while let Some((word, later)) = cut_first(rest, b' ') {
+        add_word(alloc, &mut names, word)?;
+        rest = later;
+    }
+    add_word(alloc, &mut names, rest)?;
+    Ok(names)
+}

@@ -1,7 +1,0 @@
-use Rattle.std.proofs.Common.{rules}
-use Rattle.pz_record.specs.CellNames.{name_set}
-use Rattle.pz_record.proofs.cell_names.read_names.Goals as goal
-
-pub words-init : goal.words-init
-unfolding name_set
-words-init c = search rules

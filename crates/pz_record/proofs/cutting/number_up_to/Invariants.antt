@@ -1,7 +1,0 @@
-use Rattle.std.proofs.Common.{◌≡◌, drop}
-use Rattle.pz_record.specs.Reading.{up_to, number_of}
-use Rattle.pz_record.proofs.Numbers.{reading_on}
-use Rattle.pz_record.proofs.cutting.number_up_to.Given as goal
-
-abbrev pub invariant-loop-digit : goal.invariant-loop-digit
-invariant-loop-digit l = reading_on l.most l.number (drop l.digit-index l.digits) ≡ up_to l.most (number_of l.digits)
