@@ -22,6 +22,7 @@ impl Model for CellNames {
 }
 
 impl CellNames {
+    /// No names.
     pub fn new(alloc: Global) -> CellNames
         ensures { result ≡ [] }
     {
@@ -36,6 +37,7 @@ impl CellNames {
         &self.names
     }
 
+    /// Puts a name at its place, if it isn't there yet.
     pub fn insert(&mut self, name: Vec<u8>) -> Result<(), AllocError>
         ensures { OnOk result (self.new ≡ with_name self.old name.items) }
     {

@@ -110,12 +110,19 @@ fn take_all(run: &mut Run<'_>, items: &mut Vec<Item>) -> Result<(), AllocError>
     Ok(())
 }
 
+/// All items that are still to come.
+fn left_in(alloc: Global, run: &mut Run<'_>) -> Result<Vec<Item>, AllocError>
+    ensures { IfOk result (λ items. items.items ≡ run.old.items) }
+{
+    let mut items = Vec::new(alloc);
+    take_all(run, &mut items)?;
+    Ok(items)
+}
+
 /// All items of a case: the frames of a session that is played and its close, or the close of one that is refused.
 pub fn frames(alloc: Global, case: &Case) -> Result<Vec<Item>, AllocError>
     ensures { IfOk result (λ items. items.items ≡ items_of case.now) }
 {
     let mut run = Run::new(alloc, case)?;
-    let mut items = Vec::new(alloc);
-    take_all(&mut run, &mut items)?;
-    Ok(items)
+    left_in(alloc, &mut run)
 }
