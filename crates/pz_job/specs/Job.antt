@@ -1,6 +1,5 @@
 -- The job that a list of entries makes.
 use Rattle.std.specs.Prelude.{ℕ, List, map, Option, Some, None, Result, Ok, Err}
-use Rattle.pz_base.specs.declared.fault.SourceFault.{SourceFault}
 use Rattle.pz_game.specs.declared.game.GameParts.{GameParts}
 use Rattle.pz_source.specs.Reading.{source_of}
 use Rattle.pz_game.specs.declared.instance.Program.{Program}
@@ -10,13 +9,11 @@ use Rattle.pz_record.specs.declared.input.Input.{Input}
 use Rattle.pz_record.specs.declared.order.Order.{Order}
 use Rattle.pz_session.specs.declared.case.Case.{Case}
 use Rattle.pz_session.specs.declared.item.Refusal.{Refusal}
-use Rattle.pz_session.specs.declared.item.Refusal.TheVariants.{Source, NoLevel}
+use Rattle.pz_session.specs.declared.item.Refusal.TheVariants.{NoLevel}
 use Rattle.pz_session.specs.FirstLevel.{level_from}
 use Rattle.pz_session.specs.Plan.{PlanState}
-
-abbrev pub or_refused : {X : Type 0} → Result X SourceFault → (X → Result PlanState Refusal) → Result PlanState Refusal
-or_refused (Ok x) later = later x
-or_refused (Err fault) later = Err (Source fault)
+use Rattle.pz_session.specs.Rulebook.{RulebookState}
+use Rattle.pz_job.specs.Rulebooks.{or_refused}
 
 abbrev pub or_no_level : Option ℕ → (ℕ → PlanState) → Result PlanState Refusal
 or_no_level (Some first) plan = Ok (plan first)
@@ -32,6 +29,12 @@ plan_of source inputs recorded index order =
     or_refused (source_of source) (λ game.
     or_refused (program_of game) (λ program.
     or_no_level (level_from game index) (plan_at game program inputs recorded order)))
+
+-- the same, where it is known what the source gives
+abbrev pub plan_from : Result RulebookState Refusal → List Input → List (List (List ℕ)) → ℕ → Order → Result PlanState Refusal
+plan_from (Ok rulebook) inputs recorded index order =
+    or_no_level (level_from rulebook.game index) (plan_at rulebook.game rulebook.program inputs recorded order)
+plan_from (Err refusal) inputs recorded index order = Err refusal
 
 abbrev pub case_of : Order → Entry → Case
 case_of order entry = record { name = entry.name; plan = plan_of entry.source entry.inputs entry.recorded entry.index order }

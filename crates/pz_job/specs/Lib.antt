@@ -1,1 +1,2 @@
+pub mod Rulebooks
 pub mod Job

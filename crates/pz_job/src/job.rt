@@ -1,69 +1,46 @@
 //! The job that a list of entries makes.
 
-ghost use Rattle.std.specs.Prelude.{◌≡◌, ◌≢◌, ◌≤◌, length, IfOk, IfErr};
-ghost use Rattle.pz_job.specs.Job.{plan_of, case_of, job_of};
+ghost use Rattle.std.specs.Prelude.{◌≡◌, ◌≤◌, length, IfOk};
+ghost use Rattle.pz_job.specs.Job.{plan_from, case_of, job_of};
+ghost use Rattle.pz_job.specs.Rulebooks.{shared_in};
 
-use pz_base::fault::{Code, SourceFault};
-use pz_base::text::Text;
+use crate::rulebooks::{Answer, Rulebooks};
 use pz_entries::entry::Entry;
 use pz_record::input::Inputs;
 use pz_record::limits::MOST_ENTRIES;
 use pz_record::order::Order;
 use pz_record::recorded::Recorded;
-use pz_rules::expand::expand;
 use pz_session::case::Case;
 use pz_session::first_level::level_from;
 use pz_session::item::Refusal;
 use pz_session::job::Job;
 use pz_session::plan::Plan;
-use pz_source::reading::read_game;
 use std::alloc::{AllocError, Global};
 
-/// The refusal by a fault of a source; that memory was refused is no fault of the source.
-fn refusal_of(fault: SourceFault) -> Result<Refusal, AllocError>
-    ensures refusal { IfOk result (λ refusal. (refusal ≡ Refusal.Source fault) × (fault.code ≢ Code.Memory)) }
-    ensures wanted { IfErr result (λ _. fault.code ≡ Code.Memory) }
-{
-    match fault.code {
-        Code::Memory => Err(AllocError),
-        _ => Ok(Refusal::Source(fault)),
-    }
-}
-
-/// What is needed to play a session, or why it is refused.
-#[tactic(auto, unfolding(crate::specs::Job::plan_of))]
+/// What is needed to play a session of a source that gave this, or why it is refused.
 fn make_plan(
-    alloc: Global,
-    source: &Text,
+    answer: Answer,
     inputs: Inputs,
     recorded: Recorded,
     index: u64,
     order: Order,
-) -> Result<Result<Plan, Refusal>, AllocError>
-    ensures { IfOk result (λ plan. plan ≡ plan_of source.now inputs recorded index order) }
+) -> Result<Plan, Refusal>
+    ensures { result ≡ plan_from (shared_in answer) inputs recorded index order }
 {
-    let game = match read_game(alloc, source.as_str()) {
-        Ok(game) => game,
-        Err(fault) => {
-            let refusal = refusal_of(fault)?;
-            return Ok(Err(refusal));
-        }
+    let rulebook = answer?;
+    let Some(first) = level_from(rulebook.game(), index) else {
+        return Err(Refusal::NoLevel);
     };
-    let program = match expand(alloc, &game) {
-        Ok(program) => program,
-        Err(fault) => {
-            let refusal = refusal_of(fault)?;
-            return Ok(Err(refusal));
-        }
-    };
-    let Some(first) = level_from(&game, index) else {
-        return Ok(Err(Refusal::NoLevel));
-    };
-    Ok(Ok(Plan::new(game, program, first, inputs, recorded, order)))
+    Ok(Plan::new(rulebook, first, inputs, recorded, order))
 }
 
 /// The case of an entry.
-fn make_case(alloc: Global, entry: Entry, order: Order) -> Result<Case, AllocError>
+fn make_case(
+    rulebooks: &mut Rulebooks,
+    alloc: Global,
+    entry: Entry,
+    order: Order,
+) -> Result<Case, AllocError>
     ensures { IfOk result (λ case. case ≡ case_of order entry) }
 {
     let Entry {
@@ -73,7 +50,8 @@ fn make_case(alloc: Global, entry: Entry, order: Order) -> Result<Case, AllocErr
         recorded,
         index,
     } = entry;
-    let plan = make_plan(alloc, &source, inputs, recorded, index, order)?;
+    let answer = rulebooks.answer(alloc, source.as_str())?;
+    let plan = make_plan(answer, inputs, recorded, index, order);
     Ok(Case { name, plan })
 }
 
@@ -83,9 +61,10 @@ pub fn prepare(alloc: Global, entries: Vec<Entry>, order: Order) -> Result<Job, 
     requires { length entries.items ≤ MOST_ENTRIES }
     ensures { IfOk result (λ job. job ≡ job_of order entries.items) }
 {
+    let mut rulebooks = Rulebooks::new(alloc);
     let mut cases = Vec::new(alloc);
     for entry in entries {
-        let case = make_case(alloc, entry, order)?;
+        let case = make_case(&mut rulebooks, alloc, entry, order)?;
         cases.push(case)?;
     }
     Ok(Job::new(cases))

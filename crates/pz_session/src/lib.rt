@@ -12,6 +12,7 @@ pub mod laws;
 pub mod plan;
 mod player;
 pub mod recording;
+pub mod rulebook;
 pub mod run;
 mod session;
 mod stage;

@@ -1,24 +1,25 @@
 //! What is needed to play a session.
 
 ghost use Rattle.std.specs.Prelude.{◌≡◌, ◌<◌, true, length};
-ghost use Rattle.pz_game.specs.Instance.{IsProgramOf};
+ghost use Rattle.std.specs.Arc.{arc_value};
 ghost use Rattle.pz_game.specs.Level.{is_playable};
 ghost use Rattle.pz_grid.specs.Loading.{entry_at};
-ghost use Rattle.pz_session.specs.Plan.{IsPlan};
+ghost use Rattle.pz_session.specs.Plan.{IsPlan, plan_with};
 
+use crate::rulebook::Rulebook;
 use pz_game::game::Game;
 use pz_game::instance::Program;
 use pz_record::input::Inputs;
 use pz_record::order::Order;
 use pz_record::recorded::Recorded;
 use std::marker::Model;
+use std::sync::Arc;
 
-/// A session that can be played: its game with its rules, the number of the entry of LEVELS at which it starts, its inputs, and its
-/// recorded level with the order of that level's cells.
+/// A session that can be played: its game with its rules, which the sessions of one source share, the number of the entry of
+/// LEVELS at which it starts, its inputs, and its recorded level with the order of that level's cells.
 #[derive(Drop)]
 pub struct Plan {
-    game: Game,
-    program: Program,
+    rulebook: Arc<Rulebook>,
     first: usize,
     inputs: Inputs,
     recorded: Recorded,
@@ -26,35 +27,34 @@ pub struct Plan {
 }
 
 impl Model for Plan {
-    ghost use Rattle.pz_session.specs.Plan.{PlanState, IsPlan};
+    ghost use Rattle.std.specs.Arc.{arc_value};
+    ghost use Rattle.pz_session.specs.Plan.{PlanState, IsPlan, plan_with};
 
     ghost Value = { PlanState };
 
-    ghost view = { λ p. record { game = p.game; program = p.program; first = p.first; inputs = p.inputs; recorded = p.recorded; order = p.order } };
+    ghost view = { λ p. plan_with (arc_value p.rulebook) p.first p.inputs p.recorded p.order };
 
-    ghost invariant = { λ p. IsPlan (record { game = p.game; program = p.program; first = p.first; inputs = p.inputs; recorded = p.recorded; order = p.order }) };
+    ghost invariant = { λ p. IsPlan (plan_with (arc_value p.rulebook) p.first p.inputs p.recorded p.order) };
 }
 
 impl Plan {
     /// A session that starts at a level.
     pub fn new(
-        game: Game,
-        program: Program,
+        rulebook: Arc<Rulebook>,
         first: usize,
         inputs: Inputs,
         recorded: Recorded,
         order: Order,
     ) -> Plan
-        requires program_of { IsProgramOf game.layers program }
-        requires playable { is_playable (entry_at game first) ≡ true }
-        requires within { first < length game.levels }
-        ensures { result ≡ record { game = game; program = program; first = first; inputs = inputs; recorded = recorded; order = order } }
+        requires playable { is_playable (entry_at (arc_value rulebook).game first) ≡ true }
+        requires within { first < length (arc_value rulebook).game.levels }
+        ensures { result ≡ plan_with (arc_value rulebook) first inputs recorded order }
     {
-        // (brings the proof that the inputs are few)
+        // (bring the proofs that the program is the game's, and that the inputs are few)
+        let _ = rulebook.game();
         let _ = inputs.items();
         Plan {
-            game,
-            program,
+            rulebook,
             first,
             inputs,
             recorded,
@@ -66,13 +66,13 @@ impl Plan {
         ensures game { result.now ≡ self.now.game }
         ensures plan { IsPlan self.now }
     {
-        &self.game
+        self.rulebook.game()
     }
 
     pub(crate) fn program(&self) -> &Program
         ensures { result.now ≡ self.now.program }
     {
-        &self.program
+        self.rulebook.program()
     }
 
     pub(crate) fn first(&self) -> usize
