@@ -1,5 +1,8 @@
 -- The rows of rules.
 use Rattle.std.specs.Prelude.{ℕ, ◌<◌, ◌≤◌, List, Option, length, All, IfSome, slice_index, ◌≡◌}
+use Rattle.std.specs.List.{list_any}
+use Rattle.pz_sets.specs.Sets.{member}
+use Rattle.pz_game.specs.Items.{names_object}
 use Rattle.pz_game.specs.declared.pattern.Item.{Item}
 
 -- a row of a rule: its cells as items, and the number of the cell before which a gap stands
@@ -30,3 +33,7 @@ IsRowOf layers row = All (AreOf layers) row.cells
 
 abbrev pub AreRowsOf : List ℕ → List RuleRow → Type 0
 AreRowsOf layers rows = All (IsRowOf layers) rows
+
+-- a set has the objects that cells name as present, and no other
+abbrev pub AreNamed : List (List Item) → List ℕ → Type 0
+AreNamed cells set = (object : ℕ) → member set object ≡ list_any (names_object object) cells

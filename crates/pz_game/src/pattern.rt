@@ -2,11 +2,12 @@
 
 ghost use Rattle.std.specs.Prelude.{◌≡◌, All};
 ghost use Rattle.pz_game.specs.Masks.{IsLow, AreMasksOf};
-ghost use Rattle.pz_game.specs.Pattern.{IsRow};
+ghost use Rattle.pz_game.specs.Pattern.{IsRow, AreNamed};
 
 use crate::direction::Dir;
 use crate::masks::Masks;
 use pz_base::listed::Listed;
+use pz_sets::set::NumberSet;
 use std::marker::Model;
 
 /// What an item says of its object: it is there, however it moves; it is there and still; it is there and moves so; it isn't there.
@@ -67,21 +68,35 @@ impl Pattern {
     }
 }
 
-/// A row of a rule. Its gap, if it has one, stands before the cell of that number.
+/// A row of a rule, with the objects that its cells name as present. Its gap, if it has one, stands before the cell of that number.
 #[derive(Drop, Debug)]
 pub struct Row {
     cells: Vec<Pattern>,
     gap_at: Option<u32>,
+    named: NumberSet,
 }
 
 impl Model for Row {
-    ghost use Rattle.pz_game.specs.Pattern.{RuleRow, IsRow};
+    ghost use Rattle.std.specs.Prelude.{All};
+    ghost use Rattle.pz_game.specs.Masks.{IsLow};
+    ghost use Rattle.pz_game.specs.Pattern.{RuleRow, IsRow, AreNamed};
 
     ghost Value = { RuleRow };
 
     ghost view = { λ r. record { cells = r.cells.items; gap_at = r.gap_at } };
 
-    ghost invariant = { λ r. IsRow (record { cells = r.cells.items; gap_at = r.gap_at }) };
+    ghost invariant = { λ r. IsRow (record { cells = r.cells.items; gap_at = r.gap_at }) × (All (All IsLow) r.cells.items → AreNamed r.cells.items r.named) };
+}
+
+/// The objects that cells name as present.
+fn named_by(cells: &[Pattern]) -> NumberSet
+    ensures { All (All IsLow) cells.now → AreNamed cells.now result }
+{
+    let mut named = NumberSet::empty();
+    for cell in cells {
+        named = named.union(&cell.masks().present);
+    }
+    named
 }
 
 impl Row {
@@ -89,7 +104,19 @@ impl Row {
         requires { IsRow (record { cells = cells.items; gap_at = gap_at }) }
         ensures { result ≡ record { cells = cells.items; gap_at = gap_at } }
     {
-        Row { cells, gap_at }
+        let named = named_by(&cells);
+        Row {
+            cells,
+            gap_at,
+            named,
+        }
+    }
+
+    /// The objects that the cells name as present, where the objects and the layers of their items are within the limits of games.
+    pub fn named(&self) -> &NumberSet
+        ensures { All (All IsLow) self.now.cells → AreNamed self.now.cells result.now }
+    {
+        &self.named
     }
 
     pub fn cells(&self) -> &[Pattern]

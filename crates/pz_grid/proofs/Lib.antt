@@ -16,6 +16,8 @@ pub mod FoldLemmas
 pub mod FoundLemmas
 pub mod RewritingLemmas
 pub mod PlaceLemmas
+pub mod NamedLemmas
+pub mod StartLemmas
 pub mod SkipLemmas
 pub mod CountLemmas
 pub mod WorkedPlaces

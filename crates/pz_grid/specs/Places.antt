@@ -13,6 +13,7 @@ use Rattle.pz_grid.specs.declared.places.GridFault.TheVariants.{MatchLimit}
 use Rattle.pz_grid.specs.declared.places.Place.{Place}
 use Rattle.pz_grid.specs.declared.places.TheConstants.{MATCH_LIMIT}
 use Rattle.pz_sheet.specs.Grid.{Grid, cell_at}
+use Rattle.pz_sheet.specs.Searching.{holds_in_row, holds_in_column}
 use Rattle.pz_cells.specs.Pattern.{pattern_holds}
 
 -- a position, if it is on the map
@@ -63,6 +64,12 @@ abbrev pub place_in : Dir → ℕ → ℕ → ℕ → Place
 place_in Up line start gap = record { x = line; y = start; gap = gap }
 place_in Down line start gap = record { x = line; y = start; gap = gap }
 place_in _ line start gap = record { x = start; y = line; gap = gap }
+
+-- a row's first cell holds at a start in a line
+abbrev pub starts_with : Grid → Dir → ℕ → List Item → ℕ → Bool
+starts_with grid Up line first start = holds_in_column grid line first start
+starts_with grid Down line first start = holds_in_column grid line first start
+starts_with grid _ line first start = holds_in_row grid line first start
 
 -- how many gaps are tried: a greater one leads off the map
 abbrev pub gap_count : Grid → RuleRow → Dir → ℕ

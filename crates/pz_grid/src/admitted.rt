@@ -1,7 +1,8 @@
 // The lines in which a row of a rule may start.
 
-ghost use Rattle.std.specs.Prelude.{◌≡◌, ◌<◌, false, []};
+ghost use Rattle.std.specs.Prelude.{◌≡◌, ◌<◌, All, false, []};
 ghost use Rattle.std.specs.List.{list_all};
+ghost use Rattle.pz_game.specs.Masks.{IsLow};
 ghost use Rattle.pz_game.specs.Pattern.{IsRowOf};
 ghost use Rattle.pz_grid.specs.Admitted.{marks_of, marks_item, marks_cell, admits, admits_line, searches_level, searches_line};
 ghost use Rattle.pz_grid.specs.Places.{line_count, places};
@@ -12,6 +13,7 @@ use crate::rewriting::names;
 use pz_game::direction::Dir;
 use pz_game::pattern::{Item, Pattern, Row};
 use pz_sets::set::NumberSet;
+use pz_sets::words::has_subset;
 
 /// Whether a set has an item's object, if the item names it as present.
 fn marks_item(marks: &NumberSet, item: Item) -> bool
@@ -36,9 +38,10 @@ fn admits(marks: &NumberSet, row: &Row) -> bool
 
 /// Whether a set has every object that one of a row's cells names.
 fn marks_all(marks: &NumberSet, row: &Row) -> bool
+    requires low { All (All IsLow) row.now.cells }
     ensures { result ≡ list_all (marks_cell marks.now) row.now.cells }
 {
-    row.cells().iter().all(|cell| marks_cell(marks, cell))
+    has_subset(marks.words(), row.named().words())
 }
 
 impl Level {
@@ -79,6 +82,8 @@ impl Level {
         requires line_in { line < line_count self.now.grid dir }
         ensures { result ≡ searches_line self.now row.now dir line }
     {
+        // (brings the proof the law of levels)
+        let _ = self.width();
         marks_all(self.marks_of(dir, line), row)
     }
 }

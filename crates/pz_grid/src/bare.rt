@@ -12,6 +12,7 @@ ghost use Rattle.pz_sheet.specs.Movement.{stilled};
 ghost use Rattle.pz_sheet.specs.Presence.{is_in, cell_of};
 ghost use Rattle.pz_sheet.specs.Pushing.{pushed};
 ghost use Rattle.pz_sheet.specs.Rewriting.{with_rewritten, changes};
+ghost use Rattle.pz_sheet.specs.Searching.{holds_in_row, holds_in_column, IsNext};
 ghost use Rattle.pz_sheet.specs.Standing.{standing_at, stands};
 
 use pz_cells::piece::Piece;
@@ -211,6 +212,32 @@ impl BareLevel {
             Sized::Small(sheet) => sheet.holds(x, y, pattern),
             Sized::Middle(sheet) => sheet.holds(x, y, pattern),
             Sized::Large(sheet) => sheet.holds(x, y, pattern),
+        }
+    }
+
+    /// The first column from one on in which a rule's cell holds in a row of the map.
+    pub(crate) fn next_in_row(&self, y: u32, from: u32, pattern: &Pattern) -> Option<u32>
+        requires y_in { y < self.now.grid.height }
+        requires of_game { AreOf self.now.grid.layers pattern.now }
+        ensures { IsNext (holds_in_row self.now.grid y pattern.now) from self.now.grid.width result }
+    {
+        match &self.sheet {
+            Sized::Small(sheet) => sheet.next_in_row(y, from, pattern),
+            Sized::Middle(sheet) => sheet.next_in_row(y, from, pattern),
+            Sized::Large(sheet) => sheet.next_in_row(y, from, pattern),
+        }
+    }
+
+    /// The first row from one on in which a rule's cell holds in a column of the map.
+    pub(crate) fn next_in_column(&self, x: u32, from: u32, pattern: &Pattern) -> Option<u32>
+        requires x_in { x < self.now.grid.width }
+        requires of_game { AreOf self.now.grid.layers pattern.now }
+        ensures { IsNext (holds_in_column self.now.grid x pattern.now) from self.now.grid.height result }
+    {
+        match &self.sheet {
+            Sized::Small(sheet) => sheet.next_in_column(x, from, pattern),
+            Sized::Middle(sheet) => sheet.next_in_column(x, from, pattern),
+            Sized::Large(sheet) => sheet.next_in_column(x, from, pattern),
         }
     }
 

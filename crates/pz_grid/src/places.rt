@@ -3,7 +3,8 @@
 ghost use Rattle.std.specs.Prelude.{◌≡◌, ◌≢◌, ℕ, ◌+◌, ◌*◌, ◌<◌, ◌≤◌, cond, [], ◌∷◌, ◌++◌, ◌^◌, filter, length, OnOk, IfOk, IfErr, IfSome, Ok, Err};
 ghost use Rattle.pz_game.specs.Pattern.{AreOf, IsRowOf, AreRowsOf};
 ghost use Rattle.pz_grid.specs.Admitted.{admitted, searches_line, start_count};
-ghost use Rattle.pz_grid.specs.Places.{on_map, along, holds_at, position_of, distance, row_holds, line_count, line_length, place_in, gap_count, pairs_at, pairs_in, places, searched, still_holds, still_matches};
+ghost use Rattle.pz_grid.specs.Places.{on_map, along, holds_at, position_of, distance, row_holds, line_count, line_length, place_in, gap_count, pairs_at, pairs_in, places, searched, starts_with, still_holds, still_matches};
+ghost use Rattle.pz_sheet.specs.Searching.{IsNext};
 
 use crate::Level;
 use crate::bare::BareLevel;
@@ -173,6 +174,18 @@ fn place_in(dir: Dir, line: u32, start: u32, gap: u32) -> Place
     }
 }
 
+/// The first start from one on in a line at which a row's first cell holds.
+fn next_start(bare: &BareLevel, dir: Dir, line: u32, from: u32, first: &Pattern) -> Option<u32>
+    requires line_in { line < line_count bare.now.grid dir }
+    requires of_game { AreOf bare.now.grid.layers first.now }
+    ensures { IsNext (starts_with bare.now.grid dir line first.now) from (line_length bare.now.grid dir) result }
+{
+    match dir {
+        Dir::Up | Dir::Down => bare.next_in_column(line, from, first),
+        Dir::Left | Dir::Right | Dir::Action => bare.next_in_row(line, from, first),
+    }
+}
+
 /// How many gaps a row may span.
 fn gap_count(bare: &BareLevel, row: &Row, dir: Dir) -> u32
     ensures value { result ≡ gap_count bare.now.grid row.now dir }
@@ -231,7 +244,8 @@ fn add_places_at(
     Ok(())
 }
 
-/// Adds the places that start in a line, and counts the start cells that it tests.
+/// Adds the places that start in a line, and counts the start cells that it tests: the row's first cell is tested at each of them, and the
+/// rest of the row only where that holds.
 fn add_places_in(
     bare: &BareLevel,
     row: &Row,
@@ -241,6 +255,7 @@ fn add_places_in(
     tested: u64,
 ) -> Result<u64, GridFault>
     requires of_game { IsRowOf bare.now.grid.layers row.now }
+    requires line_in { line < line_count bare.now.grid dir }
     requires room { length found.old.items ≤ MATCH_LIMIT }
     requires few { tested ≤ 65536 }
     ensures added { OnOk result (found.new.items ≡ found.old.items ++ filter (row_holds bare.now.grid row.now dir) (pairs_in bare.now.grid row.now dir line)) }
@@ -249,12 +264,14 @@ fn add_places_in(
     ensures room { OnOk result (length found.new.items ≤ MATCH_LIMIT) }
     ensures limit { result ≡ Err GridFault.MatchLimit → MATCH_LIMIT < length (found.old.items ++ filter (row_holds bare.now.grid row.now dir) (pairs_in bare.now.grid row.now dir line)) }
 {
-    let mut count = tested;
-    for start in 0..line_length(bare, dir) {
-        count += 1;
+    let length = line_length(bare, dir);
+    let first = &row.cells()[0];
+    let mut from = 0;
+    'starts: while let Some(start) = next_start(bare, dir, line, from, first) {
         add_places_at(bare, row, dir, line, start, found)?;
+        from = start + 1;
     }
-    Ok(count)
+    Ok(tested + length as u64)
 }
 
 impl Level {

@@ -7,3 +7,4 @@ pub mod Movement
 pub mod Pushing
 pub mod Loading
 pub mod Rewriting
+pub mod Searching

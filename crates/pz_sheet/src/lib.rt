@@ -1,4 +1,4 @@
-//! A level in words of one size: the cells of a rectangle, read, compared, matched, rewritten, pushed and stilled.
+//! A level in words of one size: the cells of a rectangle, read, compared, searched, matched, rewritten, pushed and stilled.
 #![tactic(auto)]
 
 ghost use Rattle.std.specs.Prelude.{◌≡◌, ◌+◌, ◌*◌, ◌<◌, length};
@@ -15,6 +15,7 @@ mod place;
 mod pushing;
 mod reading;
 mod sameness;
+mod searching;
 
 /// The cells of a level, in `N` words for the objects and `N` for their headings, with the sets of the objects of the game's layers.
 #[derive(Drop)]

@@ -5,6 +5,7 @@ pub mod Passes
 pub mod Resting
 pub mod Taking
 pub mod Skipping
+pub mod Effectless
 pub mod Unchanged
 pub mod Stops
 pub mod Stepping

@@ -2,7 +2,7 @@
 -- varying fastest; each is tested again in the level so far before it is rewritten. Its commands are given if there is a
 -- combination, even if nothing changes. It stops if, among the rows before the first one without a place, one has too many
 -- places, or if there are too many combinations.
-use Rattle.std.specs.Prelude.{List, [], ◌∷◌, fold, length, false, Result, Ok, Err, nat_lt, if◌then◌else◌}
+use Rattle.std.specs.Prelude.{◌≡◌, List, [], ◌∷◌, fold, length, false, None, Result, Ok, Err, nat_lt, if◌then◌else◌}
 use Rattle.pz_game.specs.declared.direction.Dir.{Dir}
 use Rattle.pz_game.specs.declared.commands.Commands.{Commands}
 use Rattle.pz_game.specs.declared.instance.Instance.{Instance}
@@ -70,3 +70,12 @@ applied_with instance grid (Ok lists) = applied_to instance grid (combinations l
 -- an instance, applied to a level
 unfoldable pub applied : Instance → Grid → Result (Outcome Grid) StepFault
 applied instance grid = applied_with instance grid (taken grid instance.scan instance.left)
+
+-- an instance without effect: with no right and no commands it neither changes nor gives anything, and one row without a gap meets
+-- no limit
+pub record HasNoEffect (instance : Instance) : Type 0 where
+  pub right : instance.right ≡ []
+  pub commands : instance.commands ≡ no_commands
+  pub row : RuleRow
+  pub left : instance.left ≡ row ∷ []
+  pub gapless : row.gap_at ≡ None

@@ -7,7 +7,7 @@ ghost use Rattle.pz_sheet.specs.Grid.{SameSize};
 ghost use Rattle.pz_grid.specs.Places.{searched};
 ghost use Rattle.pz_grid.specs.Rewriting.{in_rewrite};
 ghost use Rattle.pz_turn.specs.Combinations.{combinations};
-ghost use Rattle.pz_turn.specs.Instance.{found_or_stop, taken, applied_at, applied, given};
+ghost use Rattle.pz_turn.specs.Instance.{found_or_stop, taken, applied_at, applied, given, HasNoEffect};
 ghost use Rattle.pz_turn.specs.Outcome.{GivesOutcome, untouched};
 ghost use Rattle.pz_turn.specs.declared.outcome.StepFault.TheVariants.{Memory};
 
@@ -39,14 +39,31 @@ fn search(alloc: Global, level: &Level, row: &Row, dir: Dir) -> Result<Listed<Pl
     }
 }
 
-/// Whether the marks of a level tell at once that an instance has no combination: some row has no place, and none of those before it has a
-/// gap. (One with a gap could have too many places, and that is answered first.)
+/// Whether an instance has no effect wherever it holds, as a rule that only plays a sound.
+fn has_no_effect(instance: &Instance) -> bool
+    ensures { result ≡ true → HasNoEffect instance.now }
+{
+    if !instance.right.items().is_empty() || !instance.commands.is_empty() {
+        return false;
+    }
+    match instance.left.items() {
+        [row] => row.gap_at().is_none(),
+        _ => false,
+    }
+}
+
+/// Whether it is told at once that an instance leaves a level as it is: it has no effect at all, or, as the level's marks tell, no
+/// combination: some row has no place, and none of those before it has a gap. (One with a gap could have too many places, and that is
+/// answered first.)
 fn is_left_out(level: &Level, instance: &Instance) -> bool
     requires of_game { AreRowsOf level.now.grid.layers instance.now.left }
     ensures { result ≡ true → applied instance.now level.now.grid ≡ Ok (untouched level.now.grid) }
 {
     // (brings the proof the law of levels)
     let _ = level.width();
+    if has_no_effect(instance) {
+        return true;
+    }
     for row in instance.left.items() {
         if !level.is_searched_for(row) {
             return true;

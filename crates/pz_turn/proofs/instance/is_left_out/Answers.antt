@@ -1,6 +1,10 @@
 use Rattle.std.proofs.Common.{arith, sym, ◌∙◌}
 use Rattle.pz_turn.proofs.Skipping.{none_first, none_after, none_more, applied_none, gapless}
+use Rattle.pz_turn.proofs.Effectless.{applied_without_effect}
 use Rattle.pz_turn.proofs.instance.is_left_out.Goals as goal
+
+pub returns-then-has_no_effect : goal.returns-then-has_no_effect
+returns-then-has_no_effect c _ = applied_without_effect c.args.instance.now c.args.level.now.grid c.width.ensures.lawful (c.has_no_effect.ensures c.if-has_no_effect.true)
 
 pub returns-then-not-is_searched_for : goal.returns-then-not-is_searched_for
 returns-then-not-is_searched_for c _ =
