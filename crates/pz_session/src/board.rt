@@ -30,7 +30,6 @@ use std::marker::Model;
 
 /// A session between two links: the entry of LEVELS that is played, its level, the target of a restart, the levels that an undo
 /// takes back (the newest last), the level before an input until that input's chain is over, and whether play is over.
-#[derive(Drop)]
 pub struct Board<'a> {
     alloc: Global,
     game: &'a Game,
@@ -77,6 +76,26 @@ impl<'a> Model for Board<'a> {
       before = option_map (λ level. level.grid) b.before;
       is_over = b.is_over;
     }) × ((b.texts.table.game ≡ b.game.now) × (b.texts.order ≡ b.order)) };
+}
+
+/// Written out, so that where a board goes out of scope one call stands for the ways through all its fields.
+impl Drop for Board<'_> {
+    fn drop(self) {
+        let Board {
+            alloc: _,
+            game: _,
+            program: _,
+            order: _,
+            recorded: _,
+            entry: _,
+            level: _,
+            target: _,
+            past: _,
+            before: _,
+            is_over: _,
+            texts: _,
+        } = self;
+    }
 }
 
 impl<'a> Board<'a> {

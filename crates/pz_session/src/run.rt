@@ -15,9 +15,15 @@ use std::alloc::{AllocError, Global};
 use std::marker::Model;
 
 /// The run of a case, which contracts see as the items that are still to come, and whether memory was refused.
-#[derive(Drop)]
 pub struct Run<'a> {
     stage: Stage<'a>,
+}
+
+/// Written out, as for a board.
+impl Drop for Run<'_> {
+    fn drop(self) {
+        let Run { stage: _ } = self;
+    }
 }
 
 impl<'a> Model for Run<'a> {
