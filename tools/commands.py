@@ -22,20 +22,34 @@ def printable(text):
     return "".join(letter if letter.isprintable() else f"\\u{{{ord(letter):x}}}" for letter in text)
 
 
-def read_text(path):
-    """The text of a file, or of standard input where the path is `-`."""
+def plural(count, word):
+    return f"{count} {word}" if count == 1 else f"{count} {word}s"
+
+
+def opened(path):
+    """A file, or standard input where the path is `-`."""
     try:
-        if path == "-":
-            data = sys.stdin.buffer.read()
-        else:
-            with open(path, "rb") as file:
-                data = file.read()
-        return data.decode("utf-8")
+        return sys.stdin.buffer if path == "-" else open(path, "rb")
     except OSError as why:
         raise Refused(f"{path} can't be read: {why.strerror}") from None
-    except UnicodeDecodeError as why:
-        line = data.count(b"\n", 0, why.start) + 1
-        raise Refused(f"{path}, line {line}: byte {why.start} is not UTF-8") from None
+
+
+def read_lines(path):
+    """The lines of a file, numbered from 1, each with the line feed that ends it."""
+    with opened(path) as file:
+        number = 0
+        try:
+            for number, line in enumerate(file, 1):
+                yield number, line.decode("utf-8")
+        except OSError as why:
+            raise Refused(f"{path} can't be read: {why.strerror}") from None
+        except UnicodeDecodeError as why:
+            raise Refused(f"{path}, line {number}: byte {why.start} of it is not UTF-8") from None
+
+
+def read_text(path):
+    """The text of a file."""
+    return "".join(line for _, line in read_lines(path))
 
 
 def guard_output(*paths):

@@ -2,13 +2,12 @@
 from collections import Counter
 from functools import lru_cache
 
-from commands import printable
+from commands import plural, printable
 from games import Game
 from levels import Labels, differing, in_rows, position, read_cells, width_of
 
 # How many cells that differ are told.
 CELLS_TOLD = 8
-INPUTS = {0: "up", 1: "left", 2: "down", 3: "right", 4: "action"}
 STOPS = {
     "loop-limit": "a group of rules or a loop still changed something in its 200th pass",
     "again-limit": "an input needed more than 500 ticks of `again`",
@@ -74,18 +73,6 @@ def source_line(source, number):
 
 def cell_told(names):
     return " ".join(names) if names else "nothing"
-
-
-def input_told(inputs, at):
-    """What the input was that led to a frame."""
-    if not 1 <= at <= len(inputs):
-        return "the start"
-    it = inputs[at - 1]
-    return f"press {INPUTS[it]}" if it in INPUTS else it
-
-
-def plural(count, word):
-    return f"{count} {word}" if count == 1 else f"{count} {word}s"
 
 
 class Ending:

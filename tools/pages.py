@@ -7,7 +7,8 @@ import json
 import re
 from pathlib import Path
 
-from explaining import Ending, cause_told, ending_told, fault_in, game_of, plural
+from commands import plural
+from explaining import Ending, cause_told, ending_told, fault_in, game_of
 from levels import Labels, differing, read_cells, width_of
 from sessions import KINDS
 
@@ -15,6 +16,10 @@ PAGE = Path(__file__).resolve().parent / "report_page"
 # What could end a script or a line of one.
 UNSAFE = {ord(letter): f"\\u{ord(letter):04x}" for letter in "<>&\u2028\u2029"}
 NEIGHBOURS = 3
+# One letter stands for a label where there are few of them; these need no escape.
+LETTERS = "".join(chr(code) for code in range(33, 127) if chr(code) not in "\"\\<>&")
+# A change of so many cells is written as a whole level: a cell of it takes a letter, and one that changed takes its number too.
+DEAR = 5
 
 
 def safe(value):
@@ -26,6 +31,11 @@ def block(name, value):
     return f'<script type="application/json" id="{name}">{safe(value)}</script>\n'
 
 
+def packed(cells):
+    """The labels of cells, as letters where there are enough of these."""
+    return "".join(map(LETTERS.__getitem__, cells)) if max(cells, default=0) < len(LETTERS) else cells
+
+
 class Levels:
     """The levels of a session, one after the other."""
 
@@ -33,7 +43,7 @@ class Levels:
         self.labels, self.text, self.width, self.cells = labels, None, 0, None
 
     def whole(self, text, cells):
-        return {"width": width_of(text, len(cells)), "cells": cells}
+        return {"width": width_of(text, len(cells)), "cells": packed(cells)}
 
     def change(self, text):
         """What makes the next level of the one before: 0 nothing, a list of cells with their new labels, or a whole level."""
@@ -47,7 +57,7 @@ class Levels:
         if before is None or len(before) != len(cells) or width != self.width:
             return self.whole(text, cells)
         numbers = differing(cells, before)
-        if 3 * len(numbers) > len(cells):
+        if DEAR * len(numbers) > len(cells):
             return self.whole(text, cells)
         return [it for number in numbers for it in (number, cells[number])]
 
@@ -75,11 +85,9 @@ def session_of(entry, run, game, order):
         told = ending_told(ending, order)
         if ending.recorded is not None:
             width = ending.width if ending.is_comparable else width_of(entry.level, len(ending.recorded))
-            recorded = {"width": width, "cells": ending.recorded}
-    return {
-        "told": told, "source": source_lines(entry.source, run.cause), "game": game, "inputs": entry.inputs,
-        "frames": frames, "recorded": recorded, "labels": labels.names,
-    }
+            recorded = {"width": width, "cells": packed(ending.recorded)}
+    source = source_lines(entry.source, run.cause)
+    return {"told": told, "source": source, "game": game, "inputs": entry.inputs, "frames": frames, "recorded": recorded, "labels": labels.names}
 
 
 def look_of(game):
@@ -124,5 +132,5 @@ class Report:
 
     def page(self):
         notes = ["Colours by name are those of arnecolors. The whole level is drawn, also where the game shows a part of it.", *self.notes]
-        index = {"file": Path(self.sessions.path).name, "order": self.order, "sessions": self.rows, "notes": notes}
+        index = {"file": Path(self.sessions.path).name, "order": self.order, "letters": LETTERS, "sessions": self.rows, "notes": notes}
         return page_of(index, self.blocks)

@@ -3,7 +3,7 @@ import json
 import re
 from collections import namedtuple
 
-from commands import Refused, read_text
+from commands import Refused, plural, read_lines, read_text
 
 SPACE = re.compile(r"[ \t\n\r]*")
 LONE_SURROGATE = re.compile("[\ud800-\udfff]")
@@ -32,7 +32,7 @@ def next_mark(text, at, marks):
     """The mark that stands next, which must be one of these, and where the text goes on behind it."""
     at = SPACE.match(text, at).end()
     if text[at : at + 1] not in marks or at == len(text):
-        raise json.JSONDecodeError(f"one of {' '.join(marks)} is wanted", text, at)
+        raise json.JSONDecodeError(f"{' or '.join(marks)} is wanted", text, at)
     return text[at], SPACE.match(text, at + 1).end()
 
 
@@ -86,7 +86,8 @@ def read_sessions(path):
     text = read_text(path)
     try:
         items, end = items_of(text, 0)
-        if SPACE.match(text, end).end() != len(text):
+        end = SPACE.match(text, end).end()
+        if end != len(text):
             raise json.JSONDecodeError("something stands behind the list", text, end)
         return Sessions(path, text, [entry_of(path, text, number, value, begin) for number, (value, begin, _) in enumerate(items)])
     except json.JSONDecodeError as why:
@@ -139,13 +140,11 @@ def close_of(line, frames):
     return Run(line["session"], name, line["close"], cause, frames)
 
 
-def runs_in(path, text):
-    """What a text of the program's lines says, session by session, each with the number of its last line."""
-    number, count, frames = 0, 0, []
-    for number, it in enumerate(text.split("\n"), 1):
-        if it == "":
-            continue
-        line = line_of(path, number, it)
+def runs_in(path):
+    """What the program's lines say, session by session, each with the number of its last line."""
+    count, frames = 0, []
+    for number, text in read_lines(path):
+        line = line_of(path, number, text)
         if line["session"] != count:
             raise Refused(f"{path}, line {number}: session {line['session']} where session {count} is wanted")
         if "close" not in line:
@@ -166,26 +165,27 @@ def runs_in(path, text):
 def read_runs(path, sessions=None):
     """What the program's lines say, session by session. With the sessions that they must be of, each is tested to be of its entry."""
     count = 0
-    for number, run in runs_in(path, read_text(path)):
-        if sessions is not None:
-            fault = mismatch(sessions.entries[count] if count < len(sessions.entries) else None, run)
-            if fault:
-                raise Refused(f"{path}, line {number}: {fault} in {sessions.path}: the lines are of another file")
+    for number, run in runs_in(path):
+        fault = mismatch(sessions, run) if sessions else None
+        if fault:
+            raise Refused(f"{path}, line {number}: {fault}; the lines are of another file than {sessions.path}")
         yield run
         count += 1
-    if sessions is not None and count != len(sessions.entries):
-        raise Refused(f"{path}: {count} sessions are closed, and there are {len(sessions.entries)} in {sessions.path}")
+    if sessions and count != len(sessions.entries):
+        raise Refused(f"{path} closes {plural(count, 'session')}, and {sessions.path} has {len(sessions.entries)}")
 
 
-def mismatch(entry, run):
-    """What shows that a run is not of this entry, or None."""
-    if entry is None:
-        return f"session {run.number} is not there"
+def mismatch(sessions, run):
+    """What shows that a run is not of its entry, or None."""
+    if run.number >= len(sessions.entries):
+        return f"there is no session {run.number}"
+    entry = sessions.entries[run.number]
     if entry.name != run.name:
-        return f"session {run.number} is named {run.name!r} here and {entry.name!r}"
-    last = run.frames[-1].at if run.frames else 0
-    if last > len(entry.inputs) or (run.close in ("passed", "differs") and not run.frames):
-        return f"session {run.number} takes {last} inputs here and has {len(entry.inputs)}"
+        return f"session {run.number} is named {run.name!r}, and in the file {entry.name!r}"
+    if run.frames and run.frames[-1].at > len(entry.inputs):
+        return f"session {run.number} takes more inputs than its {len(entry.inputs)}"
+    if run.close in ("passed", "differs") and not run.frames:
+        return f"session {run.number} was played and has no frame"
     return None
 
 

@@ -67,9 +67,17 @@
 
   // ---- levels: the first is whole, and each other is what differs from the one before
 
+  const labels = new Map([...index.letters].map((letter, label) => [letter, label]));
+
+  // A whole level, whose labels may be written as letters.
+  function unpacked(level) {
+    if (level === null || typeof level.cells !== "string") return level;
+    return { width: level.width, cells: Array.from(level.cells, (letter) => labels.get(letter)) };
+  }
+
   function changed(level, change) {
     if (change === 0) return level;
-    if (!Array.isArray(change)) return change;
+    if (!Array.isArray(change)) return unpacked(change);
     const cells = level.cells.slice();
     for (let it = 0; it < change.length; it += 2) cells[change[it]] = change[it + 1];
     return { width: level.width, cells };
@@ -78,7 +86,7 @@
   function levelAt(number) {
     let kept = number - (number % KEPT);
     while (kept > 0 && !open.kept.has(kept)) kept -= KEPT;
-    let level = kept > 0 ? open.kept.get(kept) : open.frames[0][2];
+    let level = kept > 0 ? open.kept.get(kept) : unpacked(open.frames[0][2]);
     for (let it = kept + 1; it <= number; it += 1) {
       level = changed(level, open.frames[it][2]);
       if (it % KEPT === 0) open.kept.set(it, level);
@@ -242,6 +250,7 @@
     if (open === null || open.number !== number) {
       open = { ...json(`session-${number}`), number, kept: new Map(), pictures: new Map(), at: 0, level: null };
       open.game = gameOf(open.game);
+      open.recorded = unpacked(open.recorded);
       document.querySelectorAll("#list button").forEach((it) => it.setAttribute("aria-current", String(Number(it.dataset.number) === number)));
     }
     const row = index.sessions[number];
