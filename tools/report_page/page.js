@@ -7,6 +7,8 @@
   const KEPT = 64;          // a whole level is kept for each so many frames
   const SIDE = 5;           // pixels of a sprite
   const PAUSE = 160;        // milliseconds between two frames when playing
+  const LISTED_LETTERS = 200;   // letters of a name in the list,
+  const LETTERS = 2000;         // and above the player
   const MARK = "#ff2a6d";
   const CLOSES = ["passed", "differs", "stopped", "refused"];
   const KINDS = ["start", "move", "undo", "restart", "load", "tick", "over"];
@@ -20,6 +22,8 @@
     it.textContent = text;
     return it;
   };
+
+  const cut = (text, most) => (text.length > most ? `${text.slice(0, most)}\u2026` : text);
 
   const index = json("index");
   const games = new Map();
@@ -48,9 +52,10 @@
   function rowOf(row, number) {
     const button = make("button", row[1], "");
     button.type = "button";
-    button.title = `${row[0]}: ${row[1]}`;
+    const name = cut(row[0], LISTED_LETTERS);
+    button.title = `${name}: ${row[1]}`;
     button.dataset.number = number;
-    button.append(make("span", "dot", ""), make("span", "number", number), make("span", "label", row[0]), make("span", "frames", row[2] || ""));
+    button.append(make("span", "dot", ""), make("span", "number", number), make("span", "label", name), make("span", "frames", row[2] || ""));
     button.setAttribute("aria-current", String(open !== null && open.number === number));
     button.addEventListener("click", () => { location.hash = `session=${number}`; });
     const item = document.createElement("li");
@@ -255,7 +260,7 @@
     }
     const row = index.sessions[number];
     at("session").hidden = false;
-    at("name").textContent = row[0];
+    at("name").textContent = cut(row[0], LETTERS);
     at("close").replaceChildren(make("span", "dot", ""), `${row[1]}: ${open.told}`);
     at("close").className = row[1];
     showSource(open.source);
