@@ -128,7 +128,8 @@ class Report:
     def add(self, run):
         entry = self.sessions.entries[run.number]
         self.rows.append([run.name, run.close, len(run.frames)])
-        self.blocks.append(block(f"session-{run.number}", session_of(entry, run, self.game(entry.source), self.order)))
+        game = self.game(entry.source) if run.frames else None
+        self.blocks.append(block(f"session-{run.number}", session_of(entry, run, game, self.order)))
 
     def page(self):
         notes = ["Colours by name are those of arnecolors. The whole level is drawn, also where the game shows a part of it.", *self.notes]

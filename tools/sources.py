@@ -10,6 +10,8 @@ SPACE = re.compile(f"[{WHITE}]")
 WORD = re.compile(f"[^{WHITE}]+")
 ENDS = re.compile(f"^[{WHITE}]+|[{WHITE}]+$")
 HEADINGS = ("objects", "legend", "sounds", "collisionlayers", "rules", "winconditions", "levels")
+# So many letters tell a word from all keywords that end the reading of comments, and are kept of it.
+WORD_KEPT = 10
 
 Line = namedtuple("Line", "number section text")
 
@@ -56,7 +58,7 @@ def without_comments(section, depth, line):
             left.append(letter)
             ends = ends_word(section, is_first, word, letter)
             is_first = is_first and (not ends or (not word and bool(SPACE.match(letter))))
-            word = "" if ends else word + letter
+            word = "" if ends else (word + letter)[-WORD_KEPT:]
     return "".join(left), depth
 
 

@@ -56,6 +56,7 @@
     button.title = `${name}: ${row[1]}`;
     button.dataset.number = number;
     button.append(make("span", "dot", ""), make("span", "number", number), make("span", "label", name), make("span", "frames", row[2] || ""));
+    button.lastChild.title = "frames";
     button.setAttribute("aria-current", String(open !== null && open.number === number));
     button.addEventListener("click", () => { location.hash = `session=${number}`; });
     const item = document.createElement("li");
@@ -254,7 +255,7 @@
     pause();
     if (open === null || open.number !== number) {
       open = { ...json(`session-${number}`), number, kept: new Map(), pictures: new Map(), at: 0, level: null };
-      open.game = gameOf(open.game);
+      open.game = open.game === null ? null : gameOf(open.game);
       open.recorded = unpacked(open.recorded);
       document.querySelectorAll("#list button").forEach((it) => it.setAttribute("aria-current", String(Number(it.dataset.number) === number)));
     }

@@ -80,7 +80,7 @@ class Accept(OnSessions):
 
     def test_no_tool_writes_over_what_it_reads(self):
         sessions = self.write("sessions.json", EXAMPLE.read_text(encoding="utf-8"))
-        for words in (["accept", sessions, self.lines], ["with-source", self.lines, sessions], ["explain", sessions, self.lines], ["report", sessions, self.lines]):
+        for words in (["with-source", self.lines, sessions], *([tool, sessions, self.lines] for tool in ("accept", "explain", "report", "junit"))):
             with self.subTest(words[0]), open(sessions, "ab") as output:
                 ran = subprocess.run([sys.executable, TOP / "tools" / words[0], *words[1:]], stdout=output, stderr=subprocess.PIPE)
                 self.assertEqual((ran.returncode, b"which is read" in ran.stderr), (2, True))

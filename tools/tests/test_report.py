@@ -101,6 +101,11 @@ class Report(OnSessions):
         page = self.page(self.write("sessions.json", sessions), self.write("lines", lines), "--order", "rows")
         self.assertEqual(len(page.json("index")["sessions"]), len(json.loads(sessions)))
         self.assert_shows(page, lines)
+        for session in (page.json(f"session-{number}") for number in range(len(json.loads(sessions)))):
+            if session["frames"]:
+                drawn = {it[0] for it in page.json(f"game-{session['game']}")["objects"] if it[1] is not None}
+                reached = {name for level in levels_shown(session, page.json("index")["letters"]) for names in level for name in names}
+                self.assertEqual(reached - drawn, set())
 
     def test_a_refused_source_is_shown_by_its_line_and_its_neighbours(self):
         session = self.page(*case("the-word-random-in-a-rule")).json("session-0")
