@@ -32,8 +32,8 @@ p.
 """
 
 
-def sessions_and_lines(names):
-    """For each name a session that differs and one that is refused, with the lines that a program would write."""
+def sessions_and_lines(names, last=None):
+    """For each name a session that differs and one that is refused, and one more for the last, with the lines that a program would write."""
     entries, lines = [], []
     level = f"{EVIL} background:0,background:1,\n"
     for number, name in enumerate(names):
@@ -41,4 +41,7 @@ def sessions_and_lines(names):
         lines.append({"at": 0, "frame": 0, "kind": "start", "level": level, "session": 2 * number})
         lines.append({"close": "differs", "frames": 1, "name": name, "session": 2 * number})
         lines.append({"cause": "BadRule:13", "close": "refused", "frames": 0, "name": name, "session": 2 * number + 1})
+    if last is not None:
+        lines.append({"cause": "BadRule:13", "close": "refused", "frames": 0, "name": last, "session": len(entries)})
+        entries.append([last, [SOURCE, [], "background:0,0,"]])
     return json.dumps(entries), "".join(json.dumps(line) + "\n" for line in lines)

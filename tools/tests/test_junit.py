@@ -38,7 +38,7 @@ class JUnit(OnSessions):
         self.assertEqual((len(set(names)), len(names)), (len(names), int(suite.get("tests"))))
 
     def test_no_name_breaks_the_file(self):
-        sessions, lines = sessions_and_lines([*NAMES, LETTERS])
+        sessions, lines = sessions_and_lines(NAMES, LETTERS)
         suite = self.suite(self.write("lines", lines), self.write("sessions.json", sessions))
         names = [it.get("name") for it in suite][::2]
         self.assertEqual(names[:4], list(NAMES[:4]))

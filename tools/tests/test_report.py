@@ -128,11 +128,11 @@ class Report(OnSessions):
         self.assertIn("its colour ochre is drawn as grey", notes)
 
     def test_no_script_of_a_game_is_in_the_page(self):
-        sessions, lines = sessions_and_lines([*NAMES, LETTERS])
+        sessions, lines = sessions_and_lines(NAMES, LETTERS)
         page = self.page(self.write("sessions.json", sessions), self.write("lines", lines))
         self.assertEqual([row[0] for row in page.json("index")["sessions"]][::2], [*NAMES, LETTERS])
         self.assertEqual(page.tags, Reader(PAGE).tags)
-        self.assertEqual(sorted(page.blocks), sorted(["index", "game-0", "script", "style", *(f"session-{number}" for number in range(14))]))
+        self.assertEqual(sorted(page.blocks), sorted(["index", "game-0", "script", "style", *(f"session-{number}" for number in range(13))]))
         self.assertFalse([name for _, names in page.tags for name in names if name.startswith("on")])
         for name in ("script", "style"):
             digest = base64.b64encode(hashlib.sha256(page.blocks[name].encode()).digest()).decode()
