@@ -19,6 +19,8 @@ CLEAR = "transparent"
 HEX = re.compile("#(?:[0-9a-f]{3}|[0-9a-f]{6})")
 PIXELS = re.compile("[0-9.]+")
 SIDE = 5
+# A pixel is a digit, so no further colour is drawn.
+MOST_COLOURS = 10
 
 # An object: its name, its colours (None: transparent), 25 pixels or none at all, and its layer or None.
 Object = namedtuple("Object", "name colours sprite layer")
@@ -65,7 +67,7 @@ class Game:
         return PALETTE.get(word)
 
     def colours_of(self, block):
-        return [self.colour_of(word) for word in block.colours]
+        return [self.colour_of(word) for word in block.colours[:MOST_COLOURS]]
 
     def sprite_of(self, block):
         """The pixels of an object, row by row, or none at all where it is a block of its first colour."""

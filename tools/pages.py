@@ -16,6 +16,8 @@ PAGE = Path(__file__).resolve().parent / "report_page"
 # What could end a script or a line of one.
 UNSAFE = {ord(letter): f"\\u{ord(letter):04x}" for letter in "<>&\u2028\u2029"}
 NEIGHBOURS = 3
+GENERAL = "Colours by name are those of arnecolors. The whole level is drawn, also where the game shows a part of it."
+MOST_NOTES = 50
 # One letter stands for a label where there are few of them; these need no escape.
 LETTERS = "".join(chr(code) for code in range(33, 127) if chr(code) not in "\"\\<>&")
 # A change of so many cells is written as a whole level: a cell of it takes a letter, and one that changed takes its number too.
@@ -132,6 +134,7 @@ class Report:
         self.blocks.append(block(f"session-{run.number}", session_of(entry, run, game, self.order)))
 
     def page(self):
-        notes = ["Colours by name are those of arnecolors. The whole level is drawn, also where the game shows a part of it.", *self.notes]
+        more = len(self.notes) - MOST_NOTES
+        notes = [GENERAL, *list(self.notes)[:MOST_NOTES], *([f"And {plural(more, 'more note')}."] if more > 0 else [])]
         index = {"file": Path(self.sessions.path).name, "order": self.order, "letters": LETTERS, "sessions": self.rows, "notes": notes}
         return page_of(index, self.blocks)
