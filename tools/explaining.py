@@ -154,7 +154,8 @@ def told(run, entry=None, order="columns"):
 def summary(closes):
     """How many sessions closed in which way."""
     counts = Counter(closes)
-    parts = [f"{counts[close]} {word}" for close, word in (("passed", "passed"), ("differs", "differ"), ("stopped", "stopped"), ("refused", "refused"))]
+    words = {"differs": "differs" if counts["differs"] == 1 else "differ"}
+    parts = [f"{counts[close]} {words.get(close, close)}" for close in ("passed", "differs", "stopped", "refused")]
     return f"{plural(sum(counts.values()), 'session')}: {', '.join(parts)}"
 
 

@@ -21,7 +21,7 @@ session 4, a recording that has gone stale: differs: 17 frames, 16 inputs; 5 of 
     #P...#     #..*.#
     #..###     #..###
     ####..     ####..
-5 sessions: 4 passed, 1 differ, 0 stopped, 0 refused
+5 sessions: 4 passed, 1 differs, 0 stopped, 0 refused
 """
 # For a case the words that its explanation must have.
 TOLD = {
