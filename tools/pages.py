@@ -79,7 +79,7 @@ def session_of(entry, run, game, order):
     labels = Labels()
     levels = Levels(labels)
     frames = [[frame.at, KINDS.index(frame.kind), levels.change(frame.level)] for frame in run.frames]
-    told, recorded = f"all {plural(len(entry.inputs), 'input')} played, and the last level is the recorded one", None
+    told, recorded = f"{plural(len(entry.inputs), 'input')} played, and the last level is the recorded one", None
     if run.cause is not None:
         told = f"{cause_told(run.cause)} ({run.cause})"
     elif run.close == "differs":
