@@ -4,6 +4,7 @@ ghost use Rattle.std.specs.Prelude.{◌≡◌, ◌≤◌, length, IfOk};
 ghost use Rattle.pz_job.specs.Job.{plan_from, case_of, job_of};
 ghost use Rattle.pz_job.specs.Rulebooks.{shared_in};
 
+use crate::programs::Programs;
 use crate::rulebooks::{Answer, Rulebooks};
 use pz_entries::entry::Entry;
 use pz_record::input::Inputs;
@@ -37,6 +38,7 @@ fn make_plan(
 /// The case of an entry.
 fn make_case(
     rulebooks: &mut Rulebooks,
+    programs: &mut Programs,
     alloc: Global,
     entry: Entry,
     order: Order,
@@ -50,7 +52,7 @@ fn make_case(
         recorded,
         index,
     } = entry;
-    let answer = rulebooks.answer(alloc, source.as_str())?;
+    let answer = rulebooks.answer(programs, alloc, source.as_str())?;
     let plan = make_plan(answer, inputs, recorded, index, order);
     Ok(Case { name, plan })
 }
@@ -62,9 +64,10 @@ pub fn prepare(alloc: Global, entries: Vec<Entry>, order: Order) -> Result<Job, 
     ensures { IfOk result (λ job. job ≡ job_of order entries.items) }
 {
     let mut rulebooks = Rulebooks::new(alloc);
+    let mut programs = Programs::new(alloc);
     let mut cases = Vec::new(alloc);
     for entry in entries {
-        let case = make_case(&mut rulebooks, alloc, entry, order)?;
+        let case = make_case(&mut rulebooks, &mut programs, alloc, entry, order)?;
         cases.push(case)?;
     }
     Ok(Job::new(cases))

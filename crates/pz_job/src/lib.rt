@@ -3,4 +3,6 @@
 #![tactic(auto)]
 
 pub mod job;
+mod programs;
 mod rulebooks;
+mod same;

@@ -3,6 +3,7 @@
 ghost use Rattle.std.specs.Prelude.{◌≡◌, ◌≢◌, IfOk, IfErr, IfSome};
 ghost use Rattle.pz_job.specs.Rulebooks.{rulebook_of, shared_in, AreKept};
 
+use crate::programs::Programs;
 use pz_base::fault::{Code, SourceFault};
 use pz_rules::expand::expand;
 use pz_session::item::Refusal;
@@ -28,7 +29,7 @@ fn refusal_of(fault: SourceFault) -> Result<Refusal, AllocError>
 
 /// What a source gives that is read now.
 #[tactic(auto, unfolding(crate::specs::Rulebooks::rulebook_of))]
-fn read_rulebook(alloc: Global, source: &str) -> Result<Answer, AllocError>
+fn read_rulebook(programs: &mut Programs, alloc: Global, source: &str) -> Result<Answer, AllocError>
     ensures { IfOk result (λ answer. shared_in answer ≡ rulebook_of source.now) }
 {
     let game = match read_game(alloc, source) {
@@ -45,6 +46,7 @@ fn read_rulebook(alloc: Global, source: &str) -> Result<Answer, AllocError>
             return Ok(Err(refusal));
         }
     };
+    let program = programs.shared(alloc, program)?;
     let rulebook = Arc::new(alloc, Rulebook::new(game, program))?;
     Ok(Ok(rulebook))
 }
@@ -77,20 +79,30 @@ impl Rulebooks {
     }
 
     /// What a source gives.
-    pub fn answer(&mut self, alloc: Global, source: &str) -> Result<Answer, AllocError>
+    pub fn answer(
+        &mut self,
+        programs: &mut Programs,
+        alloc: Global,
+        source: &str,
+    ) -> Result<Answer, AllocError>
         ensures { IfOk result (λ answer. shared_in answer ≡ rulebook_of source.now) }
     {
         match self.answers.get(source) {
             Some(answer) => again(answer),
-            None => self.read(alloc, source),
+            None => self.read(programs, alloc, source),
         }
     }
 
     /// What a source gives that is new; it is kept.
-    fn read(&mut self, alloc: Global, source: &str) -> Result<Answer, AllocError>
+    fn read(
+        &mut self,
+        programs: &mut Programs,
+        alloc: Global,
+        source: &str,
+    ) -> Result<Answer, AllocError>
         ensures { IfOk result (λ answer. shared_in answer ≡ rulebook_of source.now) }
     {
-        let answer = read_rulebook(alloc, source)?;
+        let answer = read_rulebook(programs, alloc, source)?;
         let kept = again(&answer)?;
         let text = String::from_str(alloc, source)?;
         self.answers.insert(text, kept)?;

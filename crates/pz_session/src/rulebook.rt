@@ -1,35 +1,38 @@
 //! A game with its rules.
 
 ghost use Rattle.std.specs.Prelude.{◌≡◌};
+ghost use Rattle.std.specs.Arc.{arc_value};
 ghost use Rattle.pz_game.specs.Instance.{IsProgramOf};
 
 use pz_game::game::Game;
 use pz_game::instance::Program;
 use std::marker::Model;
+use std::sync::Arc;
 
-/// A game and the program of its rules, which the sessions of one source share.
+/// A game and the program of its rules. The sessions of one source share it, and games with the same program share that.
 #[derive(Drop)]
 pub struct Rulebook {
     game: Game,
-    program: Program,
+    program: Arc<Program>,
 }
 
 impl Model for Rulebook {
+    ghost use Rattle.std.specs.Arc.{arc_value};
     ghost use Rattle.pz_game.specs.Instance.{IsProgramOf};
     ghost use Rattle.pz_session.specs.Rulebook.{RulebookState};
 
     ghost Value = { RulebookState };
 
-    ghost view = { λ r. record { game = r.game; program = r.program } };
+    ghost view = { λ r. record { game = r.game; program = arc_value r.program } };
 
-    ghost invariant = { λ r. IsProgramOf r.game.layers r.program };
+    ghost invariant = { λ r. IsProgramOf r.game.layers (arc_value r.program) };
 }
 
 impl Rulebook {
     /// The rulebook of a game and its program.
-    pub fn new(game: Game, program: Program) -> Rulebook
-        requires { IsProgramOf game.layers program }
-        ensures { result ≡ record { game = game; program = program } }
+    pub fn new(game: Game, program: Arc<Program>) -> Rulebook
+        requires { IsProgramOf game.layers (arc_value program) }
+        ensures { result ≡ record { game = game; program = arc_value program } }
     {
         Rulebook { game, program }
     }
