@@ -29,6 +29,16 @@ impl<const N: usize> Cell<N> {
         NumberSet::from_words(&self.objects)
     }
 
+    /// Where the objects of each layer head.
+    pub fn heading_set(&self) -> NumberSet
+        requires short { N ≤ 4 }
+        ensures { (number : ℕ) → member result number ≡ member self.now.movement number }
+    {
+        // (brings the proof how many words there are)
+        let _ = self.word_count();
+        NumberSet::from_words(&self.movement)
+    }
+
     /// Whether nothing in the cell heads anywhere.
     pub fn is_still(&self) -> bool
         requires short { N ≤ 4 }

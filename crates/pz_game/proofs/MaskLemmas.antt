@@ -1,7 +1,7 @@
 -- The sets of a cell with one item more.
 use Rattle.std.proofs.lemmas.List.{take_more}
-use Rattle.std.proofs.Common.{◌≡◌, ◌≢◌, inl, inr, ℕ, ◌+◌, ◌<◌, length, take, get_or, zero, suc, List, [], ◌∷◌, ◌++◌, Option, Some, None, Bool, true, false, cond, not, ◌&&◌, ◌||◌, arith, ap, sym, ◌∙◌, refl, subst, nat_eq, eq-eqb}
-use Rattle.std.specs.Prelude.{find, is_some}
+use Rattle.std.proofs.Common.{◌≡◌, ◌≢◌, inl, inr, ℕ, ◌+◌, ◌<◌, length, take, get_or, List, [], ◌∷◌, ◌++◌, Option, Some, None, Bool, true, false, cond, not, ◌&&◌, ◌||◌, ap, sym, ◌∙◌, refl, subst, nat_eq, eq-eqb}
+use Rattle.std.specs.Prelude.{is_some}
 use Rattle.std.specs.List.{list_any}
 use Rattle.std.proofs.lemmas.Bool.{cases_eq, ne_eqb, eqb-true, and_parts, or_cases, or_left, or_right, and_from}
 use Rattle.pz_sets.specs.Sets.{member}
@@ -9,10 +9,10 @@ use Rattle.pz_game.specs.declared.direction.Dir.{Dir}
 use Rattle.pz_game.specs.declared.pattern.Word.{Word}
 use Rattle.pz_game.specs.declared.pattern.Word.TheVariants.{Present, Still, Toward, Absent}
 use Rattle.pz_game.specs.declared.pattern.Item.{Item}
-use Rattle.pz_game.specs.Items.{names, tells_movement, is_on, places_on, placed_on, tells_of, names_object, forbids_object}
+use Rattle.pz_game.specs.Items.{names, tells_movement, is_on, places_on, placed_on}
 use Rattle.pz_game.specs.Headings.{heads, is_toward}
 use Rattle.pz_game.specs.declared.masks.Masks.{Masks}
-use Rattle.pz_game.specs.Masks.{toward, is_still, asks_toward, asks_still, settles, begins, is_first, IsAdded, AreMasksOf}
+use Rattle.pz_game.specs.Masks.{toward, is_still, settles, begins, is_first, IsAdded, AreMasksOf}
 
 -- ---- a cell with one item more
 pub any_more : {X : Type 0} (p : X → Bool) (xs : List X) (x : X) → list_any p (xs ++ x ∷ []) ≡ (p x || list_any p xs)

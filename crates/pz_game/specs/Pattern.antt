@@ -2,7 +2,10 @@
 use Rattle.std.specs.Prelude.{ℕ, ◌<◌, ◌≤◌, List, Option, length, All, IfSome, slice_index, ◌≡◌}
 use Rattle.std.specs.List.{list_any}
 use Rattle.pz_sets.specs.Sets.{member}
+use Rattle.pz_game.specs.declared.direction.Dir.{Dir}
+use Rattle.pz_game.specs.Headings.{heads, IsProper}
 use Rattle.pz_game.specs.Items.{names_object}
+use Rattle.pz_game.specs.Masks.{asks_toward}
 use Rattle.pz_game.specs.declared.pattern.Item.{Item}
 
 -- a row of a rule: its cells as items, and the number of the cell before which a gap stands
@@ -37,3 +40,8 @@ AreRowsOf layers rows = All (IsRowOf layers) rows
 -- a set has the objects that cells name as present, and no other
 abbrev pub AreNamed : List (List Item) → List ℕ → Type 0
 AreNamed cells set = (object : ℕ) → member set object ≡ list_any (names_object object) cells
+
+-- a set has the directions in which cells ask layers to head, and no other
+pub record AreRequired (cells : List (List Item)) (set : List ℕ) : Type 0 where
+  pub asked : (layer : ℕ) (dir : Dir) → heads set layer dir ≡ list_any (asks_toward layer dir) cells
+  pub proper : IsProper set

@@ -2,7 +2,7 @@
 
 ghost use Rattle.std.specs.Prelude.{◌≡◌, All};
 ghost use Rattle.pz_game.specs.Masks.{IsLow, AreMasksOf};
-ghost use Rattle.pz_game.specs.Pattern.{IsRow, AreNamed};
+ghost use Rattle.pz_game.specs.Pattern.{IsRow, AreNamed, AreRequired};
 
 use crate::direction::Dir;
 use crate::masks::Masks;
@@ -68,24 +68,25 @@ impl Pattern {
     }
 }
 
-/// A row of a rule, with the objects that its cells name as present. Its gap, if it has one, stands before the cell of that number.
+/// A row of a rule, with the objects that its cells name as present and the directions in which they ask these to head. Its gap, if it has one, stands before the cell of that number.
 #[derive(Drop, Debug)]
 pub struct Row {
     cells: Vec<Pattern>,
     gap_at: Option<u32>,
     named: NumberSet,
+    required: NumberSet,
 }
 
 impl Model for Row {
     ghost use Rattle.std.specs.Prelude.{All};
     ghost use Rattle.pz_game.specs.Masks.{IsLow};
-    ghost use Rattle.pz_game.specs.Pattern.{RuleRow, IsRow, AreNamed};
+    ghost use Rattle.pz_game.specs.Pattern.{RuleRow, IsRow, AreNamed, AreRequired};
 
     ghost Value = { RuleRow };
 
     ghost view = { λ r. record { cells = r.cells.items; gap_at = r.gap_at } };
 
-    ghost invariant = { λ r. IsRow (record { cells = r.cells.items; gap_at = r.gap_at }) × (All (All IsLow) r.cells.items → AreNamed r.cells.items r.named) };
+    ghost invariant = { λ r. IsRow (record { cells = r.cells.items; gap_at = r.gap_at }) × (All (All IsLow) r.cells.items → AreNamed r.cells.items r.named × AreRequired r.cells.items r.required) };
 }
 
 /// The objects that cells name as present.
@@ -99,16 +100,29 @@ fn named_by(cells: &[Pattern]) -> NumberSet
     named
 }
 
+/// The directions in which cells ask layers to head.
+fn required_by(cells: &[Pattern]) -> NumberSet
+    ensures { All (All IsLow) cells.now → AreRequired cells.now result }
+{
+    let mut required = NumberSet::empty();
+    for cell in cells {
+        required = required.union(&cell.masks().required);
+    }
+    required
+}
+
 impl Row {
     pub fn new(cells: Vec<Pattern>, gap_at: Option<u32>) -> Row
         requires { IsRow (record { cells = cells.items; gap_at = gap_at }) }
         ensures { result ≡ record { cells = cells.items; gap_at = gap_at } }
     {
         let named = named_by(&cells);
+        let required = required_by(&cells);
         Row {
             cells,
             gap_at,
             named,
+            required,
         }
     }
 
@@ -117,6 +131,13 @@ impl Row {
         ensures { All (All IsLow) self.now.cells → AreNamed self.now.cells result.now }
     {
         &self.named
+    }
+
+    /// The directions in which the cells ask layers to head, under the same condition.
+    pub fn required(&self) -> &NumberSet
+        ensures { All (All IsLow) self.now.cells → AreRequired self.now.cells result.now }
+    {
+        &self.required
     }
 
     pub fn cells(&self) -> &[Pattern]

@@ -19,6 +19,7 @@ pub mod PlaceLemmas
 pub mod NamedLemmas
 pub mod StartLemmas
 pub mod SkipLemmas
+pub mod SomewhereLemmas
 pub mod CountLemmas
 pub mod WorkedPlaces
 pub mod WorkedMarks

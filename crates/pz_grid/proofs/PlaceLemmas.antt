@@ -97,7 +97,7 @@ inside_from grid pattern x y = by_test (nat_lt x grid.width) (nat_lt y grid.heig
   by_test true false in_x in_y h = cc
   by_test false b in_x in_y h = cc
 
-back_from : (grid : Grid) (pattern : List Item) (steps x : ℕ) (there : Option (ℕ × ℕ)) → holds_at grid pattern (cond (nat_le steps x) there None) ≡ true → (steps ≤ x) × (holds_at grid pattern there ≡ true)
+pub back_from : (grid : Grid) (pattern : List Item) (steps x : ℕ) (there : Option (ℕ × ℕ)) → holds_at grid pattern (cond (nat_le steps x) there None) ≡ true → (steps ≤ x) × (holds_at grid pattern there ≡ true)
 back_from grid pattern steps x there = by_test (nat_le steps x) refl where
   by_test : (b : Bool) → nat_le steps x ≡ b → holds_at grid pattern (cond b there None) ≡ true → (steps ≤ x) × (holds_at grid pattern there ≡ true)
   by_test true is h = (leb-true steps x is, h)
@@ -120,7 +120,7 @@ steps_inside grid pattern Up x y steps in_x in_y h = let back = back_from grid p
 steps_inside grid pattern Action x y steps in_x in_y h = let wrong : false ≡ true = h in cc
 
 -- each cell of a row that holds, holds where it stands
-holds_each_cell : (grid : Grid) (row : RuleRow) (dir : Dir) (place : Place) (k : ℕ) → k < length row.cells → row_holds grid row dir place ≡ true → holds_at grid (get_or row.cells k []) (along grid dir place.x place.y (distance row.gap_at place.gap k)) ≡ true
+pub holds_each_cell : (grid : Grid) (row : RuleRow) (dir : Dir) (place : Place) (k : ℕ) → k < length row.cells → row_holds grid row dir place ≡ true → holds_at grid (get_or row.cells k []) (along grid dir place.x place.y (distance row.gap_at place.gap k)) ≡ true
 holds_each_cell grid row dir place k within h =
     let pattern = get_or row.cells k [] in
     let all = AllPass-from_list_all (cell_holds grid row dir place) (enumerate_from 0 row.cells) h k (0, pattern) (omega (arith, length-enumerate_from 0 row.cells)) in

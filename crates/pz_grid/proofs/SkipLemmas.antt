@@ -118,7 +118,7 @@ cells_none state row dir place marks n (cell ∷ cells) has e = by_test (cells_n
 pub line_none : (state : LevelState) (row : RuleRow) (dir : Dir) (place : Place) → IsMarked state → searches_line state row dir (line_of dir place) ≡ false → row_holds state.grid row dir place ≡ false
 line_none state row dir place h e = cells_none state row dir place (marks_of state dir (line_of dir place)) 0 row.cells (reached_line state dir place h) e
 
-filter_none : {X : Type 0} (p : X → Bool) (xs : List X) → ((x : X) → p x ≡ false) → filter p xs ≡ []
+pub filter_none : {X : Type 0} (p : X → Bool) (xs : List X) → ((x : X) → p x ≡ false) → filter p xs ≡ []
 filter_none p [] h = refl
 filter_none p (x ∷ xs) h = ap (λ (b : Bool). cond b (x ∷ filter p xs) (filter p xs)) (h x) ∙ filter_none p xs h
 

@@ -67,6 +67,16 @@ impl Level {
         marks_all(&self.level_marks, row)
     }
 
+    /// Whether a place of the row may be in the level, as far as its headings tell: false says that none is, in no direction.
+    pub fn may_hold(&self, row: &Row) -> bool
+        requires of_game { IsRowOf self.now.grid.layers row.now }
+        ensures none { result ≡ false → (dir : Dir) → places self.now.grid row.now dir ≡ [] }
+    {
+        // (brings the proof what the level is)
+        let _ = &self.level_marks;
+        self.bare.may_hold(row)
+    }
+
     /// Whether a line is admitted for a row.
     pub(crate) fn admits_line(&self, row: &Row, dir: Dir, line: u32) -> bool
         requires of_game { IsRowOf self.now.grid.layers row.now }

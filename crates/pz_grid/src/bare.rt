@@ -3,7 +3,7 @@
 ghost use Rattle.std.specs.Prelude.{◌≡◌, ℕ, ◌<◌, ◌↔◌, IsTrue, true, map, length, slice_index, All, IfOk, IfSome, Some, None, MatchOption};
 ghost use Rattle.pz_sets.specs.Sets.{member};
 ghost use Rattle.pz_sets.specs.declared.set.TheConstants.{CAPACITY};
-ghost use Rattle.pz_game.specs.Pattern.{AreOf};
+ghost use Rattle.pz_game.specs.Pattern.{AreOf, IsRowOf};
 ghost use Rattle.pz_cells.specs.Cell.{IsOnLayer, still_place};
 ghost use Rattle.pz_cells.specs.Pattern.{pattern_holds};
 ghost use Rattle.pz_sheet.specs.Grid.{IsLawful, cell_at, place_at, with_place};
@@ -12,14 +12,14 @@ ghost use Rattle.pz_sheet.specs.Movement.{stilled};
 ghost use Rattle.pz_sheet.specs.Presence.{is_in, cell_of};
 ghost use Rattle.pz_sheet.specs.Pushing.{pushed};
 ghost use Rattle.pz_sheet.specs.Rewriting.{with_rewritten, changes};
-ghost use Rattle.pz_sheet.specs.Searching.{holds_in_row, holds_in_column, IsNext};
+ghost use Rattle.pz_sheet.specs.Searching.{holds_in_row, holds_in_column, HoldsSomewhere, IsNext};
 ghost use Rattle.pz_sheet.specs.Standing.{standing_at, stands};
 
 use pz_cells::piece::Piece;
 use pz_game::direction::Dir;
 use pz_game::game::Game;
 use pz_game::level::DrawnLevel;
-use pz_game::pattern::Pattern;
+use pz_game::pattern::{Pattern, Row};
 use pz_sets::set::NumberSet;
 use pz_sheet::Sheet;
 use std::alloc::{AllocError, Global};
@@ -212,6 +212,18 @@ impl BareLevel {
             Sized::Small(sheet) => sheet.holds(x, y, pattern),
             Sized::Middle(sheet) => sheet.holds(x, y, pattern),
             Sized::Large(sheet) => sheet.holds(x, y, pattern),
+        }
+    }
+
+    /// Whether something may head as the cells of a row ask: true where each of them holds somewhere.
+    pub(crate) fn may_hold(&self, row: &Row) -> bool
+        requires of_game { IsRowOf self.now.grid.layers row.now }
+        ensures { All (HoldsSomewhere self.now.grid) row.now.cells → result ≡ true }
+    {
+        match &self.sheet {
+            Sized::Small(sheet) => sheet.may_hold(row),
+            Sized::Middle(sheet) => sheet.may_hold(row),
+            Sized::Large(sheet) => sheet.may_hold(row),
         }
     }
 

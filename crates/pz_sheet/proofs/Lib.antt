@@ -3,3 +3,4 @@ pub mod MapLemmas
 pub mod PushLemmas
 pub mod LoadLemmas
 pub mod SameLemmas
+pub mod HeadingLemmas

@@ -14,7 +14,7 @@ use Rattle.pz_cells.specs.Shown.{place_of, cell_of, Shows}
 use Rattle.pz_cells.proofs.HoldLemmas.{place_seen}
 use Rattle.pz_cells.proofs.ShowLemmas.{cell_from_shows}
 use Rattle.std.proofs.lemmas.List.FromFn.{length-map-range_with_len}
-use Rattle.pz_sheet.specs.Seen.{seen, IsSound, IsStored, AreMapped}
+use Rattle.pz_sheet.specs.Seen.{seen, IsSound, HeadsWithin, IsStored, AreMapped}
 
 -- words that show what a function makes of each place
 pub cell_mapped : (depth : ℕ) (layers objects movement objects_new movement_new : List ℕ) (f : Option Piece → Option Piece) → ((object : ℕ) → member objects_new object ≡ true → object < length layers) → ((layer : ℕ) → Shows layers (member objects_new) (heads movement_new layer) layer (f (place_of layers objects movement layer))) → cell_of depth layers objects_new movement_new ≡ map f (cell_of depth layers objects movement)
@@ -68,8 +68,8 @@ mapped_all N depth layers f old now index past m =
     }
 
 -- ---- the level whose cells are changed
-pub stored_mapped : (N width height depth : ℕ) (layers : List ℕ) (sets : List (List ℕ)) (f : List (Option Piece) → List (Option Piece)) (old new : List (Cell N)) → IsStored N width height depth layers sets old → AreMapped N depth layers f old new → IsStored N width height depth layers sets new
-stored_mapped N width height depth layers sets f old new s m = record {
+pub stored_mapped : (N width height depth : ℕ) (layers : List ℕ) (sets : List (List ℕ)) (f : List (Option Piece) → List (Option Piece)) (old new : List (Cell N)) (headings next : List ℕ) → IsStored N width height depth layers sets old headings → AreMapped N depth layers f old new → All (HeadsWithin N next) new → IsStored N width height depth layers sets new next
+stored_mapped N width height depth layers sets f old new headings next s m noted = record {
   size = s.size;
   shallow = s.shallow;
   few = s.few;
@@ -81,6 +81,7 @@ stored_mapped N width height depth layers sets f old new s m = record {
   table = s.table;
   covers = (let e : length new ≡ length old = sym (length-map new (seen N depth layers)) ∙ (ap length m.cells ∙ (length-map (map (seen N depth layers) old) f ∙ length-map old (seen N depth layers))) in e ∙ s.covers);
   sound = m.sound;
+  noted = noted;
 }
 
 -- the same over layers that are read

@@ -1,12 +1,13 @@
 -- A cell of a level in words, and what is seen of it.
-use Rattle.std.proofs.Common.{◌≡◌, ℕ, zero, suc, ◌+◌, ◌*◌, ◌^◌, ◌<◌, ◌≤◌, List, [], Option, Some, None, Bool, true, false, ◌&&◌, cond, map, set, length, get_or, ap, sym, ◌∙◌, subst, arith, get_or-set_same}
+use Rattle.std.proofs.Common.{◌≡◌, ℕ, zero, suc, ◌+◌, ◌*◌, ◌^◌, ◌<◌, ◌≤◌, List, [], Option, Some, None, Bool, true, false, ◌&&◌, ◌||◌, cond, map, set, length, get_or, ap, sym, ◌∙◌, subst, arith, get_or-set_same}
 use Rattle.std.specs.Prelude.{nat_lt, IfSome, MatchOption}
-use Rattle.std.proofs.lemmas.Bool.{lt-ltb}
+use Rattle.std.proofs.lemmas.Bool.{lt-ltb, or_left, or_right}
 use Rattle.std.proofs.lemmas.List.{length-map, length-set, get_or-map, get_or_default, map-set}
 use Rattle.std.proofs.lemmas.List.FromFn.{length-map-range_with_len}
 use Rattle.std.proofs.lemmas.List.Elements.{All-map, All-set}
 use Rattle.std.specs.List.{All}
 use prog.Memory.{up}
+use Rattle.pz_sets.specs.Sets.{member, AreSame}
 use Rattle.pz_game.specs.declared.direction.Dir.{Dir}
 use Rattle.pz_cells.specs.declared.cell.Cell.{Cell}
 use Rattle.pz_cells.specs.declared.piece.Piece.{Piece}
@@ -17,7 +18,7 @@ use Rattle.pz_cells.proofs.HoldLemmas.{on_its_layer, place_seen, standing_by}
 use Rattle.pz_cells.proofs.PlaceLemmas.{lawful_changed, cell_changed}
 use Rattle.pz_sheet.specs.Grid.{Grid, IsLawful, cell_at, place_at, with_place}
 use Rattle.pz_sheet.specs.Standing.{standing_at}
-use Rattle.pz_sheet.specs.Seen.{seen, grid_of, IsSound, IsStored}
+use Rattle.pz_sheet.specs.Seen.{seen, grid_of, IsSound, HeadsWithin, IsStored}
 
 -- a number of a seen cell is one of a cell in words
 pub seen_within : (N width height depth : ℕ) (layers : List ℕ) (cells : List (Cell N)) (grid : Grid) (at : ℕ) → grid_of N width height depth layers cells ≡ grid → at < length grid.cells → at < length cells
@@ -49,8 +50,8 @@ cell_seen N depth layers cell sound = record {
 }
 
 -- a level in words is seen as a lawful one
-pub lawful_seen : (N width height depth : ℕ) (layers : List ℕ) (sets : List (List ℕ)) (cells : List (Cell N)) → IsStored N width height depth layers sets cells → IsLawful (grid_of N width height depth layers cells)
-lawful_seen N width height depth layers sets cells s = record {
+pub lawful_seen : (N width height depth : ℕ) (layers : List ℕ) (sets : List (List ℕ)) (cells : List (Cell N)) (headings : List ℕ) → IsStored N width height depth layers sets cells headings → IsLawful (grid_of N width height depth layers cells)
+lawful_seen N width height depth layers sets cells headings s = record {
   covers = length-map cells (seen N depth layers) ∙ s.covers;
   size = s.size;
   shallow = s.shallow;
@@ -100,8 +101,8 @@ piece_seen there heading object stand None e h = e ∙ ap (λ b. standing_by b h
 piece_seen there heading object stand (Some p) e h = e ∙ (ap (λ b. standing_by b heading) h.0 ∙ ap (λ (way : Option Dir). Some way) (sym h.2))
 
 -- ---- one cell anew
-pub stored_set : (N width height depth : ℕ) (layers : List ℕ) (sets : List (List ℕ)) (cells : List (Cell N)) (at : ℕ) (new : Cell N) → IsStored N width height depth layers sets cells → IsSound N layers new → IsStored N width height depth layers sets (set cells at new)
-stored_set N width height depth layers sets cells at new s sound = record {
+pub stored_set : (N width height depth : ℕ) (layers : List ℕ) (sets : List (List ℕ)) (cells : List (Cell N)) (at : ℕ) (new : Cell N) (headings here next : List ℕ) → IsStored N width height depth layers sets cells headings → IsSound N layers new → AreSame here new.movement → ((number : ℕ) → member next number ≡ (member headings number || member here number)) → IsStored N width height depth layers sets (set cells at new) next
+stored_set N width height depth layers sets cells at new headings here next s sound same joined = record {
   size = s.size;
   shallow = s.shallow;
   few = s.few;
@@ -113,6 +114,7 @@ stored_set N width height depth layers sets cells at new s sound = record {
   table = s.table;
   covers = length-set cells at new ∙ s.covers;
   sound = All-set (IsSound N layers) cells at new sound s.sound;
+  noted = All-set (HeadsWithin N next) cells at new (λ number e. joined number ∙ or_right (member headings number) (member here number) (same number ∙ e)) (λ k d within number e. joined number ∙ or_left (member headings number) (member here number) (s.noted k d within number e));
 }
 
 -- the cell at a position is changed by a function

@@ -17,3 +17,11 @@ abbrev pub IsNext : (ℕ → Bool) → ℕ → ℕ → Option ℕ → Type 0
 IsNext test from end None = (number : ℕ) → from ≤ number → number < end → test number ≡ false
 IsNext test from end (Some found) =
     (from ≤ found) × (found < end) × (test found ≡ true) × ((number : ℕ) → from ≤ number → number < found → test number ≡ false)
+
+-- a rule's cell holds at some position of the map
+pub record HoldsSomewhere (grid : Grid) (pattern : List Item) : Type 0 where
+  pub x : ℕ
+  pub y : ℕ
+  pub x_in : x < grid.width
+  pub y_in : y < grid.height
+  pub holds : pattern_holds (cell_at grid x y) pattern ≡ true

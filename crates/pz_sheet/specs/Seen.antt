@@ -1,6 +1,6 @@
 -- A level in words, seen by layers.
 use Rattle.std.specs.Prelude.{◌≡◌, ℕ, ◌*◌, ◌<◌, ◌≤◌, List, map, Option, length, slice_index_or, All}
-use Rattle.pz_sets.specs.Sets.{AreSame}
+use Rattle.pz_sets.specs.Sets.{AreSame, IsWithin}
 use Rattle.pz_game.specs.declared.limits.TheConstants.{MAX_OBJECTS, MAX_LAYERS}
 use Rattle.pz_game.specs.Size.{IsSize}
 use Rattle.pz_cells.specs.declared.cell.Cell.{Cell}
@@ -19,8 +19,13 @@ grid_of N width height depth layers cells = record { width = width; height = hei
 abbrev pub IsSound : (N : ℕ) → List ℕ → Cell N → Type 0
 IsSound N layers cell = AreLawful layers cell.objects cell.movement
 
--- what holds of the words of a level: there is room for its game, the sets of its layers are there, and each cell is of the game
-pub record IsStored (N width height depth : ℕ) (layers : List ℕ) (sets : List (List ℕ)) (cells : List (Cell N)) : Type 0 where
+-- a cell heads nowhere but in the directions of a set
+abbrev pub HeadsWithin : (N : ℕ) → List ℕ → Cell N → Type 0
+HeadsWithin N headings cell = IsWithin cell.movement headings
+
+-- what holds of the words of a level: there is room for its game, the sets of its layers are there, each cell is of the game, and none
+-- heads in a direction that isn't noted
+pub record IsStored (N width height depth : ℕ) (layers : List ℕ) (sets : List (List ℕ)) (cells : List (Cell N)) (headings : List ℕ) : Type 0 where
   pub size : IsSize width height
   pub shallow : depth ≤ MAX_LAYERS
   pub few : length layers ≤ MAX_OBJECTS
@@ -32,6 +37,7 @@ pub record IsStored (N width height depth : ℕ) (layers : List ℕ) (sets : Lis
   pub table : (layer : ℕ) (other : List ℕ) → layer < length sets → IsSetOf layers (slice_index_or sets layer other) layer
   pub covers : length cells ≡ width * height
   pub sound : All (IsSound N layers) cells
+  pub noted : All (HeadsWithin N headings) cells
 
 -- cells of words that are seen as others, each made from one of those by a function
 pub record AreMapped (N depth : ℕ) (layers : List ℕ) (f : List (Option Piece) → List (Option Piece)) (old new : List (Cell N)) : Type 0 where

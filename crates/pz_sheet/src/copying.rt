@@ -21,6 +21,7 @@ impl<const N: usize> Sheet<N> {
             layers,
             sets,
             cells,
+            headings: self.headings,
         };
         Ok(copy)
     }
@@ -39,6 +40,7 @@ impl<const N: usize> Sheet<N> {
         refill(&mut self.layers, &other.layers);
         refill(&mut self.sets, &other.sets);
         refill(&mut self.cells, &other.cells);
+        self.headings = other.headings;
         Ok(())
     }
 }

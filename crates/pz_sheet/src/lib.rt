@@ -9,6 +9,7 @@ use pz_sets::set::NumberSet;
 use std::marker::Model;
 
 mod copying;
+mod headings;
 mod loading;
 mod movement;
 mod place;
@@ -17,7 +18,8 @@ mod reading;
 mod sameness;
 mod searching;
 
-/// The cells of a level, in `N` words for the objects and `N` for their headings, with the sets of the objects of the game's layers.
+/// The cells of a level, in `N` words for the objects and `N` for their headings, with the sets of the objects of the game's layers, and at
+/// least the headings of all cells.
 #[derive(Drop)]
 pub struct Sheet<const N: usize> {
     width: u32,
@@ -26,6 +28,7 @@ pub struct Sheet<const N: usize> {
     layers: Vec<usize>,
     sets: Vec<NumberSet>,
     cells: Vec<Cell<N>>,
+    headings: NumberSet,
 }
 
 impl<const N: usize> Model for Sheet<N> {
@@ -36,7 +39,7 @@ impl<const N: usize> Model for Sheet<N> {
 
     ghost view = { λ a. record { grid = grid_of N a.width a.height a.depth a.layers.items a.cells.items } };
 
-    ghost invariant = { λ a. IsStored N a.width a.height a.depth a.layers.items a.sets.items a.cells.items };
+    ghost invariant = { λ a. IsStored N a.width a.height a.depth a.layers.items a.sets.items a.cells.items a.headings };
 }
 
 impl<const N: usize> Sheet<N> {

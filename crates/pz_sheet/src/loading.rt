@@ -9,6 +9,7 @@ ghost use Rattle.pz_sheet.specs.Loading.{with_object, glyph_cell, drawn, filled_
 ghost use Rattle.pz_sheet.specs.Seen.{seen, IsSound, AreMapped};
 
 use crate::Sheet;
+use crate::headings::headings_of;
 use pz_cells::cell::Cell;
 use pz_cells::piece::Piece;
 use pz_game::game::Game;
@@ -28,6 +29,7 @@ impl<const N: usize> Sheet<N> {
         let layers = Vec::from_slice(alloc, game.layers())?;
         let sets = layer_sets(alloc, game.depth(), game.layers())?;
         let cells = glyph_cells(alloc, game, &sets, drawing.cells())?;
+        let headings = headings_of(&cells);
         Ok(Sheet {
             width: drawing.width(),
             height: drawing.height(),
@@ -35,6 +37,7 @@ impl<const N: usize> Sheet<N> {
             layers,
             sets,
             cells,
+            headings,
         })
     }
 
@@ -53,6 +56,7 @@ impl<const N: usize> Sheet<N> {
             layer,
             piece,
         );
+        self.headings = headings_of(&self.cells);
     }
 }
 

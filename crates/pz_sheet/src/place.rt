@@ -37,7 +37,9 @@ impl<const N: usize> Sheet<N> {
     {
         let index = self.index(x, y);
         let here = self.cells[index].place(&self.layers, self.sets[layer].words(), layer);
-        self.cells[index].put(&self.layers, layer, here, place);
+        let cell = &mut self.cells[index];
+        cell.put(&self.layers, layer, here, place);
+        self.headings = self.headings.union(&cell.heading_set());
     }
 
     /// Whether a rule's cell holds at a position of the map.
@@ -61,6 +63,9 @@ impl<const N: usize> Sheet<N> {
         ensures changed { result ≡ changes self.old.grid x y left.now right.now }
     {
         let index = self.index(x, y);
-        self.cells[index].rewrite(self.depth, &self.layers, &self.sets, left, right)
+        let cell = &mut self.cells[index];
+        let changed = cell.rewrite(self.depth, &self.layers, &self.sets, left, right);
+        self.headings = self.headings.union(&cell.heading_set());
+        changed
     }
 }

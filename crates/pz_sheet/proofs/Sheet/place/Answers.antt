@@ -44,12 +44,12 @@ pub returns-clause-on_layer : goal.returns-clause-on_layer
 returns-clause-on_layer g c =
     let grid = c.args.self.now.grid in
     let at = c.args.y * grid.width + c.args.x in
-    let lawful = subst IsLawful (ap (λ (s : BareState). s.grid) c.self.view_is) (lawful_seen _ _ _ _ _ _ _ c.self.invariant) in
+    let lawful = subst IsLawful (ap (λ (s : BareState). s.grid) c.self.view_is) (lawful_seen _ _ _ _ _ _ _ _ c.self.invariant) in
     let within : at < length grid.cells = omega (arith, c.index-index.ensures.within, c.index-index.ensures.index) in
     subst (IsOnLayer grid.layers c.args.layer) (sym (returns-clause-place g c)) ((lawful.stacked at [] within).on_layers c.args.layer)
 
 pub returns-clause-low : goal.returns-clause-low
 returns-clause-low g c =
     let grid = c.args.self.now.grid in
-    let lawful = subst IsLawful (ap (λ (s : BareState). s.grid) c.self.view_is) (lawful_seen _ _ _ _ _ _ _ c.self.invariant) in
+    let lawful = subst IsLawful (ap (λ (s : BareState). s.grid) c.self.view_is) (lawful_seen _ _ _ _ _ _ _ _ c.self.invariant) in
     low_place grid.layers c.args.layer c.place.result (omega (arith, lawful.few)) (returns-clause-on_layer g c)

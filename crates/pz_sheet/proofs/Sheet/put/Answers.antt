@@ -35,7 +35,7 @@ pub put-requires : goal.put-requires
 put-requires g c =
     let a = c.self.inside in
     let e = ap (λ (s : BareState). s.grid) c.self.view_is in
-    let cell = c.index_mut.result.now in
+    let cell = c.index_mut-cell.result.now in
     let at = c.index-index.result in
     let within = seen_within _ _ _ a.depth a.layers.items a.cells.items _ at e c.index-index.ensures.within in
     let same = c.deref-2.ensures.value in
@@ -50,9 +50,9 @@ put-requires g c =
             (
               omega (arith, low, c.self.invariant.movement_room),
               (
-                subst (λ (layers : List ℕ). AreLawful layers cell.objects cell.movement) (sym same) (sound_at _ a.layers.items a.cells.items at cell c.self.invariant.sound within c.index_mut.ensures.value),
+                subst (λ (layers : List ℕ). AreLawful layers cell.objects cell.movement) (sym same) (sound_at _ a.layers.items a.cells.items at cell c.self.invariant.sound within c.index_mut-cell.ensures.value),
                 (
-                  place_again _ a.layers.items _ _ a.cells.items at c.args.layer c.index.result.now cell c.place-here.result within c.index.ensures c.index_mut.ensures.value c.deref.ensures.value same c.place-here.ensures,
+                  place_again _ a.layers.items _ _ a.cells.items at c.args.layer c.index.result.now cell c.place-here.result within c.index.ensures c.index_mut-cell.ensures.value c.deref.ensures.value same c.place-here.ensures,
                   subst (λ (layers : List ℕ). IsOnLayer layers c.args.layer c.args.place) (sym (same ∙ ap (λ (grid : Grid). grid.layers) e)) c.requires.on_layer,
                 ),
               ),
@@ -68,9 +68,9 @@ invariant_of-self g c =
     let e = ap (λ (s : BareState). s.grid) c.self.view_is in
     let at = c.index-index.result in
     let within = seen_within _ _ _ a.depth a.layers.items a.cells.items _ at e c.index-index.ensures.within in
-    let sound = sound_at _ a.layers.items a.cells.items at c.index_mut.result.now c.self.invariant.sound within c.index_mut.ensures.value in
-    stored_set _ a.width a.height a.depth a.layers.items a.sets.items a.cells.items at c.put.new.self c.self.invariant
-    (sound_changed _ a.layers.items _ c.index_mut.result.now c.put.new.self c.args.layer c.args.place c.deref-2.ensures.value sound c.put.ensures)
+    let sound = sound_at _ a.layers.items a.cells.items at c.index_mut-cell.result.now c.self.invariant.sound within c.index_mut-cell.ensures.value in
+    stored_set _ a.width a.height a.depth a.layers.items a.sets.items a.cells.items at c.put.new.self a.headings c.heading_set.result c.union-self-inside.result c.self.invariant
+    (sound_changed _ a.layers.items _ c.index_mut-cell.result.now c.put.new.self c.args.layer c.args.place c.deref-2.ensures.value sound c.put.ensures) c.heading_set.ensures c.union-self-inside.ensures
 
 pub returns-clause-put : goal.returns-clause-put
 returns-clause-put g c =
@@ -78,17 +78,17 @@ returns-clause-put g c =
     let e = ap (λ (s : BareState). s.grid) c.self.view_is in
     let at = c.index-index.result in
     let within = seen_within _ _ _ a.depth a.layers.items a.cells.items _ at e c.index-index.ensures.within in
-    let sound = sound_at _ a.layers.items a.cells.items at c.index_mut.result.now c.self.invariant.sound within c.index_mut.ensures.value in
+    let sound = sound_at _ a.layers.items a.cells.items at c.index_mut-cell.result.now c.self.invariant.sound within c.index_mut-cell.ensures.value in
     let number : at ≡ c.args.y * a.width + c.args.x = c.index-index.ensures.index ∙ sym (ap (λ (grid : Grid). c.args.y * grid.width + c.args.x) e) in
-    grid_set _ a.width a.height a.depth a.layers.items a.cells.items at (c.args.y * a.width + c.args.x) c.index_mut.result.now c.put.new.self (λ (cell : List (Option Piece)). set cell c.args.layer c.args.place) within number c.index_mut.ensures.value
-    (seen_changed _ a.depth a.layers.items _ c.index_mut.result.now c.put.new.self c.args.layer c.args.place c.deref-2.ensures.value sound c.put.ensures)
+    grid_set _ a.width a.height a.depth a.layers.items a.cells.items at (c.args.y * a.width + c.args.x) c.index_mut-cell.result.now c.put.new.self (λ (cell : List (Option Piece)). set cell c.args.layer c.args.place) within number c.index_mut-cell.ensures.value
+    (seen_changed _ a.depth a.layers.items _ c.index_mut-cell.result.now c.put.new.self c.args.layer c.args.place c.deref-2.ensures.value sound c.put.ensures)
     ∙ ap (λ (grid : Grid). with_place grid c.args.x c.args.y c.args.layer c.args.place) e
 
 pub returns-clause-there : goal.returns-clause-there
 returns-clause-there g c =
     let grid = c.args.self.now.grid in
     let at = c.args.y * grid.width + c.args.x in
-    let lawful = subst IsLawful (ap (λ (s : BareState). s.grid) c.self.view_is) (lawful_seen _ _ _ _ _ _ _ c.self.invariant) in
+    let lawful = subst IsLawful (ap (λ (s : BareState). s.grid) c.self.view_is) (lawful_seen _ _ _ _ _ _ _ _ c.self.invariant) in
     let within : at < length grid.cells = omega (arith, c.index-index.ensures.within, c.index-index.ensures.index) in
     ap (λ (next : Grid). place_at next c.args.x c.args.y c.args.layer) (returns-clause-put g c)
     ∙ placed_there grid c.args.x c.args.y c.args.layer c.args.place within (omega (arith, (lawful.stacked at [] within).deep, c.requires.layer_in))

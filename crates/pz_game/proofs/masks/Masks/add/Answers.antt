@@ -1,7 +1,6 @@
-use Rattle.std.proofs.Common.{◌≡◌, ℕ, List, Bool, true, not, ◌&&◌, ◌||◌, Option, nat_eq, ap, sym, ◌∙◌}
+use Rattle.std.proofs.Common.{◌≡◌, Bool, not, ◌&&◌, ◌||◌, Option, nat_eq, ap, ◌∙◌}
 use Rattle.pz_sets.specs.Sets.{member}
 use Rattle.pz_game.specs.declared.direction.Dir.{Dir}
-use Rattle.pz_game.specs.Items.{names, tells_movement}
 use Rattle.pz_game.specs.Headings.{heads, is_toward}
 use Rattle.pz_game.specs.Masks.{is_first, toward}
 use Rattle.pz_game.proofs.masks.Masks.add.Goals as goal

@@ -1,4 +1,4 @@
-use Rattle.std.proofs.Common.{◌≡◌, ℕ, List, false, true, None, Some, Option, ap, sym, ◌∙◌}
+use Rattle.std.proofs.Common.{◌≡◌, false, true, None, Some, Option, sym, ◌∙◌}
 use Rattle.pz_game.specs.declared.pattern.Item.{Item}
 use Rattle.pz_game.specs.Headings.{flag}
 use Rattle.pz_game.proofs.masks.Masks.empty.Goals as goal
