@@ -1,7 +1,7 @@
 -- The cells of a row that has a place hold somewhere on the map.
-use Rattle.std.proofs.Common.{◌≡◌, ℕ, ◌+◌, ◌-◌, ◌<◌, List, [], Bool, true, false, cond, ◌&&◌, Option, None, Some, length, get_or, ap, sym, ◌∙◌, refl, subst}
+use Rattle.std.proofs.Common.{◌≡◌, ℕ, ◌+◌, ◌-◌, List, [], Bool, true, false, cond, ◌&&◌, None, Some, get_or, sym, ◌∙◌, refl, subst}
 use Rattle.std.specs.Prelude.{nat_lt, All}
-use Rattle.std.proofs.lemmas.Bool.{ltb-true, cases_eq}
+use Rattle.std.proofs.lemmas.Bool.{ltb-true}
 use Rattle.std.proofs.lemmas.List.{get_or_default}
 use Rattle.pz_game.specs.declared.direction.Dir.{Dir}
 use Rattle.pz_game.specs.declared.direction.Dir.TheVariants.{Up, Down, Left, Right, Action}

@@ -3,15 +3,14 @@ use Rattle.std.proofs.Common.{◌≡◌, ℕ, zero, suc, ◌+◌, ◌-◌, ◌<�
 use Rattle.std.specs.List.{range_with_len}
 use Rattle.std.specs.Prelude.{nat_lt, nat_le, IfSome}
 use Rattle.std.proofs.lemmas.List.{append-nil}
-use Rattle.std.proofs.lemmas.Bool.{le-leb, leb-true, false_from_ne_true}
+use Rattle.std.proofs.lemmas.Bool.{leb-true, false_from_ne_true}
 use Rattle.pz_game.specs.declared.direction.Dir.{Dir}
 use Rattle.pz_game.specs.declared.direction.Dir.TheVariants.{Up, Down, Left, Right, Action}
 use Rattle.pz_game.specs.declared.pattern.Item.{Item}
 use Rattle.pz_game.specs.Pattern.{RuleRow, IsRow}
 use Rattle.pz_cells.specs.Pattern.{pattern_holds}
 use Rattle.pz_sheet.specs.Grid.{Grid, cell_at}
-use Rattle.pz_grid.specs.declared.places.Place.{Place}
-use Rattle.pz_grid.specs.Places.{on_map, along, holds_at, distance, position_of, cell_holds, row_holds, place_in, pairs_at, gap_count, starts_with}
+use Rattle.pz_grid.specs.Places.{on_map, along, holds_at, distance, position_of, cell_holds, row_holds, place_in, gap_count, starts_with}
 use Rattle.pz_grid.proofs.FoldLemmas.{enumerate_fails}
 use Rattle.pz_grid.proofs.FoundLemmas.{found_at}
 use Rattle.pz_grid.proofs.GatherLemmas.{gather, gather_more}

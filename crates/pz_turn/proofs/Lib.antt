@@ -3,6 +3,7 @@ pub mod Combining
 pub mod Limits
 pub mod Passes
 pub mod Resting
+pub mod Calm
 pub mod Taking
 pub mod Skipping
 pub mod Effectless

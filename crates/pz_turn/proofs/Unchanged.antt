@@ -1,5 +1,6 @@
 -- What has not changed is as it was.
 use Rattle.std.proofs.Common.{◌≡◌, ℕ, ◌+◌, ◌*◌, List, [], ◌∷◌, Option, Some, None, Bool, true, false, ◌||◌, not, cond, set, fold, Result, Ok, Err, refl, ap, sym, ◌∙◌}
+use Rattle.std.specs.Prelude.{IfOk}
 use Rattle.std.specs.List.{enumerate_from, zip, find, range_with_len}
 use Rattle.std.proofs.lemmas.List.{set-get_or}
 use Rattle.pz_turn.specs.declared.outcome.StepFault.TheVariants.{MatchLimit}
@@ -17,7 +18,8 @@ use Rattle.pz_cells.specs.Sameness.{same_cell}
 use Rattle.pz_grid.proofs.SameLemmas.{same_cell_is}
 use Rattle.pz_turn.specs.declared.outcome.StepFault.{StepFault}
 use Rattle.pz_turn.specs.Combinations.{combinations}
-use Rattle.pz_turn.specs.Outcome.{Outcome, followed_by, joined}
+use Rattle.pz_turn.specs.declared.outcome.Given.{Given}
+use Rattle.pz_turn.specs.Outcome.{Outcome, followed_by, joined, GivesOutcome}
 use Rattle.pz_turn.specs.Instance.{taken, applied_at, given, outcome_of, applied_with, applied}
 use Rattle.pz_turn.specs.Rest.{pass_of, passes, ends, ends_after, is_last, up_to, rest_of, rests}
 use Rattle.pz_turn.proofs.Passes.{fold_stopped}
@@ -26,7 +28,7 @@ neither : (a b : Bool) → (a || b) ≡ false → (a ≡ false) × (b ≡ false)
 neither true b h = cc
 neither false b h = (refl, h)
 
-is_true : (b : Bool) → not b ≡ false → b ≡ true
+pub is_true : (b : Bool) → not b ≡ false → b ≡ true
 is_true true h = refl
 is_true false h = cc
 
@@ -87,6 +89,11 @@ applied_leaves instance grid = by_taken (taken grid instance.scan instance.left)
   by_taken (Err fault) = λ o e h. cc
   by_taken (Ok lists) = by_limit (combinations lists) _
 
+-- the same of a call that answers the outcome
+pub given_leaves : (instance : Instance) (grid level : Grid) (result : Result Given StepFault) → GivesOutcome (applied instance grid) level result → IfOk result (λ given. given.changed ≡ false → level ≡ grid)
+given_leaves instance grid level (Err fault) gives = tt
+given_leaves instance grid level (Ok given) gives = λ none. applied_leaves instance grid _ gives none
+
 fold_leaves : (group : List Instance) (first o : Outcome Grid) → fold (λ so_far instance. followed_by so_far (applied instance)) (Ok first) group ≡ Ok o → o.changed ≡ false → (first.changed ≡ false) × (o.level ≡ first.level)
 fold_leaves [] first o e h = let same : first ≡ o = cc in (ap (λ (p : Outcome Grid). p.changed) same ∙ h, sym (ap (λ (p : Outcome Grid). p.level) same))
 fold_leaves (instance ∷ group) first o e h = by_run (λ next q. fold_leaves group next o q h) (applied instance first.level) refl e where
@@ -107,7 +114,7 @@ find_passes p (x ∷ xs) n e = by_test (find_passes p xs n) (p x) refl e where
   by_test rest true is q = let same : x ≡ n = cc in ap p (sym same) ∙ is
   by_test rest false is q = rest q
 
-not_from : (b : Bool) → not b ≡ true → b ≡ false
+pub not_from : (b : Bool) → not b ≡ true → b ≡ false
 not_from true h = cc
 not_from false h = refl
 

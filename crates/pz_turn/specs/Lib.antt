@@ -2,6 +2,7 @@ pub mod Outcome
 pub mod Combinations
 pub mod Instance
 pub mod Rest
+pub mod Calm
 pub mod Win
 pub mod Step
 pub mod Laws

@@ -1,10 +1,11 @@
 //! An instance of a rule, applied at all combinations of the places of its rows.
 
-ghost use Rattle.std.specs.Prelude.{◌≡◌, ◌≢◌, ◌≤◌, ◌<◌, ◌+◌, ◌++◌, IfOk, IfErr, Ok, Err, true, length, drop, map, fold, min};
+ghost use Rattle.std.specs.Prelude.{◌≡◌, ◌≢◌, ◌≤◌, ◌<◌, ◌+◌, ◌++◌, IfOk, IfErr, Ok, Err, true, false, [], length, drop, map, fold, min};
+ghost use Rattle.pz_game.specs.declared.direction.Dir.{Dir};
 ghost use Rattle.pz_game.specs.Instance.{IsInstanceOf};
 ghost use Rattle.pz_game.specs.Pattern.{IsRowOf, AreRowsOf};
 ghost use Rattle.pz_sheet.specs.Grid.{SameSize};
-ghost use Rattle.pz_grid.specs.Places.{searched};
+ghost use Rattle.pz_grid.specs.Places.{places, searched};
 ghost use Rattle.pz_grid.specs.Rewriting.{in_rewrite};
 ghost use Rattle.pz_turn.specs.Combinations.{combinations};
 ghost use Rattle.pz_turn.specs.Instance.{found_or_stop, taken, applied_at, applied, given, HasNoEffect};
@@ -52,7 +53,15 @@ fn has_no_effect(instance: &Instance) -> bool
     }
 }
 
-/// Whether it is told at once that an instance leaves a level as it is: it has no effect at all, or, as the level's marks tell, no
+/// Whether a row may have a place in a level, as far as its marks and its headings tell: false says that it has none, in no direction.
+fn may_have_place(level: &Level, row: &Row) -> bool
+    requires of_game { IsRowOf level.now.grid.layers row.now }
+    ensures { result ≡ false → (dir : Dir) → places level.now.grid row.now dir ≡ [] }
+{
+    level.is_searched_for(row) && level.may_hold(row)
+}
+
+/// Whether it is told at once that an instance leaves a level as it is: it has no effect at all, or, as marks and headings tell, no
 /// combination: some row has no place, and none of those before it has a gap. (One with a gap could have too many places, and that is
 /// answered first.)
 fn is_left_out(level: &Level, instance: &Instance) -> bool
@@ -65,7 +74,7 @@ fn is_left_out(level: &Level, instance: &Instance) -> bool
         return true;
     }
     for row in instance.left.items() {
-        if !level.is_searched_for(row) {
+        if !may_have_place(level, row) {
             return true;
         }
         if row.gap_at().is_some() {

@@ -1,4 +1,4 @@
-use Rattle.std.proofs.Common.{ℕ, List, sym, ap, subst}
+use Rattle.std.proofs.Common.{ℕ, List, subst}
 use Rattle.std.specs.Prelude.{◌↔◌, IsTrue}
 use Rattle.pz_sets.specs.Sets.{IsWithin}
 use Rattle.pz_grid.proofs.NamedLemmas.{named_decide}

@@ -1,11 +1,10 @@
-use Rattle.std.proofs.Common.{ℕ, ◌<◌, ◌≡◌, ◌+◌, [], ◌++◌, List, length, get_or, arith, ap, sym, ◌∙◌, subst, Err}
+use Rattle.std.proofs.Common.{◌<◌, ◌≡◌, ◌++◌, List, length, get_or, arith, ap, sym, ◌∙◌, subst, Err}
 use Rattle.std.proofs.lemmas.Result.{err_from_is_err_and}
 use Rattle.pz_game.specs.declared.pattern.Item.{Item}
 use Rattle.pz_grid.specs.declared.places.TheConstants.{MATCH_LIMIT}
 use Rattle.pz_grid.specs.declared.places.GridFault.TheVariants.{MatchLimit}
 use Rattle.pz_grid.specs.declared.places.Place.{Place}
 use Rattle.pz_grid.specs.Places.{line_length}
-use Rattle.pz_grid.proofs.GatherLemmas.{gather}
 use Rattle.pz_grid.proofs.FoundLemmas.{gather_step, gather_too_long, found_at, found_in_all}
 use Rattle.pz_grid.proofs.StartLemmas.{none_at, gather_skip}
 use Rattle.pz_grid.proofs.places.add_places_in.Goals as goal

@@ -6,11 +6,11 @@ use Rattle.pz_turn.proofs.instance.is_left_out.Goals as goal
 pub returns-then-has_no_effect : goal.returns-then-has_no_effect
 returns-then-has_no_effect c _ = applied_without_effect c.args.instance.now c.args.level.now.grid c.width.ensures.lawful (c.has_no_effect.ensures c.if-has_no_effect.true)
 
-pub returns-then-not-is_searched_for : goal.returns-then-not-is_searched_for
-returns-then-not-is_searched_for c _ =
+pub returns-then-not-may_have_place : goal.returns-then-not-may_have_place
+returns-then-not-may_have_place c _ =
     let grid = c.args.level.now.grid in
     let instance = c.args.instance.now in
-    let none = c.is_searched_for.ensures.none c.if-not-is_searched_for.true instance.scan in
+    let none = c.may_have_place.ensures c.if-not-may_have_place.true instance.scan in
     applied_none instance grid (c.loop-row.invariant (none_more grid instance.scan c.items-row-items.result.now c.loop-row.row-index c.row-item.result (omega arith) (sym c.row-item.is) (none_first grid instance.scan c.row-item.result _ none)))
 
 pub loop-row-preserved : goal.loop-row-preserved

@@ -1,0 +1,179 @@
+-- A pass that leaves calm items out gives what the whole pass gives.
+use Rattle.std.proofs.Common.{◌≡◌, ℕ, suc, ◌+◌, ◌/◌, ◌<◌, ◌≤◌, Result, Ok, Err, List, [], ◌∷◌, Bool, true, false, cond, ◌||◌, inl, inr, fold, take, drop, length, get_or, refl, ap, sym, ◌∙◌, arith, subst}
+use Rattle.std.specs.Int.RustNames.{bit_or}
+use Rattle.std.proofs.lemmas.Bool.{cases_lt, or_parts}
+use Rattle.std.proofs.lemmas.List.{take_more, take_all, take-append-drop, get_or-drop, length-drop, get_or_default}
+use Rattle.std.proofs.lemmas.List.Sums.{fold-append}
+use Rattle.std.proofs.lemmas.Nat.{or_comm, or_shr}
+use lib.Arith.{bin_ind}
+use lib.Bits.{or_step, or_self}
+use Rattle.pz_game.specs.declared.commands.Commands.{Commands}
+use Rattle.pz_game.specs.Commands.{either}
+use Rattle.pz_turn.specs.declared.outcome.StepFault.{StepFault}
+use Rattle.pz_turn.specs.Outcome.{Outcome, untouched, followed_by, joined}
+use Rattle.pz_turn.specs.Rest.{Runs, pass_of, ends}
+use Rattle.pz_turn.specs.Calm.{IsCalm, AreCalmFrom}
+use Rattle.pz_turn.proofs.Passes.{fold_stops}
+
+-- ---- the commands of either
+or_assoc : (a b c : ℕ) → bit_or (bit_or a b) c ≡ bit_or a (bit_or b c)
+or_assoc =
+    bin_ind (λ (n : ℕ). (b c : ℕ) → bit_or (bit_or n b) c ≡ bit_or n (bit_or b c)) (λ b c. refl)
+    (λ n ih b c.
+    let halves : bit_or (bit_or n b / 2) (c / 2) ≡ bit_or (n / 2) (bit_or b c / 2) = ap (λ x. bit_or x (c / 2)) (or_shr n b 1) ∙ (ih (b / 2) (c / 2) ∙ sym (ap (bit_or (n / 2)) (or_shr b c 1))) in
+    omega (arith, or_step (bit_or n b) c, or_step n (bit_or b c), halves, or_step n b, or_step b c))
+
+abbrev set_of : ℕ → Commands
+set_of n = record { 0 = n }
+
+either_assoc : (a b c : Commands) → either (either a b) c ≡ either a (either b c)
+either_assoc a b c = ap set_of (or_assoc a.0 b.0 c.0)
+
+either_comm : (a b : Commands) → either a b ≡ either b a
+either_comm a b = ap set_of (or_comm a.0 b.0)
+
+either_self : (a : Commands) → either a a ≡ a
+either_self a = ap set_of (or_self a.0)
+
+-- what was known stays known, and what was given is
+known_still : (a more c : Commands) → either a c ≡ a → either (either a more) c ≡ either a more
+known_still a more c h = either_assoc a more c ∙ (ap (either a) (either_comm more c) ∙ (sym (either_assoc a c more) ∙ ap (λ (s : Commands). either s more) h))
+
+known_now : (a more c : Commands) → either more c ≡ more → either (either a more) c ≡ either a more
+known_now a more c h = either_assoc a more c ∙ ap (either a) h
+
+-- ---- a pass so far
+module _ {L I : Type 0} (runs : I → Runs L) (items : List I) where
+  abbrev step : Result (Outcome L) StepFault → I → Result (Outcome L) StepFault
+  step so_far item = followed_by so_far (runs item)
+
+  -- n items were run; those from `behind` on left the level, and gave no command that isn't among those given
+  pub record Passing (start : L) (calm_from n : ℕ) (o : Outcome L) (behind : ℕ) : Type 0 where
+    pub so_far : pass_of runs (take n items) start ≡ Ok o
+    pub ahead : o.changed ≡ false → n ≤ calm_from
+    pub kept : o.changed ≡ false → o.level ≡ start
+    pub calm : (number : ℕ) (other : I) → behind ≤ number → number < n → IsCalm runs o.commands o.level (get_or items number other)
+
+  pub passing_none : (start : L) (calm_from : ℕ) → Passing start calm_from 0 (untouched start) 0
+  passing_none start calm_from = record {
+    so_far = refl;
+    ahead = λ _. omega arith;
+    kept = λ _. refl;
+    calm = λ number other from below. absurd (omega (arith, below));
+  }
+
+  -- one item more
+  pass_more : (start : L) (n : ℕ) (item : I) (o r : Outcome L) → n < length items → item ≡ get_or items n item → pass_of runs (take n items) start ≡ Ok o → runs item o.level ≡ Ok r → pass_of runs (take (n + 1) items) start ≡ joined o (Ok r)
+  pass_more start n item o r within is so_far gives =
+      let at : runs (get_or items n item) o.level ≡ Ok r = rw (← is) gives in
+      ap (fold step (Ok (untouched start))) (take_more items n item within)
+      ∙ (fold-append step (Ok (untouched start)) (take n items) (get_or items n item ∷ [])
+      ∙ (ap (λ (s : Result (Outcome L) StepFault). step s (get_or items n item)) so_far ∙ ap (joined o) at))
+
+  -- where it changed something, only those behind it may be calm
+  pub passing_changed : (start : L) (calm_from n : ℕ) (item : I) (o r : Outcome L) (behind : ℕ) → n < length items → item ≡ get_or items n item → Passing start calm_from n o behind → runs item o.level ≡ Ok r → r.changed ≡ true
+      → Passing start calm_from (n + 1) (record { level = r.level; commands = either o.commands r.commands; changed = o.changed || r.changed }) (n + 1)
+  passing_changed start calm_from n item o r behind within is p gives changes =
+      let never : (o.changed || r.changed) ≡ false → ⊥ = λ none. (let wrong : true ≡ false = sym changes ∙ (or_parts o.changed r.changed none).1 in cc) in
+      record {
+        so_far = pass_more start n item o r within is p.so_far gives;
+        ahead = λ none. absurd (never none);
+        kept = λ none. absurd (never none);
+        calm = λ number other from below. absurd (omega (arith, from, below));
+      }
+
+  -- where it left the level, it is calm itself
+  pub passing_quiet : (start : L) (calm_from n : ℕ) (item : I) (o r : Outcome L) (behind : ℕ) → n < length items → item ≡ get_or items n item → Passing start calm_from n o behind → (n ≡ calm_from → o.changed ≡ false → ⊥) → runs item o.level ≡ Ok r → r.changed ≡ false → r.level ≡ o.level
+      → Passing start calm_from (n + 1) (record { level = r.level; commands = either o.commands r.commands; changed = o.changed || r.changed }) behind
+  passing_quiet start calm_from n item o r behind within is p goes_on gives quiet keeps = record {
+    so_far = pass_more start n item o r within is p.so_far gives;
+    ahead = λ none. (let before = (or_parts o.changed r.changed none).0 in
+        elim (cases_lt n calm_from) [
+          | inl less ↦ omega (arith, less)
+          | inr past ↦ absurd (goes_on (omega (arith, past, p.ahead before)) before)
+        ]);
+    kept = λ none. keeps ∙ p.kept (or_parts o.changed r.changed none).0;
+    calm = λ number other from below. elim (cases_lt number n) [
+      | inl earlier ↦ before number other from earlier
+      | inr here ↦ subst (λ (k : ℕ). IsCalm runs (either o.commands r.commands) r.level (get_or items k other)) (let e : n ≡ number = omega (arith, here, below) in e) (last other)
+    ];
+  } where
+    again : (commands : Commands) (x : I) → runs x o.level ≡ Ok (record { level = o.level; commands = commands; changed = false }) → runs x r.level ≡ Ok (record { level = r.level; commands = commands; changed = false })
+    again commands x = subst (λ (level : L). runs x level ≡ Ok (record { level = level; commands = commands; changed = false })) (sym keeps)
+
+    before : (number : ℕ) (other : I) → behind ≤ number → number < n → IsCalm runs (either o.commands r.commands) r.level (get_or items number other)
+    before number other from below =
+        let calm = p.calm number other from below in
+        record { gives = calm.gives; quiet = again calm.gives (get_or items number other) calm.quiet; known = known_still o.commands r.commands calm.gives calm.known }
+
+    last : (other : I) → IsCalm runs (either o.commands r.commands) r.level (get_or items n other)
+    last other =
+        let same : item ≡ get_or items n other = is ∙ get_or_default items n item other within in
+        let here : runs (get_or items n other) o.level ≡ Ok r = subst (λ (x : I). runs x o.level ≡ Ok r) same gives in
+        let shape : r ≡ record { level = o.level; commands = r.commands; changed = false } = ap (λ (level : L). record { level = level; commands = r.commands; changed = r.changed }) keeps ∙ ap (λ (b : Bool). record { level = o.level; commands = r.commands; changed = b }) quiet in
+        record {
+          gives = r.commands;
+          quiet = again r.commands (get_or items n other) (here ∙ ap (λ (q : Outcome L). Ok q) shape);
+          known = known_now o.commands r.commands r.commands (either_self r.commands);
+        }
+
+  -- the pass, behind its first items
+  split : (start : L) (n : ℕ) (o : Outcome L) → pass_of runs (take n items) start ≡ Ok o → pass_of runs items start ≡ fold step (Ok o) (drop n items)
+  split start n o so_far =
+      ap (fold step (Ok (untouched start))) (sym (take-append-drop n items))
+      ∙ (fold-append step (Ok (untouched start)) (take n items) (drop n items) ∙ ap (λ (s : Result (Outcome L) StepFault). fold step s (drop n items)) so_far)
+
+  -- a stop at the next item is the pass's
+  pub passing_stops : (start : L) (calm_from n : ℕ) (item : I) (o : Outcome L) (behind : ℕ) (fault : StepFault) → n < length items → item ≡ get_or items n item → Passing start calm_from n o behind → runs item o.level ≡ Err fault → pass_of runs items start ≡ Err fault
+  passing_stops start calm_from n item o behind fault within is p stops = fold_stops runs o items n item fault (pass_of runs items start) (sym (split start n o p.so_far)) within is stops
+
+  -- the items of a pass that was ended before calm ones, or wasn't
+  pub passing_ended : (start : L) (calm_from n : ℕ) (o : Outcome L) (behind : ℕ) → Passing start calm_from n o behind → (n ≡ calm_from) × (o.changed ≡ false) → pass_of runs (cond o.changed items (take calm_from items)) start ≡ Ok o
+  passing_ended start calm_from n o behind p ends =
+      ap (λ (b : Bool). pass_of runs (cond b items (take calm_from items)) start) ends.1 ∙ (ap (λ (k : ℕ). pass_of runs (take k items) start) (sym ends.0) ∙ p.so_far)
+
+  pub passing_whole : (start : L) (calm_from n : ℕ) (o : Outcome L) (behind : ℕ) → Passing start calm_from n o behind → length items ≤ n → pass_of runs (cond o.changed items (take calm_from items)) start ≡ Ok o
+  passing_whole start calm_from n o behind p past = by_change o.changed refl where
+    all : pass_of runs items start ≡ Ok o
+    all = ap (λ (xs : List I). pass_of runs xs start) (sym (take_all n items past)) ∙ p.so_far
+
+    by_change : (b : Bool) → o.changed ≡ b → pass_of runs (cond b items (take calm_from items)) start ≡ Ok o
+    by_change true e = all
+    by_change false e = ap (λ (xs : List I). pass_of runs xs start) (take_all calm_from items (omega (arith, p.ahead e, past))) ∙ all
+
+  -- ---- calm items give nothing new
+  calm_fold : (commands : Commands) (level : L) (xs : List I) → ((number : ℕ) (other : I) → number < length xs → IsCalm runs commands level (get_or xs number other)) → (given : Commands)
+      → (all : Commands) × (fold step (Ok (record { level = level; commands = given; changed = false })) xs ≡ Ok (record { level = level; commands = all; changed = false })) × (either commands all ≡ either commands given)
+  calm_fold commands level [] calm given = (given, refl, refl)
+  calm_fold commands level (x ∷ xs) calm given =
+      let here = calm 0 x (omega arith) in
+      let later = calm_fold commands level xs (λ number other below. calm (suc number) other (omega (arith, below))) (either given here.gives) in (
+        later.0,
+        ap (λ (r : Result (Outcome L) StepFault). fold step (joined (record { level = level; commands = given; changed = false }) r) xs) here.quiet ∙ later.1,
+        later.2 ∙ (sym (either_assoc commands given here.gives) ∙ known_still commands given here.gives here.known),
+      )
+
+  -- a pass that changed nothing before calm items
+  pub calm_pass : (commands given : Commands) (level : L) (calm_from : ℕ) → AreCalmFrom runs commands level items calm_from → pass_of runs (take calm_from items) level ≡ Ok (record { level = level; commands = given; changed = false })
+      → (all : Commands) × (pass_of runs items level ≡ Ok (record { level = level; commands = all; changed = false })) × (either commands all ≡ either commands given)
+  calm_pass commands given level calm_from calm quiet =
+      let rest = calm_fold commands level (drop calm_from items) (λ number other below. subst (IsCalm runs commands level) (sym (get_or-drop calm_from items number other)) (calm (calm_from + number) other (omega arith) (omega (arith, below, length-drop calm_from items)))) given in
+      (rest.0, split level calm_from _ quiet ∙ rest.1, rest.2)
+
+  -- with it a group is at rest
+  pub calm_rest : (o : Outcome L) (given : Commands) (changed : Bool) (after : L) (calm_from : ℕ) → AreCalmFrom runs o.commands o.level items calm_from → pass_of runs (cond changed items (take calm_from items)) o.level ≡ Ok (record { level = after; commands = given; changed = changed }) → changed ≡ false → after ≡ o.level
+      → (ends (pass_of runs items o.level) ≡ true) × (joined o (pass_of runs items o.level) ≡ Ok (record { level = after; commands = either o.commands given; changed = o.changed || changed }))
+  calm_rest o given true after calm_from calm is quiet keeps = cc
+  calm_rest o given false after calm_from calm is quiet keeps =
+      let rest = calm_pass o.commands given o.level calm_from calm (is ∙ ap (λ (level : L). Ok (record { level = level; commands = given; changed = false })) keeps) in (
+        ap ends rest.1,
+        ap (joined o) rest.1
+            ∙ (ap (λ (commands : Commands). Ok (record { level = o.level; commands = commands; changed = o.changed || false })) rest.2
+            ∙ ap (λ (level : L). Ok (record { level = level; commands = either o.commands given; changed = o.changed || false })) (sym keeps)),
+      )
+
+  -- what is calm stays so where more commands were given before
+  pub calm_more : (before given : Commands) (level : L) (from : ℕ) → AreCalmFrom runs given level items from → AreCalmFrom runs (either before given) level items from
+  calm_more before given level from calm number other at below =
+      let here = calm number other at below in
+      record { gives = here.gives; quiet = here.quiet; known = known_now before given here.gives here.known }
