@@ -1,0 +1,61 @@
+"""Runs of programs on sessions files, and what each took, for bench/workers and bench/compare."""
+import ctypes
+import hashlib
+import os
+import shutil
+import signal
+import subprocess
+import tempfile
+import time
+
+# A process counts the memory of the one that started it as its own, and this one is larger than many a program. So a small shell starts the
+# program and leaves it to us; it begins at a line of ours, when the shell has gone and the clock runs.
+START = 'exec 3<&0; { read -r go <&3 && exec "$@" >"$0" </dev/null 3<&-; } & echo $!'
+PR_SET_CHILD_SUBREAPER = 36
+if ctypes.CDLL(None).prctl(PR_SET_CHILD_SUBREAPER, 1, 0, 0, 0) != 0:
+    raise OSError("this system doesn't leave a program to the process above the one that started it")
+
+
+class Run:
+    """One run of a command: its times in seconds, its memory in MiB, its exit status, and a digest of its output."""
+
+    def __init__(self, command):
+        with tempfile.NamedTemporaryFile() as output:
+            self.seconds, status, usage = watched(command, output.name)
+            self.digest = digest_of(output)
+        self.processor = usage.ru_utime + usage.ru_stime
+        self.memory = usage.ru_maxrss / 1024
+        # below 0: the signal that ended it
+        self.status = os.WEXITSTATUS(status) if os.WIFEXITED(status) else -os.WTERMSIG(status)
+
+
+def watched(command, output):
+    """Runs a command with its output into a file: the wall time, the status, and what the system says of it."""
+    if shutil.which(command[0]) is None:
+        raise FileNotFoundError(f"there is no program {command[0]!r}")
+    with subprocess.Popen(["sh", "-c", START, output, *command], stdin=subprocess.PIPE, stdout=subprocess.PIPE) as shell:
+        program = int(shell.stdout.readline())
+        try:
+            shell.wait()
+            start = time.monotonic()
+            shell.stdin.write(b"\n")
+            shell.stdin.close()
+            _, status, usage = os.wait4(program, 0)
+            return time.monotonic() - start, status, usage
+        except KeyboardInterrupt:
+            os.kill(program, signal.SIGKILL)  # the shell let it ignore the interrupt
+            raise
+
+
+def digest_of(file):
+    digest = hashlib.sha256()
+    for piece in iter(lambda: file.read(1 << 20), b""):
+        digest.update(piece)
+    return digest.hexdigest()
+
+
+def in_turn(commands, rounds):
+    """Runs commands by name, so many rounds of them: they take turns, so that what else the machine does falls on all of them."""
+    for _ in range(rounds):
+        for name, command in commands.items():
+            yield name, Run(command)
