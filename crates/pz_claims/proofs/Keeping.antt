@@ -4,6 +4,7 @@ use Rattle.std.specs.Prelude.{slice_index}
 use mathlib.Core.Option.{some}
 use lib.ListN.{get_elem?}
 use Rattle.atomic_table.proofs.Lists.{at_set}
+use Rattle.pz_claims.specs.declared.limits.TheConstants.{MOST_SEATS}
 use Rattle.pz_claims.specs.Rule.{times, once_below, Table, word_of, IsLawful}
 use Rattle.pz_claims.specs.View.{numbers_of, made_of, joined_of, makers_of, claiming_of, ended_of, spent_of, Knows}
 use Rattle.pz_claims.specs.declared.view.View.{View}
@@ -50,5 +51,5 @@ module _ (n : ℕ) (s : Table) (law : IsLawful n s) where
       let below = is_below (get_or ns k d) (min (word_of s) n) (omega arith) in
       omega arith
 
-  pub word_bound : word_of s ≤ n + 64
+  pub word_bound : word_of s ≤ n + MOST_SEATS
   word_bound = let a = law.ended in let b = law.made in let c = law.few in omega arith

@@ -6,6 +6,7 @@ use mathlib.Core.Option.{some, none}
 use lib.ListN.{get_elem?}
 use Rattle.atomic_table.specs.Table.{step, keeps, Allows, Splits, Joins}
 use Rattle.atomic_table.proofs.Lists.{at_snoc}
+use Rattle.pz_claims.specs.declared.limits.TheConstants.{MOST_NUMBERS, MOST_SEATS}
 use Rattle.pz_claims.specs.Rule.{times, Table, word_of, IsLawful}
 use Rattle.pz_claims.specs.Steps.{Holder, Finds, ClaimTells, LookTells, one_more, new_seat, with_ended}
 use Rattle.pz_claims.specs.View.{total_of, numbers_of, made_of, joined_of, makers_of, claiming_of, ended_of, spent_of, Knows}
@@ -17,7 +18,7 @@ use Rattle.pz_claims.proofs.Keeping.{known_set, keeps_law, all_below, word_bound
 use Rattle.pz_claims.proofs.Closing.{made_is}
 
 -- one added to the word
-module _ (n id : ℕ) (ns : List ℕ) (few : n ≤ 65536) (slots : ℕ) where
+module _ (n id : ℕ) (ns : List ℕ) (few : n ≤ MOST_NUMBERS) (slots : ℕ) where
   claims_by : (s : Table) → IsLawful n s → get_elem? s.views id ≡ some (Claiming n ns) → (b : Bool) → ltb (word_of s) n ≡ b
       → (w : View) × IsLawful n record { words = set s.words 0 (word_of s + 1); homes = s.homes; views = set s.views id w } × Finds (Claiming n ns) (word_of s) w
   claims_by s law at true is =
@@ -59,7 +60,7 @@ module _ (n id : ℕ) (ns : List ℕ) (few : n ≤ 65536) (slots : ℕ) where
       let small : word_of s + 1 < 2 ^ 64 = omega (arith, word_bound n s law) in
       (t.0, keeps, tt, rw mod-eq_of_lt t.1, (refl, t.2))
 
-pub claims : (n id : ℕ) (me : Holder) → me ≡ (Claiming (total_of me.0) (numbers_of me.0), []) → total_of me.0 ≡ n → n ≤ 65536 → (slots : ℕ)
+pub claims : (n id : ℕ) (me : Holder) → me ≡ (Claiming (total_of me.0) (numbers_of me.0), []) → total_of me.0 ≡ n → n ≤ MOST_NUMBERS → (slots : ℕ)
     → Allows (IsLawful n) slots id me 0 (λ k. (k + 1) % 2 ^ 64) (ClaimTells (step slots 0 1 0 none) me)
 claims n id me is total few slots =
     let P : Holder → Type 0 = λ (h : Holder). Allows (IsLawful n) slots id h 0 (λ k. (k + 1) % 2 ^ 64) (ClaimTells (step slots 0 1 0 none) h) in
@@ -86,7 +87,7 @@ looks n id slots me s law homes at room =
     )
 
 -- a seat is made
-splits_of : (n id : ℕ) (ns : List ℕ) (m j : ℕ) → m < 64 → Splits (IsLawful n) id (Making n ns m j) (one_more (Making n ns m j)) (new_seat (Making n ns m j))
+splits_of : (n id : ℕ) (ns : List ℕ) (m j : ℕ) → m < MOST_SEATS → Splits (IsLawful n) id (Making n ns m j) (one_more (Making n ns m j)) (new_seat (Making n ns m j))
 splits_of n id ns m j few s law at =
     let v = Making n ns m j in
     let left = Making n ns (suc m) j in
@@ -102,7 +103,7 @@ splits_of n id ns m j few s law at =
       known = λ k u e. ⊎_elim (known_set n s.views id left refl law.known k u) (λ (t : right ≡ u). subst (Knows n) t refl) (at_snoc (set s.views id left) right u k e);
     }
 
-pub splits : (n id : ℕ) (v : View) (made : ℕ) → v ≡ Making (total_of v) (numbers_of v) made (joined_of v) → total_of v ≡ n → made < 64 → Splits (IsLawful n) id v (one_more v) (new_seat v)
+pub splits : (n id : ℕ) (v : View) (made : ℕ) → v ≡ Making (total_of v) (numbers_of v) made (joined_of v) → total_of v ≡ n → made < MOST_SEATS → Splits (IsLawful n) id v (one_more v) (new_seat v)
 splits n id v made is total few =
     let P : View → Type 0 = λ (u : View). Splits (IsLawful n) id u (one_more u) (new_seat u) in
     subst P (sym (is ∙ ap (λ (k : ℕ). Making k (numbers_of v) made (joined_of v)) total)) (splits_of n id (numbers_of v) made (joined_of v) few)

@@ -4,6 +4,7 @@ use mathlib.Core.Option.{some}
 use lib.ListN.{get_elem?}
 use Rattle.atomic_table.specs.Table.{State}
 use Rattle.pz_claims.specs.View.{numbers_of, made_of, joined_of, makers_of, claiming_of, ended_of, spent_of, Knows}
+use Rattle.pz_claims.specs.declared.limits.TheConstants.{MOST_SEATS}
 use Rattle.pz_claims.specs.declared.view.View.{View}
 
 -- how often x stands in the list
@@ -45,5 +46,5 @@ pub record IsLawful (total : ℕ) (table : Table) : Type 0 where
   pub maker : sum_by makers_of table.views ≡ 1
   pub made : sum_by claiming_of table.views + sum_by ended_of table.views + sum_by spent_of table.views ≡ sum_by made_of table.views
   pub joined : sum_by spent_of table.views ≡ sum_by joined_of table.views
-  pub few : sum_by made_of table.views ≤ 64
+  pub few : sum_by made_of table.views ≤ MOST_SEATS
   pub known : (id : ℕ) (view : View) → get_elem? table.views id ≡ some view → Knows total view

@@ -1,6 +1,7 @@
 ghost use Rattle.std.specs.Prelude.{◌≡◌, ℕ, ◌+◌, ◌<◌, ◌≤◌, [], ◌∷◌, ◌++◌, All, IfOk};
 ghost use Rattle.pz_claims.specs.Rule.{Once, Apart};
 ghost use Rattle.pz_claims.specs.Answers.{IsClaim};
+ghost use Rattle.pz_claims.specs.declared.limits.TheConstants.{MOST_NUMBERS, MOST_SEATS};
 
 use crate::maker::Maker;
 use crate::rule::{Claiming, Law, Looking, Seating};
@@ -20,12 +21,13 @@ pub struct Claims {
 impl Model for Claims {
     ghost use Rattle.std.specs.Prelude.{◌≡◌, ◌≤◌};
     ghost use Rattle.pz_claims.specs.Holders.{Numbers};
+    ghost use Rattle.pz_claims.specs.declared.limits.TheConstants.{MOST_NUMBERS};
 
     ghost Value = { Numbers };
 
     ghost view = { λ c. record { table = c.table.shared.table_id; total = c.total } };
 
-    ghost invariant = { λ c. (c.table.shared.key ≡ c.total) × (c.table.shared.table_id.words ≡ 1) × (c.table.shared.table_id.slots ≡ 0) × (c.total ≤ 65536) };
+    ghost invariant = { λ c. (c.table.shared.key ≡ c.total) × (c.table.shared.table_id.words ≡ 1) × (c.table.shared.table_id.slots ≡ 0) × (c.total ≤ MOST_NUMBERS) };
 }
 
 /// What a claim answers.
@@ -40,7 +42,7 @@ pub enum Claimed {
 impl Claims {
     /// A table of the numbers below n, and its maker. Takes the memory of the word, and is the only call that takes any. Err: it was refused.
     pub fn new(alloc: Global, n: usize) -> Result<(Claims, Maker), AllocError>
-        requires { n ≤ 65536 }
+        requires { n ≤ MOST_NUMBERS }
         ensures claims { IfOk result (λ r. r.0.total ≡ n) }
         ensures maker { IfOk result (λ r. (r.1.of ≡ r.0) × (r.1.numbers ≡ []) × (r.1.made ≡ 0) × (r.1.joined ≡ 0)) }
     {
@@ -49,10 +51,10 @@ impl Claims {
         Ok((Claims { table, total }, Maker { token, made: 0 }))
     }
 
-    /// A new seat, without a number. One load of the word, whose answer is not looked at. At most 64 seats are made at a table.
+    /// A new seat, without a number. One load of the word, whose answer is not looked at. At most `MOST_SEATS` are made at a table.
     pub fn split(&self, maker: Maker) -> (Maker, Seat)
         requires table { maker.of ≡ self.now }
-        requires few { maker.made < 64 }
+        requires few { maker.made < MOST_SEATS }
         ensures maker { result.0 ≡ record maker { made = maker.made + 1 } }
         ensures seat { result.1 ≡ record { of = maker.of; numbers = [] } }
     {

@@ -1,5 +1,6 @@
 ghost use Rattle.std.specs.Prelude.{◌≡◌, ◌≤◌, ◌+◌, IfOk};
 ghost use Rattle.std.specs.Thread.{IsSync};
+ghost use Rattle.pz_claims.specs.declared.limits.TheConstants.{MOST_NUMBERS};
 
 use crate::{Claimed, Claims, Ended, Seat};
 use std::alloc::{AllocError, Global};
@@ -101,7 +102,7 @@ fn by_three<R: Threads + Wait + Sync>(
     alloc: Global,
     n: usize,
 ) -> Result<Vec<usize>, AllocError>
-    requires { n ≤ 65536 }
+    requires { n ≤ MOST_NUMBERS }
 {
     let (claims, maker) = Claims::new(alloc, n)?;
     let (maker, a) = claims.split(maker);

@@ -7,12 +7,13 @@ use Rattle.clap.specs.ValueTests.{is_unsigned_in}
 use Rattle.clap.specs.declared.builder.value_parser.ValueParser.TheVariants as parser
 use Rattle.pz_record.specs.declared.order.Order.{Order}
 use Rattle.pz_record.specs.declared.order.Order.TheVariants.{Rows, Columns}
+use Rattle.pz_console.specs.declared.options.TheConstants.{MOST_WORKERS}
 use Rattle.pz_console.specs.declared.options.Chosen.{Chosen}
 
--- the number of threads: 1 to 64 in decimal digits, and 2 where none is asked for
+-- the number of threads: 1 to as many as may be asked for, in decimal digits, and 2 where none is asked for
 abbrev pub workers_of : Option Text → Option ℕ
 workers_of None = Some 2
-workers_of (Some text) = if is_unsigned_in 1 64 text then Some (digits_value 10 (without_leading_plus text)) else None
+workers_of (Some text) = if is_unsigned_in 1 MOST_WORKERS text then Some (digits_value 10 (without_leading_plus text)) else None
 
 -- the order of a level's cells: by columns where none is asked for
 abbrev pub order_of : Option Text → Option Order
@@ -24,7 +25,7 @@ abbrev pub choice_of : Option Text → Option Text → Option Text → Option Ch
 choice_of workers order file = option_and_then (λ n. option_map (λ o. record { options = record { workers = n; order = o }; file = file }) (order_of order)) (workers_of workers)
 
 abbrev pub workers_rule : Rule
-workers_rule = record (new_rule (codes "workers")) { long = Some (codes "workers"); parser = Some (parser.Unsigned 1 64) }
+workers_rule = record (new_rule (codes "workers")) { long = Some (codes "workers"); parser = Some (parser.Unsigned 1 MOST_WORKERS) }
 
 abbrev pub order_rule : Rule
 order_rule = record (new_rule (codes "order")) { long = Some (codes "order") }

@@ -33,13 +33,21 @@ pub enum OptionsFault {
     BadLine,
 }
 
+/// The most threads that a command line may ask for.
+pub const MOST_WORKERS: usize = 64;
+
+/// The limit as a number: a promise, which the constant can't change by itself.
+pub fn threads_are_limited()
+    ensures { MOST_WORKERS ≡ 64 }
+{}
+
 /// The program's command.
 fn command<'a>(alloc: Global) -> Result<Command<'a>, AllocError>
     ensures { IfOk result (λ made. app_of made ≡ command) }
 {
     let workers = Arg::new(alloc, "workers")
         .long("workers")
-        .value_parser(ValueParser::unsigned(1, 64));
+        .value_parser(ValueParser::unsigned(1, MOST_WORKERS as u64));
     let order = Arg::new(alloc, "order").long("order");
     let file = Arg::new(alloc, "file");
     Command::new(alloc, "pz_replayer")
@@ -61,22 +69,22 @@ fn refused(error: &Error) -> OptionsFault
 fn number(text: &str) -> Option<usize>
     ensures value { result ≡ workers_of (Some text.now) }
     ensures some { IfSome result (λ n. 1 ≤ n) }
-    ensures few { IfSome result (λ n. n ≤ 64) }
+    ensures few { IfSome result (λ n. n ≤ MOST_WORKERS) }
 {
     let Ok(number) = text.parse::<usize>() else {
         return None;
     };
-    if number < 1 || number > 64 {
+    if number < 1 || number > MOST_WORKERS {
         return None;
     }
     Some(number)
 }
 
-/// The value of `--workers`: 1 to 64, and 2 where there is none.
+/// The value of `--workers`: 1 to `MOST_WORKERS`, and 2 where there is none.
 fn workers(text: Option<&str>) -> Option<usize>
     ensures value { result ≡ workers_of (option_map (λ t. t.now) text.entry) }
     ensures some { IfSome result (λ n. 1 ≤ n) }
-    ensures few { IfSome result (λ n. n ≤ 64) }
+    ensures few { IfSome result (λ n. n ≤ MOST_WORKERS) }
 {
     match text {
         None => Some(2),
@@ -113,7 +121,7 @@ fn choose(alloc: Global, matches: &ArgMatches) -> Result<Chosen, OptionsFault>
     ensures refused { IfErr result (λ fault. fault ≢ OptionsFault.Memory → choice_of (first_value (found_of matches.now) (codes "workers"))
         (first_value (found_of matches.now) (codes "order")) (first_value (found_of matches.now) (codes "file")) ≡ None) }
     ensures some { IfOk result (λ chosen. 1 ≤ chosen.options.workers) }
-    ensures few { IfOk result (λ chosen. chosen.options.workers ≤ 64) }
+    ensures few { IfOk result (λ chosen. chosen.options.workers ≤ MOST_WORKERS) }
 {
     let Some(workers) = workers(matches.get_str("workers")) else {
         return Err(OptionsFault::BadLine);
@@ -136,7 +144,7 @@ pub fn read_options<'a>(alloc: Global, words: &'a [String]) -> Result<Chosen, Op
     ensures chosen { IfOk result (λ chosen. options_of (map string_bytes words.entry.now) ≡ Some chosen) }
     ensures refused { IfErr result (λ fault. fault ≢ OptionsFault.Memory → options_of (map string_bytes words.entry.now) ≡ None) }
     ensures some { IfOk result (λ chosen. 1 ≤ chosen.options.workers) }
-    ensures few { IfOk result (λ chosen. chosen.options.workers ≤ 64) }
+    ensures few { IfOk result (λ chosen. chosen.options.workers ≤ MOST_WORKERS) }
 {
     let Ok(command) = command(alloc) else {
         return Err(OptionsFault::Memory);

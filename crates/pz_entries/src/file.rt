@@ -14,6 +14,11 @@ use std::alloc::Global;
 /// The most bytes that a file has.
 pub const MOST_BYTES: usize = 16_777_216;
 
+/// The limit as a number: a promise, which the constant can't change by itself.
+pub fn bytes_are_limited()
+    ensures { MOST_BYTES ≡ 16_777_216 }
+{}
+
 /// The entries of the values, or the first fault.
 fn read_entries(alloc: Global, list: &[Value]) -> Result<Vec<Entry>, FileFault>
     ensures read { IfOk result (λ entries. entries_from 0 (map data_of list.now) ≡ Ok entries.items) }

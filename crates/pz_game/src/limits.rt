@@ -1,5 +1,7 @@
 //! The limits of a game.
 
+ghost use Rattle.std.specs.Prelude.{◌≡◌};
+
 /// The most objects that a source may have.
 pub const MAX_OBJECTS: usize = 512;
 
@@ -11,3 +13,19 @@ pub const MAX_SIDE: usize = 255;
 
 /// The most cells that a level may have.
 pub const MAX_CELLS: usize = 16_384;
+
+/// The most cells that a row of a rule may have.
+pub const MAX_ROW_CELLS: usize = 64;
+
+/// The most rows that a side of a rule may have.
+pub const MAX_ROWS: usize = 8;
+
+/// The limits as numbers: a promise, which no constant can change by itself.
+pub fn games_are_limited()
+    ensures objects { MAX_OBJECTS ≡ 512 }
+    ensures layers { MAX_LAYERS ≡ 100 }
+    ensures side { MAX_SIDE ≡ 255 }
+    ensures cells { MAX_CELLS ≡ 16_384 }
+    ensures row_cells { MAX_ROW_CELLS ≡ 64 }
+    ensures rows { MAX_ROWS ≡ 8 }
+{}

@@ -1,5 +1,7 @@
 //! Laws of places and of rewriting, each proved as what a function without a body ensures.
 
+ghost use Rattle.std.specs.Prelude.{◌≡◌};
+ghost use Rattle.pz_grid.specs.declared.places.TheConstants.{MATCH_LIMIT};
 ghost use Rattle.pz_grid.specs.RuleLaws.{ArePlaces, GaplessIsWithin, HoldsInAdmitted, RewritesLawfully, StartsAreBounded};
 
 /// Every place of a row holds, and every pair of a start and a gap that holds is one of its places.
@@ -21,4 +23,9 @@ pub fn places_start_in_admitted_lines()
 /// A row without a gap never has more places than a search gives: at most one for each cell of a level.
 pub fn rows_without_a_gap_are_within_the_limit()
     ensures { GaplessIsWithin }
+{}
+
+/// The limit of places as a number: a promise, which the constant can't change by itself.
+pub fn places_are_limited()
+    ensures { MATCH_LIMIT ≡ 1_048_576 }
 {}

@@ -18,6 +18,11 @@ use std::alloc::{AllocError, Global};
 /// The most names that a source may have, all names of OBJECTS and LEGEND together.
 pub const MAX_NAMES: usize = 1024;
 
+/// The limit as a number: a promise, which the constant can't change by itself.
+pub fn names_are_limited()
+    ensures { MAX_NAMES ≡ 1024 }
+{}
+
 /// An object as its lines give it: its name line, and whether its colours and its sprite are as they should be.
 #[derive(Drop, Debug)]
 pub struct Block {

@@ -8,6 +8,7 @@ use crate::fault::RuleFault;
 use crate::spelling::{denoted, gap_of, is_gap};
 use pz_base::listed::Listed;
 use pz_game::denotation::{Denotation, Kind};
+use pz_game::limits::{MAX_ROW_CELLS, MAX_ROWS};
 use pz_grammar::rule::{Cell, Phrase, Rule};
 use pz_grammar::token::Lead;
 
@@ -22,7 +23,7 @@ fn has_more_gaps(row: &[Cell]) -> bool
 fn is_long(row: &[Cell]) -> bool
     ensures { result ≡ is_long row.now }
 {
-    row.len() > 64
+    row.len() > MAX_ROW_CELLS
 }
 
 fn has_long(rows: &[Listed<Cell>]) -> bool
@@ -35,7 +36,7 @@ fn has_long(rows: &[Listed<Cell>]) -> bool
 fn is_large(rows: &[Listed<Cell>]) -> bool
     ensures { result ≡ is_large rows.now }
 {
-    rows.len() > 8 || has_long(rows)
+    rows.len() > MAX_ROWS || has_long(rows)
 }
 
 fn has_many_gaps(rows: &[Listed<Cell>]) -> bool

@@ -8,6 +8,11 @@ use std::marker::Model;
 /// The most inputs that a session has.
 pub const MOST_INPUTS: usize = 65_536;
 
+/// The limit as a number: a promise, which the constant can't change by itself.
+pub fn inputs_are_limited()
+    ensures { MOST_INPUTS ≡ 65_536 }
+{}
+
 /// An input of a session: a direction or the action is pressed, the last change is undone, the level is restarted, or time passes.
 #[derive(Clone, Copy, Debug, PartialEq, Eq)]
 pub enum Input {

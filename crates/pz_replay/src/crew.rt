@@ -1,6 +1,7 @@
 //! The crew: workers, each with a lane to the recorder, in one scope of threads.
 
 ghost use Rattle.std.specs.Prelude.{◌≡◌, ◌≢◌, ◌+◌, ◌≤◌, [], map, length, replicate, All, IfOk, IfErr, IfSome, IfNone, IsSome, ◌⊎◌, None, Err, IsOk};
+ghost use Rattle.pz_claims.specs.declared.limits.TheConstants.{MOST_SEATS};
 ghost use Rattle.pz_replay.specs.declared.lane.End.TheVariants.{GateClosed as gate_closed};
 ghost use Rattle.pz_replay.specs.Crew.{IsAll, IsDone, IsOpened, IsSettled};
 ghost use Rattle.pz_replay.specs.Pieces.{sent_for, sessions_of};
@@ -169,7 +170,7 @@ fn crew<'s, 'e, R: Threads + Wait + Sync, G: Gate + Sync>(
     sessions: Option<Sessions>,
 ) -> Result<(Maker, Sessions), ReplayFault>
     requires capacity { 1 ≤ shared.now.capacity }
-    requires maker { (maker.of ≡ shared.now.claims.now) × (maker.made + left ≤ 64) }
+    requires maker { (maker.of ≡ shared.now.claims.now) × (maker.made + left ≤ MOST_SEATS) }
     requires job { shared.now.claims.now.total ≡ length shared.now.job.now }
     requires recorded { IsRecorded desks.old.items sessions × IfSome sessions (λ s. length s ≡ length shared.now.job.now) }
     ensures lanes { map lane_of desks.new.items ≡ map lane_of desks.old.items }
@@ -209,7 +210,7 @@ pub(crate) fn all_started<'s, 'e, R: Threads + Wait + Sync, G: Gate + Sync>(
     blank: Sessions,
 ) -> Result<(Maker, Sessions), ReplayFault>
     requires capacity { 1 ≤ shared.now.capacity }
-    requires workers { (1 ≤ workers) × (workers ≤ 64) }
+    requires workers { (1 ≤ workers) × (workers ≤ MOST_SEATS) }
     requires maker { (maker.of ≡ shared.now.claims.now) × (maker.made ≡ 0) × (maker.joined ≡ 0) × (maker.numbers ≡ []) }
     requires job { shared.now.claims.now.total ≡ length shared.now.job.now }
     requires blank { blank ≡ replicate (length shared.now.job.now) [] }

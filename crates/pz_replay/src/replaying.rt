@@ -23,7 +23,12 @@ use std::thread::Threads;
 const CAPACITY: usize = 1024;
 
 /// The most workers that play a job.
-const MOST_WORKERS: usize = 64;
+pub const MOST_WORKERS: usize = 64;
+
+/// The limit as a number: a promise, which the constant can't change by itself.
+pub fn workers_are_limited()
+    ensures { MOST_WORKERS ≡ 64 }
+{}
 
 /// The records of a job, from the items of its sessions.
 fn named(alloc: Global, job: &Job, sessions: Sessions) -> Result<Recording, AllocError>
@@ -51,7 +56,7 @@ pub fn replay_with<'a, R: Threads + Wait + Sync, G: Gate + Sync>(
     gate: &'a G,
 ) -> Result<Recording, ReplayFault>
     requires capacity { 1 ≤ capacity }
-    ensures workers { (result ≡ Err ReplayFault.Workers) ↔ ((workers ≡ 0) ⊎ (64 < workers)) }
+    ensures workers { (result ≡ Err ReplayFault.Workers) ↔ ((workers ≡ 0) ⊎ (MOST_WORKERS < workers)) }
     ensures recording { IfOk result (λ r. r ≡ recording job.now) }
     ensures opened { G.lets_all_pass gate.now → result ≢ Err ReplayFault.GateClosed }
 {
@@ -69,7 +74,7 @@ pub fn replay_with<'a, R: Threads + Wait + Sync, G: Gate + Sync>(
         thread::scope_env(),
         rt,
         |scope| -> Result<(Maker, Sessions), ReplayFault>
-            requires { (1 ≤ capacity) × (1 ≤ workers) × (workers ≤ 64) × (maker.of ≡ table.now) × (maker.made ≡ 0) × (maker.joined ≡ 0) × (maker.numbers ≡ []) × (table.now.total ≡ length job.now) × (blank ≡ replicate (length job.now) []) }
+            requires { (1 ≤ capacity) × (1 ≤ workers) × (workers ≤ MOST_WORKERS) × (maker.of ≡ table.now) × (maker.made ≡ 0) × (maker.joined ≡ 0) × (maker.numbers ≡ []) × (table.now.total ≡ length job.now) × (blank ≡ replicate (length job.now) []) }
             ensures { IfOk result (λ made. IsAll (sessions_of job.entry.now) table.entry.now workers made.0 made.1) × (G.lets_all_pass gate.entry.now → result ≢ Err ReplayFault.GateClosed) × (result ≢ Err ReplayFault.Workers) }
         {
             let shared = Shared {
@@ -96,7 +101,7 @@ pub fn replay<'a, R: Threads + Wait + Sync, G: Gate + Sync>(
     workers: usize,
     gate: &'a G,
 ) -> Result<Recording, ReplayFault>
-    ensures workers { (result ≡ Err ReplayFault.Workers) ↔ ((workers ≡ 0) ⊎ (64 < workers)) }
+    ensures workers { (result ≡ Err ReplayFault.Workers) ↔ ((workers ≡ 0) ⊎ (MOST_WORKERS < workers)) }
     ensures recording { IfOk result (λ r. r ≡ recording job.now) }
     ensures opened { G.lets_all_pass gate.now → result ≢ Err ReplayFault.GateClosed }
 {

@@ -19,7 +19,7 @@ unfoldable pub unless_clash : ℕ → List Instance → Result Expansion RuleFau
 unless_clash total instances =
     if list_any has_clash instances then Err fault.RightClash else Ok (record { instances = instances; pairs = total })
 
--- the instances of a plan, where all rules up to it have no more than 65,536 pairs
+-- the instances of a plan, where all rules up to it have no more pairs than rules may have
 unfoldable pub expansion_within : List Denotation → List ℕ → ℕ → Plan → Result Expansion RuleFault
 expansion_within table layers total plan =
     if nat_lt PAIRS total then Err fault.TooManyRules else unless_clash total (instances_of table layers plan)

@@ -21,7 +21,12 @@ use pz_plan::planning::plan_of;
 use std::alloc::Global;
 
 /// How many pairs of a direction and a list of picks all rules of a game may have together.
-const PAIRS: u64 = 65_536;
+pub const PAIRS: u64 = 65_536;
+
+/// The limit as a number: a promise, which the constant can't change by itself.
+pub fn pairs_are_limited()
+    ensures { PAIRS ≡ 65_536 }
+{}
 
 /// The instances of a rule, and how many pairs all rules up to it have.
 #[derive(Drop)]

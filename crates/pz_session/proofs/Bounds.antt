@@ -10,6 +10,7 @@ use Rattle.pz_turn.specs.Step.{step_of}
 use Rattle.pz_turn.specs.Win.{has_won}
 use Rattle.pz_record.specs.declared.input.Input.{Input}
 use Rattle.pz_record.specs.declared.input.Input.TheVariants as input
+use Rattle.pz_session.specs.declared.chain.TheConstants.{MOST_TICKS}
 use Rattle.pz_session.specs.declared.item.Stop.{Stop}
 use Rattle.pz_session.specs.declared.item.Frame.{Frame}
 use Rattle.pz_session.specs.declared.item.FrameKind.{FrameKind}
@@ -45,7 +46,7 @@ pub ticks_short : {S : Type 0} (ticked : S → Result (Link S) Stop) (n : ℕ) (
 ticks_short ticked zero s short = omega arith
 ticks_short ticked (suc n) s short = let h = follow_short (ticks ticked n) (n * 2) (ticked s) (λ t. ticks_short ticked n t short) (short s) in omega arith
 
-few_ticks : (i : Input) → ticks_after i ≤ 500
+few_ticks : (i : Input) → ticks_after i ≤ MOST_TICKS
 few_ticks (input.Press dir) = omega arith
 few_ticks input.Undo = omega arith
 few_ticks input.Restart = omega arith
@@ -146,8 +147,8 @@ unfolding played_items
 items_bound plan few =
     let short : AreShort board_links = record { begun = begun_short; ticked = tick_short } in
     let link = Ok (start_link (state_of plan)) in
-    let chain = follow (ticks board_links.ticked 500) link in
-    let one : length chain.shown ≤ 2 + 500 * 2 = follow_short (ticks board_links.ticked 500) (500 * 2) link (λ t. ticks_short board_links.ticked 500 t short.ticked) (start_short (state_of plan)) in
+    let chain = follow (ticks board_links.ticked MOST_TICKS) link in
+    let one : length chain.shown ≤ 2 + MOST_TICKS * 2 = follow_short (ticks board_links.ticked MOST_TICKS) (MOST_TICKS * 2) link (λ t. ticks_short board_links.ticked MOST_TICKS t short.ticked) (start_short (state_of plan)) in
     let all = going_short board_links 0 (played board_links 0 plan.inputs) (length plan.inputs * 1002) 1002 chain (λ t. played_short board_links 0 plan.inputs t short) one in
     let items = items_length 0 (going_on board_links 0 (played board_links 0 plan.inputs) chain) in
     omega arith

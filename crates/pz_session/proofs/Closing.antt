@@ -1,6 +1,7 @@
 -- A session that is played closes once, behind its frames.
 use Rattle.std.proofs.Common.{◌≡◌, ℕ, ◌+◌, List, [], ◌∷◌, ◌++◌, map, Option, Some, option_to_list, Result, Ok, Err, refl, ap}
 use Rattle.pz_record.specs.declared.input.Input.{Input}
+use Rattle.pz_session.specs.declared.chain.TheConstants.{MOST_TICKS}
 use Rattle.pz_session.specs.declared.item.Frame.{Frame}
 use Rattle.pz_session.specs.declared.item.Item.{Item}
 use Rattle.pz_session.specs.declared.item.Item.TheVariants as item
@@ -38,7 +39,7 @@ items_close later h = (later.shown, (h.0, ap (λ (o : Option Verdict). numbered 
 session_closes : (plan : PlanState) → ClosesOnce (played_items plan)
 unfolding played_items
 session_closes plan =
-    let chain = follow (ticks board_links.ticked 500) (Ok (start_link (state_of plan))) in
+    let chain = follow (ticks board_links.ticked MOST_TICKS) (Ok (start_link (state_of plan))) in
     let later = played board_links 0 plan.inputs in
     items_close (going_on board_links 0 later chain) (chain_closes board_links later chain.after (played_closes board_links 0 plan.inputs))
 

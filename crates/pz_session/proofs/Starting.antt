@@ -4,6 +4,7 @@ use Rattle.pz_game.specs.declared.game.GameParts.{GameParts}
 use Rattle.pz_game.specs.declared.instance.Program.{Program}
 use Rattle.pz_record.specs.declared.order.Order.{Order}
 use Rattle.pz_record.specs.declared.input.Input.{Input}
+use Rattle.pz_session.specs.declared.chain.TheConstants.{MOST_TICKS}
 use Rattle.pz_session.specs.declared.item.Item.{Item}
 use Rattle.pz_session.specs.Player.{left_with}
 use Rattle.pz_session.specs.Board.{State, board_links, start_link, loaded_at}
@@ -19,9 +20,9 @@ starts plan state game program order recorded first is e p f g h =
     ∙ ap (λ x. loaded_at plan.game plan.program plan.order x first) g ∙ ap (loaded_at plan.game plan.program plan.order plan.recorded) h
 
 pub begins : (plan : PlanState) (state : State) (inputs : List Input) (items : List Item) → state ≡ state_of plan → inputs ≡ plan.inputs
-    → items ≡ left_with board_links 500 0 0 inputs (Ok (start_link state)) → items ≡ played_items plan
+    → items ≡ left_with board_links MOST_TICKS 0 0 inputs (Ok (start_link state)) → items ≡ played_items plan
 unfolding played_items
-begins plan state inputs items e f g = g ∙ ap₂ (λ i s. left_with board_links 500 0 0 i (Ok (start_link s))) f e
+begins plan state inputs items e f g = g ∙ ap₂ (λ i s. left_with board_links MOST_TICKS 0 0 i (Ok (start_link s))) f e
 
 pub starts_if_ok : {E : Type 0} (plan : PlanState) (result : Result State E) (game : GameParts) (program : Program) (order : Order) (recorded : List (List (List ℕ))) (first : ℕ)
     → IfOk result (λ state. state ≡ loaded_at game program order recorded first)

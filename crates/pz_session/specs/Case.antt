@@ -1,5 +1,6 @@
 -- The items of a case.
 use Rattle.std.specs.Prelude.{List, [], ◌∷◌, Result, Ok, Err}
+use Rattle.pz_session.specs.declared.chain.TheConstants.{MOST_TICKS}
 use Rattle.pz_session.specs.declared.item.Item.{Item}
 use Rattle.pz_session.specs.declared.item.Item.TheVariants.{Close}
 use Rattle.pz_session.specs.declared.item.Refusal.{Refusal}
@@ -17,7 +18,7 @@ state_of plan = loaded_at plan.game plan.program plan.order plan.recorded plan.f
 -- the frames of a session that is played, and its close; the start is a chain as an input is
 unfoldable pub played_items : PlanState → List Item
 played_items plan = items_from 0 (going_on board_links 0 (played board_links 0 plan.inputs)
-    (follow (ticks board_links.ticked 500) (Ok (start_link (state_of plan)))))
+    (follow (ticks board_links.ticked MOST_TICKS) (Ok (start_link (state_of plan)))))
 
 -- a session that is refused has its close alone
 unfoldable pub items_of_plan : Result PlanState Refusal → List Item

@@ -1,5 +1,6 @@
 -- What is left of a session in play.
 use Rattle.std.specs.Prelude.{◌≡◌, ℕ, ◌+◌, ◌*◌, ◌-◌, List, [], ◌∷◌, ◌++◌, drop, length, Option, Some, None, option_to_list, Result, Bool, true, false, nat_lt, is_none, ◌&&◌, if◌then◌else◌}
+use Rattle.pz_session.specs.declared.chain.TheConstants.{MOST_TICKS}
 use Rattle.pz_session.specs.declared.item.Verdict.TheVariants.{Stopped}
 use Rattle.pz_session.specs.declared.item.Item.{Item}
 use Rattle.pz_record.specs.declared.input.Input.{Input}
@@ -39,7 +40,7 @@ rank (phase.Ticking n) = n + 1
 rank _ = 0
 
 abbrev pub work : {S : Type 0} → Player S → ℕ
-work player = (length player.inputs - player.taken) * 502 + rank player.phase
+work player = (length player.inputs - player.taken) * (MOST_TICKS + 2) + rank player.phase
 
 -- no link is needed before the next item
 abbrev pub is_waiting_in : Phase → ℕ → List Input → Bool

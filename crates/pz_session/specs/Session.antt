@@ -1,7 +1,8 @@
 -- The items of a session.
-use Rattle.std.specs.Prelude.{ℕ, ◌+◌, List, [], ◌∷◌, ◌++◌, map, Result, Ok, Err, Option, Some, option_to_list}
+use Rattle.std.specs.Prelude.{ℕ, ◌+◌, ◌-◌, List, [], ◌∷◌, ◌++◌, map, Result, Ok, Err, Option, Some, option_to_list}
 use Rattle.pz_record.specs.declared.input.Input.{Input}
 use Rattle.pz_record.specs.declared.input.Input.TheVariants.{Tick}
+use Rattle.pz_session.specs.declared.chain.TheConstants.{MOST_TICKS}
 use Rattle.pz_session.specs.declared.item.Stop.{Stop}
 use Rattle.pz_session.specs.declared.item.Verdict.{Verdict}
 use Rattle.pz_session.specs.declared.item.Verdict.TheVariants.{Stopped}
@@ -30,8 +31,8 @@ showing at frames later = record { shown = map (λ frame. (at, frame)) frames ++
 
 -- how many ticks may follow an input's first link, which may be a tick itself
 abbrev pub ticks_after : Input → ℕ
-ticks_after Tick = 499
-ticks_after _ = 500
+ticks_after Tick = MOST_TICKS - 1
+ticks_after _ = MOST_TICKS
 
 -- what follows a chain
 abbrev pub after_chain : {S : Type 0} → Links S → (S → Played) → Result S Stop → Played

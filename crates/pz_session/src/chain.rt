@@ -6,6 +6,14 @@ use crate::item::{Frame, Stop, Verdict};
 use pz_record::input::Input;
 use std::alloc::AllocError;
 
+/// The most ticks of a chain: those that follow a press, or a tick input with those that follow it.
+pub const MOST_TICKS: u64 = 500;
+
+/// The limit as a number: a promise, which the constant can't change by itself.
+pub fn ticks_are_limited()
+    ensures { MOST_TICKS ≡ 500 }
+{}
+
 /// What a link shows, and whether one more tick follows it.
 #[derive(Drop, Debug)]
 pub struct Shown {

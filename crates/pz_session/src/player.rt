@@ -3,7 +3,7 @@
 ghost use Rattle.std.specs.Prelude.{◌≡◌, ◌≢◌, ◌<◌, ◌≤◌, ◌+◌, ◌^◌, List, OnOk, IfOk, IfErr, Err, None, MatchOption, false, true, ℕ, drop, Result, Ok};
 ghost use Rattle.pz_session.specs.Session.{ticks_after};
 
-use crate::chain::{Machine, PlayFault, Shown};
+use crate::chain::{MOST_TICKS, Machine, PlayFault, Shown};
 use crate::item::{Frame, Item, Stop, Verdict};
 use crate::tape::Tape;
 use pz_record::input::Input;
@@ -27,8 +27,8 @@ fn ticks_after(input: Input) -> u64
     ensures { result ≡ ticks_after input }
 {
     match input {
-        Input::Tick => 499,
-        _ => 500,
+        Input::Tick => MOST_TICKS - 1,
+        _ => MOST_TICKS,
     }
 }
 
@@ -53,7 +53,7 @@ impl<'a, M: Machine> Player<'a, M> {
     pub fn start(machine: M, inputs: Tape<'a>, shown: Shown) -> Result<Player<'a, M>, AllocError>
         ensures left { IfOk result (λ player. (link : Link M) → GivesLink (Ok link) machine (Ok shown) →
             left M.links player
-            ≡ left_with M.links 500 0 0 inputs.entry (Ok link)) }
+            ≡ left_with M.links MOST_TICKS 0 0 inputs.entry (Ok link)) }
         ensures number { IfOk result (λ player. player.number ≡ 0) }
     {
         let mut player = Player {
@@ -65,7 +65,7 @@ impl<'a, M: Machine> Player<'a, M> {
             phase: Phase::Between,
             number: 0,
         };
-        player.take_link(Ok(shown), 500)?;
+        player.take_link(Ok(shown), MOST_TICKS)?;
         Ok(player)
     }
 

@@ -21,6 +21,11 @@ use std::alloc::{AllocError, Global};
 /// The most entries that a source may have.
 pub const MAX_ENTRIES: usize = 1_024;
 
+/// The limit as a number: a promise, which the constant can't change by itself.
+pub fn entries_are_limited()
+    ensures { MAX_ENTRIES ≡ 1_024 }
+{}
+
 fn is_message(line: &Line) -> bool
     ensures { result ≡ is_message line.now }
 {

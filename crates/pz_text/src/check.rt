@@ -14,6 +14,11 @@ use std::alloc::Global;
 /// The most bytes that a source may have.
 pub const MAX_BYTES: usize = 1_048_576;
 
+/// The limit as a number: a promise, which the constant can't change by itself.
+pub fn sources_are_limited()
+    ensures { MAX_BYTES ≡ 1_048_576 }
+{}
+
 /// TooLong, line 0: the text has more bytes than a source may have.
 pub fn too_long(text: &str) -> Option<SourceFault>
     ensures { result ≡ too_long text.now }

@@ -1,5 +1,8 @@
 //! Laws of turns, each proved as what a function without a body ensures.
 
+ghost use Rattle.std.specs.Prelude.{◌≡◌};
+ghost use Rattle.pz_turn.specs.declared.instance.TheConstants.{COMBINATION_LIMIT};
+ghost use Rattle.pz_turn.specs.declared.rest.TheConstants.{PASSES};
 ghost use Rattle.pz_turn.specs.Laws.{IsCounted, QuietPassLeaves, RestLasts, NeverEndsForMemory};
 
 /// There are as many combinations as the product of the numbers of places says.
@@ -20,4 +23,10 @@ pub fn rest_lasts()
 /// By the definition a step never ends for want of memory: that fault is of a run alone.
 pub fn steps_never_end_for_memory()
     ensures { NeverEndsForMemory }
+{}
+
+/// The limits of combinations and of passes as numbers: a promise, which no constant can change by itself.
+pub fn turns_are_limited()
+    ensures combinations { COMBINATION_LIMIT ≡ 1_048_576 }
+    ensures passes { PASSES ≡ 200 }
 {}
