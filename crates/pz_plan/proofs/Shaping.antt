@@ -4,6 +4,7 @@ use Rattle.std.specs.List.{list_any, list_all, flat_map, position_or_len, count_
 use Rattle.std.proofs.lemmas.Bool.{and_parts, and_from, or_parts, ltb-true, ltb-false, false≢true}
 use Rattle.std.proofs.lemmas.List.Elements.{All-nil, All-cons, All-head, All-tail}
 use Rattle.std.proofs.lemmas.List.Sums.{length-filter}
+use Rattle.pz_game.specs.declared.limits.TheConstants.{MAX_ROW_CELLS}
 use Rattle.pz_game.specs.Pattern.{HasShape}
 use Rattle.pz_game.specs.declared.denotation.Denotation.{Denotation}
 use Rattle.pz_plan.specs.declared.fault.RuleFault.{RuleFault}
@@ -66,12 +67,12 @@ shaped-row s t (cell.Items ps ∷ row) some few short loose =
     let p = position_or_len is_gap all in
     let last : has_gap_at all (length row) ≡ false = subst (λ k. has_gap_at all k ≡ false) (omega arith) (or_parts (has_gap_at all 0) (has_gap_at all (length all - 1)) loose).1 in
     let one : gaps all ≤ 1 = omega (arith, ltb-false 1 (count_by is_gap all) few, length-filter is_gap all) in
-    let small : n < 65 = omega (arith, ltb-false 64 (length all) short, cells-few s t all) in
+    let small : n ≤ MAX_ROW_CELLS = omega (arith, ltb-false MAX_ROW_CELLS (length all) short, cells-few s t all) in
     let by : (b : Bool) → nat_lt p (length all) ≡ b → HasShape n (cond b (Some p) None) = λ b. elim b as (λ b. nat_lt p (length all) ≡ b → HasShape n (cond b (Some p) None)) [
       | true ↦ λ e.
           let before : p < n = gap-before_end s t all (length row) (omega arith) one last (ltb-true p (length all) e) in
-          record { some = omega (arith, before); short = omega (arith, small); between = (omega arith, before) }
-      | false ↦ λ e. record { some = omega arith; short = omega (arith, small); between = tt }
+          record { some = omega (arith, before); short = small; between = (omega arith, before) }
+      | false ↦ λ e. record { some = omega arith; short = small; between = tt }
     ] in
     by (nat_lt p (length all)) refl
 
