@@ -4,3 +4,4 @@ pub mod PushLemmas
 pub mod LoadLemmas
 pub mod SameLemmas
 pub mod HeadingLemmas
+pub mod ChangeLemmas

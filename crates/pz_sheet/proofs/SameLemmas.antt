@@ -17,11 +17,11 @@ use Rattle.pz_sheet.specs.Seen.{seen, grid_of, IsSound, IsStored, HaveSame}
 abbrev pub AreAlike : (N : ℕ) → Cell N → Cell N → Type 0
 AreAlike N cell other = AreSame cell.objects other.objects × AreSame cell.movement other.movement
 
-seen_alike : (N depth : ℕ) (layers : List ℕ) (cell other : Cell N) → IsSound N layers cell → IsSound N layers other → AreAlike N cell other → seen N depth layers cell ≡ seen N depth layers other
+pub seen_alike : (N depth : ℕ) (layers : List ℕ) (cell other : Cell N) → IsSound N layers cell → IsSound N layers other → AreAlike N cell other → seen N depth layers cell ≡ seen N depth layers other
 seen_alike N depth layers cell other sound sound_other same =
     cell_alike depth layers other.objects other.movement cell.objects cell.movement sound_other sound same.0 (λ layer dir. same.1 (flag layer dir))
 
-alike_seen : (N depth : ℕ) (layers : List ℕ) (cell other : Cell N) → All (λ l. l < depth) layers → IsSound N layers cell → IsSound N layers other → seen N depth layers cell ≡ seen N depth layers other → AreAlike N cell other
+pub alike_seen : (N depth : ℕ) (layers : List ℕ) (cell other : Cell N) → All (λ l. l < depth) layers → IsSound N layers cell → IsSound N layers other → seen N depth layers cell ≡ seen N depth layers other → AreAlike N cell other
 alike_seen N depth layers cell other low sound sound_other e = (
   objects_alike depth layers other.objects other.movement cell.objects cell.movement low sound_other sound e,
   each_number (λ (mine theirs : Bool). mine ≡ theirs) cell.movement other.movement sound.proper sound_other.proper refl (heads_alike depth layers other.objects other.movement cell.objects cell.movement low sound_other sound e),

@@ -2,6 +2,7 @@ pub mod Grid
 pub mod Seen
 pub mod Standing
 pub mod Sameness
+pub mod Changes
 pub mod Presence
 pub mod Movement
 pub mod Pushing

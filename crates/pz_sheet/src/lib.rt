@@ -8,6 +8,7 @@ use pz_cells::cell::Cell;
 use pz_sets::set::NumberSet;
 use std::marker::Model;
 
+pub mod changes;
 mod copying;
 mod headings;
 mod loading;

@@ -8,7 +8,7 @@ use pz_cells::cell::Cell;
 
 impl<const N: usize> Sheet<N> {
     /// Whether both are of one size and over the same layers.
-    pub(crate) fn same_size(&self, other: &Sheet<N>) -> bool
+    pub fn same_size(&self, other: &Sheet<N>) -> bool
         ensures { IsTrue result ↔ ((self.now.grid.width ≡ other.now.grid.width) × (self.now.grid.height ≡ other.now.grid.height) × (self.now.grid.depth ≡ other.now.grid.depth) × (self.now.grid.layers ≡ other.now.grid.layers)) }
     {
         self.width == other.width

@@ -1,0 +1,43 @@
+-- The cells in which an older level differs from another of its size, and the level with these cells put back.
+use Rattle.std.specs.Prelude.{ℕ, ◌+◌, ◌<◌, List, [], ◌∷◌, Option, length, map, fold, slice_set, if◌then◌else◌}
+use Rattle.pz_cells.specs.declared.piece.Piece.{Piece}
+use Rattle.pz_cells.specs.Sameness.{same_cell}
+use Rattle.pz_sheet.specs.declared.changes.Change.{Change}
+use Rattle.pz_sheet.specs.Grid.{Grid}
+use Rattle.pz_sheet.specs.Seen.{seen, IsSound}
+
+-- what a change says: the number of a cell, and what stood there
+pub record CellChange : Type 0 where
+  pub number : ℕ
+  pub cell : List (Option Piece)
+
+-- the cells, counted from a number, in which older ones differ, each with what stood there
+abbrev pub changed_from : ℕ → List (List (Option Piece)) → List (List (Option Piece)) → List CellChange
+changed_from number (cell ∷ cells) (old ∷ older) =
+    if same_cell cell old then changed_from (number + 1) cells older else record { number = number; cell = old } ∷ changed_from (number + 1) cells older
+changed_from number _ _ = []
+
+-- the cells in which an older level differs
+abbrev pub changed_cells : Grid → Grid → List CellChange
+changed_cells grid older = changed_from 0 grid.cells older.cells
+
+-- a change, seen by layers
+abbrev pub change_seen : (N : ℕ) → ℕ → List ℕ → Change N → CellChange
+change_seen N depth layers change = record { number = change.index; cell = seen N depth layers change.cell }
+
+-- what changes say of a level's cells
+abbrev pub changes_seen : (N : ℕ) → Grid → List (Change N) → List CellChange
+changes_seen N grid changes = map (change_seen N grid.depth grid.layers) changes
+
+-- a change of a cell of the level, in words of the game
+pub record IsChangeOf (N : ℕ) (grid : Grid) (change : Change N) : Type 0 where
+  pub within : change.index < length grid.cells
+  pub sound : IsSound N grid.layers change.cell
+
+-- the level with a cell put back
+abbrev pub with_cell : Grid → CellChange → Grid
+with_cell grid change = record grid { cells = slice_set grid.cells change.number change.cell }
+
+-- the level with these cells put back
+abbrev pub restored : List CellChange → Grid → Grid
+restored changes grid = fold with_cell grid changes
