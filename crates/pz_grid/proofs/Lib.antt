@@ -25,3 +25,4 @@ pub mod WorkedPlaces
 pub mod WorkedMarks
 pub mod WorkedLevels
 pub mod ObjectLemmas
+pub mod PastLemmas

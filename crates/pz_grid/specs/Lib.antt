@@ -8,3 +8,4 @@ pub mod RuleLaws
 pub mod Marks
 pub mod Staying
 pub mod Admitted
+pub mod Past

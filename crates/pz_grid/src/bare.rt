@@ -27,7 +27,7 @@ use std::marker::Model;
 
 /// The cells of a level: of a game of up to 128 objects and 25 layers, of up to 256 and 50, or of more.
 #[derive(Drop)]
-enum Sized {
+pub(crate) enum Sized {
     Small(Sheet<1>),
     Middle(Sheet<2>),
     Large(Sheet<4>),
@@ -36,7 +36,7 @@ enum Sized {
 /// A level without its marks.
 #[derive(Drop)]
 pub(crate) struct BareLevel {
-    sheet: Sized,
+    pub(crate) sheet: Sized,
 }
 
 impl Model for BareLevel {

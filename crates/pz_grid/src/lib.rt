@@ -18,6 +18,8 @@ pub mod laws;
 mod loading;
 mod marks;
 mod movement;
+mod older;
+mod past;
 pub mod places;
 mod presence;
 mod pushing;
@@ -27,6 +29,7 @@ mod sameness;
 
 use bare::BareLevel;
 pub use movement::resolve;
+pub use past::Past;
 pub use pushing::push_players;
 
 /// A level: what stands in its cells, and its marks: for each row, for each column and for the whole a set of objects that holds at least

@@ -1,0 +1,107 @@
+//! What gives back an older level from the one after it.
+
+ghost use Rattle.std.specs.Prelude.{◌≡◌, ◌↔◌, IsTrue, IfOk, All};
+ghost use Rattle.pz_grid.specs.Past.{given_back, Leads, IsFor};
+ghost use Rattle.pz_sheet.specs.Changes.{changes_seen, IsChangeOf, restored};
+ghost use Rattle.pz_sheet.specs.Grid.{SameSize};
+
+use crate::bare::{BareLevel, Sized};
+use pz_sheet::changes::Change;
+use std::alloc::{AllocError, Global};
+
+/// What gives back an older level from the one after it: the cells in which that differs, in as many words as a cell of the level has. Where
+/// the two aren't of one size, it is the older level whole.
+#[derive(Drop)]
+pub(crate) enum Older {
+    Small(Vec<Change<1>>),
+    Middle(Vec<Change<2>>),
+    Large(Vec<Change<4>>),
+    Whole(Box<BareLevel>),
+}
+
+impl BareLevel {
+    /// Whether both are of one size and over the same layers.
+    fn same_size(&self, other: &BareLevel) -> bool
+        ensures { IsTrue result ↔ SameSize self.now.grid other.now.grid }
+    {
+        match (&self.sheet, &other.sheet) {
+            (Sized::Small(sheet), Sized::Small(other)) => sheet.same_size(other),
+            (Sized::Middle(sheet), Sized::Middle(other)) => sheet.same_size(other),
+            (Sized::Large(sheet), Sized::Large(other)) => sheet.same_size(other),
+            _ => false,
+        }
+    }
+
+    /// What gives an older level back from this one. Err: memory was refused.
+    pub(crate) fn way_to(&self, alloc: Global, older: &BareLevel) -> Result<Older, AllocError>
+        ensures leads { IfOk result (λ way. Leads way self.now.grid older.now.grid) }
+        ensures given { IfOk result (λ way. given_back way self.now.grid ≡ older.now.grid) }
+    {
+        if self.same_size(older) {
+            return self.changes_to(older);
+        }
+        let whole = Box::new(alloc, older.copy()?)?;
+        Ok(Older::Whole(whole))
+    }
+
+    /// What gives an older level of the same size back. Err: memory was refused.
+    fn changes_to(&self, older: &BareLevel) -> Result<Older, AllocError>
+        requires size { SameSize self.now.grid older.now.grid }
+        ensures leads { IfOk result (λ way. Leads way self.now.grid older.now.grid) }
+        ensures given { IfOk result (λ way. given_back way self.now.grid ≡ older.now.grid) }
+    {
+        let way = match (&self.sheet, &older.sheet) {
+            (Sized::Small(sheet), Sized::Small(old)) => Older::Small(sheet.changes_to(old)?),
+            (Sized::Middle(sheet), Sized::Middle(old)) => Older::Middle(sheet.changes_to(old)?),
+            (Sized::Large(sheet), Sized::Large(old)) => Older::Large(sheet.changes_to(old)?),
+            _ => unreachable!(),
+        };
+        Ok(way)
+    }
+
+    /// Becomes the older level that is given back.
+    pub(crate) fn give_back(&mut self, way: Older)
+        requires { Leads way self.old.grid (given_back way self.old.grid) }
+        ensures { self.new.grid ≡ given_back way self.old.grid }
+    {
+        match way {
+            Older::Small(changes) => self.take_small(&changes),
+            Older::Middle(changes) => self.take_middle(&changes),
+            Older::Large(changes) => self.take_large(&changes),
+            Older::Whole(bare) => *self = Box::into_inner(bare),
+        }
+    }
+
+    fn take_small(&mut self, changes: &[Change<1>])
+        requires room { IsFor 128 25 self.old.grid }
+        requires of_level { All (IsChangeOf 1 self.old.grid) changes.now }
+        ensures { self.new.grid ≡ restored (changes_seen 1 self.old.grid changes.now) self.old.grid }
+    {
+        match &mut self.sheet {
+            Sized::Small(sheet) => sheet.take_changes(changes),
+            _ => unreachable!(),
+        }
+    }
+
+    fn take_middle(&mut self, changes: &[Change<2>])
+        requires room { (IsFor 128 25 self.old.grid → ⊥) × IsFor 256 50 self.old.grid }
+        requires of_level { All (IsChangeOf 2 self.old.grid) changes.now }
+        ensures { self.new.grid ≡ restored (changes_seen 2 self.old.grid changes.now) self.old.grid }
+    {
+        match &mut self.sheet {
+            Sized::Middle(sheet) => sheet.take_changes(changes),
+            _ => unreachable!(),
+        }
+    }
+
+    fn take_large(&mut self, changes: &[Change<4>])
+        requires room { IsFor 256 50 self.old.grid → ⊥ }
+        requires of_level { All (IsChangeOf 4 self.old.grid) changes.now }
+        ensures { self.new.grid ≡ restored (changes_seen 4 self.old.grid changes.now) self.old.grid }
+    {
+        match &mut self.sheet {
+            Sized::Large(sheet) => sheet.take_changes(changes),
+            _ => unreachable!(),
+        }
+    }
+}

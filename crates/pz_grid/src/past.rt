@@ -1,0 +1,101 @@
+//! The past of a level.
+
+ghost use Rattle.std.specs.Prelude.{◌≡◌, List, [], ◌∷◌, IfOk, OnOk, OnErr, MatchOption, drop};
+ghost use Rattle.pz_sheet.specs.Grid.{Grid};
+
+use crate::Level;
+use crate::bare::BareLevel;
+use crate::older::Older;
+use std::alloc::{AllocError, Global};
+use std::marker::Model;
+
+/// Levels that were, to be taken back from the newest to the oldest. The newest is kept whole, and of each before it only the cells in
+/// which it differs from the one after it.
+#[derive(Drop)]
+pub struct Past {
+    newest: Option<BareLevel>,
+    before: Vec<Older>,
+}
+
+impl Model for Past {
+    ghost use Rattle.std.specs.Prelude.{List, reverse};
+    ghost use Rattle.pz_sheet.specs.Grid.{Grid};
+    ghost use Rattle.pz_grid.specs.Past.{grids_of, IsPast};
+
+    ghost Value = { List Grid };
+
+    ghost view = { λ p. grids_of p.newest (reverse p.before.items) };
+
+    ghost invariant = { λ p. IsPast p.newest (reverse p.before.items) };
+}
+
+impl Past {
+    /// No level.
+    pub fn new(alloc: Global) -> Past
+        ensures { result ≡ [] }
+    {
+        Past {
+            newest: None,
+            before: Vec::new(alloc),
+        }
+    }
+
+    /// Forgets all levels.
+    pub fn clear(&mut self)
+        ensures { self.new ≡ [] }
+    {
+        self.newest = None;
+        self.before.clear();
+    }
+
+    /// One more level, the newest. Err: memory was refused, and there is none more.
+    pub fn push(&mut self, level: Level) -> Result<(), AllocError>
+        ensures pushed { OnOk result (self.new ≡ level.grid ∷ self.old) }
+        ensures kept { OnErr result (self.new ≡ self.old) }
+    {
+        let Level { bare, .. } = level;
+        if let Some(last) = &self.newest {
+            let way = bare.way_to(*self.before.allocator(), last)?;
+            self.before.push(way)?;
+        }
+        self.newest = Some(bare);
+        Ok(())
+    }
+
+    /// Takes the newest level back, if there is one. Err: memory was refused, and it is still there.
+    pub fn pop(&mut self) -> Result<Option<Level>, AllocError>
+        ensures popped { OnOk result (self.new ≡ drop 1 self.old) }
+        ensures newest { IfOk result (λ level. MatchOption level (self.old ≡ []) (λ newest. self.old ≡ newest.grid ∷ drop 1 self.old)) }
+        ensures kept { OnErr result (self.new ≡ self.old) }
+    {
+        let level = self.newest()?;
+        self.forget();
+        Ok(level)
+    }
+
+    /// A copy of the newest level, if there is one.
+    fn newest(&self) -> Result<Option<Level>, AllocError>
+        ensures { IfOk result (λ level. MatchOption level (self.now ≡ []) (λ newest. self.now ≡ newest.grid ∷ drop 1 self.now)) }
+    {
+        match &self.newest {
+            None => Ok(None),
+            Some(newest) => {
+                let level = Level::marked(*self.before.allocator(), newest.copy()?)?;
+                Ok(Some(level))
+            }
+        }
+    }
+
+    /// Forgets the newest level.
+    fn forget(&mut self)
+        ensures { self.new ≡ drop 1 self.old }
+    {
+        match self.before.pop() {
+            None => self.newest = None,
+            Some(way) => match &mut self.newest {
+                Some(newest) => newest.give_back(way),
+                None => unreachable!(),
+            },
+        }
+    }
+}
