@@ -1,6 +1,6 @@
 //! The rows of rules: cells with items.
 
-ghost use Rattle.std.specs.Prelude.{◌≡◌, All};
+ghost use Rattle.std.specs.Prelude.{◌≡◌, All, IfOk};
 ghost use Rattle.pz_game.specs.Masks.{IsLow, AreMasksOf};
 ghost use Rattle.pz_game.specs.Pattern.{IsRow, AreNamed, AreRequired};
 
@@ -8,7 +8,9 @@ use crate::direction::Dir;
 use crate::masks::Masks;
 use pz_base::listed::Listed;
 use pz_sets::set::NumberSet;
+use std::alloc::{AllocError, Global};
 use std::marker::Model;
+use std::sync::Arc;
 
 /// What an item says of its object: it is there, however it moves; it is there and still; it is there and moves so; it isn't there.
 #[derive(Clone, Copy, PartialEq, Eq, Debug)]
@@ -27,44 +29,61 @@ pub struct Item {
     pub word: Word,
 }
 
-/// A cell of a rule's row, with its items as sets: it holds where all its items hold.
+/// The items of a cell, with what they say as sets.
 #[derive(Drop, Debug)]
-pub struct Pattern {
+struct Contents {
     items: Vec<Item>,
     masks: Masks,
 }
 
+/// A cell of a rule's row, with its items as sets: it holds where all its items hold. Equal cells may share their contents, of which
+/// the rules of a game have few different ones.
+#[derive(Drop, Debug)]
+pub struct Pattern {
+    contents: Arc<Contents>,
+}
+
 impl Model for Pattern {
     ghost use Rattle.std.specs.Prelude.{List, All};
+    ghost use Rattle.std.specs.Arc.{arc_value};
     ghost use Rattle.pz_game.specs.declared.pattern.Item.{Item};
     ghost use Rattle.pz_game.specs.Masks.{IsLow, AreMasksOf};
 
     ghost Value = { List Item };
 
-    ghost view = { λ p. p.items.items };
+    ghost view = { λ p. (arc_value p.contents).items.items };
 
-    ghost invariant = { λ p. All IsLow p.items.items → AreMasksOf p.items.items p.masks };
+    ghost invariant = { λ p. All IsLow (arc_value p.contents).items.items → AreMasksOf (arc_value p.contents).items.items (arc_value p.contents).masks };
 }
 
 impl Pattern {
-    pub fn new(items: Vec<Item>) -> Pattern
-        ensures { result ≡ items.items }
+    pub fn new(alloc: Global, items: Vec<Item>) -> Result<Pattern, AllocError>
+        ensures { IfOk result (λ pattern. pattern ≡ items.items) }
     {
         let masks = Masks::of(&items);
-        Pattern { items, masks }
+        let contents = Arc::new(alloc, Contents { items, masks })?;
+        Ok(Pattern { contents })
+    }
+
+    /// Another cell of the same contents.
+    pub fn share(&self) -> Result<Pattern, AllocError>
+        ensures { IfOk result (λ shared. shared ≡ self.now) }
+    {
+        let contents = Arc::try_clone(&self.contents)?;
+        Ok(Pattern { contents })
     }
 
     /// What the items say, as sets, where their objects and layers are within the limits of games.
     pub fn masks(&self) -> &Masks
         ensures { All IsLow self.now → AreMasksOf self.now result.now }
     {
-        &self.masks
+        &self.contents.masks
     }
 
     pub fn items(&self) -> &[Item]
         ensures { result.now ≡ self.now }
     {
-        self.items.as_slice()
+        self.contents.items.as_slice()
     }
 }
 

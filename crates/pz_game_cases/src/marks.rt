@@ -93,7 +93,7 @@ fn add_row(rows: &mut String, first: char, side: usize) -> Result<(), AllocError
 
 fn cell(alloc: Global, items: &[Item]) -> Result<Pattern, AllocError> {
     let items = Vec::from_slice(alloc, items)?;
-    Ok(Pattern::new(items))
+    Pattern::new(alloc, items)
 }
 
 /// A row of one cell.

@@ -6,6 +6,7 @@ ghost use Rattle.pz_rules.specs.Drafts.{placed, settled, opened, loop_of, with_l
 ghost use Rattle.pz_grammar.specs.Written.{is_whole};
 
 use crate::expansion::{Expansion, expanded};
+use crate::patterns::Patterns;
 use crate::sides::{Sides, no_sides, side_added};
 use pz_base::listing::{joined, pushed};
 use pz_base::name::Name;
@@ -199,7 +200,12 @@ fn extended(draft: Draft, rule: &Rule, more: Expansion) -> Result<Draft, AllocEr
 
 /// The draft with a rule, or the first fault of the rule.
 #[tactic(auto, unfolding(crate::specs::Drafts::rule_added))]
-fn rule_added(alloc: Global, game: &Game, draft: Draft, rule: &Rule) -> Result<Draft, RuleFault>
+fn rule_added(
+    patterns: &mut Patterns,
+    game: &Game,
+    draft: Draft,
+    rule: &Rule,
+) -> Result<Draft, RuleFault>
     requires whole { is_whole rule.now ≡ true }
     ensures draft { IfOk result (λ out. rule_added game.now draft rule.now ≡ Ok out) }
     ensures fault { IfErr result (λ fault. fault ≢ Memory → rule_added game.now draft rule.now ≡ Err fault) }
@@ -208,7 +214,7 @@ fn rule_added(alloc: Global, game: &Game, draft: Draft, rule: &Rule) -> Result<D
         return Err(RuleFault::BadRule);
     }
     let more = expanded(
-        alloc,
+        patterns,
         game.values(),
         game.layers(),
         draft.pairs,
@@ -244,7 +250,7 @@ fn loop_added(
 /// The draft with a line, or the first fault of the line.
 #[tactic(auto, unfolding(crate::specs::Drafts::line_added))]
 pub fn line_added(
-    alloc: Global,
+    patterns: &mut Patterns,
     game: &Game,
     draft: Draft,
     below: &[RuleLine],
@@ -253,12 +259,13 @@ pub fn line_added(
     ensures draft { IfOk result (λ out. line_added game.now draft below.now words.now ≡ Ok out) }
     ensures fault { IfErr result (λ fault. fault ≢ Memory → line_added game.now draft below.now words.now ≡ Err fault) }
 {
+    let alloc = patterns.alloc();
     if let Some(word) = loop_word(words) {
         return loop_added(alloc, draft, below, word);
     }
     let tokens = tokens_of(alloc, game, words)?;
     match parse(alloc, &tokens)? {
-        Some(rule) => rule_added(alloc, game, draft, &rule),
+        Some(rule) => rule_added(patterns, game, draft, &rule),
         None => Err(RuleFault::BadRule),
     }
 }

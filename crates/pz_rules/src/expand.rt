@@ -8,6 +8,7 @@ ghost use Rattle.pz_plan.specs.Fault.{code_of};
 ghost use Rattle.pz_game.specs.Instance.{IsProgramOf};
 
 use crate::draft::{Draft, line_added, settled};
+use crate::patterns::Patterns;
 use crate::sides::no_sides;
 use pz_base::fault::{Code, SourceFault};
 use pz_game::game::Game;
@@ -65,10 +66,11 @@ fn read_program(alloc: Global, game: &Game) -> Result<Program, SourceFault>
     ensures refused { IfErr result (λ fault. fault.code ≢ Memory → program_of game.now ≡ Err fault) }
     ensures whole { IfErr result (λ fault. fault.code ≡ Memory → fault.line ≡ 0) }
 {
+    let mut patterns = Patterns::new(alloc)?;
     let mut draft = nothing(alloc);
     let mut rest = game.rules();
     while let Some((line, below)) = rest.split_first() {
-        draft = match line_added(alloc, game, draft, below, line.words.items()) {
+        draft = match line_added(&mut patterns, game, draft, below, line.words.items()) {
             Ok(next) => next,
             Err(fault) => return Err(refusal(fault, line.number)),
         };

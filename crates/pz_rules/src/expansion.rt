@@ -11,6 +11,7 @@ ghost use Rattle.pz_grammar.specs.Written.{is_whole};
 use crate::clash::have_clash;
 use crate::counting::count_within;
 use crate::instances::instances_of;
+use crate::patterns::Patterns;
 use pz_base::listed::Listed;
 use pz_game::denotation::Denotation;
 use pz_game::instance::{Group, Instance};
@@ -18,7 +19,6 @@ use pz_grammar::rule::Rule;
 use pz_plan::fault::RuleFault;
 use pz_plan::plan::Plan;
 use pz_plan::planning::plan_of;
-use std::alloc::Global;
 
 /// How many pairs of a direction and a list of picks all rules of a game may have together.
 pub const PAIRS: u64 = 65_536;
@@ -61,7 +61,7 @@ fn unless_clash(total: u64, instances: Vec<Instance>) -> Result<Expansion, RuleF
 /// The instances of a plan, where all rules up to it have no more pairs than are allowed.
 #[tactic(auto, unfolding(crate::specs::Expansion::expansion_within))]
 fn expansion_within(
-    alloc: Global,
+    patterns: &mut Patterns,
     table: &[Denotation],
     layers: &[usize],
     pairs: u64,
@@ -75,13 +75,13 @@ fn expansion_within(
     let Some(total) = total_within(table, pairs, plan) else {
         return Err(RuleFault::TooManyRules);
     };
-    unless_clash(total, instances_of(alloc, table, layers, plan)?)
+    unless_clash(total, instances_of(patterns, table, layers, plan)?)
 }
 
 /// The instances of a rule, late or not, where the rules above it have so many pairs; or its first fault.
 #[tactic(auto, unfolding(crate::specs::Expansion::expanded))]
 pub fn expanded(
-    alloc: Global,
+    patterns: &mut Patterns,
     table: &[Denotation],
     layers: &[usize],
     pairs: u64,
@@ -92,6 +92,6 @@ pub fn expanded(
     ensures more { IfOk result (λ more. expanded table.now layers.now pairs is_late rule.now ≡ Ok more) }
     ensures fault { IfErr result (λ fault. fault ≢ Memory → expanded table.now layers.now pairs is_late rule.now ≡ Err fault) }
 {
-    let plan = plan_of(alloc, table, is_late, rule)?;
-    expansion_within(alloc, table, layers, pairs, &plan)
+    let plan = plan_of(patterns.alloc(), table, is_late, rule)?;
+    expansion_within(patterns, table, layers, pairs, &plan)
 }

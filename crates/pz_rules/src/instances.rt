@@ -8,6 +8,7 @@ ghost use Rattle.pz_rules.specs.Instances.{members_at, options_of, object_of, me
 
 use crate::exclusion::{Role, have_impossible};
 use crate::kept::Kept;
+use crate::patterns::Patterns;
 use crate::turning::{class_directions, turned};
 use pz_base::listed::Listed;
 use pz_game::denotation::Denotation;
@@ -133,7 +134,7 @@ fn items_of(
 
 #[tactic(auto, unfolding(crate::specs::Instances::cell_of))]
 fn cell_of(
-    alloc: Global,
+    patterns: &mut Patterns,
     layers: &[usize],
     direction: Dir,
     picks: &[Pick],
@@ -141,11 +142,12 @@ fn cell_of(
 ) -> Result<Pattern, AllocError>
     ensures { IfOk result (λ cell. cell ≡ cell_of layers.now direction picks.now terms.now) }
 {
-    Ok(Pattern::new(items_of(alloc, layers, direction, picks, terms.items())?))
+    let items = items_of(patterns.alloc(), layers, direction, picks, terms.items())?;
+    patterns.pattern_of(items)
 }
 
 fn cells_of(
-    alloc: Global,
+    patterns: &mut Patterns,
     layers: &[usize],
     direction: Dir,
     picks: &[Pick],
@@ -153,9 +155,9 @@ fn cells_of(
 ) -> Result<Vec<Pattern>, AllocError>
     ensures { IfOk result (λ out. out.items ≡ map (cell_of layers.now direction picks.now) cells.now) }
 {
-    let mut out = Vec::new(alloc);
+    let mut out = Vec::with_capacity(patterns.alloc(), cells.len())?;
     for terms in cells {
-        out.push(cell_of(alloc, layers, direction, picks, terms)?)?;
+        out.push(cell_of(patterns, layers, direction, picks, terms)?)?;
     }
     Ok(out)
 }
@@ -173,7 +175,7 @@ fn gap_at(row: &PlanRow<Term>) -> Option<u32>
 
 #[tactic(auto, unfolding(crate::specs::Instances::row_of))]
 fn row_of(
-    alloc: Global,
+    patterns: &mut Patterns,
     layers: &[usize],
     direction: Dir,
     picks: &[Pick],
@@ -182,13 +184,13 @@ fn row_of(
     requires { IsShaped row.now }
     ensures { IfOk result (λ out. out ≡ row_of layers.now direction picks.now row.now) }
 {
-    let cells = cells_of(alloc, layers, direction, picks, row.cells.items())?;
+    let cells = cells_of(patterns, layers, direction, picks, row.cells.items())?;
     Ok(Row::new(cells, gap_at(row)))
 }
 
 #[tactic(auto, unfolding(crate::specs::Instances::rows_of))]
 fn rows_of(
-    alloc: Global,
+    patterns: &mut Patterns,
     layers: &[usize],
     direction: Dir,
     picks: &[Pick],
@@ -197,9 +199,9 @@ fn rows_of(
     requires { AreShaped rows.now }
     ensures { IfOk result (λ out. out ≡ rows_of layers.now direction picks.now rows.now) }
 {
-    let mut out = Vec::new(alloc);
+    let mut out = Vec::with_capacity(patterns.alloc(), rows.len())?;
     for row in rows {
-        out.push(row_of(alloc, layers, direction, picks, row)?)?;
+        out.push(row_of(patterns, layers, direction, picks, row)?)?;
     }
     Ok(Listed::new(out))
 }
@@ -231,7 +233,7 @@ fn scan_of(plan: &Plan, direction: Dir) -> Dir
 /// The instance of a plan for a direction and a list of picks.
 #[tactic(auto, unfolding(crate::specs::Instances::instance_of))]
 fn instance_of(
-    alloc: Global,
+    patterns: &mut Patterns,
     layers: &[usize],
     plan: &Plan,
     direction: Dir,
@@ -241,8 +243,8 @@ fn instance_of(
     requires right { AreShaped plan.now.right }
     ensures { IfOk result (λ instance. instance ≡ instance_of layers.now plan.now direction picks.now) }
 {
-    let left = rows_of(alloc, layers, direction, picks, plan.left.items())?;
-    let right = rows_of(alloc, layers, direction, picks, plan.right.items())?;
+    let left = rows_of(patterns, layers, direction, picks, plan.left.items())?;
+    let right = rows_of(patterns, layers, direction, picks, plan.right.items())?;
     Ok(Instance {
         scan: scan_of(plan, direction),
         left,
@@ -262,7 +264,7 @@ fn is_possible(instance: &Instance) -> bool
 /// Adds the instance of these picks, unless it is impossible or there already.
 #[tactic(auto, unfolding(crate::specs::Instances::considered))]
 fn consider(
-    alloc: Global,
+    patterns: &mut Patterns,
     layers: &[usize],
     plan: &Plan,
     direction: Dir,
@@ -273,7 +275,7 @@ fn consider(
     requires right { AreShaped plan.now.right }
     ensures { OnOk result (kept.new ≡ considered layers.now plan.now direction kept.old picks.now) }
 {
-    let instance = instance_of(alloc, layers, plan, direction, picks)?;
+    let instance = instance_of(patterns, layers, plan, direction, picks)?;
     if is_possible(&instance) {
         kept.add(instance)?;
     }
@@ -282,7 +284,7 @@ fn consider(
 
 /// Considers every list of picks that begins with these.
 fn consider_all(
-    alloc: Global,
+    patterns: &mut Patterns,
     layers: &[usize],
     plan: &Plan,
     direction: Dir,
@@ -298,11 +300,11 @@ fn consider_all(
     ensures picks { OnOk result (picks.new.items ≡ picks.old.items) }
 {
     let Some((first, others)) = options.split_first() else {
-        return consider(alloc, layers, plan, direction, picks, kept);
+        return consider(patterns, layers, plan, direction, picks, kept);
     };
     'options: for pick in first.items() {
         picks.push(*pick)?;
-        consider_all(alloc, layers, plan, direction, others, picks, kept)?;
+        consider_all(patterns, layers, plan, direction, others, picks, kept)?;
         let _ = picks.pop();
     }
     Ok(())
@@ -327,7 +329,7 @@ fn all_options(
 /// The instances of a plan: the possible ones in order, and of equal ones the first.
 #[tactic(auto, unfolding(crate::specs::Instances::instances_of))]
 pub fn instances_of(
-    alloc: Global,
+    patterns: &mut Patterns,
     table: &[Denotation],
     layers: &[usize],
     plan: &Plan,
@@ -336,12 +338,13 @@ pub fn instances_of(
     requires right { AreShaped plan.now.right }
     ensures { IfOk result (λ instances. instances.items ≡ instances_of table.now layers.now plan.now) }
 {
+    let alloc = patterns.alloc();
     let mut kept = Kept::new(alloc)?;
     for direction in plan.directions.items() {
         let options = all_options(alloc, table, *direction, plan.choices.items())?;
         let mut picks = Vec::new(alloc);
         consider_all(
-            alloc, layers, plan, *direction, &options, &mut picks, &mut kept,
+            patterns, layers, plan, *direction, &options, &mut picks, &mut kept,
         )?;
     }
     Ok(kept.into_instances())

@@ -11,5 +11,6 @@ pub mod expansion;
 pub mod instances;
 pub mod kept;
 pub mod marks;
+pub mod patterns;
 pub mod sides;
 pub mod turning;

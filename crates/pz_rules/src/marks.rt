@@ -36,7 +36,7 @@ fn word_number(word: Word) -> u64
 }
 
 /// A number with its bits spread over a whole word.
-fn spread(number: u64) -> u64
+pub(crate) fn spread(number: u64) -> u64
     ensures { result ≡ spread number }
 {
     let once = number.wrapping_mul(SPREADER);
@@ -44,7 +44,7 @@ fn spread(number: u64) -> u64
 }
 
 #[tactic(auto, unfolding(crate::specs::Marks::item_mark))]
-fn item_mark(item: &Item) -> u64
+pub(crate) fn item_mark(item: &Item) -> u64
     ensures { result ≡ item_mark item.now }
 {
     spread(
