@@ -1,9 +1,8 @@
 -- All levels of a session are its game's.
-use Rattle.std.proofs.Common.{◌≡◌, ℕ, List, [], ◌∷◌, ◌++◌, map, reverse, All, refl, sym, ap, subst, ◌∙◌}
-use Rattle.std.proofs.lemmas.List.{map-append, reverse-append}
-use Rattle.std.proofs.lemmas.List.Elements.{All-same, All-nil}
+use Rattle.std.proofs.Common.{◌≡◌, ℕ, List, [], ◌∷◌, Option, Some, MatchOption, All, drop, refl, sym, subst}
+use Rattle.std.proofs.lemmas.List.Elements.{All-head, All-tail}
 use Rattle.pz_game.specs.declared.game.GameParts.{GameParts}
-use Rattle.pz_sheet.specs.Grid.{Grid, IsOfGame}
+use Rattle.pz_sheet.specs.Grid.{Grid, IsOfGame, LevelState}
 use Rattle.pz_grid.specs.Loading.{loaded}
 
 -- a level that is loaded
@@ -13,13 +12,9 @@ loaded_of_game game index grid e =
     let P : Grid → Type 0 = λ g. IsOfGame game g in
     subst P (sym e) own
 
--- the newest is the last
-pub newest_first : {X Y : Type 0} (f : X → Y) (xs : List X) (x : X) → reverse (map f (xs ++ x ∷ [])) ≡ f x ∷ reverse (map f xs)
-newest_first f xs x = ap reverse (map-append f xs (x ∷ [])) ∙ reverse-append (map f xs) (f x ∷ [])
-
-pub none_past : {X Y : Type 0} (P : Y → Type 0) (f : X → Y) (xs : List X) → xs ≡ [] → All P (reverse (map f xs))
-none_past P f xs e = All-same P (reverse (map f xs)) [] (ap (λ l. reverse (map f l)) e) (All-nil P)
-
--- what holds of the past holds of the last of it and of the rest
-pub newest_holds : {X Y : Type 0} (P : Y → Type 0) (f : X → Y) (all xs : List X) (x : X) → all ≡ xs ++ x ∷ [] → All P (reverse (map f all)) → All P (f x ∷ reverse (map f xs))
-newest_holds P f all xs x e h = All-same P (f x ∷ reverse (map f xs)) (reverse (map f all)) (sym (ap (λ l. reverse (map f l)) e ∙ newest_first f xs x)) h
+-- what holds of the past holds of the newest of it and of the rest
+pub taken : (P : Grid → Type 0) (old new : List Grid) (found : Option LevelState) (level : LevelState) → All P old → found ≡ Some level → MatchOption found (old ≡ []) (λ newest. old ≡ newest.grid ∷ drop 1 old) → new ≡ drop 1 old → P level.grid × All P new
+taken P old new found level all is newest rest =
+    let first : old ≡ level.grid ∷ drop 1 old = subst (λ (o : Option LevelState). MatchOption o (old ≡ []) (λ newest. old ≡ newest.grid ∷ drop 1 old)) is newest in
+    let held : All P (level.grid ∷ drop 1 old) = subst (All P) first all in
+    (All-head P level.grid (drop 1 old) held, subst (All P) (sym rest) (All-tail P level.grid (drop 1 old) held))

@@ -17,7 +17,7 @@ use pz_game::commands::Commands;
 use pz_game::direction::Dir;
 use pz_game::game::Game;
 use pz_game::instance::Program;
-use pz_grid::Level;
+use pz_grid::{Level, Past};
 use pz_record::equality::equals;
 use pz_record::input::Input;
 use pz_record::order::Order;
@@ -29,7 +29,7 @@ use std::alloc::{AllocError, Global};
 use std::marker::Model;
 
 /// A session between two links: the entry of LEVELS that is played, its level, the target of a restart, the levels that an undo
-/// takes back (the newest last), the level before an input until that input's chain is over, and whether play is over.
+/// takes back, the level before an input until that input's chain is over, and whether play is over.
 pub struct Board<'a> {
     alloc: Global,
     game: &'a Game,
@@ -39,14 +39,14 @@ pub struct Board<'a> {
     entry: usize,
     level: Level,
     target: Level,
-    past: Vec<Level>,
+    past: Past,
     before: Option<Level>,
     is_over: bool,
     texts: TextWriter<'a>,
 }
 
 impl<'a> Model for Board<'a> {
-    ghost use Rattle.std.specs.Prelude.{◌≡◌, map, option_map, reverse};
+    ghost use Rattle.std.specs.Prelude.{◌≡◌, option_map};
     ghost use Rattle.pz_session.specs.Board.{State, IsOneGame};
 
     ghost Value = { State };
@@ -59,7 +59,7 @@ impl<'a> Model for Board<'a> {
       entry = b.entry;
       level = b.level.grid;
       target = b.target.grid;
-      past = reverse (map (λ level. level.grid) b.past.items);
+      past = b.past;
       before = option_map (λ level. level.grid) b.before;
       is_over = b.is_over;
     } };
@@ -72,7 +72,7 @@ impl<'a> Model for Board<'a> {
       entry = b.entry;
       level = b.level.grid;
       target = b.target.grid;
-      past = reverse (map (λ level. level.grid) b.past.items);
+      past = b.past;
       before = option_map (λ level. level.grid) b.before;
       is_over = b.is_over;
     }) × ((b.texts.table.game ≡ b.game.now) × (b.texts.order ≡ b.order)) };
@@ -126,7 +126,7 @@ impl<'a> Board<'a> {
             entry,
             level,
             target,
-            past: Vec::new(alloc),
+            past: Past::new(alloc),
             before: None,
             is_over: false,
             texts: TextWriter::new(alloc, game, order),
@@ -325,19 +325,20 @@ impl<'a> Board<'a> {
     }
 
     /// Takes the last of the past, if there is one.
-    fn step_back(&mut self)
-        ensures { self.new ≡ undone self.old self.old.past }
+    fn step_back(&mut self) -> Result<(), AllocError>
+        ensures { OnOk result (self.new ≡ undone self.old self.old.past) }
     {
-        if let Some(level) = self.past.pop() {
+        if let Some(level) = self.past.pop()? {
             self.level = level;
         }
+        Ok(())
     }
 
     #[tactic(auto, unfolding(crate::specs::Board::undo_link))]
     fn undo(&mut self) -> Result<Shown, AllocError>
         ensures { IfOk result (λ shown. GivesLink (Ok (undo_link self.old)) self.new (Ok shown)) }
     {
-        self.step_back();
+        self.step_back()?;
         self.show(FrameKind::Undo, false)
     }
 

@@ -1,5 +1,4 @@
-use Rattle.std.proofs.Common.{List, map, reverse, ap, ◌∙◌}
-use Rattle.pz_sheet.specs.Grid.{LevelState}
+use Rattle.std.proofs.Common.{ap, ◌∙◌}
 use Rattle.pz_session.specs.Board.{State, loaded_at}
 use Rattle.pz_session.proofs.board.Board.enter.Goals as goal
 
@@ -8,5 +7,5 @@ returns c =
     let b = c.self.inside in
     let level = c.in_ok-level.ensures.loaded in
     let target = c.in_ok-target.ensures.copied ∙ level in
-    let past = ap (λ (levels : List LevelState). reverse (map (λ (level : LevelState). level.grid) levels)) c.clear.ensures.items in
+    let past = c.clear.ensures in
     (λ i. record (loaded_at b.game.now b.program.now b.order b.recorded.now c.args.next) { level = level i; target = target i; past = past i }) ∙ ap (λ (s : State). loaded_at s.game s.program s.order s.recorded c.args.next) c.self.view_is
