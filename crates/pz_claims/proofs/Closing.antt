@@ -13,13 +13,13 @@ use Rattle.pz_claims.proofs.Counting.{nothing_below}
 made_by_makers : (u : View) → makers_of u ≡ 0 → made_of u ≡ 0
 made_by_makers (Making n ns m j) e = absurd (omega arith)
 made_by_makers (Claiming n ns) e = refl
-made_by_makers (Ended n ns) e = refl
+made_by_makers (Ended n ns k) e = refl
 made_by_makers Spent e = refl
 
 joined_by_makers : (u : View) → makers_of u ≡ 0 → joined_of u ≡ 0
 joined_by_makers (Making n ns m j) e = absurd (omega arith)
 joined_by_makers (Claiming n ns) e = refl
-joined_by_makers (Ended n ns) e = refl
+joined_by_makers (Ended n ns k) e = refl
 joined_by_makers Spent e = refl
 
 -- 1 for all who may have numbers
@@ -29,7 +29,7 @@ holders_of u = makers_of u + claiming_of u + ended_of u
 had_by_holders : (x : ℕ) (u : View) → holders_of u ≡ 0 → times x (numbers_of u) ≡ 0
 had_by_holders x (Making n ns m j) e = absurd (omega arith)
 had_by_holders x (Claiming n ns) e = absurd (omega arith)
-had_by_holders x (Ended n ns) e = absurd (omega arith)
+had_by_holders x (Ended n ns k) e = absurd (omega arith)
 had_by_holders x Spent e = refl
 
 module _ (n id : ℕ) (ns : List ℕ) (m j : ℕ) (s : Table) (law : IsLawful n s) (at : get_elem? s.views id ≡ some (Making n ns m j)) where

@@ -9,7 +9,7 @@ use Rattle.atomic_table.proofs.Lists.{at_snoc}
 use Rattle.pz_claims.specs.declared.limits.TheConstants.{MOST_NUMBERS, MOST_SEATS}
 use Rattle.pz_claims.specs.Rule.{times, Table, word_of, IsLawful}
 use Rattle.pz_claims.specs.Steps.{Holder, Finds, ClaimTells, LookTells, one_more, new_seat, with_ended}
-use Rattle.pz_claims.specs.View.{total_of, numbers_of, made_of, joined_of, makers_of, claiming_of, ended_of, spent_of, Knows}
+use Rattle.pz_claims.specs.View.{total_of, numbers_of, found_of, made_of, joined_of, makers_of, claiming_of, ended_of, spent_of, Knows}
 use Rattle.pz_claims.specs.declared.view.View.{View}
 use Rattle.pz_claims.specs.declared.view.View.TheVariants.{Making, Claiming, Ended, Spent}
 use Rattle.pz_claims.proofs.Sums.{one_within_sum, sum_by-split, sum_by-join}
@@ -40,7 +40,7 @@ module _ (n id : ℕ) (ns : List ℕ) (few : n ≤ MOST_NUMBERS) (slots : ℕ) w
   claims_by s law at false is =
       let k : ℕ = word_of s in
       let past : n ≤ k = ltb-false k n is in
-      let w = Ended n ns in (
+      let w = Ended n ns k in (
         w,
         keeps_law n s id (Claiming n ns) w (k + 1) law at record {
           numbers = λ x. omega (arith, once_below-full x k n past);
@@ -109,10 +109,10 @@ splits n id v made is total few =
     subst P (sym (is ∙ ap (λ (k : ℕ). Making k (numbers_of v) made (joined_of v)) total)) (splits_of n id (numbers_of v) made (joined_of v) few)
 
 -- a seat that has ended is taken in
-joins_of : (n id : ℕ) (ns : List ℕ) (m j other : ℕ) (ms : List ℕ) → Joins (IsLawful n) id (Making n ns m j) other (Ended n ms) (with_ended (Making n ns m j) (Ended n ms)) Spent
-joins_of n id ns m j other ms s law at apart there =
+joins_of : (n id : ℕ) (ns : List ℕ) (m j other : ℕ) (ms : List ℕ) (k : ℕ) → Joins (IsLawful n) id (Making n ns m j) other (Ended n ms k) (with_ended (Making n ns m j) (Ended n ms k)) Spent
+joins_of n id ns m j other ms k s law at apart there =
     let both = Making n (ns ++ ms) m (suc j) in
-    let sums = λ (f : View → ℕ). sum_by-join f s.views id (Making n ns m j) both other (Ended n ms) Spent at there in record {
+    let sums = λ (f : View → ℕ). sum_by-join f s.views id (Making n ns m j) both other (Ended n ms k) Spent at there in record {
       word = law.word;
       numbers = λ x. let a = sums (λ u. times x (numbers_of u)) in let b = law.numbers x in omega (arith, times-append x ns ms);
       ended = let a = sums ended_of in let b = sums spent_of in let c = law.ended in omega arith;
@@ -123,10 +123,10 @@ joins_of n id ns m j other ms s law at apart there =
       known = known_set n (set s.views id both) other Spent tt (known_set n s.views id both refl law.known);
     }
 
-pub joins : (n id : ℕ) (v : View) (made other : ℕ) (w : View) → v ≡ Making (total_of v) (numbers_of v) made (joined_of v) → total_of v ≡ n → w ≡ Ended (total_of w) (numbers_of w) → total_of w ≡ n
+pub joins : (n id : ℕ) (v : View) (made other : ℕ) (w : View) → v ≡ Making (total_of v) (numbers_of v) made (joined_of v) → total_of v ≡ n → w ≡ Ended (total_of w) (numbers_of w) (found_of w) → total_of w ≡ n
     → Joins (IsLawful n) id v other w (with_ended v w) Spent
 joins n id v made other w v_is v_total w_is w_total =
     let P : View → View → Type 0 = λ (a b : View). Joins (IsLawful n) id a other b (with_ended a b) Spent in
     let v_now = v_is ∙ ap (λ (k : ℕ). Making k (numbers_of v) made (joined_of v)) v_total in
-    let w_now = w_is ∙ ap (λ (k : ℕ). Ended k (numbers_of w)) w_total in
-    subst (λ a. P a w) (sym v_now) (subst (P (Making n (numbers_of v) made (joined_of v))) (sym w_now) (joins_of n id (numbers_of v) made (joined_of v) other (numbers_of w)))
+    let w_now = w_is ∙ ap (λ (k : ℕ). Ended k (numbers_of w) (found_of w)) w_total in
+    subst (λ a. P a w) (sym v_now) (subst (P (Making n (numbers_of v) made (joined_of v))) (sym w_now) (joins_of n id (numbers_of v) made (joined_of v) other (numbers_of w) (found_of w)))

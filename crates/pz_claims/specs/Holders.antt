@@ -7,10 +7,16 @@ pub record Numbers : Type 0 where
   pub table : TableId
   pub total : ℕ
 
--- a seat, whether it may claim or has ended, with the numbers that it claimed, in order
+-- a seat that may claim, with the numbers that it claimed, in order
 pub record Holding : Type 0 where
   pub of : Numbers
   pub numbers : List ℕ
+
+-- a seat that has ended, with the numbers that it claimed, in order, and the word that its last claim found
+pub record Ending : Type 0 where
+  pub of : Numbers
+  pub numbers : List ℕ
+  pub found : ℕ
 
 -- the maker, with the numbers of the seats that it joined, one seat's behind the other's
 pub record Makes : Type 0 where

@@ -10,9 +10,9 @@ use Rattle.pz_claims.specs.declared.view.View.TheVariants.{Making, Claiming, End
 abbrev pub Holder : Type 0
 Holder = Me (Unit {0}) View
 
--- A seat found this word. Below the total the word is its new last number, greater than all that it had; else the seat has ended
+-- A seat found this word. Below the total the word is its new last number, greater than all that it had; else the seat has ended, and knows the word
 abbrev pub Finds : View → ℕ → View → Type 0
-Finds (Claiming total numbers) word new = MatchBool (ltb word total) ((new ≡ Claiming total (numbers ++ word ∷ [])) × All (λ x. x < word) numbers) (new ≡ Ended total numbers)
+Finds (Claiming total numbers) word new = MatchBool (ltb word total) ((new ≡ Claiming total (numbers ++ word ∷ [])) × All (λ x. x < word) numbers) (new ≡ Ended total numbers word)
 Finds view word new = Unit {0}
 
 -- what adding one to the word tells the holder: what it found, and no slot is taken

@@ -1,4 +1,4 @@
--- What each view of a claim table says. A view that does not speak of a list or a count says [] or 0.
+-- What each view of a claim table says. A view that does not speak of a list a count or a word says [] or 0.
 use Rattle.std.specs.Prelude.{◌≡◌, ℕ, List, []}
 use Rattle.pz_claims.specs.declared.view.View.{View}
 use Rattle.pz_claims.specs.declared.view.View.TheVariants.{Making, Claiming, Ended, Spent}
@@ -7,15 +7,20 @@ use Rattle.pz_claims.specs.declared.view.View.TheVariants.{Making, Claiming, End
 abbrev pub total_of : View → ℕ
 total_of (Making total numbers made joined) = total
 total_of (Claiming total numbers) = total
-total_of (Ended total numbers) = total
+total_of (Ended total numbers found) = total
 total_of Spent = 0
 
 -- the numbers that the holder has
 abbrev pub numbers_of : View → List ℕ
 numbers_of (Making total numbers made joined) = numbers
 numbers_of (Claiming total numbers) = numbers
-numbers_of (Ended total numbers) = numbers
+numbers_of (Ended total numbers found) = numbers
 numbers_of Spent = []
+
+-- the word that an ended seat found, at which no number was left
+abbrev pub found_of : View → ℕ
+found_of (Ended total numbers found) = found
+found_of view = 0
 
 -- how many seats the maker made
 abbrev pub made_of : View → ℕ
@@ -39,7 +44,7 @@ claiming_of view = 0
 
 -- 1 for a seat that has ended and is not joined
 abbrev pub ended_of : View → ℕ
-ended_of (Ended total numbers) = 1
+ended_of (Ended total numbers found) = 1
 ended_of view = 0
 
 -- 1 for a seat that was joined

@@ -7,8 +7,8 @@ pub enum View {
     Making(u64, LinkedList<u64>, u64, u64),
     /// A seat that may claim.
     Claiming(u64, LinkedList<u64>),
-    /// A seat that found the word at the number of numbers or above.
-    Ended(u64, LinkedList<u64>),
+    /// A seat that has ended, with the word that it found: the number of numbers or more.
+    Ended(u64, LinkedList<u64>, u64),
     /// What stays of a seat that was joined.
     Spent,
 }

@@ -1,6 +1,6 @@
 //! Why the program ends without a whole recording, and the line that says so.
 
-ghost use Rattle.std.specs.Prelude.{◌≡◌, ◌++◌, IfErr, OnOk};
+ghost use Rattle.std.specs.Prelude.{◌≡◌, ◌++◌, false, IfErr, OnOk};
 ghost use Rattle.pz_lines.specs.Writing.{HasWritten};
 ghost use Rattle.pz_console.specs.Refusing.{IsCut, IsReported, file_line, refusal_line};
 ghost use Rattle.pz_console.specs.declared.refusal.Refusal.TheVariants.{Memory};
@@ -40,6 +40,7 @@ fn write_parts<E: Write>(
     third: &str,
     errors: &mut Output<E>,
 ) -> Result<(), WriteFault>
+    requires { errors.old.has_failed ≡ false }
     ensures whole { OnOk result (HasWritten (first.now ++ second.now ++ third.now) errors.old errors.new) }
     ensures cut { IfErr result (λ _. IsCut (first.now ++ second.now ++ third.now) errors.old errors.new) }
 {
@@ -50,6 +51,7 @@ fn write_parts<E: Write>(
 
 /// Writes the line of a fault of the file.
 fn report_file<E: Write>(fault: FileFault, errors: &mut Output<E>) -> Result<(), WriteFault>
+    requires { errors.old.has_failed ≡ false }
     ensures whole { OnOk result (HasWritten (file_line fault) errors.old errors.new) }
     ensures cut { IfErr result (λ _. IsCut (file_line fault) errors.old errors.new) }
 {
@@ -75,6 +77,7 @@ fn report_file<E: Write>(fault: FileFault, errors: &mut Output<E>) -> Result<(),
 
 /// Writes the line of a refusal. Where that writer fails too, the line ends early, and the answer is that fault.
 fn report<E: Write>(refusal: Refusal, errors: &mut Output<E>) -> Result<(), WriteFault>
+    requires { errors.old.has_failed ≡ false }
     ensures whole { OnOk result (HasWritten (refusal_line refusal) errors.old errors.new) }
     ensures cut { IfErr result (λ _. IsCut (refusal_line refusal) errors.old errors.new) }
 {
@@ -97,6 +100,7 @@ fn report<E: Write>(refusal: Refusal, errors: &mut Output<E>) -> Result<(), Writ
 
 /// Ends with the line of a refusal: the status is 2.
 pub fn refuse<E: Write>(refusal: Refusal, errors: &mut Output<E>) -> u8
+    requires { errors.old.has_failed ≡ false }
     ensures status { result ≡ 2 }
     ensures line { IsReported (refusal_line refusal) errors.old errors.new }
 {

@@ -45,9 +45,10 @@ impl<W: Write> Output<W> {
         writer
     }
 
-    /// Hands bytes to the writer once, and says how many it took: one at least.
+    /// Hands bytes to the writer once, and says how many it took: one at least. A writer that has failed is not called again.
     fn write(&mut self, bytes: &[u8]) -> Result<usize, Cause>
-        requires { 1 ≤ length bytes.now }
+        requires sound { self.old.has_failed ≡ false }
+        requires some { 1 ≤ length bytes.now }
         ensures some { IfOk result (λ count. (1 ≤ count) × (count ≤ length bytes.now)) }
         ensures written { IfOk result (λ count. HasWritten (take count bytes.now) self.old self.new) }
         ensures failed { IfErr result (λ cause. HasFailed cause [] self.old self.new) }
@@ -65,8 +66,9 @@ impl<W: Write> Output<W> {
         }
     }
 
-    /// Writes bytes to the last, or up to a write that fails. Each write is handed all that is left, and none is tried again after an error.
+    /// Writes bytes to the last, or up to a write that fails, which ends the writing for good. Each write is handed all that is left.
     pub fn write_whole(&mut self, bytes: &[u8]) -> Result<(), WriteFault>
+        requires { self.old.has_failed ≡ false }
         ensures ok { OnOk result (HasWritten bytes.now self.old self.new) }
         ensures within { IfErr result (λ fault. fault.written < length bytes.now) }
         ensures err { IfErr result (λ fault. HasFailed fault.cause (take fault.written bytes.now) self.old self.new) }

@@ -12,7 +12,7 @@ use std::io;
 use std::io::Write;
 use std::test::Fail;
 
-/// Takes seven bytes a call, and fails at its fourth.
+/// Takes seven bytes a call, but for the fourth, which fails. It counts its calls, those after the fourth too.
 #[derive(Drop)]
 struct Failing {
     bytes: Vec<u8>,
@@ -21,10 +21,10 @@ struct Failing {
 
 impl Write for Failing {
     fn write(&mut self, buf: &[u8]) -> io::Result<usize> {
-        if self.calls >= 3 {
+        self.calls = self.calls.saturating_add(1);
+        if self.calls == 4 {
             return Err(io::Error::from(io::ErrorKind::BrokenPipe));
         }
-        self.calls += 1;
         let count = buf.len().min(7);
         self.bytes.extend_from_slice(&buf[..count])?;
         Ok(count)
@@ -35,14 +35,16 @@ impl Write for Failing {
     }
 }
 
-/// Takes nothing.
+/// Takes nothing at its first call, and then all. It counts its calls.
 #[derive(Drop)]
-struct Full;
+struct Full {
+    calls: u32,
+}
 
 impl Write for Full {
     fn write(&mut self, buf: &[u8]) -> io::Result<usize> {
-        let _ = buf;
-        Ok(0)
+        self.calls = self.calls.saturating_add(1);
+        Ok(if self.calls == 1 { 0 } else { buf.len() })
     }
 
     fn flush(&mut self) -> io::Result<()> {
@@ -104,17 +106,21 @@ fn counts_what_went_out(rt: HostRuntime) -> Result<(), Fail> {
         cause: Cause::Device,
     };
     assert!(rt; write_recording(rt.alloc(), &recording, &mut output) == Err(fault));
-    assert!(rt; output.into_writer().bytes.as_slice() == b"{\"at\":0,\"frame\":0,\"ki".as_slice());
+    let failing = output.into_writer();
+    assert!(rt; failing.bytes.as_slice() == b"{\"at\":0,\"frame\":0,\"ki".as_slice());
+    assert_eq!(rt; failing.calls, 4);
     Ok(())
 }
 
 #[test]
 fn ends_where_nothing_is_taken(rt: HostRuntime) -> Result<(), Fail> {
     let recording = walk(rt.alloc())?;
+    let mut output = Output::new(Full { calls: 0 });
     let fault = WriteFault {
         written: 0,
         cause: Cause::Zero,
     };
-    assert!(rt; write_recording(rt.alloc(), &recording, &mut Output::new(Full)) == Err(fault));
+    assert!(rt; write_recording(rt.alloc(), &recording, &mut output) == Err(fault));
+    assert_eq!(rt; output.into_writer().calls, 1);
     Ok(())
 }

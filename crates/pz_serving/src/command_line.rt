@@ -1,6 +1,6 @@
 //! The serving of a command line.
 
-ghost use Rattle.std.specs.Prelude.{◌≡◌, ◌⊎◌, Bool, Result, IfErr, map, string_bytes};
+ghost use Rattle.std.specs.Prelude.{◌≡◌, ◌⊎◌, Bool, false, Result, IfErr, map, string_bytes};
 ghost use Rattle.pz_serving.specs.CommandLine.{Obeys};
 ghost use Rattle.pz_serving.specs.Serving.{Reports, status_of};
 ghost use Rattle.pz_console.specs.declared.refusal.Refusal.{Refusal};
@@ -37,6 +37,7 @@ pub fn serve_words<T: Files + Threads + Wait + Sync + AllocGlobal, R: Read, W: W
 ) -> u8
 where
     R: Drop,
+    requires { (output.old.has_failed ≡ false) × (errors.old.has_failed ≡ false) }
     ensures { (end : Result Bool Refusal) × (result ≡ status_of end)
         × Obeys (map string_bytes words.now) (R.remaining input) output.old output.new end
         × Reports errors.old errors.new end }

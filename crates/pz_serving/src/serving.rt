@@ -89,6 +89,7 @@ fn run<T: Threads + Wait + Sync, R: Read, W: Write>(
     options: Options,
 ) -> Result<bool, Refusal>
     requires fresh { (input.old.calls ≡ 0) × (input.old.has_failed ≡ false) }
+    requires sound { output.old.has_failed ≡ false }
     requires some { 1 ≤ options.workers }
     requires few { options.workers ≤ 64 }
     ensures called { input.new.calls ≤ MOST_BYTES + 1 }
@@ -123,6 +124,7 @@ pub fn serve_counted<T: Threads + Wait + Sync, R: Read, W: Write, E: Write>(
     options: Options,
 ) -> u8
     requires fresh { (input.old.calls ≡ 0) × (input.old.has_failed ≡ false) }
+    requires sound { (output.old.has_failed ≡ false) × (errors.old.has_failed ≡ false) }
     requires some { 1 ≤ options.workers }
     requires few { options.workers ≤ 64 }
     ensures called { input.new.calls ≤ MOST_BYTES + 1 }
@@ -151,6 +153,7 @@ pub fn serve<T: Threads + Wait + Sync, R: Read, W: Write, E: Write>(
 ) -> u8
 where
     R: Drop,
+    requires sound { (output.old.has_failed ≡ false) × (errors.old.has_failed ≡ false) }
     requires some { 1 ≤ options.workers }
     requires few { options.workers ≤ 64 }
     ensures { (end : Result Bool Refusal) × (result ≡ status_of end)

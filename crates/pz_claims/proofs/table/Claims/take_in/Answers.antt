@@ -9,7 +9,7 @@ join_seat-requires c =
     let key = sym c.self.invariant.0 in (
       ap (λ h. h.table) same,
       ap (λ h. h.table) also,
-      ap (λ m. m.1) c.ended.invariant,
+      ap (λ m. m.1) c.ended.invariant.0,
       search rules,
-      joins _ _ _ _ _ _ (ap (λ m. m.0) c.maker.invariant.0) (ap (λ h. h.total) same ∙ key) (ap (λ m. m.0) c.ended.invariant) (ap (λ h. h.total) also ∙ key),
+      joins _ _ _ _ _ _ (ap (λ m. m.0) c.maker.invariant.0) (ap (λ h. h.total) same ∙ key) (ap (λ m. m.0) c.ended.invariant.0) (ap (λ h. h.total) also ∙ key),
     )
