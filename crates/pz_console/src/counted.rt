@@ -36,6 +36,16 @@ impl<R: Read> Counted<R> {
         }
     }
 
+    /// The reader again.
+    pub fn into_reader(self) -> R
+    where
+        R: Drop,
+        ensures { R.remaining result ≡ self.remaining }
+    {
+        let Counted { input, .. } = self;
+        input
+    }
+
     /// Calls the reader once. It may be called once for each byte that a file may have, and once more: 16,777,217 times.
     pub fn read(&mut self, buffer: &mut [u8]) -> io::Result<usize>
         requires { self.old.calls ≤ MOST_BYTES }

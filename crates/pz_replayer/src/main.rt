@@ -1,6 +1,7 @@
 //! The program: replays recorded PuzzleScript sessions, over its words and its streams.
 #![tactic(auto)]
 
+use pz_console::counted::Counted;
 use pz_console::refusal::{Refusal, refuse};
 use pz_lines::output::Output;
 use pz_serving::command_line::serve_words;
@@ -20,10 +21,11 @@ fn words<R: Env + AllocGlobal>(rt: &R) -> Result<Vec<String>, Refusal> {
 
 /// Serves the command line over the program's streams.
 fn main(rt: HostRuntime) -> ExitCode {
+    let mut input = Counted::new(rt.stdin());
     let mut output = Output::new(rt.stdout());
     let mut errors = Output::new(rt.stderr());
     let status = match words(&rt) {
-        Ok(words) => serve_words(&rt, &words, rt.stdin(), &mut output, &mut errors),
+        Ok(words) => serve_words(&rt, &words, &mut input, &mut output, &mut errors),
         Err(refusal) => refuse(refusal, &mut errors),
     };
     ExitCode::from(status)

@@ -1,5 +1,5 @@
 -- From the bytes of a file of sessions to the lines of their recording and an exit status.
-use Rattle.std.specs.Prelude.{◌≡◌, ◌≢◌, ℕ, Bool, true, false, List, length, nat_lt, if◌then◌else◌, Option, IfSome, Result, Ok, Err}
+use Rattle.std.specs.Prelude.{◌≡◌, ◌≢◌, ℕ, Bool, true, false, List, length, nat_lt, if◌then◌else◌, Option, IfSome, Result, Ok, Err, IsOk}
 use Rattle.std.specs.List.{list_all, list_any}
 use Rattle.std.specs.Str.{is_utf8}
 use Rattle.pz_entries.specs.declared.entry.Entry.{Entry}
@@ -54,11 +54,12 @@ pub record WritesPart (order : Order) (bytes : List ℕ) (cut : WriteFault) (old
   pub ended : EndsFor cut (text_of (shown_of order entries)) old new
 
 -- what a run over this input leaves in its output, where it ends so: nothing but for sessions that were read and replayed;
--- the command line and the opening of FILE come before it
+-- the command line and the opening of FILE come before it. A lane can be lost only where the entries of the file were read
 abbrev pub Serves : Order → Option (List ℕ) → Writes → Writes → Result Bool Refusal → Type 0
 Serves order input old new (Ok passed) = IfSome input (λ bytes. WritesAll order bytes passed old new)
 Serves order input old new (Err (refusal.WriteFault cut)) = IfSome input (λ bytes. WritesPart order bytes cut old new)
 Serves order input old new (Err (refusal.File cause)) = (new ≡ old) × IfSome input (λ bytes. cause ≢ fault.Memory → sessions_in bytes ≡ Err cause)
+Serves order input old new (Err refusal.LaneLost) = (new ≡ old) × IfSome input (λ bytes. IsOk (sessions_in bytes))
 Serves order input old new (Err refusal.BadLine) = ⊥
 Serves order input old new (Err refusal.OpenFault) = ⊥
 Serves order input old new (Err other) = new ≡ old

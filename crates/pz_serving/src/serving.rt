@@ -113,9 +113,11 @@ fn run<T: Threads + Wait + Sync, R: Read, W: Write>(
     }
 }
 
-/// Serves as `serve` does, from a reader that was not called yet and is called at most 16,777,217 times. It ends for a failed read exactly where a
-/// call of the reader answered an error.
-pub fn serve_counted<T: Threads + Wait + Sync, R: Read, W: Write, E: Write>(
+/// Reads a file of sessions to its end, replays them on as many threads as there are workers, writes the lines of their recording,
+/// and answers the exit status: 0 where every session passed, 1 where some didn't, 2 where there is no whole recording. In that case
+/// one line says why, and nothing is written to the output but, where the writing itself failed, the first bytes of the recording.
+/// The reader was not called yet, and is called at most 16,777,217 times. A failed read is the end exactly where a call of it answered an error.
+pub fn serve<T: Threads + Wait + Sync, R: Read, W: Write, E: Write>(
     rt: &T,
     alloc: Global,
     input: &mut Counted<R>,
@@ -137,28 +139,4 @@ pub fn serve_counted<T: Threads + Wait + Sync, R: Read, W: Write, E: Write>(
         Ok(false) => 1,
         Err(refusal) => refuse(refusal, errors),
     }
-}
-
-/// Reads a file of sessions to its end, replays them on as many threads as there are workers, writes the lines of their recording,
-/// and answers the exit status: 0 where every session passed, 1 where some didn't, 2 where there is no whole recording. In that case
-/// one line says why, and nothing is written to the output but, where the writing itself failed, the first bytes of the recording.
-/// The reader is called through `Counted` alone, and so at most 16,777,217 times.
-pub fn serve<T: Threads + Wait + Sync, R: Read, W: Write, E: Write>(
-    rt: &T,
-    alloc: Global,
-    input: R,
-    output: &mut Output<W>,
-    errors: &mut Output<E>,
-    options: Options,
-) -> u8
-where
-    R: Drop,
-    requires sound { (output.old.has_failed ≡ false) × (errors.old.has_failed ≡ false) }
-    requires some { 1 ≤ options.workers }
-    requires few { options.workers ≤ 64 }
-    ensures { (end : Result Bool Refusal) × (result ≡ status_of end)
-        × Serves options.order (R.remaining input) output.old output.new end
-        × Reports errors.old errors.new end }
-{
-    serve_counted(rt, alloc, &mut Counted::new(input), output, errors, options)
 }

@@ -1,5 +1,6 @@
 //! The command line, and the serving of files.
 
+use pz_console::counted::Counted;
 use pz_console::options::{Options, OptionsFault, read_options};
 use pz_lines::output::Output;
 use pz_record::order::Order;
@@ -57,7 +58,7 @@ fn refuses_bad_lines(rt: HostRuntime) -> Result<(), Fail> {
     Ok(())
 }
 
-/// Gives one byte a call, and fails at a call of this number, counted from 0.
+/// Gives one byte a call, and fails at a call of this number, counted from 0. It counts its calls.
 #[derive(Drop)]
 struct Slow<'a> {
     bytes: &'a [u8],
@@ -67,11 +68,11 @@ struct Slow<'a> {
 
 impl<'a> Read for Slow<'a> {
     fn read(&mut self, buf: &mut [u8]) -> io::Result<usize> {
-        if self.calls == self.fails_at {
-            return Err(io::Error::from(io::ErrorKind::BrokenPipe));
-        }
         let at = self.calls;
         self.calls = at.saturating_add(1);
+        if at == self.fails_at {
+            return Err(io::Error::from(io::ErrorKind::BrokenPipe));
+        }
         if at >= self.bytes.len() || buf.is_empty() {
             return Ok(0);
         }
@@ -81,6 +82,12 @@ impl<'a> Read for Slow<'a> {
 }
 
 const REFUSED: &str = r#"[["walk",["no game",[3],"",0]]]"#;
+
+/// One worker, and columns.
+const BY_ONE: Options = Options {
+    workers: 1,
+    order: Order::Columns,
+};
 
 const CLOSE: &str =
     "{\"cause\":\"Section:0\",\"close\":\"refused\",\"frames\":0,\"name\":\"walk\",\"session\":0}\n";
@@ -97,14 +104,17 @@ fn reader_of<'a>(bytes: &'a [u8], fails_at: usize) -> Slow<'a> {
 #[test]
 fn ends_at_a_read_that_fails(rt: HostRuntime) -> Result<(), Fail> {
     for fails_at in 0..REFUSED.len() + 2 {
-        let input = reader_of(REFUSED.as_bytes(), fails_at);
-        let options = Options {
-            workers: 1,
-            order: Order::Columns,
-        };
+        let mut input = Counted::new(reader_of(REFUSED.as_bytes(), fails_at));
         let mut output = Output::new(Vec::new(rt.alloc()));
         let mut errors = Output::new(Vec::new(rt.alloc()));
-        let status = serve(&rt, rt.alloc(), input, &mut output, &mut errors, options);
+        let status = serve(
+            &rt,
+            rt.alloc(),
+            &mut input,
+            &mut output,
+            &mut errors,
+            BY_ONE,
+        );
         let (output, errors) = (output.into_writer(), errors.into_writer());
         let got = (status, output.as_slice(), errors.as_slice());
         let wanted = if fails_at > REFUSED.len() {
@@ -113,17 +123,57 @@ fn ends_at_a_read_that_fails(rt: HostRuntime) -> Result<(), Fail> {
             (2, b"".as_slice(), b"read-fault\n".as_slice())
         };
         assert!(rt; got == wanted);
+        assert_eq!(rt; input.into_reader().calls, fails_at.min(REFUSED.len()) + 1);
     }
+    Ok(())
+}
+
+/// Gives spaces without end, one a call. It counts its calls.
+#[derive(Drop)]
+struct Endless {
+    calls: u64,
+}
+
+impl Read for Endless {
+    fn read(&mut self, buf: &mut [u8]) -> io::Result<usize> {
+        self.calls = self.calls.saturating_add(1);
+        if buf.is_empty() {
+            return Ok(0);
+        }
+        buf[0] = b' ';
+        Ok(1)
+    }
+}
+
+#[test]
+fn calls_a_reader_without_end_as_often_as_promised(rt: HostRuntime) -> Result<(), Fail> {
+    let mut input = Counted::new(Endless { calls: 0 });
+    let mut output = Output::new(Vec::new(rt.alloc()));
+    let mut errors = Output::new(Vec::new(rt.alloc()));
+    let status = serve(
+        &rt,
+        rt.alloc(),
+        &mut input,
+        &mut output,
+        &mut errors,
+        BY_ONE,
+    );
+    let (output, errors) = (output.into_writer(), errors.into_writer());
+    assert!(rt;
+        (status, output.as_slice(), errors.as_slice())
+            == (2, b"".as_slice(), b"too-many\n".as_slice())
+    );
+    assert_eq!(rt; input.into_reader().calls, 16_777_217);
     Ok(())
 }
 
 #[test]
 fn serves_the_input_where_no_file_is_named(rt: HostRuntime) -> Result<(), Fail> {
     let line = words(&rt, "p --workers 1 --order rows")?;
-    let input = reader_of(REFUSED.as_bytes(), usize::MAX);
+    let mut input = Counted::new(reader_of(REFUSED.as_bytes(), usize::MAX));
     let mut output = Output::new(Vec::new(rt.alloc()));
     let mut errors = Output::new(Vec::new(rt.alloc()));
-    let status = serve_words(&rt, &line, input, &mut output, &mut errors);
+    let status = serve_words(&rt, &line, &mut input, &mut output, &mut errors);
     let (output, errors) = (output.into_writer(), errors.into_writer());
     assert!(rt;
         (status, output.as_slice(), errors.as_slice()) == (1, CLOSE.as_bytes(), b"".as_slice())
@@ -140,9 +190,10 @@ fn says_why_a_file_is_not_served(rt: HostRuntime) -> Result<(), Fail> {
         let line = words(&rt, line)?;
         let mut output = Output::new(Vec::new(rt.alloc()));
         let mut errors = Output::new(Vec::new(rt.alloc()));
-        let input = reader_of(REFUSED.as_bytes(), usize::MAX);
-        let status = serve_words(&rt, &line, input, &mut output, &mut errors);
+        let mut input = Counted::new(reader_of(REFUSED.as_bytes(), usize::MAX));
+        let status = serve_words(&rt, &line, &mut input, &mut output, &mut errors);
         let (output, errors) = (output.into_writer(), errors.into_writer());
+        assert_eq!(rt; input.into_reader().calls, 0);
         assert!(rt;
             (status, output.as_slice(), errors.as_slice()) == (2, b"".as_slice(), said.as_bytes())
         );
