@@ -6,7 +6,7 @@ ghost use Rattle.pz_sheet.specs.Grid.{IsOfGame};
 use crate::game::{game_of, joined, loaded};
 use pz_game::direction::Dir;
 use pz_game::game::Game;
-use pz_grid::{Level, push_players, resolve};
+use pz_grid::{Level, Past, push_players, resolve};
 use std::alloc::Global;
 use std::test::Fail;
 
@@ -137,5 +137,49 @@ fn standing(alloc: Global) -> Result<(bool, bool, bool), Fail> {
 fn moves_the_player(rt: HostRuntime) -> Result<(), Fail> {
     let found = standing(rt.alloc())?;
     assert_eq!(rt; found, (false, true, true));
+    Ok(())
+}
+
+/// The level as it is loaded, pushed and moved, kept one after another.
+fn kept(alloc: Global, game: &Game) -> Result<Past, Fail> {
+    let mut past = Past::new(alloc);
+    past.push(loaded(alloc, game)?)?;
+    past.push(pushed(alloc, game)?)?;
+    past.push(moved(alloc, game)?)?;
+    Ok(past)
+}
+
+/// Of the newest level, whether the player heads where it was loaded, and whether it stands beside; None: no level is left.
+fn taken(past: &mut Past) -> Result<Option<(bool, bool)>, Fail> {
+    match past.pop()? {
+        None => Ok(None),
+        Some(level) => Ok(Some((level.dir_of(0, 0, 1).is_some(), level.has(1, 0, 1)))),
+    }
+}
+
+fn all_taken_in(alloc: Global, game: &Game) -> Result<[Option<(bool, bool)>; 4], Fail> {
+    let mut past = kept(alloc, game)?;
+    let moved = taken(&mut past)?;
+    let pushed = taken(&mut past)?;
+    let loaded = taken(&mut past)?;
+    let none = taken(&mut past)?;
+    Ok([moved, pushed, loaded, none])
+}
+
+fn all_taken(alloc: Global) -> Result<[Option<(bool, bool)>; 4], Fail> {
+    let game = small_game(alloc)?;
+    all_taken_in(alloc, &game)
+}
+
+#[test]
+fn takes_the_newest_level_back_first(rt: HostRuntime) -> Result<(), Fail> {
+    let found = all_taken(rt.alloc())?;
+    let levels = [
+        Some((false, true)),
+        Some((true, false)),
+        Some((false, false)),
+        None,
+    ];
+    assert_eq!(rt; found, levels);
     Ok(())
 }

@@ -2,6 +2,7 @@
 
 ghost use Rattle.std.specs.Prelude.{◌≡◌, ◌≢◌, ◌≤◌, ◌+◌, ◌⊎◌, ◌↔◌, Bool, true, false, Result, Ok, Err, IfOk, IfErr, length};
 ghost use Rattle.pz_entries.specs.declared.fault.FileFault.TheVariants as fault;
+ghost use Rattle.pz_console.specs.declared.options.TheConstants.{MOST_WORKERS};
 ghost use Rattle.pz_console.specs.declared.refusal.Refusal.{Refusal};
 ghost use Rattle.pz_serving.specs.Serving.{Reports, Serves, all_passed, has_passed, sessions_in, shown_of, status_of};
 
@@ -49,7 +50,7 @@ fn record<T: Threads + Wait + Sync>(
 ) -> Result<Recording, Refusal>
     requires entries { length entries.items ≤ MOST_ENTRIES }
     requires some { 1 ≤ options.workers }
-    requires few { options.workers ≤ 64 }
+    requires few { options.workers ≤ MOST_WORKERS }
     ensures shown { IfOk result (λ shown. shown ≡ shown_of options.order entries.items) }
     ensures refused { IfErr result (λ refusal. (refusal ≡ Refusal.Memory) ⊎ (refusal ≡ Refusal.LaneLost)) }
 {
@@ -91,7 +92,7 @@ fn run<T: Threads + Wait + Sync, R: Read, W: Write>(
     requires fresh { (input.old.calls ≡ 0) × (input.old.has_failed ≡ false) }
     requires sound { output.old.has_failed ≡ false }
     requires some { 1 ≤ options.workers }
-    requires few { options.workers ≤ 64 }
+    requires few { options.workers ≤ MOST_WORKERS }
     ensures called { input.new.calls ≤ MOST_BYTES + 1 }
     ensures failed { (result ≡ Err Refusal.ReadFault) ↔ (input.new.has_failed ≡ true) }
     ensures served { Serves options.order input.old.remaining output.old output.new result }
@@ -128,7 +129,7 @@ pub fn serve<T: Threads + Wait + Sync, R: Read, W: Write, E: Write>(
     requires fresh { (input.old.calls ≡ 0) × (input.old.has_failed ≡ false) }
     requires sound { (output.old.has_failed ≡ false) × (errors.old.has_failed ≡ false) }
     requires some { 1 ≤ options.workers }
-    requires few { options.workers ≤ 64 }
+    requires few { options.workers ≤ MOST_WORKERS }
     ensures called { input.new.calls ≤ MOST_BYTES + 1 }
     ensures served { (end : Result Bool Refusal) × (result ≡ status_of end) × ((end ≡ Err Refusal.ReadFault) ↔ (input.new.has_failed ≡ true))
         × Serves options.order input.old.remaining output.old output.new end
