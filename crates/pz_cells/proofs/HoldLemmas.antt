@@ -4,6 +4,7 @@ use Rattle.std.specs.Prelude.{All, IfSome, IsTrue, ◌↔◌}
 use Rattle.std.proofs.lemmas.Bool.{cases_lt, eqb-true, and_parts, or_cases, or_left, or_right, and_from}
 use Rattle.std.proofs.lemmas.List.{get_or_past}
 use Rattle.std.proofs.lemmas.List.FromFn.{get_or-map-range_with_len, length-map-range_with_len}
+use Rattle.pz_game.specs.declared.limits.TheConstants.{MAX_LAYERS, MAX_OBJECTS}
 use Rattle.pz_sets.specs.Sets.{member, IsWithin, AreApart}
 use Rattle.pz_cells.specs.declared.piece.Piece.{Piece}
 use Rattle.pz_game.specs.declared.direction.Dir.{Dir}
@@ -263,7 +264,7 @@ holds_by_sets depth layers objects movement items masks m low lawful are = (fort
       )
 
 -- a cell of a rule of the game is within the limits of games
-pub low_of_game : (depth : ℕ) (layers : List ℕ) (items : List Item) → All (λ layer. layer < depth) layers → length layers ≤ 512 → depth ≤ 100 → AreOf layers items → All IsLow items
+pub low_of_game : (depth : ℕ) (layers : List ℕ) (items : List Item) → All (λ layer. layer < depth) layers → length layers ≤ MAX_OBJECTS → depth ≤ MAX_LAYERS → AreOf layers items → All IsLow items
 low_of_game depth layers items low few shallow are k d within =
     let is = are k d within in
     let there = low (get_or items k d).object 0 is.object in

@@ -1,6 +1,7 @@
 //! A cell in words.
 
 ghost use Rattle.std.specs.Prelude.{◌≡◌, ◌≢◌, ℕ, ◌*◌, ◌/◌, ◌<◌, ◌≤◌, true, not, ◌&&◌, ◌||◌, nat_eq, length, slice_index, MatchOption, Some, None};
+ghost use Rattle.pz_game.specs.declared.limits.TheConstants.{MAX_LAYERS, MAX_OBJECTS};
 ghost use Rattle.pz_sets.specs.Sets.{member};
 ghost use Rattle.pz_game.specs.declared.direction.Dir.{Dir};
 ghost use Rattle.pz_game.specs.Headings.{is_toward, heads, IsProper};
@@ -45,8 +46,8 @@ impl<const N: usize> Cell<N> {
     /// What stands on a layer.
     pub fn place(&self, layers: &[usize], set: &[u128], layer: usize) -> Option<Piece>
         requires short { N ≤ 4 }
-        requires few { length layers.now ≤ 512 }
-        requires low { layer < 100 }
+        requires few { length layers.now ≤ MAX_OBJECTS }
+        requires low { layer < MAX_LAYERS }
         requires lawful { AreLawful layers.now self.now.objects self.now.movement }
         requires set { IsSetOf layers.now set.now layer }
         ensures { result ≡ place_of layers.now self.now.objects self.now.movement layer }
@@ -65,7 +66,7 @@ impl<const N: usize> Cell<N> {
 
     /// Takes what stands on a layer away.
     fn lift(&mut self, layers: &[usize], layer: usize, here: Option<Piece>)
-        requires low { layer < 100 }
+        requires low { layer < MAX_LAYERS }
         requires lawful { AreLawful layers.now self.old.objects self.old.movement }
         requires here { here ≡ place_of layers.now self.old.objects self.old.movement layer }
         ensures { Changes layers.now self.old.objects self.old.movement self.new.objects self.new.movement layer None }
@@ -82,7 +83,7 @@ impl<const N: usize> Cell<N> {
 
     /// Lets a layer head.
     fn head(&mut self, layer: usize, heading: Option<Dir>)
-        requires low { layer < 100 }
+        requires low { layer < MAX_LAYERS }
         requires within { layer / 25 < N }
         ensures objects { self.new.objects ≡ self.old.objects }
         ensures heads { (other : ℕ) (way : Dir) → heads self.new.movement other way ≡ ((nat_eq other layer && is_toward heading way) || heads self.old.movement other way) }
@@ -97,7 +98,7 @@ impl<const N: usize> Cell<N> {
     /// Puts a piece on a layer where nothing stands.
     fn land(&mut self, layers: &[usize], layer: usize, piece: Piece)
         requires short { N ≤ 4 }
-        requires low { layer < 100 }
+        requires low { layer < MAX_LAYERS }
         requires object_within { piece.object / 128 < N }
         requires within { layer / 25 < N }
         requires lawful { AreLawful layers.now self.old.objects self.old.movement }
@@ -114,7 +115,7 @@ impl<const N: usize> Cell<N> {
     /// Puts a piece, or nothing, on a layer, in the place of what stands there.
     pub fn put(&mut self, layers: &[usize], layer: usize, here: Option<Piece>, place: Option<Piece>)
         requires short { N ≤ 4 }
-        requires low { layer < 100 }
+        requires low { layer < MAX_LAYERS }
         requires object_words { length layers.now ≤ 128 * N }
         requires within { layer / 25 < N }
         requires lawful { AreLawful layers.now self.old.objects self.old.movement }

@@ -1,6 +1,7 @@
 //! Changes of cells that a level is loaded by, or that a step begins or ends with.
 
 ghost use Rattle.std.specs.Prelude.{◌≡◌, ℕ, ◌*◌, ◌/◌, ◌<◌, ◌≤◌, All, true, false, List, length, slice_index, slice_index_or, unwrap_or, Some};
+ghost use Rattle.pz_game.specs.declared.limits.TheConstants.{MAX_LAYERS, MAX_OBJECTS};
 ghost use Rattle.pz_sets.specs.Sets.{member};
 ghost use Rattle.pz_cells.specs.Cell.{IsOnLayer, still_piece};
 ghost use Rattle.pz_cells.specs.Shown.{place_of, IsSetOf, AreLawful, Changes};
@@ -34,7 +35,7 @@ impl<const N: usize> Cell<N> {
 
     /// Lets an object head in a direction, if it stands in the cell.
     pub fn turn(&mut self, depth: usize, layers: &[usize], object: usize, dir: Dir)
-        requires shallow { depth ≤ 100 }
+        requires shallow { depth ≤ MAX_LAYERS }
         requires movement_room { depth ≤ 25 * N }
         requires layered { All (λ layer. layer < depth) layers.now }
         requires lawful { AreLawful layers.now self.old.objects self.old.movement }
@@ -53,8 +54,8 @@ impl<const N: usize> Cell<N> {
     /// Puts a piece on a layer, if nothing stands there.
     pub fn fill(&mut self, layers: &[usize], set: &[u128], layer: usize, piece: Piece)
         requires short { N ≤ 4 }
-        requires few { length layers.now ≤ 512 }
-        requires low { layer < 100 }
+        requires few { length layers.now ≤ MAX_OBJECTS }
+        requires low { layer < MAX_LAYERS }
         requires room { length layers.now ≤ 128 * N }
         requires within { layer / 25 < N }
         requires lawful { AreLawful layers.now self.old.objects self.old.movement }
@@ -70,8 +71,8 @@ impl<const N: usize> Cell<N> {
     /// Puts an object on its layer, in the place of what stands there.
     pub fn add(&mut self, layers: &[usize], sets: &[NumberSet], object: usize)
         requires short { N ≤ 4 }
-        requires few { length layers.now ≤ 512 }
-        requires shallow { length sets.now ≤ 100 }
+        requires few { length layers.now ≤ MAX_OBJECTS }
+        requires shallow { length sets.now ≤ MAX_LAYERS }
         requires room { length layers.now ≤ 128 * N }
         requires movement_room { length sets.now ≤ 25 * N }
         requires layered { All (λ layer. layer < length sets.now) layers.now }

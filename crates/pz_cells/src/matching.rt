@@ -1,6 +1,7 @@
 //! What holds in a cell.
 
 ghost use Rattle.std.specs.Prelude.{◌≡◌, ◌<◌, ◌≤◌, ◌↔◌, IsTrue, All, length};
+ghost use Rattle.pz_game.specs.declared.limits.TheConstants.{MAX_LAYERS, MAX_OBJECTS};
 ghost use Rattle.pz_sets.specs.Sets.{IsWithin, AreApart};
 ghost use Rattle.pz_game.specs.Pattern.{AreOf};
 ghost use Rattle.pz_cells.specs.Pattern.{pattern_holds};
@@ -22,8 +23,8 @@ impl<const N: usize> Cell<N> {
     /// Whether a rule's cell holds here. The layers are those of the game's objects.
     pub fn holds(&self, depth: usize, layers: &[usize], pattern: &Pattern) -> bool
         requires layered { All (λ layer. layer < depth) layers.now }
-        requires few { length layers.now ≤ 512 }
-        requires shallow { depth ≤ 100 }
+        requires few { length layers.now ≤ MAX_OBJECTS }
+        requires shallow { depth ≤ MAX_LAYERS }
         requires of_game { AreOf layers.now pattern.now }
         requires lawful { AreLawful layers.now self.now.objects self.now.movement }
         ensures { result ≡ pattern_holds (cell_of depth layers.now self.now.objects self.now.movement) pattern.now }

@@ -1,6 +1,7 @@
 //! What stands in a cell.
 
 ghost use Rattle.std.specs.Prelude.{◌≡◌, ℕ, ◌<◌, ◌≤◌, ◌↔◌, IsTrue, All, true, false, length, slice_index, MatchOption};
+ghost use Rattle.pz_game.specs.declared.limits.TheConstants.{MAX_LAYERS, MAX_OBJECTS};
 ghost use Rattle.pz_sets.specs.Sets.{member, AreSame};
 ghost use Rattle.pz_game.specs.Headings.{heading_in};
 ghost use Rattle.pz_cells.specs.Shown.{AreLawful};
@@ -51,8 +52,8 @@ impl<const N: usize> Cell<N> {
 
     /// The object's piece, if it stands in the cell. The layers are those of the game's objects.
     pub fn piece(&self, layers: &[usize], object: usize) -> Option<Piece>
-        requires few { length layers.now ≤ 512 }
-        requires low { All (λ layer. layer < 100) layers.now }
+        requires few { length layers.now ≤ MAX_OBJECTS }
+        requires low { All (λ layer. layer < MAX_LAYERS) layers.now }
         requires lawful { AreLawful layers.now self.now.objects self.now.movement }
         ensures { MatchOption result (member self.now.objects object ≡ false) (λ piece. (member self.now.objects object ≡ true) × (piece.object ≡ object) × (piece.heading ≡ heading_in self.now.movement (slice_index layers.now object))) }
     {

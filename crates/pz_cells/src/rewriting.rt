@@ -1,6 +1,7 @@
 //! The rewriting of cells.
 
 ghost use Rattle.std.specs.Prelude.{◌≡◌, ◌≢◌, ℕ, ◌*◌, ◌<◌, ◌≤◌, true, false, not, ◌&&◌, ◌||◌, List, All, length, slice_index, slice_index_or};
+ghost use Rattle.pz_game.specs.declared.limits.TheConstants.{MAX_LAYERS, MAX_OBJECTS};
 ghost use Rattle.pz_sets.specs.Sets.{member};
 ghost use Rattle.pz_game.specs.declared.direction.Dir.{Dir};
 ghost use Rattle.pz_game.specs.Headings.{heads, IsProper};
@@ -13,7 +14,7 @@ ghost use Rattle.pz_cells.specs.Shown.{cell_of, IsSetOf, AreLawful};
 use crate::cell::Cell;
 use pz_game::headings;
 use pz_game::pattern::Pattern;
-use pz_sets::set::NumberSet;
+use pz_sets::set::{CAPACITY, NumberSet};
 use pz_sets::words::{next_common, replace};
 
 /// The numbers of a set, with those of another if a test holds.
@@ -45,7 +46,7 @@ fn objects_on(layers: &[usize], sets: &[NumberSet], chosen: &NumberSet) -> Numbe
 
 /// Ends the movement of a layer, unless it is one of some.
 fn end_unless(movement: &mut [u128], spared: &NumberSet, layer: usize)
-    requires { layer < 100 }
+    requires { layer < MAX_LAYERS }
     ensures ended { member spared.now layer ≡ false → (dir : Dir) → heads movement.new layer dir ≡ false }
     ensures spared { member spared.now layer ≡ true → (other : ℕ) (dir : Dir) → heads movement.new other dir ≡ heads movement.old other dir }
     ensures others { (other : ℕ) (dir : Dir) → other ≢ layer → heads movement.new other dir ≡ heads movement.old other dir }
@@ -65,8 +66,8 @@ fn end_leaving(
     cleared: &NumberSet,
     removed: &NumberSet,
 )
-    requires low { All (λ layer. layer < 100) layers.now }
-    requires few { length layers.now ≤ 512 }
+    requires low { All (λ layer. layer < MAX_LAYERS) layers.now }
+    requires few { length layers.now ≤ MAX_OBJECTS }
     requires short { length objects.now ≤ 4 }
     requires of_game { (object : ℕ) → member objects.now object ≡ true → object < length layers.now }
     ensures ended { (object : ℕ) (dir : Dir) → Leaves layers.now objects.now cleared.now (member removed.now) object → heads movement.new (slice_index layers.now object) dir ≡ false }
@@ -74,7 +75,7 @@ fn end_leaving(
     ensures proper { IsProper movement.old → IsProper movement.new }
 {
     let mut start = 0;
-    while start < 512 {
+    while start < CAPACITY {
         match next_common(objects, removed.words(), start) {
             None => return,
             Some(object) => {
@@ -96,8 +97,8 @@ impl<const N: usize> Cell<N> {
         right: &Pattern,
     ) -> bool
         requires short { N ≤ 4 }
-        requires few { length layers.now ≤ 512 }
-        requires shallow { depth ≤ 100 }
+        requires few { length layers.now ≤ MAX_OBJECTS }
+        requires shallow { depth ≤ MAX_LAYERS }
         requires room { length layers.now ≤ 128 * N }
         requires movement_room { depth ≤ 25 * N }
         requires layered { All (λ layer. layer < depth) layers.now }

@@ -1,6 +1,7 @@
 //! Where the objects of layers head, as sets of numbers: five for each layer, those of 25 layers in a word.
 
 ghost use Rattle.std.specs.Prelude.{◌≡◌, ℕ, ◌+◌, ◌/◌, ◌%◌, ◌<◌, ◌↔◌, IsTrue, true, false, MatchOption, ◌≤◌, not, ◌&&◌, ◌||◌, nat_eq, length};
+ghost use Rattle.pz_game.specs.declared.limits.TheConstants.{MAX_LAYERS};
 ghost use Rattle.pz_sets.specs.Sets.{member};
 ghost use Rattle.pz_sets.specs.declared.set.TheConstants.{CAPACITY};
 ghost use Rattle.pz_game.specs.declared.direction.Dir.{Dir};
@@ -25,7 +26,7 @@ fn bit(dir: Dir) -> usize
 
 /// The number of a layer's direction in the words.
 pub fn flag(layer: usize, dir: Dir) -> usize
-    requires { layer < 100 }
+    requires { layer < MAX_LAYERS }
     ensures number { result ≡ flag layer dir }
     ensures word { result / 128 ≡ layer / 25 }
     ensures field { result % 128 < 125 }
@@ -36,7 +37,7 @@ pub fn flag(layer: usize, dir: Dir) -> usize
 
 /// Whether the layer heads in the direction.
 pub fn heads(set: &[u128], layer: usize, dir: Dir) -> bool
-    requires { layer < 100 }
+    requires { layer < MAX_LAYERS }
     ensures { result ≡ heads set.now layer dir }
 {
     words::contains(set, flag(layer, dir))
@@ -44,7 +45,7 @@ pub fn heads(set: &[u128], layer: usize, dir: Dir) -> bool
 
 /// Where the layer heads: the first of its directions.
 pub fn heading(set: &[u128], layer: usize) -> Option<Dir>
-    requires { layer < 100 }
+    requires { layer < MAX_LAYERS }
     ensures { result ≡ heading_in set.now layer }
 {
     if heads(set, layer, Dir::Up) {
@@ -64,7 +65,7 @@ pub fn heading(set: &[u128], layer: usize) -> Option<Dir>
 
 /// Lets a layer head in a direction.
 pub fn set(set: &mut [u128], layer: usize, dir: Dir)
-    requires low { layer < 100 }
+    requires low { layer < MAX_LAYERS }
     requires within { layer / 25 < length set.old }
     ensures heads { (other : ℕ) (way : Dir) → heads set.new other way ≡ ((nat_eq other layer && same_dir dir way) || heads set.old other way) }
     ensures proper { IsProper set.old → IsProper set.new }
@@ -74,7 +75,7 @@ pub fn set(set: &mut [u128], layer: usize, dir: Dir)
 
 /// Takes a direction from a layer.
 fn unset(set: &mut [u128], layer: usize, dir: Dir)
-    requires { layer < 100 }
+    requires { layer < MAX_LAYERS }
     ensures heads { (other : ℕ) (way : Dir) → heads set.new other way ≡ (not (nat_eq other layer && same_dir dir way) && heads set.old other way) }
     ensures proper { IsProper set.old → IsProper set.new }
 {
@@ -83,7 +84,7 @@ fn unset(set: &mut [u128], layer: usize, dir: Dir)
 
 /// Ends the movement of a layer.
 pub fn clear(set: &mut [u128], layer: usize)
-    requires { layer < 100 }
+    requires { layer < MAX_LAYERS }
     ensures heads { (other : ℕ) (way : Dir) → heads set.new other way ≡ (not (nat_eq other layer) && heads set.old other way) }
     ensures proper { IsProper set.old → IsProper set.new }
 {
@@ -97,9 +98,9 @@ pub fn clear(set: &mut [u128], layer: usize)
 /// The next layer from one on that heads somewhere.
 pub fn next(set: &[u128], start: usize) -> Option<usize>
     requires short { length set.now ≤ 4 }
-    requires low { start ≤ 100 }
+    requires low { start ≤ MAX_LAYERS }
     requires proper { IsProper set.now }
-    ensures { MatchOption result ((layer : ℕ) (dir : Dir) → start ≤ layer → heads set.now layer dir ≡ false) (λ found. (start ≤ found) × (found < 100) × ((layer : ℕ) (dir : Dir) → start ≤ layer → layer < found → heads set.now layer dir ≡ false)) }
+    ensures { MatchOption result ((layer : ℕ) (dir : Dir) → start ≤ layer → heads set.now layer dir ≡ false) (λ found. (start ≤ found) × (found < MAX_LAYERS) × ((layer : ℕ) (dir : Dir) → start ≤ layer → layer < found → heads set.now layer dir ≡ false)) }
 {
     match words::next(set, start / 25 * 128 + start % 25 * 5) {
         None => None,

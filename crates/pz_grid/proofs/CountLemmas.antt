@@ -1,6 +1,7 @@
 -- How many places a row can have: without a gap no more than the level has cells, which is within the limit of a search.
 use Rattle.std.proofs.Common.{◌≡◌, ℕ, zero, suc, ◌+◌, ◌*◌, ◌≤◌, List, [], ◌∷◌, filter, Bool, true, false, None, Ok, length, cond, arith, ap, refl, mul-le-mul_right}
 use Rattle.std.proofs.lemmas.List.{length-append}
+use Rattle.pz_game.specs.declared.limits.TheConstants.{MAX_SIDE}
 use Rattle.pz_game.specs.declared.direction.Dir.{Dir}
 use Rattle.pz_game.specs.declared.direction.Dir.TheVariants.{Up, Down, Left, Right, Action}
 use Rattle.pz_game.specs.Pattern.{RuleRow}
@@ -38,21 +39,21 @@ places_few : (grid : Grid) (row : RuleRow) (dir : Dir) → row.gap_at ≡ None �
 places_few grid row dir none =
     omega (arith, gather_few (found_in grid row dir) (line_length grid dir) (found_in_few grid row dir none) (line_count grid dir), ap length (places_all grid row dir))
 
-count_low : (grid : Grid) (dir : Dir) → IsLawful grid → line_count grid dir ≤ 255
+count_low : (grid : Grid) (dir : Dir) → IsLawful grid → line_count grid dir ≤ MAX_SIDE
 count_low grid Up lawful = omega (arith, lawful.size.narrow)
 count_low grid Down lawful = omega (arith, lawful.size.narrow)
 count_low grid Left lawful = omega (arith, lawful.size.low)
 count_low grid Right lawful = omega (arith, lawful.size.low)
 count_low grid Action lawful = omega (arith, lawful.size.low)
 
-length_low : (grid : Grid) (dir : Dir) → IsLawful grid → line_length grid dir ≤ 255
+length_low : (grid : Grid) (dir : Dir) → IsLawful grid → line_length grid dir ≤ MAX_SIDE
 length_low grid Up lawful = omega (arith, lawful.size.low)
 length_low grid Down lawful = omega (arith, lawful.size.low)
 length_low grid Left lawful = omega (arith, lawful.size.narrow)
 length_low grid Right lawful = omega (arith, lawful.size.narrow)
 length_low grid Action lawful = omega (arith, lawful.size.narrow)
 
-product_low : (n m : ℕ) → n ≤ 255 → m ≤ 255 → n * m ≤ 65025
+product_low : (n m : ℕ) → n ≤ MAX_SIDE → m ≤ MAX_SIDE → n * m ≤ 65025
 product_low n m h k = omega (arith, mul-le-mul_right m h)
 
 -- a row without a gap never meets the limit of a search

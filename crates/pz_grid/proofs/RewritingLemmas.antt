@@ -7,6 +7,7 @@ use Rattle.std.proofs.lemmas.List.{length-set, get_or_past, get_or-set_other}
 use Rattle.std.proofs.lemmas.List.FromFn.{fill_by_all, get_or-map-range_with_len, length-map-range_with_len}
 use Rattle.std.proofs.lemmas.List.Edits.{fill_by_more}
 use Rattle.std.proofs.lemmas.List.Elements.{All-set, All-get_or}
+use Rattle.pz_game.specs.declared.limits.TheConstants.{MAX_OBJECTS}
 use Rattle.pz_game.specs.declared.pattern.Item.{Item}
 use Rattle.pz_game.specs.Pattern.{AreOf}
 use Rattle.pz_cells.specs.declared.piece.Piece.{Piece}
@@ -66,7 +67,7 @@ lawful-with_rewritten grid x y left right are within h = record {
 }
 
 -- objects of a game are few
-pub low_from_of : (layers : List ℕ) (right : List Item) → AreOf layers right → length layers ≤ 512 → All (λ item. item.object < 65536) right
+pub low_from_of : (layers : List ℕ) (right : List Item) → AreOf layers right → length layers ≤ MAX_OBJECTS → All (λ item. item.object < 65536) right
 low_from_of layers right are few = λ k d q. let of = are k d q in omega (arith, of.object, few)
 
 pub placed_low : (layer : ℕ) (right : List Item) (item : Item) → All (λ i. i.object < 65536) right → placed_on layer right ≡ Some item → item.object < 65536

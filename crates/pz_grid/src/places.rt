@@ -1,6 +1,7 @@
 //! The places of a row of a rule: where it holds.
 
 ghost use Rattle.std.specs.Prelude.{◌≡◌, ◌≢◌, ℕ, ◌+◌, ◌*◌, ◌<◌, ◌≤◌, cond, [], ◌∷◌, ◌++◌, ◌^◌, filter, length, OnOk, IfOk, IfErr, IfSome, Ok, Err};
+ghost use Rattle.pz_game.specs.declared.limits.TheConstants.{MAX_SIDE};
 ghost use Rattle.pz_game.specs.Pattern.{AreOf, IsRowOf, AreRowsOf};
 ghost use Rattle.pz_grid.specs.Admitted.{admitted, searches_line, start_count};
 ghost use Rattle.pz_grid.specs.Places.{on_map, along, holds_at, position_of, distance, row_holds, line_count, line_length, place_in, gap_count, pairs_at, pairs_in, places, searched, starts_with, still_holds, still_matches};
@@ -139,7 +140,7 @@ fn row_holds(bare: &BareLevel, row: &Row, dir: Dir, place: Place) -> bool
 
 fn line_count(bare: &BareLevel, dir: Dir) -> u32
     ensures value { result ≡ line_count bare.now.grid dir }
-    ensures small { result ≤ 255 }
+    ensures small { result ≤ MAX_SIDE }
 {
     match dir {
         Dir::Up | Dir::Down => bare.width(),
@@ -149,7 +150,7 @@ fn line_count(bare: &BareLevel, dir: Dir) -> u32
 
 fn line_length(bare: &BareLevel, dir: Dir) -> u32
     ensures value { result ≡ line_length bare.now.grid dir }
-    ensures small { result ≤ 255 }
+    ensures small { result ≤ MAX_SIDE }
 {
     match dir {
         Dir::Up | Dir::Down => bare.height(),
@@ -189,7 +190,7 @@ fn next_start(bare: &BareLevel, dir: Dir, line: u32, from: u32, first: &Pattern)
 /// How many gaps a row may span.
 fn gap_count(bare: &BareLevel, row: &Row, dir: Dir) -> u32
     ensures value { result ≡ gap_count bare.now.grid row.now dir }
-    ensures small { result ≤ 255 }
+    ensures small { result ≤ MAX_SIDE }
 {
     if row.gap_at().is_some() {
         line_length(bare, dir)
@@ -260,7 +261,7 @@ fn add_places_in(
     requires few { tested ≤ 65536 }
     ensures added { OnOk result (found.new.items ≡ found.old.items ++ filter (row_holds bare.now.grid row.now dir) (pairs_in bare.now.grid row.now dir line)) }
     ensures count { IfOk result (λ count. count ≡ tested + line_length bare.now.grid dir) }
-    ensures few { IfOk result (λ count. count ≤ tested + 255) }
+    ensures few { IfOk result (λ count. count ≤ tested + MAX_SIDE) }
     ensures room { OnOk result (length found.new.items ≤ MATCH_LIMIT) }
     ensures limit { result ≡ Err GridFault.MatchLimit → MATCH_LIMIT < length (found.old.items ++ filter (row_holds bare.now.grid row.now dir) (pairs_in bare.now.grid row.now dir line)) }
 {
@@ -277,7 +278,7 @@ fn add_places_in(
 impl Level {
     fn line_count(&self, dir: Dir) -> u32
         ensures value { result ≡ line_count self.now.grid dir }
-        ensures small { result ≤ 255 }
+        ensures small { result ≤ MAX_SIDE }
     {
         line_count(&self.bare, dir)
     }
@@ -297,7 +298,7 @@ impl Level {
         requires few { tested ≤ 65536 }
         ensures added { OnOk result (found.new.items ≡ found.old.items ++ filter (row_holds self.now.grid row.now dir) (pairs_in self.now.grid row.now dir line)) }
         ensures count { IfOk result (λ count. count ≡ tested + cond (searches_line self.now row.now dir line) (line_length self.now.grid dir) 0) }
-        ensures few { IfOk result (λ count. count ≤ tested + 255) }
+        ensures few { IfOk result (λ count. count ≤ tested + MAX_SIDE) }
         ensures room { OnOk result (length found.new.items ≤ MATCH_LIMIT) }
         ensures limit { result ≡ Err GridFault.MatchLimit → MATCH_LIMIT < length (found.old.items ++ filter (row_holds self.now.grid row.now dir) (pairs_in self.now.grid row.now dir line)) }
     {

@@ -2,6 +2,7 @@
 
 ghost use Rattle.std.specs.Prelude.{◌≡◌, ◌≢◌, ℕ, ◌/◌, ◌%◌, ◌<◌, ◌≤◌, ◌↔◌, IsTrue, true, false, not, ◌&&◌, ◌||◌, nat_eq, length, slice_index, MatchOption};
 ghost use Rattle.pz_sets.specs.Sets.{in_word, member, IsWithin, AreApart, AreSame};
+ghost use Rattle.pz_sets.specs.declared.set.TheConstants.{CAPACITY};
 
 use crate::word;
 
@@ -76,7 +77,7 @@ pub fn same(words: &[u128], others: &[u128]) -> bool
 /// The least number from one on.
 pub fn next(words: &[u128], start: usize) -> Option<usize>
     requires short { length words.now ≤ 4 }
-    requires low { start ≤ 512 }
+    requires low { start ≤ CAPACITY }
     ensures { MatchOption result ((number : ℕ) → start ≤ number → member words.now number ≡ false) (λ found. (start ≤ found) × (found / 128 < length words.now) × (member words.now found ≡ true) × ((number : ℕ) → start ≤ number → number < found → member words.now number ≡ false)) }
 {
     let mut number = start;
@@ -92,7 +93,7 @@ pub fn next(words: &[u128], start: usize) -> Option<usize>
 /// The least number of both sets from one on.
 pub fn next_common(words: &[u128], others: &[u128], start: usize) -> Option<usize>
     requires short { length words.now ≤ 4 }
-    requires low { start ≤ 512 }
+    requires low { start ≤ CAPACITY }
     ensures { MatchOption result ((number : ℕ) → start ≤ number → (member words.now number && member others.now number) ≡ false) (λ found. (start ≤ found) × (found / 128 < length words.now) × ((member words.now found && member others.now found) ≡ true) × ((number : ℕ) → start ≤ number → number < found → (member words.now number && member others.now number) ≡ false)) }
 {
     let mut number = start;

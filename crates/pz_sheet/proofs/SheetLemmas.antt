@@ -7,6 +7,7 @@ use Rattle.std.proofs.lemmas.List.FromFn.{length-map-range_with_len}
 use Rattle.std.proofs.lemmas.List.Elements.{All-map, All-set}
 use Rattle.std.specs.List.{All}
 use prog.Memory.{up}
+use Rattle.pz_game.specs.declared.limits.TheConstants.{MAX_OBJECTS}
 use Rattle.pz_sets.specs.Sets.{member, AreSame}
 use Rattle.pz_game.specs.declared.direction.Dir.{Dir}
 use Rattle.pz_cells.specs.declared.cell.Cell.{Cell}
@@ -85,7 +86,7 @@ place_again N layers layers_read layers_again cells at layer cell again here h i
     e ∙ (ap (λ (all : List ℕ). place_of all cell.objects cell.movement layer) (same ∙ sym same_again)
     ∙ ap (λ (c : Cell N). place_of layers_again c.objects c.movement layer) (is ∙ (get_or_default cells at cell again h ∙ sym is_again)))
 
-pub low_place : (layers : List ℕ) (layer : ℕ) (place : Option Piece) → length layers ≤ 512 → IsOnLayer layers layer place → IfSome place (λ piece. piece.object < 512)
+pub low_place : (layers : List ℕ) (layer : ℕ) (place : Option Piece) → length layers ≤ MAX_OBJECTS → IsOnLayer layers layer place → IfSome place (λ piece. piece.object < MAX_OBJECTS)
 low_place layers layer None few on = tt
 low_place layers layer (Some piece) few on = omega (arith, on.0, few)
 

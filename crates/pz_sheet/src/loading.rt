@@ -1,6 +1,7 @@
 //! Levels, as they are drawn and filled.
 
 ghost use Rattle.std.specs.Prelude.{◌≡◌, ◌≤◌, ◌<◌, ◌*◌, ◌/◌, ◌&&◌, ◌||◌, ℕ, List, IfOk, All, length, map, fold, nat_eq, slice_index, slice_index_or, Some};
+ghost use Rattle.pz_game.specs.declared.limits.TheConstants.{MAX_LAYERS, MAX_OBJECTS};
 ghost use Rattle.pz_sets.specs.Sets.{member};
 ghost use Rattle.pz_cells.specs.Cell.{IsOnLayer, empty_cell};
 ghost use Rattle.pz_cells.specs.Shown.{cell_of, IsSetOf, AreLawful};
@@ -61,7 +62,7 @@ impl<const N: usize> Sheet<N> {
 }
 
 fn insert_if(set: &mut NumberSet, number: usize, test: bool)
-    requires { number < 512 }
+    requires { number < MAX_OBJECTS }
     ensures { (other : ℕ) → member set.new other ≡ ((test && nat_eq other number) || member set.old other) }
 {
     if test {
@@ -71,7 +72,7 @@ fn insert_if(set: &mut NumberSet, number: usize, test: bool)
 
 /// The objects of a layer.
 fn layer_set(layers: &[usize], layer: usize) -> NumberSet
-    requires { length layers.now ≤ 512 }
+    requires { length layers.now ≤ MAX_OBJECTS }
     ensures { IsSetOf layers.now result layer }
 {
     let mut set = NumberSet::empty();
@@ -83,7 +84,7 @@ fn layer_set(layers: &[usize], layer: usize) -> NumberSet
 
 /// The objects of each layer.
 fn layer_sets(alloc: Global, depth: usize, layers: &[usize]) -> Result<Vec<NumberSet>, AllocError>
-    requires { length layers.now ≤ 512 }
+    requires { length layers.now ≤ MAX_OBJECTS }
     ensures deep { IfOk result (λ sets. length sets.items ≡ depth) }
     ensures table { IfOk result (λ sets. (layer : ℕ) (other : List ℕ) → layer < length sets.items → IsSetOf layers.now (slice_index_or sets.items layer other) layer) }
 {
@@ -156,8 +157,8 @@ fn add_objects<const N: usize>(
     objects: &[usize],
 )
     requires short { N ≤ 4 }
-    requires few { length layers.now ≤ 512 }
-    requires shallow { length sets.now ≤ 100 }
+    requires few { length layers.now ≤ MAX_OBJECTS }
+    requires shallow { length sets.now ≤ MAX_LAYERS }
     requires room { length layers.now ≤ 128 * N }
     requires movement_room { length sets.now ≤ 25 * N }
     requires layered { All (λ layer. layer < length sets.now) layers.now }
@@ -179,8 +180,8 @@ fn add_object<const N: usize>(
     object: usize,
 )
     requires short { N ≤ 4 }
-    requires few { length layers.now ≤ 512 }
-    requires shallow { length sets.now ≤ 100 }
+    requires few { length layers.now ≤ MAX_OBJECTS }
+    requires shallow { length sets.now ≤ MAX_LAYERS }
     requires room { length layers.now ≤ 128 * N }
     requires movement_room { length sets.now ≤ 25 * N }
     requires layered { All (λ layer. layer < length sets.now) layers.now }
@@ -202,8 +203,8 @@ fn fill_cells<const N: usize>(
     piece: Piece,
 )
     requires short { N ≤ 4 }
-    requires few { length layers.now ≤ 512 }
-    requires shallow { depth ≤ 100 }
+    requires few { length layers.now ≤ MAX_OBJECTS }
+    requires shallow { depth ≤ MAX_LAYERS }
     requires room { length layers.now ≤ 128 * N }
     requires movement_room { depth ≤ 25 * N }
     requires layer_in { layer < depth }
@@ -226,8 +227,8 @@ fn fill_cell<const N: usize>(
     piece: Piece,
 )
     requires short { N ≤ 4 }
-    requires few { length layers.now ≤ 512 }
-    requires shallow { depth ≤ 100 }
+    requires few { length layers.now ≤ MAX_OBJECTS }
+    requires shallow { depth ≤ MAX_LAYERS }
     requires room { length layers.now ≤ 128 * N }
     requires movement_room { depth ≤ 25 * N }
     requires layer_in { layer < depth }

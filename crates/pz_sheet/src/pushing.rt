@@ -1,6 +1,7 @@
 //! The direction of an input, given to the player.
 
 ghost use Rattle.std.specs.Prelude.{◌≡◌, ◌≤◌, ◌<◌, ◌*◌, ℕ, All, [], ◌∷◌, map};
+ghost use Rattle.pz_game.specs.declared.limits.TheConstants.{MAX_LAYERS};
 ghost use Rattle.pz_cells.specs.Shown.{cell_of, AreLawful};
 ghost use Rattle.pz_sheet.specs.Grid.{IsLawful};
 ghost use Rattle.pz_sheet.specs.Pushing.{pushed_place, pushed};
@@ -30,7 +31,7 @@ fn push_cells<const N: usize>(
     dir: Dir,
 )
     requires short { N ≤ 4 }
-    requires shallow { depth ≤ 100 }
+    requires shallow { depth ≤ MAX_LAYERS }
     requires movement_room { depth ≤ 25 * N }
     requires layered { All (λ layer. layer < depth) layers.now }
     requires sound { All (IsSound N layers.now) cells.old.items }
@@ -48,7 +49,7 @@ fn push_cell<const N: usize>(
     players: &[usize],
     dir: Dir,
 )
-    requires shallow { depth ≤ 100 }
+    requires shallow { depth ≤ MAX_LAYERS }
     requires movement_room { depth ≤ 25 * N }
     requires layered { All (λ layer. layer < depth) layers.now }
     requires lawful { AreLawful layers.now cell.old.objects cell.old.movement }
@@ -62,7 +63,7 @@ fn push_cell<const N: usize>(
 
 /// Lets one object head in a direction, if it stands in the cell.
 fn turn<const N: usize>(cell: &mut Cell<N>, depth: usize, layers: &[usize], player: usize, dir: Dir)
-    requires shallow { depth ≤ 100 }
+    requires shallow { depth ≤ MAX_LAYERS }
     requires movement_room { depth ≤ 25 * N }
     requires layered { All (λ layer. layer < depth) layers.now }
     requires lawful { AreLawful layers.now cell.old.objects cell.old.movement }

@@ -1,5 +1,6 @@
 use Rattle.std.proofs.Common.{◌≡◌, ◌≢◌, ℕ, ◌<◌, ◌≤◌, ◌-◌, false, get_or}
 use Rattle.pz_sets.specs.Sets.{member}
+use Rattle.pz_sets.specs.declared.set.TheConstants.{CAPACITY}
 use Rattle.pz_game.specs.declared.direction.Dir.{Dir}
 use Rattle.pz_game.specs.Headings.{heads, IsProper}
 use Rattle.pz_cells.specs.Rewrites.{Leaves}
@@ -7,11 +8,11 @@ use Rattle.pz_cells.proofs.rewriting.end_leaving.Given as goal
 
 abbrev pub invariant-loop-start : goal.invariant-loop-start
 invariant-loop-start l = record {
-  low : l.start ≤ 512;
+  low : l.start ≤ CAPACITY;
   ended : (object : ℕ) (dir : Dir) → object < l.start → Leaves l.layers l.objects l.cleared (member l.removed) object → heads l.movement (get_or l.layers object 0) dir ≡ false;
   others : (layer : ℕ) (dir : Dir) → ((object : ℕ) → Leaves l.layers l.objects l.cleared (member l.removed) object → get_or l.layers object 0 ≢ layer) → heads l.movement layer dir ≡ heads l.initial.movement layer dir;
   proper : IsProper l.initial.movement → IsProper l.movement;
 }
 
 abbrev pub decreases-loop-start : goal.decreases-loop-start
-decreases-loop-start l = 512 - l.start
+decreases-loop-start l = CAPACITY - l.start

@@ -1,4 +1,5 @@
 use Rattle.std.proofs.Common.{◌≡◌, ◌≤◌, ◌*◌, length}
+use Rattle.pz_game.specs.declared.limits.TheConstants.{MAX_SIDE}
 use Rattle.pz_grid.specs.declared.places.TheConstants.{MATCH_LIMIT}
 use Rattle.pz_grid.specs.Places.{line_length}
 use Rattle.pz_grid.proofs.GatherLemmas.{gather}
@@ -10,6 +11,6 @@ abbrev pub invariant-loop-line : goal.invariant-loop-line
 invariant-loop-line l = record {
   added : l.found.items ≡ gather (found_in l.level.grid l.row l.dir) l.line;
   counted : l.tested ≡ searched_lines l.level l.row l.dir l.line * line_length l.level.grid l.dir;
-  few : l.tested ≤ 255 * l.line;
+  few : l.tested ≤ MAX_SIDE * l.line;
   room : length l.found.items ≤ MATCH_LIMIT;
 }

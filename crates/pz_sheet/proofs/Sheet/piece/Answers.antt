@@ -1,5 +1,6 @@
 use Rattle.std.proofs.Common.{◌<◌, ℕ, List, [], Option, length, get_or, arith, ap, sym, ◌∙◌, subst}
 use Rattle.std.specs.List.{All}
+use Rattle.pz_game.specs.declared.limits.TheConstants.{MAX_LAYERS}
 use Rattle.pz_sets.specs.Sets.{member}
 use Rattle.pz_game.specs.Headings.{heading_in}
 use Rattle.pz_cells.specs.declared.piece.Piece.{Piece}
@@ -23,7 +24,7 @@ piece-requires g c =
       (
         omega (arith, ap (λ (layers : List ℕ). length layers) same, c.self.invariant.few),
         (
-          subst (λ (layers : List ℕ). All (λ layer. layer < 100) layers) (sym same) (λ k d h. omega (arith, c.self.invariant.layered k d h, c.self.invariant.shallow)),
+          subst (λ (layers : List ℕ). All (λ layer. layer < MAX_LAYERS) layers) (sym same) (λ k d h. omega (arith, c.self.invariant.layered k d h, c.self.invariant.shallow)),
           subst (λ (layers : List ℕ). AreLawful layers cell.objects cell.movement) (sym same) sound,
         ),
       ),
