@@ -175,9 +175,10 @@ impl<'a> TextWriter<'a> {
         let cells = self.cells.as_slice();
         let written = text_of_labels(self.alloc, self.table.texts(), cells, width as usize)?;
         let text = Text::new(written);
-        let kept = Text::of_str(self.alloc, text.as_str())?;
-        self.last = Some(LastText { text: kept, width });
-        Ok(text)
+        // the copy has no room to spare, and is what a recording keeps
+        let shown = Text::of_str(self.alloc, text.as_str())?;
+        self.last = Some(LastText { text, width });
+        Ok(shown)
     }
 
     /// The text of a level: for each cell, in this order, the names of its objects, sorted by their bytes, and the next number from
