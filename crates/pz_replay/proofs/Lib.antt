@@ -6,3 +6,4 @@ pub mod Named
 pub mod Sending
 pub mod Settling
 pub mod Visiting
+pub mod WorkedFaults

@@ -1,4 +1,5 @@
 pub mod Crew
+pub mod Faults
 pub mod Lane
 pub mod Pieces
 pub mod Recorded

@@ -4,6 +4,7 @@ ghost use Rattle.std.specs.Prelude.{◌≡◌, ◌≢◌, ◌+◌, ◌≤◌, []
 ghost use Rattle.pz_claims.specs.declared.limits.TheConstants.{MOST_SEATS};
 ghost use Rattle.pz_replay.specs.declared.lane.End.TheVariants.{GateClosed as gate_closed};
 ghost use Rattle.pz_replay.specs.Crew.{IsAll, IsDone, IsOpened, IsSettled};
+ghost use Rattle.pz_replay.specs.Faults.{fault_in, fault_of, first_fault};
 ghost use Rattle.pz_replay.specs.Pieces.{sent_for, sessions_of};
 ghost use Rattle.pz_replay.specs.Recorded.{Gathered, HasEnded, IsHonest, IsRecorded, lane_of, taken_of};
 ghost use Rattle.pz_replay.specs.Worked.{IsWorked};
@@ -105,7 +106,7 @@ fn confirm(mut desk: Desk, mut sent: SentAll, job: &Job, ended: &Ended)
     desk.taker.left(&mut sent);
 }
 
-/// Puts what one worker handed back to what the crew below it made.
+/// Puts what one worker handed back to what the crew below it made. Of two faults the first goes on up.
 fn settle(
     claims: &Claims,
     job: &Job,
@@ -118,6 +119,7 @@ fn settle(
     requires desk { IsHonest desk × HasEnded desk }
     ensures settled { IfOk result (λ made. IfOk below (λ before. IsSettled (sessions_of job.now) desk before.0 before.1 made.0 made.1)) }
     ensures below { IfOk result (λ _. IsOk below) }
+    ensures first { fault_in result ≡ first_fault (fault_in below) (fault_of worked) }
     ensures workers { result ≡ Err ReplayFault.Workers → below ≡ Err ReplayFault.Workers }
     ensures lost { result ≡ Err ReplayFault.LaneLost → (worked.sent ≡ None) ⊎ (below ≡ Err ReplayFault.LaneLost) }
     ensures opened { IfErr result (λ fault. fault ≡ ReplayFault.GateClosed → (worked.end ≡ End.GateClosed) ⊎ (below ≡ Err ReplayFault.GateClosed)) }
@@ -125,10 +127,11 @@ fn settle(
     let Worked { end, ended, sent } = worked;
     let (maker, sessions) = match (below, end) {
         (Err(ReplayFault::Memory), _) | (_, End::Memory) => return Err(ReplayFault::Memory),
+        (Err(ReplayFault::Workers), _) => return Err(ReplayFault::Workers),
         (Err(ReplayFault::GateClosed), _) | (_, End::GateClosed) => {
             return Err(ReplayFault::GateClosed);
         }
-        (Err(fault), _) => return Err(fault),
+        (Err(ReplayFault::LaneLost), _) => return Err(ReplayFault::LaneLost),
         (Ok(made), End::Finished) => made,
     };
     let Some(ended) = ended else {
