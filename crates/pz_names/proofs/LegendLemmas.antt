@@ -1,6 +1,6 @@
 -- The definitions of the lines so far.
 use Rattle.std.proofs.Common.{◌≡◌, ℕ, ◌<◌, ◌+◌, false, List, [], ◌∷◌, ◌++◌, length, get_or, take, refl, ap, sym, ◌∙◌, arith, rules, true, Bool, ◌&&◌, ◌==◌, true≢false}
-use Rattle.std.specs.Prelude.{Some, None, nat_lt}
+use Rattle.std.specs.Prelude.{Some, None, nat_lt, if◌then◌else◌}
 use Rattle.std.specs.List.{filter_map, list_all, position_or_len}
 use Rattle.std.specs.Char.{is_whitespace}
 use Rattle.std.proofs.lemmas.Bool.{eqb-true}
@@ -13,16 +13,13 @@ use Rattle.pz_base.specs.NameSet.{is_name_of}
 use Rattle.pz_text.specs.declared.line.Line.{Line}
 use Rattle.pz_names.specs.declared.legend.Definition.{Definition}
 
-pub definitions_of-next : (lines : List Line) (i : ℕ) (x : Line) (d : Definition) → i < length lines → x ≡ get_or lines i x → definition_of x ≡ Some d
-    → definitions_of (take (i + 1) lines) ≡ definitions_of (take i lines) ++ d ∷ []
-definitions_of-next lines i x d lt is found =
-    let one : filter_map definition_of (x ∷ []) ≡ d ∷ [] = rw found refl in
-    ap (filter_map definition_of) (take-next lines i x lt is) ∙ (filter_map-append definition_of (take i lines) (x ∷ []) ∙ ap (λ ds. definitions_of (take i lines) ++ ds) one)
+pub definitions_of-more : (lines : List Line) (i : ℕ) (x : Line) → i < length lines → x ≡ get_or lines i x
+    → definitions_of (take (i + 1) lines) ≡ definitions_of (take i lines) ++ definitions_of (x ∷ [])
+definitions_of-more lines i x lt is = ap (filter_map definition_of) (take-next lines i x lt is) ∙ filter_map-append definition_of (take i lines) (x ∷ [])
 
-pub misnames-none : (objects names : List (List ℕ)) (before : List Line) (x : Line) (d : Definition) → names ≡ objects ++ defined before → definition_of x ≡ Some d
-    → is_blank x ≡ false → is_name_of names d.name ≡ false → is_full names ≡ false → misnames objects before x ≡ None
-misnames-none objects names before x d there found full new room =
-    rw full (ap (λ t. misnames_by t (definition_of x)) (sym there) ∙ (ap (misnames_by names) found ∙ rw (new, room) refl))
+pub misnames-there : (objects names : List (List ℕ)) (before : List Line) (x : Line) → names ≡ objects ++ defined before
+    → misnames objects before x ≡ (if is_blank x then None else misnames_by names (definition_of x))
+misnames-there objects names before x there = ap (λ t. if is_blank x then None else misnames_by t (definition_of x)) (sym there)
 
 -- a blank line holds no definition
 spaces : (cs : List ℕ) → list_all is_whitespace cs ≡ true → position_or_len (λ d. d == 61) cs ≡ length cs
@@ -47,9 +44,5 @@ unspoken (c ∷ cs) h = by (is_whitespace c) h
         let none : nat_lt (position_or_len (λ d. d == 61) cs) (length cs) ≡ false = search rules in
         rw none refl
 
-pub definitions_of-blank : (lines : List Line) (i : ℕ) (x : Line) → i < length lines → x ≡ get_or lines i x → is_blank x ≡ true
-    → definitions_of (take (i + 1) lines) ≡ definitions_of (take i lines)
-definitions_of-blank lines i x lt is blank =
-    let one : filter_map definition_of (x ∷ []) ≡ [] = rw (unspoken x.text blank) refl in
-    ap (filter_map definition_of) (take-next lines i x lt is)
-    ∙ (filter_map-append definition_of (take i lines) (x ∷ []) ∙ (ap (λ ds. definitions_of (take i lines) ++ ds) one ∙ append-nil (definitions_of (take i lines))))
+pub definitions_of-blank : (x : Line) → is_blank x ≡ true → definitions_of (x ∷ []) ≡ []
+definitions_of-blank x blank = rw (unspoken x.text blank) refl

@@ -1,5 +1,5 @@
 -- Rounds over all lines, and the chains that they follow.
-use Rattle.std.proofs.Common.{◌≡◌, ℕ, ◌+◌, zero, suc, List, [], ◌∷◌, refl, ap, sym, ◌∙◌, add-one}
+use Rattle.std.proofs.Common.{◌≡◌, ℕ, ◌<◌, ◌+◌, zero, suc, List, [], ◌∷◌, length, get_or, drop, drop-cons, refl, ap, sym, ◌∙◌, add-one}
 use Rattle.std.specs.Prelude.{Option, Some, None, option_and_then, option_map, slice_get}
 use Rattle.pz_names.specs.Denotation.{value_at, denotation_next, denotation_of, gathered, with_mentions}
 use Rattle.pz_game.specs.declared.denotation.Kind.{Kind}
@@ -20,6 +20,13 @@ value_at-round known n meanings same k =
 pub value_at-none : (meanings : List Meaning) (k : ℕ) → value_at 0 meanings k ≡ None
 unfolding value_at
 value_at-none meanings k = refl
+
+-- one part more, of which the name is known
+pub gathered-step : (known : ℕ → Option Denotation) (mentions parts : List ℕ) (i : ℕ) (d : Denotation) → i < length parts → known (get_or parts i 0) ≡ Some d
+    → gathered known (with_mentions mentions d.members) (drop (i + 1) parts) ≡ gathered known mentions (drop i parts)
+gathered-step known mentions parts i d lt named =
+    let next : drop i parts ≡ get_or parts i 0 ∷ drop (i + 1) parts = drop-cons parts i 0 lt ∙ ap (λ j. get_or parts i 0 ∷ drop j parts) (sym (add-one i)) in
+    rw (next, named) refl
 
 -- where f knows a name, g says the same of it
 pub record Below (f g : ℕ → Option Denotation) : Type 0 where

@@ -1,6 +1,6 @@
 -- Steps over blocks, counted down from the number of lines.
 use Rattle.std.proofs.Common.{◌≡◌, ℕ, ◌<◌, ◌≤◌, ◌+◌, ◌-◌, zero, suc, Bool, true, false, not, ◌||◌, List, [], ◌∷◌, ◌++◌, length, refl, ap, sym, ◌∙◌, arith, append-nil, append_assoc}
-use Rattle.std.specs.Prelude.{Option, Some, None, Ok, Err, All, if◌then◌else◌, cond, option_to_list, nat_le, nat_lt, map}
+use Rattle.std.specs.Prelude.{Option, Some, None, Ok, Err, All, if◌then◌else◌, cond, nat_le, nat_lt, map}
 use Rattle.std.proofs.lemmas.List.{length-append, length-map}
 use Rattle.pz_base.specs.Fault.{first_fault}
 use Rattle.pz_base.specs.declared.fault.Code.{Code}
@@ -31,11 +31,10 @@ blocks_within-step : (n i : ℕ) (rest : List Line) → i < n → blocks_within 
 blocks_within-step n i rest lt = let e : n - i ≡ suc (n - (i + 1)) = omega arith in ap (λ k. blocks_within k rest) e
 
 -- a turn of the loop that reads one block or one blank line
-pub blocks_within-turn : (found : List Block) (n i : ℕ) (line : Line) (others after : List Line) (block : Option Block) → i < n
-    → ((m : ℕ) → blocks_within (suc m) (line ∷ others) ≡ option_to_list block ++ blocks_within m after)
-    → (found ++ option_to_list block) ++ blocks_within (n - (i + 1)) after ≡ found ++ blocks_within (n - i) (line ∷ others)
-blocks_within-turn found n i line others after block lt read =
-    rw append_assoc (ap (λ b. found ++ b) (sym (blocks_within-step n i (line ∷ others) lt ∙ read (n - (i + 1)))))
+pub blocks_within-turn : (found more : List Block) (n i : ℕ) (line : Line) (others after : List Line) → i < n
+    → ((m : ℕ) → more ++ blocks_within m after ≡ found ++ blocks_within (suc m) (line ∷ others))
+    → more ++ blocks_within (n - (i + 1)) after ≡ found ++ blocks_within (n - i) (line ∷ others)
+blocks_within-turn found more n i line others after lt read = read (n - (i + 1)) ∙ ap (λ b. found ++ b) (sym (blocks_within-step n i (line ∷ others) lt))
 
 -- ---- what is known of the objects of a source
 

@@ -1,11 +1,12 @@
 //! The lines of LEGEND.
 
-ghost use Rattle.std.specs.Prelude.{◌≡◌, ◌≢◌, ◌==◌, ◌++◌, [], IfOk, IfErr, IfSome, None, Some, option_map, map, position, not};
+ghost use Rattle.std.specs.Prelude.{◌≡◌, ◌≢◌, ◌==◌, ◌++◌, [], ◌∷◌, IfOk, IfErr, OnOk, IfSome, None, Some, option_map, map, position, not, if◌then◌else◌};
 ghost use Rattle.std.specs.List.{list_any};
 ghost use Rattle.pz_base.specs.Fault.{first_fault};
 ghost use Rattle.pz_base.specs.NameSet.{is_name_of};
 ghost use Rattle.pz_base.specs.declared.fault.Code.TheVariants as code;
-ghost use Rattle.pz_names.specs.Legend.{sides, joined, said_by, definition_of, definitions_of, line_number, line_at, misnames, speaks_of_unknown, names_in};
+ghost use Rattle.pz_names.specs.Objects.{is_blank};
+ghost use Rattle.pz_names.specs.Legend.{sides, joined, said_by, defined_by, definition_of, definitions_of, line_number, line_at, misnames, misnames_by, speaks_of_unknown, names_in};
 
 use crate::objects::{MAX_NAMES, is_blank};
 use pz_base::fault::{Code, SourceFault};
@@ -17,7 +18,7 @@ use pz_text::words::names_of;
 use std::alloc::{AllocError, Global};
 
 /// The right side of a line of LEGEND: a name alone, names joined by `and`, or names joined by `or`.
-#[derive(Drop, Debug)]
+#[derive(Drop)]
 pub enum Said {
     Same(Name),
     AllOf(Listed<Name>),
@@ -25,7 +26,7 @@ pub enum Said {
 }
 
 /// A line of LEGEND: its number, the name that it defines, and what it says of it.
-#[derive(Drop, Debug)]
+#[derive(Drop)]
 pub struct Definition {
     pub number: u32,
     pub name: Name,
@@ -86,6 +87,25 @@ fn said_by(alloc: Global, right: &[Name]) -> Result<Option<Said>, AllocError>
     }
 }
 
+/// The definition of a line with a number by the names on its two sides, if it has the form of one.
+fn defined_by(
+    alloc: Global,
+    number: u32,
+    left: &[Name],
+    right: &[Name],
+) -> Result<Option<Definition>, AllocError>
+    ensures { IfOk result (λ definition. definition ≡ defined_by number left.now right.now) }
+{
+    let [name] = left else {
+        return Ok(None);
+    };
+    let Some(said) = said_by(alloc, right)? else {
+        return Ok(None);
+    };
+    let name = name.copy(alloc)?;
+    Ok(Some(Definition { number, name, said }))
+}
+
 /// The definition that a line holds, if it has the form of one.
 fn read_definition(alloc: Global, line: &Line) -> Result<Option<Definition>, AllocError>
     ensures { IfOk result (λ definition. definition ≡ definition_of line.now) }
@@ -95,18 +115,78 @@ fn read_definition(alloc: Global, line: &Line) -> Result<Option<Definition>, All
     };
     let left = names_of(alloc, left)?;
     let right = names_of(alloc, right)?;
-    let [name] = left.items() else {
-        return Ok(None);
+    defined_by(alloc, line.number, left.items(), right.items())
+}
+
+/// Puts the name of a definition behind those that are there, or says what is wrong with it.
+fn note_name(
+    alloc: Global,
+    names: &mut NameSet,
+    definition: &Definition,
+) -> Result<Option<Code>, AllocError>
+    ensures code { IfOk result (λ r. r ≡ misnames_by names.old (Some definition.now)) }
+    ensures noted { IfOk result (λ r. (r ≡ None) → names.new ≡ names.old ++ definition.now.name ∷ []) }
+    ensures other { IfOk result (λ r. IfSome r (λ c. c ≢ code.Memory)) }
+{
+    let name = definition.name.as_str();
+    if names.contains(name) {
+        return Ok(Some(Code::Duplicate));
+    }
+    if names.len() >= MAX_NAMES {
+        return Ok(Some(Code::TooLarge));
+    }
+    names.add(alloc, name)?;
+    Ok(None)
+}
+
+/// The definition that a line holds, whose name is put behind those that are there; or the line's fault.
+fn new_definition(
+    alloc: Global,
+    names: &mut NameSet,
+    line: &Line,
+) -> Result<Definition, SourceFault>
+    ensures refused { IfErr result (λ fault. fault.code ≢ code.Memory → misnames_by names.old (definition_of line.now) ≡ Some fault.code) }
+    ensures there { IfErr result (λ fault. fault.code ≢ code.Memory → fault.line ≡ line.now.number) }
+    ensures whole { IfErr result (λ fault. fault.code ≡ code.Memory → fault.line ≡ 0) }
+    ensures sound { IfOk result (λ _. misnames_by names.old (definition_of line.now) ≡ None) }
+    ensures definition { IfOk result (λ d. definition_of line.now ≡ Some d) }
+    ensures noted { IfOk result (λ d. names.new ≡ names.old ++ d.name ∷ []) }
+{
+    let Some(definition) = read_definition(alloc, line)? else {
+        return Err(SourceFault {
+            code: Code::BadLegend,
+            line: line.number,
+        });
     };
-    let Some(said) = said_by(alloc, right.items())? else {
-        return Ok(None);
-    };
-    let name = name.copy(alloc)?;
-    Ok(Some(Definition {
-        number: line.number,
-        name,
-        said,
-    }))
+    if let Some(code) = note_name(alloc, names, &definition)? {
+        return Err(SourceFault {
+            code,
+            line: line.number,
+        });
+    }
+    Ok(definition)
+}
+
+/// Reads a line that may be blank: its definition is put behind the others, and its name behind those that are there.
+fn define(
+    alloc: Global,
+    names: &mut NameSet,
+    definitions: &mut Vec<Definition>,
+    line: &Line,
+) -> Result<(), SourceFault>
+    ensures refused { IfErr result (λ fault. fault.code ≢ code.Memory → (if is_blank line.now then None else misnames_by names.old (definition_of line.now)) ≡ Some fault.code) }
+    ensures there { IfErr result (λ fault. fault.code ≢ code.Memory → fault.line ≡ line.now.number) }
+    ensures whole { IfErr result (λ fault. fault.code ≡ code.Memory → fault.line ≡ 0) }
+    ensures sound { OnOk result ((if is_blank line.now then None else misnames_by names.old (definition_of line.now)) ≡ None) }
+    ensures definitions { OnOk result (definitions.new.items ≡ definitions.old.items ++ definitions_of (line.now ∷ [])) }
+    ensures noted { OnOk result (names.new ≡ names.old ++ map (λ d. d.name) (definitions_of (line.now ∷ []))) }
+{
+    if is_blank(line) {
+        return Ok(());
+    }
+    let definition = new_definition(alloc, names, line)?;
+    definitions.push(definition)?;
+    Ok(())
 }
 
 /// The definitions of LEGEND, whose names are put behind those that are there; or the first line that is none (BadLegend), gives
@@ -124,30 +204,7 @@ pub fn definitions(
 {
     let mut definitions = Vec::new(alloc);
     for line in lines {
-        if is_blank(line) {
-            continue;
-        }
-        let Some(definition) = read_definition(alloc, line)? else {
-            return Err(SourceFault {
-                code: Code::BadLegend,
-                line: line.number,
-            });
-        };
-        let name = definition.name.as_str();
-        if names.contains(name) {
-            return Err(SourceFault {
-                code: Code::Duplicate,
-                line: line.number,
-            });
-        }
-        if names.len() >= MAX_NAMES {
-            return Err(SourceFault {
-                code: Code::TooLarge,
-                line: line.number,
-            });
-        }
-        names.add(alloc, name)?;
-        definitions.push(definition)?;
+        define(alloc, names, &mut definitions, line)?;
     }
     Ok(definitions)
 }

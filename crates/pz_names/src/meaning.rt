@@ -1,8 +1,8 @@
 //! What the lines of OBJECTS and LEGEND say of their names, by the numbers of the names.
 
-ghost use Rattle.std.specs.Prelude.{◌≡◌, ◌++◌, IfOk, OnOk, map};
+ghost use Rattle.std.specs.Prelude.{◌≡◌, ◌++◌, ◌∷◌, [], IfOk, OnOk, map, length};
 ghost use Rattle.pz_names.specs.declared.meaning.Meaning.TheVariants.{Itself};
-ghost use Rattle.pz_names.specs.Meaning.{number_or_end, parts_of, meaning_by, meanings_of};
+ghost use Rattle.pz_names.specs.Meaning.{number_or_end, parts_of, meaning_by, object_meanings, meanings_of};
 
 use crate::legend::{Definition, Said};
 use crate::name_line::NameLine;
@@ -13,7 +13,7 @@ use std::alloc::{AllocError, Global};
 
 /// What a line says of its name: that it is the object at a place, of which the first name has a number, or what it stands for,
 /// by the numbers of other names.
-#[derive(Drop, Debug)]
+#[derive(Drop)]
 pub enum Meaning {
     Itself(usize, usize),
     Same(usize),
@@ -78,6 +78,45 @@ fn add_object(
     Ok(())
 }
 
+/// Puts behind others what the lines of OBJECTS say of their names.
+fn add_objects(meanings: &mut Vec<Meaning>, objects: &[NameLine]) -> Result<(), AllocError>
+    ensures { OnOk result (meanings.new.items ≡ meanings.old.items ++ object_meanings 0 (length meanings.old.items) objects.now) }
+{
+    for (place, line) in objects.iter().enumerate() {
+        let first = meanings.len();
+        add_object(meanings, place, first, line.names.items())?;
+    }
+    Ok(())
+}
+
+/// Puts behind others what a line of LEGEND says of its name.
+fn add_definition(
+    alloc: Global,
+    meanings: &mut Vec<Meaning>,
+    names: &NameSet,
+    definition: &Definition,
+) -> Result<(), AllocError>
+    ensures { OnOk result (meanings.new.items ≡ meanings.old.items ++ meaning_by names.now definition.now.said ∷ []) }
+{
+    let meaning = definition.said.meaning(alloc, names)?;
+    meanings.push(meaning)?;
+    Ok(())
+}
+
+fn add_definitions(
+    alloc: Global,
+    meanings: &mut Vec<Meaning>,
+    names: &NameSet,
+    definitions: &[Definition],
+) -> Result<(), AllocError>
+    ensures { OnOk result (meanings.new.items ≡ meanings.old.items ++ map (λ d. meaning_by names.now d.said) definitions.now) }
+{
+    for definition in definitions {
+        add_definition(alloc, meanings, names, definition)?;
+    }
+    Ok(())
+}
+
 /// What the lines of OBJECTS and LEGEND say of their names, by the names' numbers.
 pub fn meanings(
     alloc: Global,
@@ -88,12 +127,7 @@ pub fn meanings(
     ensures { IfOk result (λ meanings. meanings.items ≡ meanings_of objects.now names.now definitions.now) }
 {
     let mut meanings = Vec::new(alloc);
-    for (place, line) in objects.iter().enumerate() {
-        let first = meanings.len();
-        add_object(&mut meanings, place, first, line.names.items())?;
-    }
-    for definition in definitions {
-        meanings.push(definition.said.meaning(alloc, names)?)?;
-    }
+    add_objects(&mut meanings, objects)?;
+    add_definitions(alloc, &mut meanings, names, definitions)?;
     Ok(meanings)
 }

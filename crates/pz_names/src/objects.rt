@@ -24,7 +24,7 @@ pub fn names_are_limited()
 {}
 
 /// An object as its lines give it: its name line, and whether its colours and its sprite are as they should be.
-#[derive(Drop, Debug)]
+#[derive(Drop)]
 pub struct Block {
     pub line: NameLine,
     pub is_whole: bool,
@@ -108,34 +108,27 @@ fn behind_block(lines: &[Line]) -> &[Line]
     }
 }
 
-/// The block that a line begins, if it is not blank, and the lines behind.
+/// Puts the block that a line begins behind those that are found, if the line is not blank. Gives the lines behind.
 fn read_block<'a>(
     alloc: Global,
+    found: &mut Vec<Block>,
     line: &Line,
     others: &'a [Line],
-) -> Result<(Option<Block>, &'a [Line]), AllocError>
-    ensures { IfOk result (λ r. (n : ℕ) → blocks_within (suc n) (line.entry.now ∷ others.entry.now) ≡ option_to_list r.0 ++ blocks_within n r.1.now) }
+) -> Result<&'a [Line], AllocError>
+    ensures { IfOk result (λ after. (n : ℕ) → found.new.items ++ blocks_within n after.now ≡ found.old.items ++ blocks_within (suc n) (line.now ∷ others.entry.now)) }
 {
     if is_blank(line) {
-        return Ok((None, others));
+        return Ok(others);
     }
-    let block = Block {
+    let names = names_of(alloc, line.text.items())?;
+    found.push(Block {
         line: NameLine {
             number: line.number,
-            names: names_of(alloc, line.text.items())?,
+            names,
         },
         is_whole: is_whole(others),
-    };
-    Ok((Some(block), behind_block(others)))
-}
-
-fn push_found(found: &mut Vec<Block>, block: Option<Block>) -> Result<(), AllocError>
-    ensures { OnOk result (found.new.items ≡ found.old.items ++ option_to_list block) }
-{
-    if let Some(block) = block {
-        found.push(block)?;
-    }
-    Ok(())
+    })?;
+    Ok(behind_block(others))
 }
 
 fn blocks_of(alloc: Global, lines: &[Line]) -> Result<Vec<Block>, AllocError>
@@ -147,9 +140,7 @@ fn blocks_of(alloc: Global, lines: &[Line]) -> Result<Vec<Block>, AllocError>
         let Some((line, others)) = rest.split_first() else {
             break;
         };
-        let (block, after) = read_block(alloc, line, others)?;
-        push_found(&mut found, block)?;
-        rest = after;
+        rest = read_block(alloc, &mut found, line, others)?;
     }
     Ok(found)
 }

@@ -1,11 +1,10 @@
-use Rattle.std.proofs.Common.{◌≡◌, true, refl, false, [], ◌∷◌, ◌++◌, map, take, sym, ◌∙◌, ap, rules, append_assoc}
+use Rattle.std.proofs.Common.{◌≡◌, refl, [], ◌∷◌, ◌++◌, map, take, sym, ◌∙◌, ap, append_assoc}
 use Rattle.std.specs.Prelude.{Some, None}
 use Rattle.std.proofs.lemmas.List.{map-append}
-use Rattle.pz_names.proofs.LegendLemmas.{definitions_of-next, definitions_of-blank, misnames-none}
-use Rattle.pz_names.specs.Legend.{line_number, misnames, definition_of, is_full, defined}
-use Rattle.pz_names.specs.Objects.{is_blank}
-use Rattle.pz_base.proofs.FaultLemmas.{first_fault-pass}
-use Rattle.pz_base.specs.NameSet.{is_name_of}
+use Rattle.std.proofs.lemmas.Result.{err_from_is_err_and}
+use Rattle.pz_names.proofs.LegendLemmas.{definitions_of-more, misnames-there}
+use Rattle.pz_names.specs.Legend.{line_number, misnames, definitions_of, defined}
+use Rattle.pz_base.proofs.FaultLemmas.{first_fault-hit, first_fault-pass}
 use Rattle.pz_names.specs.declared.legend.Definition.{Definition}
 use Rattle.pz_names.proofs.legend.definitions.Goals as goal
 
@@ -14,35 +13,34 @@ loop-line-preserved c =
     let xs = c.args.lines.now in
     let i = c.loop-line.line-index in
     let x = c.line-item.result in
-    let d = c.in-Some.definition in
     let there = c.args.names.now in
     let names = c.loop-line.names in
     let items = c.loop-line.definitions.items in
-    let named : names ≡ there ++ defined (take i xs) = c.loop-line.invariant.noted ∙ ap (λ ds. there ++ map (λ (e : Definition). e.name) ds) c.loop-line.invariant.read in
-    let found : definition_of x ≡ Some d = sym c.in_ok-definition.ensures ∙ c.in-Some.is in
-    let is_name : c.as_str-name.result.now ≡ d.name = c.as_str-name.ensures in
-    let new : is_name_of names d.name ≡ false = ap (is_name_of names) (sym is_name) ∙ (sym c.contains.ensures ∙ c.if-contains.false) in
-    let room : is_full names ≡ false = search rules in
-    let full : is_blank x ≡ false = sym c.is_blank.ensures ∙ c.if-is_blank.false in
-    let passed = misnames-none there names (take i xs) x d named found full new room in
-    let pushed : c.push.new.self.items ≡ items ++ d ∷ [] = c.in_ok-push.ensures.items in
-    let noted : c.add.new.self ≡ names ++ d.name ∷ [] = c.in_ok-add.ensures ∙ ap (λ n. names ++ n ∷ []) is_name in
+    let more = definitions_of (x ∷ []) in
+    let name = λ (d : Definition). d.name in
+    let before = c.loop-line.invariant in
+    let named : names ≡ there ++ defined (take i xs) = before.noted ∙ ap (λ ds. there ++ map name ds) before.read in
+    let passed : misnames there (take i xs) x ≡ None = misnames-there there names (take i xs) x named ∙ c.in_ok-define.ensures.sound in
+    let pushed : c.define.new.definitions.items ≡ items ++ more = c.in_ok-define.ensures.definitions in
     record {
-      none_yet = first_fault-pass line_number (misnames there) xs i x c.loop-line-test.true c.line-item.is passed ∙ c.loop-line.invariant.none_yet;
-      read = pushed ∙ (ap (λ ds. ds ++ d ∷ []) c.loop-line.invariant.read ∙ sym (definitions_of-next xs i x d c.loop-line-test.true c.line-item.is found));
-      noted = noted ∙ (ap (λ n. n ++ d.name ∷ []) c.loop-line.invariant.noted ∙ (append_assoc there (map (λ (e : Definition). e.name) items) (d.name ∷ []) ∙ ap (λ ds. there ++ ds) (sym (map-append (λ (e : Definition). e.name) items (d ∷ [])) ∙ ap (map (λ (e : Definition). e.name)) (sym pushed))));
+      none_yet = first_fault-pass line_number (misnames there) xs i x c.loop-line-test.true c.line-item.is passed ∙ before.none_yet;
+      read = pushed ∙ (ap (λ ds. ds ++ more) before.read ∙ sym (definitions_of-more xs i x c.loop-line-test.true c.line-item.is));
+      noted = c.in_ok-define.ensures.noted ∙ (ap (λ n. n ++ map name more) before.noted ∙ (append_assoc there (map name items) (map name more) ∙ ap (λ ds. there ++ ds) (sym (map-append name items more) ∙ ap (map name) (sym pushed))));
     }
 
-pub loop-line-preserved-then-is_blank : goal.loop-line-preserved-then-is_blank
-loop-line-preserved-then-is_blank c =
+pub returns-in_err-define-clause-refused : goal.returns-in_err-define-clause-refused
+returns-in_err-define-clause-refused c =
     let xs = c.args.lines.now in
     let i = c.loop-line.line-index in
     let x = c.line-item.result in
     let there = c.args.names.now in
-    let blank : is_blank x ≡ true = sym c.is_blank.ensures ∙ c.if-is_blank.true in
-    let passed : misnames there (take i xs) x ≡ None = rw blank refl in
-    record {
-      none_yet = first_fault-pass line_number (misnames there) xs i x c.loop-line-test.true c.line-item.is passed ∙ c.loop-line.invariant.none_yet;
-      read = c.loop-line.invariant.read ∙ sym (definitions_of-blank xs i x c.loop-line-test.true c.line-item.is blank);
-      noted = c.loop-line.invariant.noted;
-    }
+    let names = c.loop-line.names in
+    let before = c.loop-line.invariant in
+    let named : names ≡ there ++ defined (take i xs) = before.noted ∙ ap (λ ds. there ++ map (λ (d : Definition). d.name) ds) before.read in
+    let fault = c.in_err-define.field-0.0 in
+    let p = err_from_is_err_and c.from_residual.result c.from_residual.ensures.1 in
+    rw (p.1, p.2) (λ other.
+    let hit : misnames there (take i xs) x ≡ Some fault.code = misnames-there there names (take i xs) x named ∙ c.in_err-define.ensures.refused other in
+    sym before.none_yet
+    ∙ (first_fault-hit line_number (misnames there) xs i x fault.code c.loop-line-test.true c.line-item.is hit
+    ∙ ap (λ n. Some (record { code = fault.code; line = n })) (sym (c.in_err-define.ensures.there other))))

@@ -8,8 +8,8 @@ pub loop-step-preserved : goal.loop-step-preserved
 loop-step-preserved c =
     let n = length c.args.lines.now in
     let i = c.loop-step._step in
-    let turn = blocks_within-turn c.loop-step.found.items n i c.in-Some.line.now c.in-Some.others.now c.in_ok-block.after.now c.in_ok-block.block c.loop-step-test.true c.in_ok-block.ensures in
-    ap (λ f. f ++ blocks_within (n - (i + 1)) c.in_ok-block.after.now) c.in_ok-push_found.ensures ∙ (turn ∙ (ap (λ r. c.loop-step.found.items ++ blocks_within (n - i) r) (sym c.in-Some.ensures.cases.0) ∙ c.loop-step.invariant))
+    let read = blocks_within-turn c.loop-step.found.items c.read_block.new.found.items n i c.in-Some.line.now c.in-Some.others.now c.in_ok-rest.rest.now c.loop-step-test.true c.in_ok-rest.ensures in
+    read ∙ (ap (λ r. c.loop-step.found.items ++ blocks_within (n - i) r) (sym c.in-Some.ensures.cases.0) ∙ c.loop-step.invariant)
 
 pub returns : goal.returns
 returns c =

@@ -3,7 +3,7 @@ use Rattle.std.proofs.lemmas.List.{length-map}
 use Rattle.pz_names.specs.Meaning.{object_meanings}
 use Rattle.pz_names.specs.declared.meaning.Meaning.TheVariants.{Itself}
 use Rattle.pz_base.proofs.ListLemmas.{drop-next}
-use Rattle.pz_names.proofs.meaning.meanings.Goals as goal
+use Rattle.pz_names.proofs.meaning.add_objects.Goals as goal
 
 pub loop-place-preserved : goal.loop-place-preserved
 loop-place-preserved c =
