@@ -1,17 +1,14 @@
 -- The definitions of the lines so far.
 use Rattle.std.proofs.Common.{◌≡◌, ℕ, ◌<◌, ◌+◌, false, List, [], ◌∷◌, ◌++◌, length, get_or, take, refl, ap, sym, ◌∙◌, arith, rules, true, Bool, ◌&&◌, ◌==◌, true≢false}
-use Rattle.std.specs.Prelude.{Some, None, nat_lt, if◌then◌else◌}
+use Rattle.std.specs.Prelude.{None, nat_lt, if◌then◌else◌}
 use Rattle.std.specs.List.{filter_map, list_all, position_or_len}
 use Rattle.std.specs.Char.{is_whitespace}
 use Rattle.std.proofs.lemmas.Bool.{eqb-true}
-use Rattle.std.proofs.lemmas.List.{append-nil}
 use Rattle.pz_names.specs.Objects.{is_blank}
 use Rattle.std.proofs.lemmas.List.Elements.{filter_map-append}
-use Rattle.pz_names.specs.Legend.{definition_of, definitions_of, misnames, misnames_by, is_full, defined, sides}
+use Rattle.pz_names.specs.Legend.{definition_of, definitions_of, misnames, misnames_by, defined, sides}
 use Rattle.pz_base.proofs.ListLemmas.{take-next}
-use Rattle.pz_base.specs.NameSet.{is_name_of}
 use Rattle.pz_text.specs.declared.line.Line.{Line}
-use Rattle.pz_names.specs.declared.legend.Definition.{Definition}
 
 pub definitions_of-more : (lines : List Line) (i : ℕ) (x : Line) → i < length lines → x ≡ get_or lines i x
     → definitions_of (take (i + 1) lines) ≡ definitions_of (take i lines) ++ definitions_of (x ∷ [])

@@ -1,7 +1,7 @@
 -- Rounds over all lines, and the chains that they follow.
-use Rattle.std.proofs.Common.{◌≡◌, ℕ, ◌<◌, ◌+◌, zero, suc, List, [], ◌∷◌, length, get_or, drop, drop-cons, refl, ap, sym, ◌∙◌, add-one}
+use Rattle.std.proofs.Common.{◌≡◌, ℕ, ◌<◌, ◌+◌, zero, suc, List, [], ◌∷◌, ◌++◌, length, get_or, drop, drop-cons, refl, ap, sym, ◌∙◌, add-one}
 use Rattle.std.specs.Prelude.{Option, Some, None, option_and_then, option_map, slice_get}
-use Rattle.pz_names.specs.Denotation.{value_at, denotation_next, denotation_of, gathered, with_mentions}
+use Rattle.pz_names.specs.Denotation.{value_at, denotation_next, denotation_of, gathered, known_at, with_mentions}
 use Rattle.pz_game.specs.declared.denotation.Kind.{Kind}
 use Rattle.pz_game.specs.declared.denotation.Kind.TheVariants.{Property, Aggregate}
 use Rattle.pz_names.specs.declared.meaning.Meaning.TheVariants.{Itself, Same, AllOf, AnyOf}
@@ -27,6 +27,13 @@ pub gathered-step : (known : ℕ → Option Denotation) (mentions parts : List �
 gathered-step known mentions parts i d lt named =
     let next : drop i parts ≡ get_or parts i 0 ∷ drop (i + 1) parts = drop-cons parts i 0 lt ∙ ap (λ j. get_or parts i 0 ∷ drop j parts) (sym (add-one i)) in
     rw (next, named) refl
+
+-- a table of which no entry is known has one entry more of which nothing is known
+pub known_at-more : (items : List (Option Denotation)) → ((k : ℕ) → known_at items k ≡ None) → (k : ℕ) → known_at (items ++ None ∷ []) k ≡ None
+known_at-more [] empty zero = refl
+known_at-more [] empty (suc k) = refl
+known_at-more (x ∷ xs) empty zero = empty zero
+known_at-more (x ∷ xs) empty (suc k) = known_at-more xs (λ j. empty (suc j)) k
 
 -- where f knows a name, g says the same of it
 pub record Below (f g : ℕ → Option Denotation) : Type 0 where

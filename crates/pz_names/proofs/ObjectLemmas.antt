@@ -1,12 +1,14 @@
 -- Steps over blocks, counted down from the number of lines.
-use Rattle.std.proofs.Common.{◌≡◌, ℕ, ◌<◌, ◌≤◌, ◌+◌, ◌-◌, zero, suc, Bool, true, false, not, ◌||◌, List, [], ◌∷◌, ◌++◌, length, refl, ap, sym, ◌∙◌, arith, append-nil, append_assoc}
+use Rattle.std.proofs.Common.{◌≡◌, ℕ, ◌<◌, ◌≤◌, ◌+◌, ◌-◌, zero, suc, Bool, true, false, not, ◌||◌, List, [], ◌∷◌, ◌++◌, length, get_or, take, refl, ap, sym, ◌∙◌, arith, append-nil, length-take}
 use Rattle.std.specs.Prelude.{Option, Some, None, Ok, Err, All, if◌then◌else◌, cond, nat_le, nat_lt, map}
-use Rattle.std.proofs.lemmas.List.{length-append, length-map}
+use Rattle.std.proofs.lemmas.List.{length-append, length-map, map-append, flat_map_more}
+use Rattle.pz_base.proofs.ListLemmas.{take-next}
 use Rattle.pz_base.specs.Fault.{first_fault}
+use Rattle.pz_base.proofs.FaultLemmas.{unless-pass, unless-hit}
 use Rattle.pz_base.specs.declared.fault.Code.{Code}
 use Rattle.pz_base.specs.declared.fault.SourceFault.{SourceFault}
 use Rattle.pz_text.specs.declared.line.Line.{Line}
-use Rattle.pz_names.specs.Objects.{object_names, is_blank, block_of, behind_block, blocks_within, blocks_of, name_line_of, has_repeat, block_at, misnames, objects_of, IsNamed}
+use Rattle.pz_names.specs.Objects.{object_names, is_blank, block_of, behind_block, blocks_within, blocks_of, name_line_of, has_repeat, block_at, misnamed, misnames, objects_of, IsNamed}
 use Rattle.pz_names.specs.declared.objects.Block.{Block}
 use Rattle.pz_names.specs.declared.name_line.NameLine.{NameLine}
 use Rattle.pz_base.specs.declared.fault.Code.TheVariants as code
@@ -35,6 +37,34 @@ pub blocks_within-turn : (found more : List Block) (n i : ℕ) (line : Line) (ot
     → ((m : ℕ) → more ++ blocks_within m after ≡ found ++ blocks_within (suc m) (line ∷ others))
     → more ++ blocks_within (n - (i + 1)) after ≡ found ++ blocks_within (n - i) (line ∷ others)
 blocks_within-turn found more n i line others after lt read = read (n - (i + 1)) ∙ ap (λ b. found ++ b) (sym (blocks_within-step n i (line ∷ others) lt))
+
+-- ---- one block more
+
+-- what is wrong with it, by the names of those above
+pub misnamed-there : (xs : List Block) (i : ℕ) (x : Block) (names : List (List ℕ)) → i < length xs → names ≡ object_names (map name_line_of (take i xs))
+    → misnames (take i xs) x ≡ misnamed names i x
+misnamed-there xs i x names lt there =
+    let long : length (take i xs) ≡ i = omega (arith, length-take i xs) in
+    ap (λ ns. misnamed ns (length (take i xs)) x) (sym there) ∙ ap (λ n. misnamed names n x) long
+
+pub object_names-next : (xs : List Block) (i : ℕ) (x : Block) (names : List (List ℕ)) → i < length xs → x ≡ get_or xs i x
+    → names ≡ object_names (map name_line_of (take i xs)) → names ++ x.line.names ≡ object_names (map name_line_of (take (i + 1) xs))
+object_names-next xs i x names lt is there =
+    let before = map name_line_of (take i xs) in
+    let next : map name_line_of (take (i + 1) xs) ≡ before ++ x.line ∷ [] = ap (map name_line_of) (take-next xs i x lt is) ∙ map-append name_line_of (take i xs) (x ∷ []) in
+    ap (λ ns. ns ++ x.line.names) there ∙ (flat_map_more (λ (line : NameLine). line.names) [] before x.line ∙ ap object_names (sym next))
+
+-- the objects by the blocks that were read
+pub objects_of-read : (lines : List Line) (blocks looked : List Block) (objects : List NameLine) → blocks ≡ blocks_of lines → looked ≡ blocks
+    → first_fault block_at misnames [] looked ≡ None → objects ≡ map name_line_of blocks → objects_of lines ≡ Ok objects
+objects_of-read lines blocks looked objects read same none mapped =
+    unless-pass (first_fault block_at misnames [] (blocks_of lines)) (Ok (map name_line_of (blocks_of lines))) (ap (first_fault block_at misnames []) (sym (same ∙ read)) ∙ none)
+    ∙ (ap (λ bs. Ok (map name_line_of bs)) (sym read) ∙ ap (λ os. Ok os) (sym mapped))
+
+pub objects_of-refused : (lines : List Line) (blocks looked : List Block) (fault : SourceFault) → blocks ≡ blocks_of lines → looked ≡ blocks
+    → first_fault block_at misnames [] looked ≡ Some fault → objects_of lines ≡ Err fault
+objects_of-refused lines blocks looked fault read same some =
+    unless-hit (first_fault block_at misnames [] (blocks_of lines)) (Ok (map name_line_of (blocks_of lines))) fault (ap (first_fault block_at misnames []) (sym (same ∙ read)) ∙ some)
 
 -- ---- what is known of the objects of a source
 

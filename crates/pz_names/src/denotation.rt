@@ -1,6 +1,6 @@
 //! What a name denotes.
 
-ghost use Rattle.std.specs.Prelude.{Option, ◌≡◌, ◌<◌, ◌==◌, ◌||◌, not, ℕ, length, [], OnOk, IfOk, option_copied, is_some, None, false, if◌then◌else◌};
+ghost use Rattle.std.specs.Prelude.{Option, ◌≡◌, ◌<◌, ◌==◌, ◌||◌, not, ℕ, length, [], OnOk, IfOk, option_copied, option_map, is_some, None, Some, false, if◌then◌else◌};
 ghost use Rattle.std.specs.List.{list_all, list_any};
 ghost use Rattle.pz_names.specs.Meaning.{parts_of, StaysInside};
 ghost use Rattle.pz_names.specs.Denotation.{AreMarked, with_mention, with_mentions, gathered, known_at, IsBelow, denotation_of, denotation_next, value_at, settled, IsRound};
@@ -75,6 +75,26 @@ pub fn entry(known: &[Option<Denotation>], number: usize) -> Option<&Denotation>
     }
 }
 
+/// Puts the members of all parts behind those that are mentioned, in order of first mention, as far as the parts are known.
+/// Answers whether all are.
+fn gather(
+    mentions: &mut Vec<usize>,
+    marks: &mut [bool],
+    parts: &[usize],
+    known: &[Option<Denotation>],
+) -> Result<bool, AllocError>
+    requires { AreMarked marks.old mentions.old.items }
+    ensures { IfOk result (λ all. gathered (known_at known.now) mentions.old.items parts.now ≡ (if all then Some mentions.new.items else None)) }
+{
+    for part in parts {
+        let Some(denotation) = entry(known, *part) else {
+            return Ok(false);
+        };
+        add_mentions(mentions, marks, denotation.members.items())?;
+    }
+    Ok(true)
+}
+
 /// The members of all parts, in order of first mention, where each part is known.
 fn gathered(
     alloc: Global,
@@ -84,15 +104,32 @@ fn gathered(
     ensures { IfOk result (λ r. r ≡ gathered (known_at known.now) [] parts.now) }
 {
     let mut marks = no_marks(alloc, MAX_OBJECTS)?;
-    let marks = marks.as_mut_slice();
     let mut mentions = Vec::new(alloc);
-    for part in parts {
-        let Some(denotation) = entry(known, *part) else {
-            return Ok(None);
-        };
-        add_mentions(&mut mentions, marks, denotation.members.items())?;
+    if gather(&mut mentions, marks.as_mut_slice(), parts, known)? {
+        Ok(Some(Listed::new(mentions)))
+    } else {
+        Ok(None)
     }
-    Ok(Some(Listed::new(mentions)))
+}
+
+/// What the name with a number denotes that is an aggregate or a property of parts, where each part is known.
+fn group(
+    alloc: Global,
+    kind: Kind,
+    number: usize,
+    parts: &[usize],
+    known: &[Option<Denotation>],
+) -> Result<Option<Denotation>, AllocError>
+    ensures { IfOk result (λ r. r ≡ option_map (λ members. record { kind = kind; members = members; number = number }) (gathered (known_at known.now) [] parts.now)) }
+{
+    let Some(members) = gathered(alloc, parts, known)? else {
+        return Ok(None);
+    };
+    Ok(Some(Denotation {
+        kind,
+        members,
+        number,
+    }))
 }
 
 /// What a line says of the name with a number, as far as the names on its right are known.
@@ -118,20 +155,8 @@ fn denote(
             })),
             None => Ok(None),
         },
-        Meaning::AllOf(parts) => Ok(gathered(alloc, parts.items(), known)?.map(|members| {
-            Denotation {
-                kind: Kind::Aggregate,
-                members,
-                number,
-            }
-        })),
-        Meaning::AnyOf(parts) => Ok(gathered(alloc, parts.items(), known)?.map(|members| {
-            Denotation {
-                kind: Kind::Property,
-                members,
-                number,
-            }
-        })),
+        Meaning::AllOf(parts) => group(alloc, Kind::Aggregate, number, parts.items(), known),
+        Meaning::AnyOf(parts) => group(alloc, Kind::Property, number, parts.items(), known),
     }
 }
 

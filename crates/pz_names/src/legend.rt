@@ -118,25 +118,34 @@ fn read_definition(alloc: Global, line: &Line) -> Result<Option<Definition>, All
     defined_by(alloc, line.number, left.items(), right.items())
 }
 
-/// Puts the name of a definition behind those that are there, or says what is wrong with it.
+/// Puts the name of a definition behind those that are there, or says what is wrong with it, at the line with a number.
 fn note_name(
     alloc: Global,
     names: &mut NameSet,
+    number: u32,
     definition: &Definition,
-) -> Result<Option<Code>, AllocError>
-    ensures code { IfOk result (λ r. r ≡ misnames_by names.old (Some definition.now)) }
-    ensures noted { IfOk result (λ r. (r ≡ None) → names.new ≡ names.old ++ definition.now.name ∷ []) }
-    ensures other { IfOk result (λ r. IfSome r (λ c. c ≢ code.Memory)) }
+) -> Result<(), SourceFault>
+    ensures refused { IfErr result (λ fault. fault.code ≢ code.Memory → misnames_by names.old (Some definition.now) ≡ Some fault.code) }
+    ensures there { IfErr result (λ fault. fault.code ≢ code.Memory → fault.line ≡ number) }
+    ensures whole { IfErr result (λ fault. fault.code ≡ code.Memory → fault.line ≡ 0) }
+    ensures sound { OnOk result (misnames_by names.old (Some definition.now) ≡ None) }
+    ensures noted { OnOk result (names.new ≡ names.old ++ definition.now.name ∷ []) }
 {
     let name = definition.name.as_str();
     if names.contains(name) {
-        return Ok(Some(Code::Duplicate));
+        return Err(SourceFault {
+            code: Code::Duplicate,
+            line: number,
+        });
     }
     if names.len() >= MAX_NAMES {
-        return Ok(Some(Code::TooLarge));
+        return Err(SourceFault {
+            code: Code::TooLarge,
+            line: number,
+        });
     }
     names.add(alloc, name)?;
-    Ok(None)
+    Ok(())
 }
 
 /// The definition that a line holds, whose name is put behind those that are there; or the line's fault.
@@ -158,12 +167,7 @@ fn new_definition(
             line: line.number,
         });
     };
-    if let Some(code) = note_name(alloc, names, &definition)? {
-        return Err(SourceFault {
-            code,
-            line: line.number,
-        });
-    }
+    note_name(alloc, names, line.number, &definition)?;
     Ok(definition)
 }
 

@@ -182,6 +182,42 @@ fn misnamed(
     Ok(None)
 }
 
+/// Puts the names of a block below so many others behind those that are there, or says what is wrong with it.
+fn note_block(
+    alloc: Global,
+    above: &mut NameSet,
+    count: usize,
+    block: &Block,
+) -> Result<(), SourceFault>
+    ensures refused { IfErr result (λ fault. fault.code ≢ code.Memory → misnamed above.old count block.now ≡ Some fault.code) }
+    ensures there { IfErr result (λ fault. fault.code ≢ code.Memory → fault.line ≡ block_at block.now) }
+    ensures whole { IfErr result (λ fault. fault.code ≡ code.Memory → fault.line ≡ 0) }
+    ensures sound { OnOk result (misnamed above.old count block.now ≡ None) }
+    ensures noted { OnOk result (above.new ≡ above.old ++ block.now.line.names) }
+{
+    if let Some(code) = misnamed(alloc, above, count, block)? {
+        return Err(SourceFault {
+            code,
+            line: block.line.number,
+        });
+    }
+    Ok(())
+}
+
+/// Notes the names of the blocks, where none is there yet, or says the first fault that a block has.
+fn note_blocks(alloc: Global, names: &mut NameSet, blocks: &[Block]) -> Result<(), SourceFault>
+    requires { names.old ≡ [] }
+    ensures sound { OnOk result (first_fault block_at misnames [] blocks.now ≡ None) }
+    ensures names { OnOk result (names.new ≡ object_names (map name_line_of blocks.now)) }
+    ensures refused { IfErr result (λ fault. fault.code ≢ code.Memory → first_fault block_at misnames [] blocks.now ≡ Some fault) }
+    ensures whole { IfErr result (λ fault. fault.code ≡ code.Memory → fault.line ≡ 0) }
+{
+    for (count, block) in blocks.iter().enumerate() {
+        note_block(alloc, names, count, block)?;
+    }
+    Ok(())
+}
+
 /// The names of the blocks, or the first fault that a block has.
 fn names_of_blocks(alloc: Global, blocks: &[Block]) -> Result<NameSet, SourceFault>
     ensures sound { IfOk result (λ _. first_fault block_at misnames [] blocks.now ≡ None) }
@@ -190,14 +226,7 @@ fn names_of_blocks(alloc: Global, blocks: &[Block]) -> Result<NameSet, SourceFau
     ensures whole { IfErr result (λ fault. fault.code ≡ code.Memory → fault.line ≡ 0) }
 {
     let mut names = NameSet::new(alloc);
-    for (count, block) in blocks.iter().enumerate() {
-        if let Some(code) = misnamed(alloc, &mut names, count, block)? {
-            return Err(SourceFault {
-                code,
-                line: block.line.number,
-            });
-        }
-    }
+    note_blocks(alloc, &mut names, blocks)?;
     Ok(names)
 }
 
@@ -206,6 +235,12 @@ fn name_line_of(block: Block) -> NameLine
 {
     let Block { line, is_whole: _ } = block;
     line
+}
+
+fn name_lines(alloc: Global, blocks: Vec<Block>) -> Result<Vec<NameLine>, AllocError>
+    ensures { IfOk result (λ objects. objects.items ≡ map name_line_of blocks.items) }
+{
+    blocks.into_iter().map(name_line_of).collect(alloc)
 }
 
 /// The name line of each object of OBJECTS, and all its names, or its first fault: BadObject, Duplicate or TooLarge, at the
@@ -220,6 +255,6 @@ pub fn read_objects(alloc: Global, lines: &[Line]) -> Result<(Vec<NameLine>, Nam
 {
     let blocks = blocks_of(alloc, lines)?;
     let names = names_of_blocks(alloc, blocks.as_slice())?;
-    let objects = blocks.into_iter().map(name_line_of).collect(alloc)?;
+    let objects = name_lines(alloc, blocks)?;
     Ok((objects, names))
 }

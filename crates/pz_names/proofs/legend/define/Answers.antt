@@ -1,7 +1,5 @@
-use Rattle.std.proofs.Common.{◌≡◌, true, [], ◌∷◌, ◌++◌, map, sym, ◌∙◌, ap}
+use Rattle.std.proofs.Common.{◌++◌, map, sym, ◌∙◌, ap}
 use Rattle.std.proofs.lemmas.List.{append-nil}
-use Rattle.pz_names.specs.Legend.{definitions_of}
-use Rattle.pz_names.specs.Objects.{is_blank}
 use Rattle.pz_names.specs.declared.legend.Definition.{Definition}
 use Rattle.pz_names.proofs.LegendLemmas.{definitions_of-blank}
 use Rattle.pz_names.proofs.legend.define.Goals as goal

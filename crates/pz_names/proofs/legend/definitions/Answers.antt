@@ -1,12 +1,16 @@
 use Rattle.std.proofs.Common.{◌≡◌, refl, [], ◌∷◌, ◌++◌, map, take, sym, ◌∙◌, ap, append_assoc}
 use Rattle.std.specs.Prelude.{Some, None}
-use Rattle.std.proofs.lemmas.List.{map-append}
+use Rattle.std.proofs.lemmas.List.{map-append, append-nil, take_all, drop_all}
 use Rattle.std.proofs.lemmas.Result.{err_from_is_err_and}
 use Rattle.pz_names.proofs.LegendLemmas.{definitions_of-more, misnames-there}
 use Rattle.pz_names.specs.Legend.{line_number, misnames, definitions_of, defined}
+use Rattle.pz_base.specs.Fault.{first_fault}
 use Rattle.pz_base.proofs.FaultLemmas.{first_fault-hit, first_fault-pass}
 use Rattle.pz_names.specs.declared.legend.Definition.{Definition}
 use Rattle.pz_names.proofs.legend.definitions.Goals as goal
+
+pub loop-line-init : goal.loop-line-init
+loop-line-init c = rw c.new-definitions.ensures.items (record { none_yet = refl; read = refl; noted = sym (append-nil c.args.names.now) })
 
 pub loop-line-preserved : goal.loop-line-preserved
 loop-line-preserved c =
@@ -44,3 +48,16 @@ returns-in_err-define-clause-refused c =
     sym before.none_yet
     ∙ (first_fault-hit line_number (misnames there) xs i x fault.code c.loop-line-test.true c.line-item.is hit
     ∙ ap (λ n. Some (record { code = fault.code; line = n })) (sym (c.in_err-define.ensures.there other))))
+
+pub returns-clause-sound : goal.returns-clause-sound
+returns-clause-sound c =
+    let xs = c.args.lines.now in
+    let i = c.loop-line.line-index in
+    let over = drop_all i xs c.loop-line-test.false in
+    sym c.loop-line.invariant.none_yet ∙ ap (first_fault line_number (misnames c.args.names.now) (take i xs)) over
+
+pub returns-clause-definitions : goal.returns-clause-definitions
+returns-clause-definitions c = c.loop-line.invariant.read ∙ ap definitions_of (take_all c.loop-line.line-index c.args.lines.now c.loop-line-test.false)
+
+pub returns-clause-noted : goal.returns-clause-noted
+returns-clause-noted c = c.loop-line.invariant.noted

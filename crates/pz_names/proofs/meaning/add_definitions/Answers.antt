@@ -1,4 +1,4 @@
-use Rattle.std.proofs.Common.{◌≡◌, ◌+◌, ◌∷◌, [], ◌++◌, map, drop, sym, ◌∙◌, ap, append_assoc}
+use Rattle.std.proofs.Common.{◌+◌, ◌∷◌, [], ◌++◌, map, drop, sym, ◌∙◌, ap, append_assoc}
 use Rattle.pz_names.specs.Meaning.{meaning_by}
 use Rattle.pz_names.specs.declared.legend.Definition.{Definition}
 use Rattle.pz_base.proofs.ListLemmas.{drop-next}

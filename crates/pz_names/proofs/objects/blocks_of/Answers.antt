@@ -1,4 +1,4 @@
-use Rattle.std.proofs.Common.{◌+◌, ◌-◌, ◌++◌, length, ap, sym, ◌∙◌, arith}
+use Rattle.std.proofs.Common.{◌-◌, ◌++◌, length, ap, sym, ◌∙◌, arith}
 use Rattle.pz_names.specs.Objects.{blocks_within}
 use Rattle.pz_names.proofs.ObjectLemmas.{blocks_within-end, blocks_within-out, blocks_within-turn}
 use Rattle.pz_names.proofs.objects.blocks_of.Goals as goal

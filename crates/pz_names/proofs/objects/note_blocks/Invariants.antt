@@ -1,7 +1,7 @@
 use Rattle.std.proofs.Common.{◌≡◌, [], map, take, drop}
 use Rattle.pz_base.specs.Fault.{first_fault}
 use Rattle.pz_names.specs.Objects.{object_names, name_line_of, block_at, misnames}
-use Rattle.pz_names.proofs.objects.names_of_blocks.Given as goal
+use Rattle.pz_names.proofs.objects.note_blocks.Given as goal
 
 abbrev pub invariant-loop-count : goal.invariant-loop-count
 invariant-loop-count l = record {

@@ -1,7 +1,7 @@
 use Rattle.std.proofs.Common.{◌≡◌, ◌+◌, ap, sym, ◌∙◌, drop}
 use Rattle.pz_names.specs.Denotation.{with_mentions, gathered, known_at}
 use Rattle.pz_names.proofs.MemberLemmas.{gathered-step}
-use Rattle.pz_names.proofs.denotation.gathered.Goals as goal
+use Rattle.pz_names.proofs.denotation.gather.Goals as goal
 
 pub loop-part-preserved : goal.loop-part-preserved
 loop-part-preserved c =
