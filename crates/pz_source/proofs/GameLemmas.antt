@@ -116,6 +116,13 @@ module _ (objects : List NameLine) (names : List (List ℕ)) (values : List Deno
       → IsGame (record { objects = firsts; names = names; values = vs; layers = layers; depth = depth; rules = rules; wins = wins; levels = entries; options = options })
   is_game firsts vs layers depth a b d e = rw (a, b, d, e) made
 
+-- what goes on behind two readings doesn't change their fault
+behind_err : {A B C : Type 0} (first : Result A SourceFault) (second : Result B SourceFault) (next : A → B → Result C SourceFault) (fault : SourceFault)
+    → and_then (λ x. second) first ≡ Err fault → and_then (λ x. and_then (next x) second) first ≡ Err fault
+behind_err (Err f) second next fault e = cc
+behind_err (Ok x) (Err f) next fault e = cc
+behind_err (Ok x) (Ok y) next fault e = cc
+
 module _ (lines : List Line) (objects : List NameLine) (names : List (List ℕ)) (values : List Denotation) (vs : List Denotation) (same : vs ≡ values)
     (needed : fault_of_needs names vs ≡ None) (ls : List Line) (layer_part : ls ≡ lines_in section.Layers lines) where
   -- the game by the parts that were read
@@ -150,14 +157,12 @@ module _ (lines : List Line) (objects : List NameLine) (names : List (List ℕ))
   unfolding by_parts
   at_layers fault e = whole (lines_in section.Wins lines) (lines_in section.Levels lines) refl refl ∙ rw (needed, e) refl
 
-  pub at_wins : (fault : SourceFault) (ws : List Line) → ws ≡ lines_in section.Wins lines → fault_of_layers objects names vs ls ≡ None → wins_of names ws ≡ Err fault → game_over lines objects names values ≡ Err fault
+  pub at_behind : (fault : SourceFault) → fault_of_layers objects names vs ls ≡ None
+      → and_then (λ wins. levels_of (glyph_of names vs) (lines_in section.Levels lines)) (wins_of names (lines_in section.Wins lines)) ≡ Err fault → game_over lines objects names values ≡ Err fault
   unfolding by_parts
-  at_wins fault ws win_part a e = whole ws (lines_in section.Levels lines) win_part refl ∙ rw (needed, a, e) refl
-
-  pub at_levels : (fault : SourceFault) (ws es : List Line) (wins : List WinLine) → ws ≡ lines_in section.Wins lines → es ≡ lines_in section.Levels lines
-      → fault_of_layers objects names vs ls ≡ None → wins_of names ws ≡ Ok wins → levels_of (glyph_of names vs) es ≡ Err fault → game_over lines objects names values ≡ Err fault
-  unfolding by_parts
-  at_levels fault ws es wins win_part level_part a b e = whole ws es win_part level_part ∙ rw (needed, a, b, e) refl
+  at_behind fault a e =
+      whole (lines_in section.Wins lines) (lines_in section.Levels lines) refl refl
+      ∙ rw (needed, a) (behind_err (wins_of names (lines_in section.Wins lines)) (levels_of (glyph_of names vs) (lines_in section.Levels lines)) _ fault e)
 
   pub at_end : (ws es : List Line) (wins : List WinLine) (entries : List LevelEntry) → ws ≡ lines_in section.Wins lines → es ≡ lines_in section.Levels lines
       → fault_of_layers objects names vs ls ≡ None → wins_of names ws ≡ Ok wins → levels_of (glyph_of names vs) es ≡ Ok entries

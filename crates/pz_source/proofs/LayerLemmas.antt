@@ -1,8 +1,9 @@
 -- Layers, and objects in none.
-use Rattle.std.proofs.Common.{◌≡◌, ◌≢◌, ℕ, ◌<◌, ◌+◌, zero, suc, List, [], ◌∷◌, ◌++◌, length, refl, ap, sym, ◌∙◌, arith, length-append, zero-add, ◌≤◌, Bool, true, false, not}
+use Rattle.std.proofs.Common.{◌≡◌, ◌≢◌, ℕ, ◌<◌, ◌+◌, zero, suc, List, [], ◌∷◌, ◌++◌, length, refl, ap, sym, ◌∙◌, ◌==◌, arith, length-append, append_assoc, zero-add, ◌≤◌, Bool, true, false, not}
 use Rattle.std.specs.Prelude.{Option, Some, None, is_some, if◌then◌else◌, nat_le}
 use Rattle.std.specs.Option.{option_map_or}
 use Rattle.std.specs.List.{All, list_any, filter_map, range_with_len}
+use Rattle.std.proofs.lemmas.List.{append-nil}
 use Rattle.std.proofs.lemmas.List.Elements.{All-nil, All-cons}
 use Rattle.pz_base.specs.Fault.{or_else, first_fault}
 use Rattle.pz_base.specs.NameSet.{is_name_of}
@@ -10,7 +11,7 @@ use Rattle.pz_text.specs.declared.line.Line.{Line}
 use Rattle.pz_base.specs.declared.fault.SourceFault.{SourceFault}
 use Rattle.pz_base.proofs.FaultLemmas.{or_else-later}
 use Rattle.pz_names.specs.Kinds.{kind_in, is_of_kind}
-use Rattle.pz_source.specs.Layers.{misplaces, last_layer, layer_of, layer_lines, layers_of, holds, fault_of_layers}
+use Rattle.pz_source.specs.Layers.{misplaces, last_layer, layer_of, layer_names, layer_lines, layers_of, holds, fault_of_layers}
 use Rattle.pz_game.specs.declared.denotation.Denotation.{Denotation}
 use Rattle.pz_game.specs.declared.denotation.Kind.TheVariants.{Aggregate}
 use Rattle.pz_names.proofs.ValueLemmas.{table_length}
@@ -19,6 +20,17 @@ use Rattle.pz_game.specs.declared.limits.TheConstants.{MAX_LAYERS}
 use Rattle.pz_source.specs.Layers.{name_line_at, lies_nowhere}
 use Rattle.pz_names.specs.declared.name_line.NameLine.{NameLine}
 use Rattle.pz_base.specs.declared.fault.Code.TheVariants as code
+
+-- one line more, which may be a layer
+pub layer_lines-next : (found : List NameLine) (x : Line) (rest : List Line) → (found ++ layer_lines (x ∷ [])) ++ layer_lines rest ≡ found ++ layer_lines (x ∷ rest)
+layer_lines-next found x rest = by (length (layer_names x.text) == 0)
+  where
+    layer : NameLine
+    layer = record { number = x.number; names = layer_names x.text }
+
+    by : (b : Bool) → (found ++ (if b then [] else layer ∷ [])) ++ layer_lines rest ≡ found ++ (if b then layer_lines rest else layer ∷ layer_lines rest)
+    by true = ap (λ ls. ls ++ layer_lines rest) (append-nil found)
+    by false = append_assoc found (layer ∷ []) (layer_lines rest)
 
 -- tables that agree on the objects name the same line
 pub nowhere-same : (f g : ℕ → Option ℕ) (before rest : List NameLine) → ((k : ℕ) → k < length before + length rest → f k ≡ g k)

@@ -1,5 +1,6 @@
 pub mod LayerLemmas
 pub mod LevelLemmas
+pub mod WinLemmas
 pub mod RuleLemmas
 pub mod ReadingExamples
 pub mod DrawnLemmas

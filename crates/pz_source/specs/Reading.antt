@@ -19,6 +19,7 @@ use Rattle.pz_source.specs.Rules.{rule_lines}
 use Rattle.pz_source.specs.Wins.{wins_of}
 use Rattle.pz_source.specs.Levels.{glyph_of, levels_of}
 use Rattle.pz_game.specs.declared.game.GameParts.{GameParts}
+use Rattle.pz_source.specs.declared.reading.Sections.{Sections}
 use Rattle.pz_names.specs.declared.name_line.NameLine.{NameLine}
 use Rattle.pz_game.specs.declared.denotation.Denotation.{Denotation}
 
@@ -29,6 +30,20 @@ line_count text = length (slice_split (λ c. c == 10) (chars text))
 -- of each object, the first name that its line gives
 abbrev pub first_names : List NameLine → List (List ℕ)
 first_names objects = map (λ line. get_or line.names 0 []) objects
+
+-- the game of names, of what they denote, and of what the sections behind the legend give
+abbrev pub game_with : List (List ℕ) → List Denotation → Sections → GameParts
+game_with names values sections = record {
+  objects = sections.objects;
+  names = names;
+  values = values;
+  layers = sections.layers;
+  depth = sections.depth;
+  rules = sections.rules;
+  wins = sections.wins;
+  levels = sections.levels;
+  options = sections.options;
+}
 
 -- the game over these objects and names: the names that each game needs, then the layers, then the win lines, then the levels
 abbrev pub game_over : List Line → List NameLine → List (List ℕ) → List Denotation → Result GameParts SourceFault

@@ -1,11 +1,12 @@
 //! The lines of COLLISIONLAYERS.
 
-ghost use Rattle.std.specs.Prelude.{◌≡◌, ◌≢◌, ◌==◌, ℕ, ◌<◌, [], IfOk, IfErr, IfSome, length, None, Some, map, if◌then◌else◌};
+ghost use Rattle.std.specs.Prelude.{◌≡◌, ◌≢◌, ◌==◌, ℕ, ◌<◌, ◌++◌, ◌∷◌, [], IfOk, IfErr, OnOk, IfSome, length, None, Some, map, if◌then◌else◌};
 ghost use Rattle.std.specs.List.{list_any, filter_map};
 ghost use Rattle.pz_base.specs.Fault.{first_fault};
 ghost use Rattle.pz_base.specs.declared.fault.Code.TheVariants as code;
 ghost use Rattle.pz_source.specs.Layers.{layer_words, layer_names, layer_lines, name_line_at, misplaced, misplaces, members_of, holds, entry_at, layer_of, lies_nowhere, fault_of_layers, layers_of};
 
+use crate::rules::push_word;
 use pz_base::fault::{Code, SourceFault};
 use pz_base::listed::Listed;
 use pz_base::name::Name;
@@ -34,9 +35,24 @@ fn layer_names(alloc: Global, line: &[char]) -> Result<Vec<Name>, AllocError>
     let words = layer_words(alloc, line)?;
     let mut items = Vec::new(alloc);
     for word in &words {
-        items.push(Name::of_word(alloc, word)?)?;
+        push_word(alloc, &mut items, word)?;
     }
     Ok(items)
+}
+
+/// Puts the layer of a line behind the others, if the line has a name.
+fn add_layer(alloc: Global, layers: &mut Vec<NameLine>, line: &Line) -> Result<(), AllocError>
+    ensures { OnOk result (layers.new.items ≡ layers.old.items ++ layer_lines (line.now ∷ [])) }
+{
+    let names = layer_names(alloc, line.text.items())?;
+    if names.is_empty() {
+        return Ok(());
+    }
+    layers.push(NameLine {
+        number: line.number,
+        names: Listed::new(names),
+    })?;
+    Ok(())
 }
 
 /// The layers: the lines of COLLISIONLAYERS with a name.
@@ -45,14 +61,7 @@ pub fn layer_lines(alloc: Global, lines: &[Line]) -> Result<Vec<NameLine>, Alloc
 {
     let mut layers = Vec::new(alloc);
     for line in lines {
-        let names = layer_names(alloc, line.text.items())?;
-        if names.is_empty() {
-            continue;
-        }
-        layers.push(NameLine {
-            number: line.number,
-            names: Listed::new(names),
-        })?;
+        add_layer(alloc, &mut layers, line)?;
     }
     Ok(layers)
 }

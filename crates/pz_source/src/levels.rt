@@ -1,10 +1,10 @@
 //! The lines of LEVELS.
 
-ghost use Rattle.std.specs.Prelude.{◌≡◌, ◌≢◌, ◌≤◌, ◌<◌, ◌+◌, ◌*◌, length, drop, [], IfOk, IfErr, OnOk, Ok, Err, ◌++◌, map, take, option_map, get_or, true};
+ghost use Rattle.std.specs.Prelude.{◌≡◌, ◌≢◌, ◌≤◌, ◌<◌, ◌+◌, ◌*◌, length, drop, [], IfOk, IfErr, OnOk, Ok, Err, ◌++◌, map, take, option_map, option_and_then, slice_get, get_or, true, if◌then◌else◌, Some, None};
 ghost use Rattle.std.specs.List.{list_any, slice_range};
 ghost use Rattle.pz_base.specs.declared.fault.Code.TheVariants as code;
 ghost use Rattle.pz_game.specs.Level.{is_playable};
-ghost use Rattle.pz_source.specs.Levels.{is_message, closed, entries_of, is_entry, glyph_of, glyphs_of, filled, is_too_large, rows_of, entry_of, levels_of};
+ghost use Rattle.pz_source.specs.Levels.{is_message, closed, entries_of, is_entry, draws, glyph_of, glyphs_of, filled, is_too_large, rows_of, entry_of, levels_of};
 
 use pz_base::fault::{Code, SourceFault};
 use pz_base::listed::Listed;
@@ -80,6 +80,21 @@ fn close<'a>(entries: &mut Vec<&'a [Line]>, rows: &'a [Line]) -> Result<(), Allo
     Ok(())
 }
 
+/// The number of a name, if the name draws something.
+fn drawing(values: &[Denotation], number: usize) -> Option<usize>
+    ensures { result ≡ option_and_then (λ d. if draws d.kind then Some number else None) (slice_get values.now number) }
+{
+    match values.get(number) {
+        Some(
+            Denotation {
+                kind: Kind::Object | Kind::Aggregate,
+                ..
+            },
+        ) => Some(number),
+        _ => None,
+    }
+}
+
 /// The number of the name that a glyph is, if it draws something.
 fn glyph(
     alloc: Global,
@@ -90,17 +105,9 @@ fn glyph(
     ensures { IfOk result (λ r. r ≡ glyph_of names.now values.now character) }
 {
     let name = Name::of_word(alloc, &[character])?;
-    let Some(number) = names.number_of(name.as_str()) else {
-        return Ok(None);
-    };
-    match values.get(number) {
-        Some(
-            Denotation {
-                kind: Kind::Object | Kind::Aggregate,
-                ..
-            },
-        ) => Ok(Some(number)),
-        _ => Ok(None),
+    match names.number_of(name.as_str()) {
+        Some(number) => Ok(drawing(values, number)),
+        None => Ok(None),
     }
 }
 

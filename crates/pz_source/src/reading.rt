@@ -5,7 +5,14 @@ ghost use Rattle.pz_base.specs.declared.fault.Code.TheVariants as code;
 ghost use Rattle.pz_names.specs.Objects.{IsNamed, object_names};
 ghost use Rattle.pz_game.specs.Word.{IsWord};
 ghost use Rattle.pz_game.specs.Denotation.{IsDenoted};
-ghost use Rattle.pz_source.specs.Reading.{first_names, game_over, game_of_objects, game_of_lines, source_of, line_count};
+ghost use Rattle.pz_base.specs.Fault.{and_then};
+ghost use Rattle.pz_game.specs.Game.{IsGame};
+ghost use Rattle.pz_text.specs.Section.{lines_in};
+ghost use Rattle.pz_text.specs.declared.line.Section.TheVariants as section;
+ghost use Rattle.pz_source.specs.Rules.{rule_lines};
+ghost use Rattle.pz_source.specs.Wins.{wins_of};
+ghost use Rattle.pz_source.specs.Levels.{glyph_of, levels_of};
+ghost use Rattle.pz_source.specs.Reading.{first_names, game_with, game_over, game_of_objects, game_of_lines, source_of, line_count};
 
 use crate::layers::read_layers;
 use crate::levels::read_levels;
@@ -19,7 +26,11 @@ use pz_base::name::Name;
 use pz_base::name_set::NameSet;
 use pz_game::denotation::Denotation;
 use pz_game::game::{Game, GameParts};
+use pz_game::level::LevelEntry;
 use pz_game::limits::MAX_OBJECTS;
+use pz_game::options::Options;
+use pz_game::rule_line::RuleLine;
+use pz_game::win_line::WinLine;
 use pz_names::name_line::NameLine;
 use pz_names::objects::read_objects;
 use pz_names::values::read_legend;
@@ -27,6 +38,18 @@ use pz_text::check::read_lines;
 use pz_text::line::{Line, Section};
 use pz_text::section::lines_in;
 use std::alloc::{AllocError, Global};
+
+/// What the sections behind LEGEND give over names that are known, and the first names of the objects.
+#[derive(Drop)]
+pub(crate) struct Sections {
+    pub objects: Listed<Name>,
+    pub layers: Listed<usize>,
+    pub depth: usize,
+    pub rules: Listed<RuleLine>,
+    pub wins: Listed<WinLine>,
+    pub levels: Listed<LevelEntry>,
+    pub options: Options,
+}
 
 /// The first name of a line; a line of OBJECTS always has one.
 fn first_name(alloc: Global, line: &NameLine) -> Result<Name, AllocError>
@@ -49,7 +72,104 @@ fn first_names(alloc: Global, objects: &[NameLine]) -> Result<Listed<Name>, Allo
     Ok(Listed::new(firsts))
 }
 
-/// The game over these objects and names, or its first fault: Missing, then those of the layers, of the win lines and of the levels.
+/// The first names of the objects, and the rule lines.
+fn names_and_rules(
+    alloc: Global,
+    lines: &[Line],
+    objects: &[NameLine],
+) -> Result<(Listed<Name>, Vec<RuleLine>), AllocError>
+    ensures names { IfOk result (λ r. r.0 ≡ first_names objects.now) }
+    ensures rules { IfOk result (λ r. r.1.items ≡ rule_lines (lines_in section.Rules lines.now)) }
+{
+    let firsts = first_names(alloc, objects)?;
+    let rules = rule_lines(alloc, lines_in(Section::Rules, lines))?;
+    Ok((firsts, rules))
+}
+
+/// The win lines and the entries of LEVELS, or their first fault: those of the win lines go first.
+fn wins_and_levels(
+    alloc: Global,
+    lines: &[Line],
+    names: &NameSet,
+    values: &[Denotation],
+) -> Result<(Vec<WinLine>, Vec<LevelEntry>), SourceFault>
+    ensures wins { IfOk result (λ r. wins_of names.now (lines_in section.Wins lines.now) ≡ Ok r.0.items) }
+    ensures levels { IfOk result (λ r. levels_of (glyph_of names.now values.now) (lines_in section.Levels lines.now) ≡ Ok r.1.items) }
+    ensures refused { IfErr result (λ fault. fault.code ≢ code.Memory → and_then (λ wins. levels_of (glyph_of names.now values.now) (lines_in section.Levels lines.now)) (wins_of names.now (lines_in section.Wins lines.now)) ≡ Err fault) }
+    ensures whole { IfErr result (λ fault. fault.code ≡ code.Memory → fault.line ≡ 0) }
+{
+    let wins = read_wins(alloc, names, lines_in(Section::Wins, lines))?;
+    let levels = read_levels(alloc, names, values, lines_in(Section::Levels, lines))?;
+    Ok((wins, levels))
+}
+
+/// What the sections behind LEGEND give over these objects and names, or their first fault: Missing, then those of the layers, of
+/// the win lines and of the levels.
+fn read_sections(
+    alloc: Global,
+    lines: &[Line],
+    objects: &[NameLine],
+    names: &NameSet,
+    values: &[Denotation],
+) -> Result<Sections, SourceFault>
+    requires few { length objects.now ≤ MAX_OBJECTS }
+    requires named { All IsNamed objects.now }
+    requires all { length values.now ≡ length names.now }
+    requires denoted { All (IsDenoted (length objects.now)) values.now }
+    ensures read { IfOk result (λ sections. game_over lines.now objects.now names.now values.now ≡ Ok (game_with names.now values.now sections)) }
+    ensures game { IfOk result (λ sections. IsGame (game_with names.now values.now sections)) }
+    ensures refused { IfErr result (λ fault. fault.code ≢ code.Memory → game_over lines.now objects.now names.now values.now ≡ Err fault) }
+    ensures whole { IfErr result (λ fault. fault.code ≡ code.Memory → fault.line ≡ 0) }
+{
+    if let Some(fault) = missing_name(names, values) {
+        return Err(fault);
+    }
+    let (layers, depth) = read_layers(
+        alloc,
+        objects,
+        names,
+        values,
+        lines_in(Section::Layers, lines),
+    )?;
+    let (wins, levels) = wins_and_levels(alloc, lines, names, values)?;
+    let (firsts, rules) = names_and_rules(alloc, lines, objects)?;
+    Ok(Sections {
+        objects: firsts,
+        layers: Listed::new(layers),
+        depth,
+        rules: Listed::new(rules),
+        wins: Listed::new(wins),
+        levels: Listed::new(levels),
+        options: options_of(lines_in(Section::Prelude, lines)),
+    })
+}
+
+fn game_with(names: NameSet, values: Vec<Denotation>, sections: Sections) -> GameParts
+    ensures { result ≡ game_with names values.items sections }
+{
+    let Sections {
+        objects,
+        layers,
+        depth,
+        rules,
+        wins,
+        levels,
+        options,
+    } = sections;
+    GameParts {
+        objects,
+        names,
+        values: Listed::new(values),
+        layers,
+        depth,
+        rules,
+        wins,
+        levels,
+        options,
+    }
+}
+
+/// The game over these objects and names, or its first fault: that of what follows the legend.
 fn read_over(
     alloc: Global,
     lines: &[Line],
@@ -65,33 +185,8 @@ fn read_over(
     ensures refused { IfErr result (λ fault. fault.code ≢ code.Memory → game_over lines.now objects.now names values.items ≡ Err fault) }
     ensures whole { IfErr result (λ fault. fault.code ≡ code.Memory → fault.line ≡ 0) }
 {
-    let known = values.as_slice();
-    if let Some(fault) = missing_name(&names, known) {
-        return Err(fault);
-    }
-    let (layers, depth) = read_layers(
-        alloc,
-        objects,
-        &names,
-        known,
-        lines_in(Section::Layers, lines),
-    )?;
-    let wins = read_wins(alloc, &names, lines_in(Section::Wins, lines))?;
-    let levels = read_levels(alloc, &names, known, lines_in(Section::Levels, lines))?;
-    let rules = rule_lines(alloc, lines_in(Section::Rules, lines))?;
-    let options = options_of(lines_in(Section::Prelude, lines));
-    let firsts = first_names(alloc, objects)?;
-    Ok(Game::new(GameParts {
-        objects: firsts,
-        names,
-        values: Listed::new(values),
-        layers: Listed::new(layers),
-        depth,
-        rules: Listed::new(rules),
-        wins: Listed::new(wins),
-        levels: Listed::new(levels),
-        options,
-    }))
+    let sections = read_sections(alloc, lines, objects, &names, values.as_slice())?;
+    Ok(Game::new(game_with(names, values, sections)))
 }
 
 /// The game over these objects, or its first fault: those of the legend, then those of what follows.

@@ -1,9 +1,11 @@
 //! The lines of RULES.
 
-ghost use Rattle.std.specs.Prelude.{◌≡◌, ◌≤◌, ◌++◌, ◌∷◌, length, take, drop, map, IfOk, OnOk};
+ghost use Rattle.std.specs.Prelude.{◌≡◌, ◌≤◌, ◌++◌, ◌∷◌, [], length, take, drop, map, if◌then◌else◌, IfOk, OnOk};
 ghost use Rattle.pz_base.specs.Name.{name_of};
 ghost use Rattle.pz_text.specs.Characters.{trimmed};
-ghost use Rattle.pz_source.specs.Rules.{closed, ended, rule_words, rule_line_of, rule_lines};
+ghost use Rattle.pz_text.specs.Comment.{ends_word, word_after, is_first_after};
+ghost use Rattle.pz_text.specs.declared.line.Section.TheVariants.{Rules};
+ghost use Rattle.pz_source.specs.Rules.{closed, ended, words_from, rule_words, rule_line_of, rule_lines};
 
 use pz_base::listed::Listed;
 use pz_base::name::Name;
@@ -14,13 +16,26 @@ use pz_text::comment::Place;
 use pz_text::line::{Line, Section};
 use std::alloc::{AllocError, Global};
 
+/// Puts the name that a word spells behind the others.
+pub(crate) fn push_word(
+    alloc: Global,
+    words: &mut Vec<Name>,
+    word: &[char],
+) -> Result<(), AllocError>
+    ensures { OnOk result (words.new.items ≡ words.old.items ++ name_of word.now ∷ []) }
+{
+    let name = Name::of_word(alloc, word)?;
+    words.push(name)?;
+    Ok(())
+}
+
 fn push_closed(alloc: Global, words: &mut Vec<Name>, word: &[char]) -> Result<(), AllocError>
     ensures { OnOk result (words.new.items ≡ words.old.items ++ map name_of (closed word.now)) }
 {
-    if !word.is_empty() {
-        words.push(Name::of_word(alloc, word)?)?;
+    if word.is_empty() {
+        return Ok(());
     }
-    Ok(())
+    push_word(alloc, words, word)
 }
 
 /// Puts the words that a character ends behind the others.
@@ -34,15 +49,14 @@ fn push_ended(
 {
     let word = place.word.as_slice();
     if c.is_whitespace() {
-        push_closed(alloc, words, word)?;
-    } else if place.ends_arrow(c) {
-        push_closed(alloc, words, &word[..word.len() - 1])?;
-        words.push(Name::of_word(alloc, &['-', '>'])?)?;
-    } else {
-        push_closed(alloc, words, word)?;
-        words.push(Name::of_word(alloc, &[c])?)?;
+        return push_closed(alloc, words, word);
     }
-    Ok(())
+    if place.ends_arrow(c) {
+        push_closed(alloc, words, &word[..word.len() - 1])?;
+        return push_word(alloc, words, &['-', '>']);
+    }
+    push_closed(alloc, words, word)?;
+    push_word(alloc, words, &[c])
 }
 
 /// Puts the word `message` and its text behind the others, where the text goes on with what is left of the line.
@@ -56,10 +70,42 @@ fn push_message(
     ensures { OnOk result (words.new.items ≡ words.old.items ++ map name_of (take 7 word.now ∷ closed (trimmed (drop 7 word.now ++ rest.now)))) }
 {
     let (message, begun) = word.split_at(7);
-    words.push(Name::of_word(alloc, message)?)?;
+    push_word(alloc, words, message)?;
     let mut text = begun.to_vec(alloc)?;
     text.extend_from_slice(rest)?;
     push_closed(alloc, words, trimmed(text.as_slice()))
+}
+
+/// Goes behind a character, and puts the words that it ends behind the others.
+fn pass(alloc: Global, words: &mut Vec<Name>, place: &mut Place, c: char) -> Result<(), AllocError>
+    ensures words { OnOk result (words.new.items ≡ words.old.items ++ map name_of (if ends_word Rules place.old.is_first place.old.word.items c then ended place.old.word.items c else [])) }
+    ensures word { OnOk result (place.new.word.items ≡ word_after Rules place.old.is_first place.old.word.items c) }
+    ensures first { OnOk result (place.new.is_first ≡ is_first_after Rules place.old.is_first place.old.word.items c) }
+{
+    if place.ends_word(Section::Rules, c) {
+        push_ended(alloc, words, place, c)?;
+    }
+    place.pass(Section::Rules, c)
+}
+
+/// Puts the words of a rule line, from a character on, behind the others.
+fn push_words(
+    alloc: Global,
+    words: &mut Vec<Name>,
+    place: &mut Place,
+    text: &[char],
+) -> Result<(), AllocError>
+    ensures { OnOk result (words.new.items ≡ words.old.items ++ map name_of (words_from place.old.is_first place.old.word.items text.now)) }
+{
+    let mut rest = text;
+    while let Some((c, others)) = rest.split_first() {
+        if place.ends_message(*c) {
+            return push_message(alloc, words, place.word.as_slice(), rest);
+        }
+        pass(alloc, words, place, *c)?;
+        rest = others;
+    }
+    push_closed(alloc, words, place.word.as_slice())
 }
 
 /// The words of a rule line, folded.
@@ -68,19 +114,7 @@ pub fn rule_words(alloc: Global, text: &[char]) -> Result<Listed<Name>, AllocErr
 {
     let mut words = Vec::new(alloc);
     let mut place = Place::new(alloc);
-    let mut rest = text;
-    while let Some((c, others)) = rest.split_first() {
-        if place.ends_message(*c) {
-            push_message(alloc, &mut words, place.word.as_slice(), rest)?;
-            return Ok(Listed::new(words));
-        }
-        if place.ends_word(Section::Rules, *c) {
-            push_ended(alloc, &mut words, &place, *c)?;
-        }
-        place.pass(Section::Rules, *c)?;
-        rest = others;
-    }
-    push_closed(alloc, &mut words, place.word.as_slice())?;
+    push_words(alloc, &mut words, &mut place, text)?;
     Ok(Listed::new(words))
 }
 

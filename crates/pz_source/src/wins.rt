@@ -2,7 +2,7 @@
 
 ghost use Rattle.std.specs.Prelude.{◌≡◌, ◌≢◌, Ok, Err, IfOk, IfErr};
 ghost use Rattle.pz_base.specs.declared.fault.Code.TheVariants as code;
-ghost use Rattle.pz_source.specs.Wins.{quantifier_of, win_about, win_of, wins_of};
+ghost use Rattle.pz_source.specs.Wins.{quantifier_of, win_about, win_of, win_at, wins_of};
 
 use pz_base::fault::{Code, SourceFault};
 use pz_base::name::Name;
@@ -33,7 +33,8 @@ fn win_about(
     subject: Option<usize>,
     on: Option<Option<usize>>,
 ) -> Result<WinLine, Code>
-    ensures { result ≡ win_about quantifier subject on }
+    ensures about { result ≡ win_about quantifier subject on }
+    ensures other { IfErr result (λ c. c ≢ code.Memory) }
 {
     let quantifier = quantifier.ok_or(Code::BadWin)?;
     let subject = subject.ok_or(Code::Unknown)?;
@@ -47,7 +48,8 @@ fn win_about(
 
 /// The win line that words give, over these names.
 fn win_of(names: &NameSet, words: &[Name]) -> Result<WinLine, Code>
-    ensures { result ≡ win_of names.now words.now }
+    ensures line { result ≡ win_of names.now words.now }
+    ensures other { IfErr result (λ c. c ≢ code.Memory) }
 {
     match words {
         [word, subject] => win_about(
@@ -61,6 +63,22 @@ fn win_of(names: &NameSet, words: &[Name]) -> Result<WinLine, Code>
             names.number_of(on.as_str()).map(Some),
         ),
         _ => Err(Code::BadWin),
+    }
+}
+
+/// What a line says that is not blank, or its fault.
+fn read_win(alloc: Global, names: &NameSet, line: &Line) -> Result<WinLine, SourceFault>
+    ensures read { IfOk result (λ win. win_at names.now line.now ≡ Ok win) }
+    ensures refused { IfErr result (λ fault. fault.code ≢ code.Memory → win_at names.now line.now ≡ Err fault) }
+    ensures whole { IfErr result (λ fault. fault.code ≡ code.Memory → fault.line ≡ 0) }
+{
+    let words = names_of(alloc, line.text.items())?;
+    match win_of(names, words.items()) {
+        Ok(win) => Ok(win),
+        Err(code) => Err(SourceFault {
+            code,
+            line: line.number,
+        }),
     }
 }
 
@@ -80,16 +98,8 @@ pub fn read_wins(
         if is_blank(line) {
             continue;
         }
-        let words = names_of(alloc, line.text.items())?;
-        match win_of(names, words.items()) {
-            Ok(win) => wins.push(win)?,
-            Err(code) => {
-                return Err(SourceFault {
-                    code,
-                    line: line.number,
-                });
-            }
-        }
+        let win = read_win(alloc, names, line)?;
+        wins.push(win)?;
     }
     Ok(wins)
 }

@@ -1,7 +1,7 @@
 use Rattle.std.proofs.Common.{◌≡◌, true, sym, ◌∙◌, arith, ap, length}
 use Rattle.pz_text.specs.Comment.{ends_message}
 use Rattle.pz_source.proofs.RuleLemmas.{ends_message-long}
-use Rattle.pz_source.proofs.rules.rule_words.Goals as goal
+use Rattle.pz_source.proofs.rules.push_words.Goals as goal
 
 pub push_message-requires : goal.push_message-requires
 push_message-requires c =
