@@ -1,17 +1,19 @@
 //! A program while its lines are read.
 
-ghost use Rattle.std.specs.Prelude.{◌≡◌, ◌≢◌, ◌++◌, true, None, Ok, Err, IfOk, IfErr, if◌then◌else◌};
+ghost use Rattle.std.specs.Prelude.{◌≡◌, ◌≢◌, ◌++◌, true, None, Ok, Err, IfOk, IfErr, IfSome, OnOk, if◌then◌else◌};
 ghost use Rattle.pz_plan.specs.declared.fault.RuleFault.TheVariants.{Memory};
 ghost use Rattle.pz_rules.specs.Drafts.{placed, settled, opened, loop_of, with_loop, closed, is_misplaced, lateness, with_instances, before, extended, rule_added, loop_added, line_added};
+ghost use Rattle.pz_grammar.specs.Parsed.{parsed};
+ghost use Rattle.pz_grammar.specs.Words.{tokens_of};
 ghost use Rattle.pz_grammar.specs.Written.{is_whole};
 
 use crate::expansion::{Expansion, expanded};
 use crate::patterns::Patterns;
-use crate::sides::{Sides, no_sides, side_added};
-use pz_base::listing::{joined, pushed};
+use crate::sides::{Growing, Sides, add_to_side, no_sides};
+use pz_base::listing::joined;
 use pz_base::name::Name;
 use pz_game::game::Game;
-use pz_game::instance::{Block, Blocks, Group, Groups};
+use pz_game::instance::{Block, Group};
 use pz_game::rule_line::RuleLine;
 use pz_grammar::grammar::parse;
 use pz_grammar::loops::{LoopWord, loop_word, next_loop};
@@ -29,7 +31,6 @@ pub struct OpenGroup {
 }
 
 /// The blocks that are done, the groups of the loop that is open, and the last group.
-#[derive(Drop)]
 pub struct Draft {
     pub done: Sides<Block>,
     pub repeated: Option<Sides<Group>>,
@@ -37,94 +38,108 @@ pub struct Draft {
     pub pairs: u64,
 }
 
-/// The draft with a group in its place: in the loop that is open, else as a block of its own.
-#[tactic(auto, unfolding(crate::specs::Drafts::placed))]
-fn placed(draft: Draft, group: OpenGroup) -> Result<Draft, AllocError>
-    ensures draft { IfOk result (λ out. out ≡ placed draft group) }
-    ensures group { IfOk result (λ out. out.group ≡ None) }
-{
-    let Draft {
-        done,
-        repeated,
-        group: _,
-        pairs,
-    } = draft;
-    let OpenGroup { is_late, instances } = group;
-    match repeated {
-        None => Ok(Draft {
-            done: side_added(done, is_late, Block::One(instances))?,
-            repeated: None,
-            group: None,
-            pairs,
-        }),
-        Some(groups) => Ok(Draft {
+// (written out, so that to drop a draft is one call wherever it is dropped)
+impl Drop for Draft {
+    fn drop(self) {
+        let Draft {
+            done: _,
+            repeated: _,
+            group: _,
+            pairs: _,
+        } = self;
+    }
+}
+
+impl Draft {
+    /// The blocks that are done.
+    pub fn into_done(self) -> Sides<Block>
+        ensures { result ≡ self.done }
+    {
+        let Draft {
             done,
-            repeated: Some(side_added(groups, is_late, instances)?),
-            group: None,
-            pairs,
-        }),
+            repeated: _,
+            group: _,
+            pairs: _,
+        } = self;
+        done
+    }
+}
+
+/// Puts a group in its place: in the loop that is open, else as a block of its own.
+#[tactic(auto, unfolding(crate::specs::Drafts::placed))]
+fn place(draft: &mut Draft, group: OpenGroup) -> Result<(), AllocError>
+    requires { draft.now.group ≡ None }
+    ensures { OnOk result (draft.new ≡ placed draft.old group) }
+{
+    let OpenGroup { is_late, instances } = group;
+    match &mut draft.repeated {
+        None => add_to_side(&mut draft.done, is_late, Block::One(instances)),
+        Some(groups) => add_to_side(groups, is_late, instances),
+    }
+}
+
+/// Puts the last group in its place, so that no rule can join it any more.
+#[tactic(auto, unfolding(crate::specs::Drafts::settled, crate::specs::Drafts::placed))]
+fn settle(draft: &mut Draft) -> Result<(), AllocError>
+    ensures draft { OnOk result (draft.new ≡ settled draft.old) }
+    ensures group { OnOk result (draft.new.group ≡ None) }
+{
+    match draft.group.take() {
+        None => Ok(()),
+        Some(group) => place(draft, group),
     }
 }
 
 /// The draft where no rule can join the last group any more.
-#[tactic(auto, unfolding(crate::specs::Drafts::settled, crate::specs::Drafts::placed))]
 pub fn settled(mut draft: Draft) -> Result<Draft, AllocError>
     ensures draft { IfOk result (λ out. out ≡ settled draft) }
     ensures group { IfOk result (λ out. out.group ≡ None) }
 {
-    match draft.group.take() {
-        None => Ok(draft),
-        Some(group) => placed(draft, group),
-    }
+    settle(&mut draft)?;
+    Ok(draft)
 }
 
-/// The draft where a loop begins.
+/// Begins a loop.
 #[tactic(auto, unfolding(crate::specs::Drafts::opened))]
-fn opened(alloc: Global, draft: Draft) -> Result<Draft, AllocError>
-    ensures { IfOk result (λ out. out ≡ opened draft) }
+fn open(alloc: Global, draft: &mut Draft) -> Result<(), RuleFault>
+    ensures draft { OnOk result (draft.new ≡ opened draft.old) }
+    ensures fault { IfErr result (λ fault. fault ≡ Memory) }
 {
-    let draft = settled(draft)?;
-    Ok(Draft {
-        repeated: Some(no_sides(alloc)),
-        ..draft
-    })
+    settle(draft)?;
+    draft.repeated = Some(no_sides(alloc));
+    Ok(())
 }
 
-/// The blocks with that of a part of a loop, where it has groups.
-fn with_part(blocks: Blocks, groups: Groups) -> Result<Blocks, AllocError>
-    ensures { IfOk result (λ out. out ≡ blocks ++ loop_of groups) }
+/// Adds the block of a part of a loop, where it has groups.
+fn add_part(blocks: &mut Growing<Block>, groups: Growing<Group>) -> Result<(), AllocError>
+    ensures { OnOk result (blocks.new ≡ blocks.old ++ loop_of groups) }
 {
+    let groups = groups.into_listed();
     if groups.items().is_empty() {
-        return Ok(blocks);
+        return Ok(());
     }
-    pushed(blocks, Block::Loop(groups))
+    blocks.push(Block::Loop(groups))
 }
 
-/// The blocks with those of a loop.
-fn with_loop(done: Sides<Block>, groups: Sides<Group>) -> Result<Sides<Block>, AllocError>
-    ensures { IfOk result (λ out. out ≡ with_loop done groups) }
+/// Adds the blocks of a loop.
+fn add_loop(done: &mut Sides<Block>, groups: Sides<Group>) -> Result<(), AllocError>
+    ensures { OnOk result (done.new ≡ with_loop done.old groups) }
 {
-    let Sides { early, late } = done;
-    Ok(Sides {
-        early: with_part(early, groups.early)?,
-        late: with_part(late, groups.late)?,
-    })
+    let Sides { early, late } = groups;
+    add_part(&mut done.early, early)?;
+    add_part(&mut done.late, late)
 }
 
-/// The draft where the loop that is open ends.
+/// Ends the loop that is open.
 #[tactic(auto, unfolding(crate::specs::Drafts::closed))]
-fn closed(draft: Draft) -> Result<Draft, AllocError>
-    ensures { IfOk result (λ out. out ≡ closed draft) }
+fn close(draft: &mut Draft) -> Result<(), RuleFault>
+    ensures draft { OnOk result (draft.new ≡ closed draft.old) }
+    ensures fault { IfErr result (λ fault. fault ≡ Memory) }
 {
-    let mut draft = settled(draft)?;
+    settle(draft)?;
     match draft.repeated.take() {
-        None => Ok(draft),
-        Some(groups) => Ok(Draft {
-            done: with_loop(draft.done, groups)?,
-            repeated: None,
-            group: None,
-            pairs: draft.pairs,
-        }),
+        None => Ok(()),
+        Some(groups) => Ok(add_loop(&mut draft.done, groups)?),
     }
 }
 
@@ -171,46 +186,45 @@ fn with_instances(
     }
 }
 
-/// The draft that the rule's group stands after.
+/// Settles a draft, unless the rule joins its last group.
 #[tactic(auto, unfolding(crate::specs::Drafts::before))]
-fn before(draft: Draft, rule: &Rule) -> Result<Draft, AllocError>
-    ensures draft { IfOk result (λ out. out ≡ before draft rule.now) }
-    ensures group { IfOk result (λ out. out.group ≡ (if rule.now.is_joined then draft.group else None)) }
+fn settle_before(draft: &mut Draft, rule: &Rule) -> Result<(), AllocError>
+    ensures draft { OnOk result (draft.new ≡ before draft.old rule.now) }
+    ensures group { OnOk result (draft.new.group ≡ (if rule.now.is_joined then draft.old.group else None)) }
 {
     if rule.is_joined {
-        Ok(draft)
+        Ok(())
     } else {
-        settled(draft)
+        settle(draft)
     }
 }
 
-/// The draft with the instances of a rule.
+/// Adds the instances of a rule.
 #[tactic(auto, unfolding(crate::specs::Drafts::extended, crate::specs::Drafts::joins, crate::specs::Drafts::lateness))]
-fn extended(draft: Draft, rule: &Rule, more: Expansion) -> Result<Draft, AllocError>
-    ensures { IfOk result (λ out. out ≡ extended draft rule.now more) }
+fn extend(draft: &mut Draft, rule: &Rule, more: Expansion) -> Result<(), RuleFault>
+    ensures draft { OnOk result (draft.new ≡ extended draft.old rule.now more) }
+    ensures fault { IfErr result (λ fault. fault ≡ Memory) }
 {
-    let mut draft = before(draft, rule)?;
-    let group = with_instances(draft.group.take(), rule, more.instances)?;
-    Ok(Draft {
-        group: Some(group),
-        pairs: more.pairs,
-        ..draft
-    })
+    let Expansion { instances, pairs } = more;
+    settle_before(draft, rule)?;
+    draft.group = Some(with_instances(draft.group.take(), rule, instances)?);
+    draft.pairs = pairs;
+    Ok(())
 }
 
-/// The draft with a rule, or the first fault of the rule.
+/// Adds a rule, or names its first fault.
 #[tactic(auto, unfolding(crate::specs::Drafts::rule_added))]
-fn rule_added(
+fn add_rule(
     patterns: &mut Patterns,
     game: &Game,
-    draft: Draft,
+    draft: &mut Draft,
     rule: &Rule,
-) -> Result<Draft, RuleFault>
+) -> Result<(), RuleFault>
     requires whole { is_whole rule.now ≡ true }
-    ensures draft { IfOk result (λ out. rule_added game.now draft rule.now ≡ Ok out) }
-    ensures fault { IfErr result (λ fault. fault ≢ Memory → rule_added game.now draft rule.now ≡ Err fault) }
+    ensures draft { OnOk result (rule_added game.now draft.old rule.now ≡ Ok draft.new) }
+    ensures fault { IfErr result (λ fault. fault ≢ Memory → rule_added game.now draft.old rule.now ≡ Err fault) }
 {
-    if is_misplaced(&draft, rule) {
+    if is_misplaced(draft, rule) {
         return Err(RuleFault::BadRule);
     }
     let more = expanded(
@@ -218,54 +232,77 @@ fn rule_added(
         game.values(),
         game.layers(),
         draft.pairs,
-        lateness(&draft, rule),
+        lateness(draft, rule),
         rule,
     )?;
-    Ok(extended(draft, rule, more)?)
+    extend(draft, rule, more)
 }
 
-/// The draft with a loop line, or its fault.
+/// Adds a loop line, or names its fault.
 #[tactic(auto, unfolding(crate::specs::Drafts::loop_added))]
-fn loop_added(
+fn add_loop_line(
     alloc: Global,
-    draft: Draft,
+    draft: &mut Draft,
     below: &[RuleLine],
     word: LoopWord,
-) -> Result<Draft, RuleFault>
-    ensures draft { IfOk result (λ out. loop_added draft below.now word ≡ Ok out) }
-    ensures fault { IfErr result (λ fault. fault ≢ Memory → loop_added draft below.now word ≡ Err fault) }
+) -> Result<(), RuleFault>
+    ensures draft { OnOk result (loop_added draft.old below.now word ≡ Ok draft.new) }
+    ensures fault { IfErr result (λ fault. fault ≢ Memory → loop_added draft.old below.now word ≡ Err fault) }
 {
     match word {
         LoopWord::Start => match next_loop(below) {
-            Some(LoopWord::End) => Ok(opened(alloc, draft)?),
+            Some(LoopWord::End) => open(alloc, draft),
             _ => Err(RuleFault::BadRule),
         },
         LoopWord::End => match &draft.repeated {
-            Some(_) => Ok(closed(draft)?),
+            Some(_) => close(draft),
             None => Err(RuleFault::BadRule),
         },
     }
 }
 
-/// The draft with a line, or the first fault of the line.
+/// The rule that the words of a line are, if they are one.
+fn rule_of(alloc: Global, game: &Game, words: &[Name]) -> Result<Option<Rule>, AllocError>
+    ensures rule { IfOk result (λ rule. rule ≡ parsed (tokens_of game.now.names words.now)) }
+    ensures whole { IfOk result (λ rule. IfSome rule (λ rule. is_whole rule ≡ true)) }
+{
+    let tokens = tokens_of(alloc, game, words)?;
+    parse(alloc, &tokens)
+}
+
+/// Adds a line, or names its first fault.
 #[tactic(auto, unfolding(crate::specs::Drafts::line_added))]
+fn add_line(
+    patterns: &mut Patterns,
+    game: &Game,
+    draft: &mut Draft,
+    below: &[RuleLine],
+    words: &[Name],
+) -> Result<(), RuleFault>
+    ensures draft { OnOk result (line_added game.now draft.old below.now words.now ≡ Ok draft.new) }
+    ensures fault { IfErr result (λ fault. fault ≢ Memory → line_added game.now draft.old below.now words.now ≡ Err fault) }
+{
+    let alloc = patterns.alloc();
+    if let Some(word) = loop_word(words) {
+        return add_loop_line(alloc, draft, below, word);
+    }
+    match rule_of(alloc, game, words)? {
+        Some(rule) => add_rule(patterns, game, draft, &rule),
+        None => Err(RuleFault::BadRule),
+    }
+}
+
+/// The draft with a line, or the first fault of the line.
 pub fn line_added(
     patterns: &mut Patterns,
     game: &Game,
-    draft: Draft,
+    mut draft: Draft,
     below: &[RuleLine],
     words: &[Name],
 ) -> Result<Draft, RuleFault>
     ensures draft { IfOk result (λ out. line_added game.now draft below.now words.now ≡ Ok out) }
     ensures fault { IfErr result (λ fault. fault ≢ Memory → line_added game.now draft below.now words.now ≡ Err fault) }
 {
-    let alloc = patterns.alloc();
-    if let Some(word) = loop_word(words) {
-        return loop_added(alloc, draft, below, word);
-    }
-    let tokens = tokens_of(alloc, game, words)?;
-    match parse(alloc, &tokens)? {
-        Some(rule) => rule_added(patterns, game, draft, &rule),
-        None => Err(RuleFault::BadRule),
-    }
+    add_line(patterns, game, &mut draft, below, words)?;
+    Ok(draft)
 }

@@ -8,7 +8,7 @@ use crate::equal::same_meaning;
 use pz_game::pattern::{Item, Row, Word};
 
 /// What the items of a cell are for: a left asks for them, a right places them.
-#[derive(Clone, Copy, PartialEq, Eq, Debug)]
+#[derive(Clone, Copy)]
 pub enum Role {
     Asked,
     Placed,

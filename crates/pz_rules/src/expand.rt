@@ -9,7 +9,7 @@ ghost use Rattle.pz_game.specs.Instance.{IsProgramOf};
 
 use crate::draft::{Draft, line_added, settled};
 use crate::patterns::Patterns;
-use crate::sides::no_sides;
+use crate::sides::{Sides, no_sides};
 use pz_base::fault::{Code, SourceFault};
 use pz_game::game::Game;
 use pz_game::instance::Program;
@@ -52,10 +52,10 @@ fn nothing(alloc: Global) -> Draft
 fn finished(draft: Draft) -> Result<Program, AllocError>
     ensures { IfOk result (λ program. program ≡ finished draft) }
 {
-    let last = settled(draft)?;
+    let Sides { early, late } = settled(draft)?.into_done();
     Ok(Program {
-        early: last.done.early,
-        late: last.done.late,
+        early: early.into_listed(),
+        late: late.into_listed(),
     })
 }
 

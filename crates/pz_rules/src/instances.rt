@@ -19,7 +19,7 @@ use pz_plan::plan::{Asked, Choice, Plan, PlanRow, Term, TermName, TermWord};
 use std::alloc::{AllocError, Global};
 
 /// What a choice gives.
-#[derive(Clone, Copy, PartialEq, Eq, Debug)]
+#[derive(Clone, Copy)]
 pub enum Pick {
     Object(usize),
     Toward(Dir),

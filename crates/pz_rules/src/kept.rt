@@ -17,7 +17,7 @@ use std::marker::Model;
 const BUCKETS: u64 = 256;
 
 /// Where a kept instance stands, beside its mark.
-#[derive(Clone, Copy, PartialEq, Eq, Debug)]
+#[derive(Clone, Copy)]
 pub struct Place {
     pub mark: u64,
     pub index: usize,
