@@ -1,17 +1,21 @@
 //! The levels of a session between two links, and the links that lead on from them.
 
-ghost use Rattle.std.specs.Prelude.{◌≡◌, ◌<◌, ◌+◌, true, length, IfOk, OnOk, Ok};
+ghost use Rattle.std.specs.Prelude.{◌≡◌, ◌≢◌, ◌<◌, ◌+◌, true, if◌then◌else◌, length, IfOk, IfErr, OnOk, Ok, Err};
+ghost use Rattle.pz_game.specs.Commands.{has, checkpoint};
 ghost use Rattle.pz_game.specs.Level.{is_playable};
 ghost use Rattle.pz_game.specs.Instance.{IsProgramOf};
 ghost use Rattle.pz_sheet.specs.Grid.{IsOfGame};
-ghost use Rattle.pz_grid.specs.Loading.{entry_at};
+ghost use Rattle.pz_grid.specs.Loading.{entry_at, loaded};
+ghost use Rattle.pz_turn.specs.Step.{step_of};
+ghost use Rattle.pz_turn.specs.declared.outcome.StepFault.TheVariants.{Memory};
 ghost use Rattle.pz_session.specs.Chain.{GivesLink};
 ghost use Rattle.pz_session.specs.FirstLevel.{level_from};
 
 use crate::chain::{Machine, PlayFault, Shown};
 use crate::first_level::level_after;
 use crate::item::{Frame, FrameKind, Verdict};
-use crate::turn::{is_idle, turn};
+use crate::place::put;
+use crate::turn::is_idle;
 use bitflags::Flags;
 use pz_game::commands::Commands;
 use pz_game::direction::Dir;
@@ -23,7 +27,8 @@ use pz_record::input::Input;
 use pz_record::order::Order;
 use pz_record::recorded::Recorded;
 use pz_record::text_writer::TextWriter;
-use pz_turn::step::StepEnd;
+use pz_turn::outcome::StepFault;
+use pz_turn::step::{StepEnd, step};
 use pz_turn::win::won;
 use std::alloc::{AllocError, Global};
 use std::marker::Model;
@@ -88,18 +93,35 @@ impl Drop for Board<'_> {
             order: _,
             recorded: _,
             entry: _,
-            level: _,
-            target: _,
-            past: _,
-            before: _,
+            level,
+            target,
+            past,
+            before,
             is_over: _,
-            texts: _,
+            texts,
         } = self;
+        drop(level);
+        drop(target);
+        drop(past);
+        drop(before);
+        drop(texts);
     }
 }
 
+/// The level of an entry, to be played, and once more, as the target.
+fn opened(alloc: Global, game: &Game, entry: usize) -> Result<(Level, Level), AllocError>
+    requires playable { is_playable (entry_at game.now entry) ≡ true }
+    requires within { entry < length game.now.levels }
+    ensures level { IfOk result (λ levels. levels.0.grid ≡ loaded game.now entry) }
+    ensures target { IfOk result (λ levels. levels.1.grid ≡ loaded game.now entry) }
+{
+    let level = Level::load(alloc, game, entry)?;
+    let target = level.copy()?;
+    Ok((level, target))
+}
+
 impl<'a> Board<'a> {
-    ghost use Rattle.pz_session.specs.Board.{loaded_at, frame_of, showing, showing_end, start_link, restarted, loading, ending, won_link, kept_link, reached_link, effect, press_link, tick_link, undone, undo_link, ticks_at_start, keeping};
+    ghost use Rattle.pz_session.specs.Board.{loaded_at, frame_of, showing, showing_end, start_link, restarted, ending, won_link, kept_link, reached_link, effect, press_link, tick_link, undone, undo_link, ticks_at_start, keeping};
 
     /// A session at the level of an entry, as it is loaded.
     pub fn load(
@@ -115,8 +137,7 @@ impl<'a> Board<'a> {
         requires program_of { IsProgramOf game.now.layers program.now }
         ensures { IfOk result (λ board. board ≡ loaded_at game.now program.now order recorded.now entry) }
     {
-        let level = Level::load(alloc, game, entry)?;
-        let target = level.copy()?;
+        let (level, target) = opened(alloc, game, entry)?;
         Ok(Board {
             alloc,
             game,
@@ -176,7 +197,8 @@ impl<'a> Board<'a> {
     fn restart(&mut self) -> Result<Shown, AllocError>
         ensures { IfOk result (λ shown. GivesLink (Ok (restarted self.old)) self.new (Ok shown)) }
     {
-        self.level = self.target.copy()?;
+        let level = self.target.copy()?;
+        put(&mut self.level, level);
         let goes_on = self.ticks_at_start();
         self.show(FrameKind::Restart, goes_on)
     }
@@ -187,30 +209,25 @@ impl<'a> Board<'a> {
         requires within { next < length self.old.game.levels }
         ensures { OnOk result (self.new ≡ loaded_at self.old.game self.old.program self.old.order self.old.recorded next) }
     {
-        let level = Level::load(self.alloc, self.game, next)?;
-        let target = level.copy()?;
+        let (level, target) = opened(self.alloc, self.game, next)?;
         self.entry = next;
-        self.level = level;
-        self.target = target;
+        put(&mut self.level, level);
+        put(&mut self.target, target);
         self.past.clear();
-        self.before = None;
+        put(&mut self.before, None);
         self.is_over = false;
         Ok(())
     }
 
-    /// Behind the frame of the step that wins, a level is loaded.
-    fn load_next(&mut self, won: Frame, next: usize) -> Result<Shown, AllocError>
+    /// A level is loaded, and shown.
+    fn load_next(&mut self, next: usize) -> Result<Frame, AllocError>
         requires playable { is_playable (entry_at self.old.game next) ≡ true }
         requires within { next < length self.old.game.levels }
-        ensures { IfOk result (λ shown. GivesLink (Ok (loading won (loaded_at self.old.game self.old.program self.old.order self.old.recorded next))) self.new (Ok shown)) }
+        ensures frame { IfOk result (λ frame. frame ≡ frame_of self.new FrameKind.Load) }
+        ensures loaded { OnOk result (self.new ≡ loaded_at self.old.game self.old.program self.old.order self.old.recorded next) }
     {
         self.enter(next)?;
-        let frame = self.frame(FrameKind::Load)?;
-        Ok(Shown {
-            first: Some(won),
-            second: Some(frame),
-            goes_on: self.ticks_at_start(),
-        })
+        self.frame(FrameKind::Load)
     }
 
     /// Behind the frame of the step that wins the last level, play is over.
@@ -231,13 +248,31 @@ impl<'a> Board<'a> {
         ensures { IfOk result (λ shown. GivesLink (Ok (won_link won self.old (level_from self.old.game (self.old.entry + 1)))) self.new (Ok shown)) }
     {
         match level_after(self.game, self.entry) {
-            Some(next) => self.load_next(won, next),
+            Some(next) => {
+                let frame = self.load_next(next)?;
+                Ok(Shown {
+                    first: Some(won),
+                    second: Some(frame),
+                    goes_on: self.ticks_at_start(),
+                })
+            }
             None => Ok(self.finish(won)),
         }
     }
 
+    /// At a checkpoint the level is the target from then on.
+    fn set_target(&mut self, commands: Commands) -> Result<(), AllocError>
+        ensures { OnOk result (self.new ≡ record self.old { target = if has commands checkpoint then self.old.level else self.old.target }) }
+    {
+        if commands.contains(Commands::CHECKPOINT) {
+            let target = self.level.copy()?;
+            put(&mut self.target, target);
+        }
+        Ok(())
+    }
+
     /// The end of a step that doesn't win: at a checkpoint it is the target.
-    #[tactic(auto, unfolding(crate::specs::Board::kept_link))]
+    #[tactic(auto, unfolding(crate::specs::Board::kept_link, crate::specs::Board::frame_of))]
     fn keep(
         &mut self,
         kind: FrameKind,
@@ -246,15 +281,9 @@ impl<'a> Board<'a> {
     ) -> Result<Shown, AllocError>
         ensures { IfOk result (λ shown. GivesLink (Ok (kept_link kind commands changed self.old)) self.new (Ok shown)) }
     {
-        let frame = self.frame(kind)?;
-        if commands.contains(Commands::CHECKPOINT) {
-            self.target = self.level.copy()?;
-        }
-        Ok(Shown {
-            first: Some(frame),
-            second: None,
-            goes_on: commands.contains(Commands::AGAIN) && changed,
-        })
+        self.set_target(commands)?;
+        let goes_on = commands.contains(Commands::AGAIN) && changed;
+        self.show(kind, goes_on)
     }
 
     /// The level where a step ends that is neither cancelled nor a restart.
@@ -286,13 +315,33 @@ impl<'a> Board<'a> {
             changed,
         } = end;
         if commands.contains(Commands::CANCEL) {
+            drop(level);
             return self.show(kind, false);
         }
         if commands.contains(Commands::RESTART) {
+            drop(level);
             return self.restart();
         }
-        self.level = level;
+        put(&mut self.level, level);
         self.reach(kind, commands, changed)
+    }
+
+    /// Keeps the level for the past until the chain is over.
+    fn keep_before(&mut self) -> Result<(), AllocError>
+        ensures { OnOk result (self.new ≡ keeping self.old) }
+    {
+        let before = self.level.copy()?;
+        put(&mut self.before, Some(before));
+        Ok(())
+    }
+
+    /// A step from the level, which leads to another level of its game. The level itself stays as it is.
+    fn turn(&self, input: Option<Dir>) -> Result<StepEnd, StepFault>
+        ensures end { IfOk result (λ end. step_of self.now.game self.now.program self.now.level input ≡ Ok (record { level = end.level.grid; commands = end.commands; changed = end.changed })) }
+        ensures game { IfOk result (λ end. IsOfGame self.now.game end.level.grid) }
+        ensures fault { IfErr result (λ fault. fault ≢ Memory → step_of self.now.game self.now.program self.now.level input ≡ Err fault) }
+    {
+        step(self.alloc, self.game, self.program, &self.level, input)
     }
 
     /// A press plays a step.
@@ -300,9 +349,8 @@ impl<'a> Board<'a> {
     fn press(&mut self, dir: Dir) -> Result<Shown, PlayFault>
         ensures { GivesLink (press_link dir self.old) self.new result }
     {
-        let end = turn(self.alloc, self.game, self.program, &self.level, Some(dir))?;
-        let before = self.level.copy()?;
-        self.before = Some(before);
+        self.keep_before()?;
+        let end = self.turn(Some(dir))?;
         let shown = self.take(FrameKind::Move, end)?;
         Ok(shown)
     }
@@ -312,8 +360,9 @@ impl<'a> Board<'a> {
     fn pass_time(&mut self) -> Result<Shown, PlayFault>
         ensures { GivesLink (tick_link self.old) self.new result }
     {
-        let end = turn(self.alloc, self.game, self.program, &self.level, None)?;
+        let end = self.turn(None)?;
         if is_idle(&end) {
+            drop(end);
             return Ok(Shown {
                 first: None,
                 second: None,
@@ -329,7 +378,7 @@ impl<'a> Board<'a> {
         ensures { OnOk result (self.new ≡ undone self.old self.old.past) }
     {
         if let Some(level) = self.past.pop()? {
-            self.level = level;
+            put(&mut self.level, level);
         }
         Ok(())
     }
@@ -346,8 +395,7 @@ impl<'a> Board<'a> {
     fn start_again(&mut self) -> Result<Shown, AllocError>
         ensures { IfOk result (λ shown. GivesLink (Ok (restarted (keeping self.old))) self.new (Ok shown)) }
     {
-        let before = self.level.copy()?;
-        self.before = Some(before);
+        self.keep_before()?;
         self.restart()
     }
 }
@@ -385,8 +433,9 @@ impl<'a> Machine for Board<'a> {
     fn settle(&mut self) -> Result<(), AllocError> {
         if let Some(before) = self.before.take() {
             if !before.same(&self.level) {
-                self.past.push(before)?;
+                return self.past.push(before);
             }
+            drop(before);
         }
         Ok(())
     }

@@ -15,7 +15,7 @@ pub fn ticks_are_limited()
 {}
 
 /// What a link shows, and whether one more tick follows it.
-#[derive(Drop, Debug)]
+#[derive(Drop)]
 pub struct Shown {
     pub first: Option<Frame>,
     pub second: Option<Frame>,
@@ -23,7 +23,7 @@ pub struct Shown {
 }
 
 /// Why a link isn't played: memory was refused, or the session stops here.
-#[derive(Clone, Copy, Debug, PartialEq, Eq)]
+#[derive(Clone, Copy)]
 pub enum PlayFault {
     Memory,
     Stopped(Stop),

@@ -4,7 +4,7 @@ use pz_base::fault::SourceFault;
 use pz_base::text::Text;
 
 /// Why a frame is shown.
-#[derive(Clone, Copy, Debug, PartialEq, Eq)]
+#[derive(Clone, Copy)]
 pub enum FrameKind {
     /// The level as it was loaded first.
     Start,
@@ -23,14 +23,14 @@ pub enum FrameKind {
 }
 
 /// A level that is shown, in the order of the job.
-#[derive(Drop, Debug)]
+#[derive(Drop)]
 pub struct Frame {
     pub kind: FrameKind,
     pub level_text: Text,
 }
 
 /// Why a session stopped before all of its inputs were played.
-#[derive(Clone, Copy, Debug, PartialEq, Eq)]
+#[derive(Clone, Copy)]
 pub enum Stop {
     /// A group of rules, or a loop of groups, that doesn't come to rest.
     LoopLimit,
@@ -41,7 +41,7 @@ pub enum Stop {
 }
 
 /// Why a session is not played.
-#[derive(Clone, Copy, Debug, PartialEq, Eq)]
+#[derive(Clone, Copy)]
 pub enum Refusal {
     /// Its source is refused.
     Source(SourceFault),
@@ -50,7 +50,7 @@ pub enum Refusal {
 }
 
 /// How a session closes.
-#[derive(Clone, Copy, Debug, PartialEq, Eq)]
+#[derive(Clone, Copy)]
 pub enum Verdict {
     /// Every input was played, and the last level is the recorded one.
     Passed,
@@ -62,7 +62,7 @@ pub enum Verdict {
 
 /// An item of a session. Its frames are numbered from 0, and `at` is the number of inputs taken when a frame is shown. One close
 /// follows the frames.
-#[derive(Drop, Debug)]
+#[derive(Drop)]
 pub enum Item {
     Frame { number: u64, at: u64, frame: Frame },
     Close(Verdict),

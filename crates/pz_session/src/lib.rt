@@ -9,6 +9,7 @@ pub mod first_level;
 pub mod item;
 pub mod job;
 pub mod laws;
+mod place;
 pub mod plan;
 mod player;
 pub mod recording;

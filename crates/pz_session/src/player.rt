@@ -5,12 +5,13 @@ ghost use Rattle.pz_session.specs.Session.{ticks_after};
 
 use crate::chain::{MOST_TICKS, Machine, PlayFault, Shown};
 use crate::item::{Frame, Item, Stop, Verdict};
+use crate::place::put;
 use crate::tape::Tape;
 use pz_record::input::Input;
 use std::alloc::AllocError;
 
 /// What comes after the frames that are still to be handed out.
-#[derive(Clone, Copy, Debug, PartialEq, Eq)]
+#[derive(Clone, Copy)]
 pub enum Phase {
     /// The next input, or the close.
     Between,
@@ -160,9 +161,9 @@ impl<'a, M: Machine> Player<'a, M> {
                     goes_on,
                 },
             ) => {
+                put(&mut self.first, first);
+                put(&mut self.second, second);
                 self.phase = Player::phase_after(&mut self.machine, goes_on, allowed)?;
-                self.first = first;
-                self.second = second;
                 Ok(())
             }
             Err(fault) => match fault {

@@ -8,14 +8,14 @@ use pz_base::text::Text;
 use std::marker::Model;
 
 /// What one session showed: its name and its items, the close among them.
-#[derive(Drop, Debug)]
+#[derive(Drop)]
 pub struct Record {
     pub name: Text,
     pub items: Listed<Item>,
 }
 
 /// What every session of a job showed, by session number.
-#[derive(Drop, Debug)]
+#[derive(Drop)]
 pub struct Recording {
     records: Vec<Record>,
 }

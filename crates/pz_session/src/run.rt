@@ -22,7 +22,8 @@ pub struct Run<'a> {
 /// Written out, as for a board.
 impl Drop for Run<'_> {
     fn drop(self) {
-        let Run { stage: _ } = self;
+        let Run { stage } = self;
+        drop(stage);
     }
 }
 

@@ -1,4 +1,4 @@
-use Rattle.std.proofs.Common.{[], ap, ◌∙◌}
+use Rattle.std.proofs.Common.{[], ap}
 use Rattle.std.proofs.lemmas.List.Elements.{All-same, All-nil}
 use Rattle.pz_sheet.specs.Grid.{IsOfGame}
 use Rattle.pz_record.specs.Labels.{WriterView}
@@ -10,8 +10,8 @@ invariant_of-result c = (
   record {
     program = c.requires.program_of;
     entry = c.requires.within;
-    level = loaded_of_game c.args.game.now c.args.entry c.in_ok-level.level.grid c.in_ok-level.ensures.loaded;
-    target = loaded_of_game c.args.game.now c.args.entry c.in_ok-target.target.grid (c.in_ok-target.ensures.copied ∙ c.in_ok-level.ensures.loaded);
+    level = loaded_of_game c.args.game.now c.args.entry c.in_ok-level.level.grid c.in_ok-level.ensures.level;
+    target = loaded_of_game c.args.game.now c.args.entry c.in_ok-level.target.grid c.in_ok-level.ensures.target;
     past = All-same (IsOfGame c.args.game.now) c.new.result [] c.new.ensures (All-nil (IsOfGame c.args.game.now));
     before = tt;
   },

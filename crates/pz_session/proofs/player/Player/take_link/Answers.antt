@@ -1,13 +1,14 @@
-use Rattle.std.proofs.Common.{drop, refl}
+use Rattle.std.proofs.Common.{drop, refl, ◌∙◌}
 use Rattle.pz_session.specs.Chain.{shown_frames}
-use Rattle.pz_session.proofs.Leaving.{left-link, left-link_stopped, link-ok, link-stopped}
+use Rattle.pz_session.proofs.Leaving.{left-at, left-link, left-link_stopped, link-ok, link-stopped}
 use Rattle.pz_session.proofs.player.Player.take_link.Goals as goal
 
 pub returns-in_ok-self-in-Ok-clause-left : goal.returns-in_ok-self-in-Ok-clause-left
 returns-in_ok-self-in-Ok-clause-left g c =
     λ link gives.
     let p = c.args.self.now in
-    left-link g.M.Machine.links c.args.allowed p.number p.taken (drop p.taken p.inputs) (shown_frames c.in-Ok.field-0) c.in-Ok.field-0.goes_on p.machine c.phase_after.new.machine c.in_ok-self-in-Ok.field-0 link
+    left-at g.M.Machine.links _ c.in-Ok.field-0.first c.in-Ok.field-0.second c.put.ensures c.put-in-Ok.ensures
+    ∙ left-link g.M.Machine.links c.args.allowed p.number p.taken (drop p.taken p.inputs) (shown_frames c.in-Ok.field-0) c.in-Ok.field-0.goes_on p.machine c.phase_after.new.machine c.in_ok-self-in-Ok.field-0 link
     (link-ok link p.machine c.args.outcome c.in-Ok.field-0 gives c.in-Ok.is) c.in_ok-self-in-Ok.ensures.to_come
 
 pub returns-in-Stopped-clause-left : goal.returns-in-Stopped-clause-left
