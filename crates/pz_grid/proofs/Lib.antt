@@ -18,6 +18,7 @@ pub mod RewritingLemmas
 pub mod PlaceLemmas
 pub mod NamedLemmas
 pub mod StartLemmas
+pub mod GapLemmas
 pub mod SkipLemmas
 pub mod SomewhereLemmas
 pub mod CountLemmas

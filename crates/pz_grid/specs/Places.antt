@@ -71,6 +71,10 @@ starts_with grid Up line first start = holds_in_column grid line first start
 starts_with grid Down line first start = holds_in_column grid line first start
 starts_with grid _ line first start = holds_in_row grid line first start
 
+-- the cell of a row that is the first behind its gap holds, where the gap spans that many cells
+abbrev pub holds_behind : Grid → Dir → ℕ → ℕ → List Item → ℕ → ℕ → Bool
+holds_behind grid dir x y behind at gap = holds_at grid behind (along grid dir x y (at + gap))
+
 -- how many gaps are tried: a greater one leads off the map
 abbrev pub gap_count : Grid → RuleRow → Dir → ℕ
 gap_count grid row dir = if is_some row.gap_at then line_length grid dir else 1

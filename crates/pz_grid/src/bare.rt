@@ -1,6 +1,6 @@
 //! A level without its marks, in as many words a cell as its game needs: each call goes to the sheet that has it.
 
-ghost use Rattle.std.specs.Prelude.{◌≡◌, ℕ, ◌<◌, ◌↔◌, IsTrue, true, map, length, slice_index, All, IfOk, IfSome, Some, None, MatchOption};
+ghost use Rattle.std.specs.Prelude.{◌≡◌, ℕ, ◌<◌, ◌≤◌, ◌↔◌, IsTrue, true, map, length, slice_index, All, IfOk, IfSome, Some, None, MatchOption};
 ghost use Rattle.pz_sets.specs.Sets.{member};
 ghost use Rattle.pz_sets.specs.declared.set.TheConstants.{CAPACITY};
 ghost use Rattle.pz_game.specs.Pattern.{AreOf, IsRowOf};
@@ -12,7 +12,7 @@ ghost use Rattle.pz_sheet.specs.Movement.{stilled};
 ghost use Rattle.pz_sheet.specs.Presence.{is_in, cell_of};
 ghost use Rattle.pz_sheet.specs.Pushing.{pushed};
 ghost use Rattle.pz_sheet.specs.Rewriting.{with_rewritten, changes};
-ghost use Rattle.pz_sheet.specs.Searching.{holds_in_row, holds_in_column, HoldsSomewhere, IsNext};
+ghost use Rattle.pz_sheet.specs.Searching.{holds_in_row, holds_in_column, HoldsSomewhere, IsNext, IsLast};
 ghost use Rattle.pz_sheet.specs.Standing.{standing_at, stands};
 
 use pz_cells::piece::Piece;
@@ -250,6 +250,34 @@ impl BareLevel {
             Sized::Small(sheet) => sheet.next_in_column(x, from, pattern),
             Sized::Middle(sheet) => sheet.next_in_column(x, from, pattern),
             Sized::Large(sheet) => sheet.next_in_column(x, from, pattern),
+        }
+    }
+
+    /// The last column before an end in which a rule's cell holds in a row of the map.
+    pub(crate) fn last_in_row(&self, y: u32, end: u32, pattern: &Pattern) -> Option<u32>
+        requires y_in { y < self.now.grid.height }
+        requires end_in { end ≤ self.now.grid.width }
+        requires of_game { AreOf self.now.grid.layers pattern.now }
+        ensures { IsLast (holds_in_row self.now.grid y pattern.now) end result }
+    {
+        match &self.sheet {
+            Sized::Small(sheet) => sheet.last_in_row(y, end, pattern),
+            Sized::Middle(sheet) => sheet.last_in_row(y, end, pattern),
+            Sized::Large(sheet) => sheet.last_in_row(y, end, pattern),
+        }
+    }
+
+    /// The last row before an end in which a rule's cell holds in a column of the map.
+    pub(crate) fn last_in_column(&self, x: u32, end: u32, pattern: &Pattern) -> Option<u32>
+        requires x_in { x < self.now.grid.width }
+        requires end_in { end ≤ self.now.grid.height }
+        requires of_game { AreOf self.now.grid.layers pattern.now }
+        ensures { IsLast (holds_in_column self.now.grid x pattern.now) end result }
+    {
+        match &self.sheet {
+            Sized::Small(sheet) => sheet.last_in_column(x, end, pattern),
+            Sized::Middle(sheet) => sheet.last_in_column(x, end, pattern),
+            Sized::Large(sheet) => sheet.last_in_column(x, end, pattern),
         }
     }
 

@@ -4,7 +4,7 @@ ghost use Rattle.std.specs.Prelude.{◌≡◌, ◌≢◌, ℕ, ◌+◌, ◌*◌,
 ghost use Rattle.pz_game.specs.declared.limits.TheConstants.{MAX_SIDE};
 ghost use Rattle.pz_game.specs.Pattern.{AreOf, IsRowOf, AreRowsOf};
 ghost use Rattle.pz_grid.specs.Admitted.{admitted, searches_line, start_count};
-ghost use Rattle.pz_grid.specs.Places.{on_map, along, holds_at, position_of, distance, row_holds, line_count, line_length, place_in, gap_count, pairs_at, pairs_in, places, searched, starts_with, still_holds, still_matches};
+ghost use Rattle.pz_grid.specs.Places.{on_map, along, holds_at, position_of, distance, row_holds, line_count, line_length, place_in, holds_behind, pairs_at, pairs_in, places, searched, starts_with, still_holds, still_matches};
 ghost use Rattle.pz_sheet.specs.Searching.{IsNext};
 
 use crate::Level;
@@ -187,18 +187,6 @@ fn next_start(bare: &BareLevel, dir: Dir, line: u32, from: u32, first: &Pattern)
     }
 }
 
-/// How many gaps a row may span.
-fn gap_count(bare: &BareLevel, row: &Row, dir: Dir) -> u32
-    ensures value { result ≡ gap_count bare.now.grid row.now dir }
-    ensures small { result ≤ MAX_SIDE }
-{
-    if row.gap_at().is_some() {
-        line_length(bare, dir)
-    } else {
-        1
-    }
-}
-
 /// Adds the place if the row holds there.
 fn add_place(
     bare: &BareLevel,
@@ -224,6 +212,70 @@ fn add_place(
     Ok(())
 }
 
+/// The first gap from a place's own on for which the row's first cell behind its gap, that of the number `at`, holds.
+fn next_gap(bare: &BareLevel, dir: Dir, from: Place, at: u32, behind: &Pattern) -> Option<u32>
+    requires inside { (from.x < bare.now.grid.width) × (from.y < bare.now.grid.height) }
+    requires of_game { AreOf bare.now.grid.layers behind.now }
+    ensures { IsNext (holds_behind bare.now.grid dir from.x from.y behind.now at) from.gap (line_length bare.now.grid dir) result }
+{
+    let steps = at as usize + from.gap as usize;
+    if steps >= line_length(bare, dir) as usize {
+        return None;
+    }
+    match dir {
+        Dir::Right => {
+            let x = bare.next_in_row(from.y, from.x + steps as u32, behind)?;
+            Some(x - from.x - at)
+        }
+        Dir::Left => {
+            let end = (from.x + 1).saturating_sub(steps as u32);
+            let x = bare.last_in_row(from.y, end, behind)?;
+            Some(from.x - at - x)
+        }
+        Dir::Down => {
+            let y = bare.next_in_column(from.x, from.y + steps as u32, behind)?;
+            Some(y - from.y - at)
+        }
+        Dir::Up => {
+            let end = (from.y + 1).saturating_sub(steps as u32);
+            let y = bare.last_in_column(from.x, end, behind)?;
+            Some(from.y - at - y)
+        }
+        Dir::Action => None,
+    }
+}
+
+/// Adds the places that start in a cell, of a row with a gap before the cell of the number `at`: the row is tested for those gaps alone
+/// for which that cell holds.
+fn add_places_with_gaps(
+    bare: &BareLevel,
+    row: &Row,
+    dir: Dir,
+    line: u32,
+    start: u32,
+    at: u32,
+    found: &mut Vec<Place>,
+) -> Result<(), GridFault>
+    requires of_game { IsRowOf bare.now.grid.layers row.now }
+    requires line_in { line < line_count bare.now.grid dir }
+    requires start_in { start < line_length bare.now.grid dir }
+    requires gap_at { row.now.gap_at ≡ Some at }
+    requires room { length found.old.items ≤ MATCH_LIMIT }
+    ensures added { OnOk result (found.new.items ≡ found.old.items ++ filter (row_holds bare.now.grid row.now dir) (pairs_at bare.now.grid row.now dir line start)) }
+    ensures room { OnOk result (length found.new.items ≤ MATCH_LIMIT) }
+    ensures limit { result ≡ Err GridFault.MatchLimit → MATCH_LIMIT < length (found.old.items ++ filter (row_holds bare.now.grid row.now dir) (pairs_at bare.now.grid row.now dir line start)) }
+{
+    // (brings the proof how short a line is)
+    let _ = line_length(bare, dir);
+    let behind = &row.cells()[at as usize];
+    let mut from = 0;
+    'gaps: while let Some(gap) = next_gap(bare, dir, place_in(dir, line, start, from), at, behind) {
+        add_place(bare, row, dir, place_in(dir, line, start, gap), found)?;
+        from = gap + 1;
+    }
+    Ok(())
+}
+
 /// Adds the places that start in a cell.
 fn add_places_at(
     bare: &BareLevel,
@@ -234,15 +286,17 @@ fn add_places_at(
     found: &mut Vec<Place>,
 ) -> Result<(), GridFault>
     requires of_game { IsRowOf bare.now.grid.layers row.now }
+    requires line_in { line < line_count bare.now.grid dir }
+    requires start_in { start < line_length bare.now.grid dir }
     requires room { length found.old.items ≤ MATCH_LIMIT }
     ensures added { OnOk result (found.new.items ≡ found.old.items ++ filter (row_holds bare.now.grid row.now dir) (pairs_at bare.now.grid row.now dir line start)) }
     ensures room { OnOk result (length found.new.items ≤ MATCH_LIMIT) }
     ensures limit { result ≡ Err GridFault.MatchLimit → MATCH_LIMIT < length (found.old.items ++ filter (row_holds bare.now.grid row.now dir) (pairs_at bare.now.grid row.now dir line start)) }
 {
-    for gap in 0..gap_count(bare, row, dir) {
-        add_place(bare, row, dir, place_in(dir, line, start, gap), found)?;
+    match row.gap_at() {
+        None => add_place(bare, row, dir, place_in(dir, line, start, 0), found),
+        Some(at) => add_places_with_gaps(bare, row, dir, line, start, at, found),
     }
-    Ok(())
 }
 
 /// Adds the places that start in a line, and counts the start cells that it tests: the row's first cell is tested at each of them, and the

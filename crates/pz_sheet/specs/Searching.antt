@@ -1,4 +1,4 @@
--- The next cell of a line where a rule's cell holds.
+-- The next cell of a line where a rule's cell holds, and the last one before a place in it.
 use Rattle.std.specs.Prelude.{◌≡◌, ℕ, ◌<◌, ◌≤◌, List, Bool, true, false, Option, Some, None}
 use Rattle.pz_game.specs.declared.pattern.Item.{Item}
 use Rattle.pz_cells.specs.Pattern.{pattern_holds}
@@ -17,6 +17,12 @@ abbrev pub IsNext : (ℕ → Bool) → ℕ → ℕ → Option ℕ → Type 0
 IsNext test from end None = (number : ℕ) → from ≤ number → number < end → test number ≡ false
 IsNext test from end (Some found) =
     (from ≤ found) × (found < end) × (test found ≡ true) × ((number : ℕ) → from ≤ number → number < found → test number ≡ false)
+
+-- the greatest number below another that passes a test, if there is one
+abbrev pub IsLast : (ℕ → Bool) → ℕ → Option ℕ → Type 0
+IsLast test end None = (number : ℕ) → number < end → test number ≡ false
+IsLast test end (Some found) =
+    (found < end) × (test found ≡ true) × ((number : ℕ) → found < number → number < end → test number ≡ false)
 
 -- a rule's cell holds at some position of the map
 pub record HoldsSomewhere (grid : Grid) (pattern : List Item) : Type 0 where

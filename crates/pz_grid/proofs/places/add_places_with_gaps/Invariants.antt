@@ -1,0 +1,16 @@
+use Rattle.std.proofs.Common.{◌≡◌, ◌≤◌, ◌-◌, ◌++◌, length}
+use Rattle.pz_grid.specs.declared.places.TheConstants.{MATCH_LIMIT}
+use Rattle.pz_grid.specs.Places.{line_length}
+use Rattle.pz_grid.proofs.GatherLemmas.{gather}
+use Rattle.pz_grid.proofs.FoundLemmas.{found_with}
+use Rattle.pz_grid.proofs.places.add_places_with_gaps.Given as goal
+
+abbrev pub invariant-gaps : goal.invariant-gaps
+invariant-gaps l = record {
+  added : l.found.items ≡ l.initial.found.items ++ gather (found_with l.bare.grid l.row l.dir l.line l.start) l.from;
+  within : l.from ≤ line_length l.bare.grid l.dir;
+  room : length l.found.items ≤ MATCH_LIMIT;
+}
+
+abbrev pub decreases-gaps : goal.decreases-gaps
+decreases-gaps l = line_length l.bare.grid l.dir - l.from
