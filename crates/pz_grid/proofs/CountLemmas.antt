@@ -1,5 +1,7 @@
--- How many places a row can have: without a gap no more than the level has cells, which is within the limit of a search.
-use Rattle.std.proofs.Common.{◌≡◌, ℕ, zero, suc, ◌+◌, ◌*◌, ◌≤◌, List, [], ◌∷◌, filter, Bool, true, false, None, Ok, length, cond, arith, ap, refl, mul-le-mul_right}
+-- How many places a row can have: one for each cell and gap. Without a gap, and in a small level with one, that is within the limit of a
+-- search.
+use Rattle.std.proofs.Common.{◌≡◌, ℕ, zero, suc, ◌+◌, ◌*◌, ◌≤◌, List, [], ◌∷◌, filter, Bool, true, false, None, Ok, length, cond, arith, ap, ◌∙◌, refl, mul-le-mul_right}
+use Rattle.std.specs.Prelude.{is_some}
 use Rattle.std.proofs.lemmas.List.{length-append}
 use Rattle.pz_game.specs.declared.limits.TheConstants.{MAX_SIDE}
 use Rattle.pz_game.specs.declared.direction.Dir.{Dir}
@@ -26,18 +28,18 @@ filter_one {X} p x = by (p x) where
 one_gap : (grid : Grid) (row : RuleRow) (dir : Dir) → row.gap_at ≡ None → gap_count grid row dir ≡ 1
 one_gap grid row dir none = rw none refl
 
-found_at_few : (grid : Grid) (row : RuleRow) (dir : Dir) → row.gap_at ≡ None → (line start : ℕ) → length (found_at grid row dir line start) ≤ 1
-found_at_few grid row dir none line start =
-    omega (arith, gather_few (found_with grid row dir line start) 1 (λ gap. filter_one (row_holds grid row dir) _) (gap_count grid row dir), one_gap grid row dir none, ap length (found_at_all grid row dir line start))
+found_at_few : (grid : Grid) (row : RuleRow) (dir : Dir) (line start : ℕ) → length (found_at grid row dir line start) ≤ gap_count grid row dir
+found_at_few grid row dir line start =
+    omega (arith, gather_few (found_with grid row dir line start) 1 (λ gap. filter_one (row_holds grid row dir) _) (gap_count grid row dir), ap length (found_at_all grid row dir line start))
 
-found_in_few : (grid : Grid) (row : RuleRow) (dir : Dir) → row.gap_at ≡ None → (line : ℕ) → length (found_in grid row dir line) ≤ line_length grid dir
-found_in_few grid row dir none line =
-    omega (arith, gather_few (found_at grid row dir line) 1 (found_at_few grid row dir none line) (line_length grid dir), ap length (found_in_all grid row dir line))
+found_in_few : (grid : Grid) (row : RuleRow) (dir : Dir) (line : ℕ) → length (found_in grid row dir line) ≤ line_length grid dir * gap_count grid row dir
+found_in_few grid row dir line =
+    omega (arith, gather_few (found_at grid row dir line) (gap_count grid row dir) (found_at_few grid row dir line) (line_length grid dir), ap length (found_in_all grid row dir line))
 
--- a place for each cell of the lines
-places_few : (grid : Grid) (row : RuleRow) (dir : Dir) → row.gap_at ≡ None → length (places grid row dir) ≤ line_count grid dir * line_length grid dir
-places_few grid row dir none =
-    omega (arith, gather_few (found_in grid row dir) (line_length grid dir) (found_in_few grid row dir none) (line_count grid dir), ap length (places_all grid row dir))
+-- a place for each gap of each cell of the lines
+places_few : (grid : Grid) (row : RuleRow) (dir : Dir) → length (places grid row dir) ≤ line_count grid dir * (line_length grid dir * gap_count grid row dir)
+places_few grid row dir =
+    omega (arith, gather_few (found_in grid row dir) (line_length grid dir * gap_count grid row dir) (found_in_few grid row dir) (line_count grid dir), ap length (places_all grid row dir))
 
 count_low : (grid : Grid) (dir : Dir) → IsLawful grid → line_count grid dir ≤ MAX_SIDE
 count_low grid Up lawful = omega (arith, lawful.size.narrow)
@@ -53,10 +55,35 @@ length_low grid Left lawful = omega (arith, lawful.size.narrow)
 length_low grid Right lawful = omega (arith, lawful.size.narrow)
 length_low grid Action lawful = omega (arith, lawful.size.narrow)
 
-product_low : (n m : ℕ) → n ≤ MAX_SIDE → m ≤ MAX_SIDE → n * m ≤ 65025
-product_low n m h k = omega (arith, mul-le-mul_right m h)
+product_low : (n m gaps : ℕ) → n ≤ MAX_SIDE → m ≤ MAX_SIDE → gaps ≡ 1 → n * (m * gaps) ≤ 65025
+product_low n m gaps h k one =
+    let e : n * (m * gaps) ≡ n * m = ap (λ g. n * (m * g)) one ∙ (let f : n * (m * 1) ≡ n * m = omega arith in f) in
+    omega (arith, e, mul-le-mul_right m h)
 
 -- a row without a gap never meets the limit of a search
 pub searched-gapless : (grid : Grid) (row : RuleRow) (dir : Dir) → IsLawful grid → row.gap_at ≡ None → searched grid row dir ≡ Ok (places grid row dir)
 searched-gapless grid row dir lawful none =
-    searched-within grid row dir (omega (arith, places_few grid row dir none, product_low (line_count grid dir) (line_length grid dir) (count_low grid dir lawful) (length_low grid dir lawful)))
+    searched-within grid row dir (omega (arith, places_few grid row dir, product_low (line_count grid dir) (line_length grid dir) (gap_count grid row dir) (count_low grid dir lawful) (length_low grid dir lawful) (one_gap grid row dir none)))
+
+gaps_low : (grid : Grid) (row : RuleRow) (dir : Dir) → IsLawful grid → gap_count grid row dir ≤ MAX_SIDE
+gaps_low grid row dir lawful = by (is_some row.gap_at) where
+  by : (b : Bool) → cond b (line_length grid dir) 1 ≤ MAX_SIDE
+  by true = length_low grid dir lawful
+  by false = omega arith
+
+area : (grid : Grid) (dir : Dir) → line_count grid dir * line_length grid dir ≡ grid.width * grid.height
+area grid Up = refl
+area grid Down = refl
+area grid Left = omega arith
+area grid Right = omega arith
+area grid Action = omega arith
+
+product_small : (n m gaps size : ℕ) → gaps ≤ MAX_SIDE → n * m ≡ size → size ≤ 4096 → n * (m * gaps) ≤ 1044480
+product_small n m gaps size low is small =
+    let e : n * (m * gaps) ≡ gaps * (n * m) = omega arith in
+    omega (arith, e, mul-le-mul_right (n * m) low)
+
+-- in a small level no row meets it, whatever its gap spans
+pub searched-small : (grid : Grid) (row : RuleRow) (dir : Dir) → IsLawful grid → grid.width * grid.height ≤ 4096 → searched grid row dir ≡ Ok (places grid row dir)
+searched-small grid row dir lawful small =
+    searched-within grid row dir (omega (arith, places_few grid row dir, product_small (line_count grid dir) (line_length grid dir) (gap_count grid row dir) (grid.width * grid.height) (gaps_low grid row dir lawful) (area grid dir) small))

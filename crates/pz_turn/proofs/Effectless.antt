@@ -1,5 +1,5 @@
 -- An instance without effect leaves a level as it is.
-use Rattle.std.proofs.Common.{◌≡◌, ◌≤◌, List, [], ◌∷◌, map, length, refl, ap, sym, ◌∙◌, arith, Bool, true, false, cond, Result, Ok, Err, None, inl, inr}
+use Rattle.std.proofs.Common.{◌≡◌, ◌⊎◌, ◌*◌, ◌≤◌, List, [], ◌∷◌, map, length, refl, ap, sym, ◌∙◌, arith, Bool, true, false, cond, Result, Ok, Err, None, inl, inr}
 use Rattle.std.specs.Prelude.{fold}
 use Rattle.std.specs.List.{zip}
 use Rattle.std.proofs.lemmas.Bool.{cases_lt}
@@ -12,12 +12,13 @@ use Rattle.pz_grid.specs.declared.places.GridFault.{GridFault}
 use Rattle.pz_grid.specs.declared.places.GridFault.TheVariants.{MatchLimit}
 use Rattle.pz_grid.specs.declared.places.Place.{Place}
 use Rattle.pz_sheet.specs.Grid.{Grid, IsLawful}
-use Rattle.pz_grid.specs.Places.{places, still_matches}
+use Rattle.pz_grid.specs.Places.{places, searched, still_matches}
 use Rattle.pz_grid.specs.Rewriting.{Rewriting, in_rewrite, rewritten, rewritten_row}
 use Rattle.pz_grid.proofs.FoundLemmas.{searched-over}
-use Rattle.pz_grid.proofs.CountLemmas.{searched-gapless}
+use Rattle.pz_grid.proofs.CountLemmas.{searched-gapless, searched-small}
 use Rattle.pz_turn.proofs.Limits.{within_limit}
 use Rattle.pz_turn.specs.declared.outcome.StepFault.TheVariants as stop
+use Rattle.pz_turn.specs.declared.instance.TheConstants.{FEW_CELLS}
 use Rattle.pz_turn.specs.Combinations.{combinations}
 use Rattle.pz_turn.specs.Outcome.{untouched}
 use Rattle.pz_turn.specs.Instance.{found_or_stop, after_row, taken, applied_at, given, outcome_of, applied_to, applied_with, applied, HasNoEffect}
@@ -47,10 +48,14 @@ nothing_given : (all : List (List Place)) (commands : Commands) → commands ≡
 nothing_given [] commands none = refl
 nothing_given (found ∷ all) commands none = none
 
--- the places of a row without a gap are within the limit
-few_places : (grid : Grid) (row : RuleRow) (instance : Instance) → IsLawful grid → row.gap_at ≡ None → length (places grid row instance.scan) ≤ 1048576
-few_places grid row instance lawful gapless = elim (cases_lt 1048576 (length (places grid row instance.scan))) [
-  | inl over ↦ (let both : Err MatchLimit ≡ Ok (places grid row instance.scan) = sym (searched-over grid row instance.scan over) ∙ searched-gapless grid row instance.scan lawful gapless in cc)
+-- a row without a gap, or in a level of few cells, meets no limit
+all_found : (grid : Grid) (row : RuleRow) (instance : Instance) → IsLawful grid → (row.gap_at ≡ None) ⊎ (grid.width * grid.height ≤ FEW_CELLS) → searched grid row instance.scan ≡ Ok (places grid row instance.scan)
+all_found grid row instance lawful (inl gapless) = searched-gapless grid row instance.scan lawful gapless
+all_found grid row instance lawful (inr small) = searched-small grid row instance.scan lawful small
+
+few_places : (grid : Grid) (row : RuleRow) (instance : Instance) → searched grid row instance.scan ≡ Ok (places grid row instance.scan) → length (places grid row instance.scan) ≤ 1048576
+few_places grid row instance all = elim (cases_lt 1048576 (length (places grid row instance.scan))) [
+  | inl over ↦ (let both : Err MatchLimit ≡ Ok (places grid row instance.scan) = sym (searched-over grid row instance.scan over) ∙ all in cc)
   | inr within ↦ omega arith
 ]
 
@@ -64,12 +69,12 @@ unchanged instance grid all right commands few =
     ∙ ap (λ (r : Rewriting). Ok (outcome_of r (given all instance.commands))) (all_the_same instance (in_rewrite grid false) all right)
     ∙ ap (λ (c : Commands). Ok (outcome_of (in_rewrite grid false) c)) (nothing_given all instance.commands commands)
 
-pub applied_without_effect : (instance : Instance) (grid : Grid) → IsLawful grid → HasNoEffect instance → applied instance grid ≡ Ok (untouched grid)
+pub applied_without_effect : (instance : Instance) (grid : Grid) → IsLawful grid → HasNoEffect grid instance → applied instance grid ≡ Ok (untouched grid)
 unfolding applied
 applied_without_effect instance grid lawful none =
     ap (λ (rows : List RuleRow). applied_with instance grid (taken grid instance.scan rows)) none.left
-    ∙ ap (λ (r : Result (List Place) GridFault). applied_with instance grid (after_row (found_or_stop r) (Ok []))) (searched-gapless grid none.row instance.scan lawful none.gapless)
-    ∙ by (places grid none.row instance.scan) (few_places grid none.row instance lawful none.gapless) where
+    ∙ ap (λ (r : Result (List Place) GridFault). applied_with instance grid (after_row (found_or_stop r) (Ok []))) (all_found grid none.row instance lawful none.few)
+    ∙ by (places grid none.row instance.scan) (few_places grid none.row instance (all_found grid none.row instance lawful none.few)) where
       by : (found : List Place) → length found ≤ 1048576 → applied_with instance grid (after_row (Ok found) (Ok [])) ≡ Ok (untouched grid)
       by [] few = unchanged instance grid [] none.right none.commands (omega arith)
       by (place ∷ found) few = unchanged instance grid (combinations ((place ∷ found) ∷ [])) none.right none.commands (omega (arith, single (place ∷ found), few))

@@ -2,7 +2,7 @@
 -- varying fastest; each is tested again in the level so far before it is rewritten. Its commands are given if there is a
 -- combination, even if nothing changes. It stops if, among the rows before the first one without a place, one has too many
 -- places, or if there are too many combinations.
-use Rattle.std.specs.Prelude.{◌≡◌, List, [], ◌∷◌, fold, length, false, None, Result, Ok, Err, nat_lt, if◌then◌else◌}
+use Rattle.std.specs.Prelude.{◌≡◌, ◌⊎◌, ◌*◌, ◌≤◌, List, [], ◌∷◌, fold, length, false, None, Result, Ok, Err, nat_lt, if◌then◌else◌}
 use Rattle.pz_game.specs.declared.direction.Dir.{Dir}
 use Rattle.pz_game.specs.declared.commands.Commands.{Commands}
 use Rattle.pz_game.specs.declared.instance.Instance.{Instance}
@@ -15,7 +15,7 @@ use Rattle.pz_grid.specs.Places.{searched, still_matches}
 use Rattle.pz_grid.specs.Rewriting.{Rewriting, in_rewrite, rewritten}
 use Rattle.pz_turn.specs.declared.outcome.StepFault.{StepFault}
 use Rattle.pz_turn.specs.declared.outcome.StepFault.TheVariants.{Memory, MatchLimit}
-use Rattle.pz_turn.specs.declared.instance.TheConstants.{COMBINATION_LIMIT}
+use Rattle.pz_turn.specs.declared.instance.TheConstants.{COMBINATION_LIMIT, FEW_CELLS}
 use Rattle.pz_turn.specs.Combinations.{combinations}
 use Rattle.pz_game.specs.Commands.{no_commands}
 use Rattle.pz_turn.specs.Outcome.{Outcome}
@@ -71,11 +71,11 @@ applied_with instance grid (Ok lists) = applied_to instance grid (combinations l
 unfoldable pub applied : Instance → Grid → Result (Outcome Grid) StepFault
 applied instance grid = applied_with instance grid (taken grid instance.scan instance.left)
 
--- an instance without effect: with no right and no commands it neither changes nor gives anything, and one row without a gap meets
--- no limit
-pub record HasNoEffect (instance : Instance) : Type 0 where
+-- an instance without effect on a level: with no right and no commands it neither changes nor gives anything, and one row meets no limit
+-- where it has no gap or the level has few cells
+pub record HasNoEffect (grid : Grid) (instance : Instance) : Type 0 where
   pub right : instance.right ≡ []
   pub commands : instance.commands ≡ no_commands
   pub row : RuleRow
   pub left : instance.left ≡ row ∷ []
-  pub gapless : row.gap_at ≡ None
+  pub few : (row.gap_at ≡ None) ⊎ (grid.width * grid.height ≤ FEW_CELLS)

@@ -1,6 +1,6 @@
 //! An instance of a rule, applied at all combinations of the places of its rows.
 
-ghost use Rattle.std.specs.Prelude.{◌≡◌, ◌≢◌, ◌≤◌, ◌<◌, ◌+◌, ◌++◌, IfOk, IfErr, Ok, Err, true, false, [], length, drop, map, fold, min};
+ghost use Rattle.std.specs.Prelude.{◌≡◌, ◌≢◌, ◌≤◌, ◌<◌, ◌+◌, ◌*◌, ◌++◌, IfOk, IfErr, Ok, Err, true, false, [], length, drop, map, fold, min};
 ghost use Rattle.pz_game.specs.declared.direction.Dir.{Dir};
 ghost use Rattle.pz_game.specs.Instance.{IsInstanceOf};
 ghost use Rattle.pz_game.specs.Pattern.{IsRowOf, AreRowsOf};
@@ -27,6 +27,9 @@ use std::alloc::Global;
 /// The greatest number of combinations of places of an instance.
 pub const COMBINATION_LIMIT: u64 = 1_048_576;
 
+/// So many cells have at most `MATCH_LIMIT` places of a row, one for each cell and gap: a gap spans fewer than `MAX_SIDE` cells.
+const FEW_CELLS: u32 = 4_096;
+
 /// The places of a row, unless there are too many.
 fn search(alloc: Global, level: &Level, row: &Row, dir: Dir) -> Result<Listed<Place>, StepFault>
     requires of_game { IsRowOf level.now.grid.layers row.now }
@@ -40,15 +43,23 @@ fn search(alloc: Global, level: &Level, row: &Row, dir: Dir) -> Result<Listed<Pl
     }
 }
 
-/// Whether an instance has no effect wherever it holds, as a rule that only plays a sound.
-fn has_no_effect(instance: &Instance) -> bool
-    ensures { result ≡ true → HasNoEffect instance.now }
+/// Whether a level has so few cells that no row has too many places there, however far its gap spans.
+fn is_small(level: &Level) -> bool
+    ensures { result ≡ true → level.now.grid.width * level.now.grid.height ≤ FEW_CELLS }
+{
+    level.width() * level.height() <= FEW_CELLS
+}
+
+/// Whether an instance has no effect on a level wherever it holds, as a rule that only plays a sound. For a small level its row isn't
+/// looked at: there may be thousands of such instances, and each row stands in memory of its own.
+fn has_no_effect(level: &Level, instance: &Instance) -> bool
+    ensures { result ≡ true → HasNoEffect level.now.grid instance.now }
 {
     if !instance.right.items().is_empty() || !instance.commands.is_empty() {
         return false;
     }
     match instance.left.items() {
-        [row] => row.gap_at().is_none(),
+        [row] => is_small(level) || row.gap_at().is_none(),
         _ => false,
     }
 }
@@ -70,7 +81,7 @@ fn is_left_out(level: &Level, instance: &Instance) -> bool
 {
     // (brings the proof the law of levels)
     let _ = level.width();
-    if has_no_effect(instance) {
+    if has_no_effect(level, instance) {
         return true;
     }
     for row in instance.left.items() {
