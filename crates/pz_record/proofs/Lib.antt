@@ -6,3 +6,4 @@ pub mod Sets
 pub mod WorkedRecords
 pub mod CellTexts
 pub mod LabelTexts
+pub mod Walking

@@ -1,6 +1,6 @@
 //! The labels of cells: texts of which none stands twice, each with a number; and the text of cells of these labels.
 
-ghost use Rattle.std.specs.Prelude.{◌≡◌, ◌<◌, ◌^◌, ◌++◌, ◌∷◌, [], length, false, All, IfOk, None, OnOk, decimal, map, replicate, take, ◌≤◌, string_bytes};
+ghost use Rattle.std.specs.Prelude.{◌≡◌, ℕ, ◌<◌, ◌+◌, ◌%◌, ◌^◌, ◌++◌, ◌∷◌, [], length, false, All, IfOk, None, OnOk, decimal, map, replicate, take, ◌≤◌, string_bytes};
 ghost use Rattle.pz_base.specs.NameSet.{is_name_of, number_in};
 ghost use Rattle.pz_record.specs.Labels.{AreDistinct, text_at};
 ghost use Rattle.pz_record.specs.LevelText.{line_end, text_of_cells};
@@ -99,15 +99,17 @@ fn write_number(text: &mut String, number: usize) -> Result<(), AllocError>
     Ok(())
 }
 
-/// Ends the line where it has as many cells as the level is wide.
-fn end_line(text: &mut String, width: usize, count: usize) -> Result<(), AllocError>
-    requires { 0 < width }
-    ensures { OnOk result (string_bytes text.new ≡ string_bytes text.old ++ line_end width count) }
+/// Ends the last line behind one more cell, if it then has as many cells as the level is wide, and says how many it has.
+fn end_line(text: &mut String, width: usize, column: usize) -> Result<usize, AllocError>
+    requires { column < width }
+    ensures ended { OnOk result ((count : ℕ) → column ≡ count % width → string_bytes text.new ≡ string_bytes text.old ++ line_end width (count + 1)) }
+    ensures column { IfOk result (λ next. (count : ℕ) → column ≡ count % width → next ≡ (count + 1) % width) }
 {
-    if count % width == 0 {
-        text.push_str("\n")?;
+    if column + 1 < width {
+        return Ok(column + 1);
     }
-    Ok(())
+    text.push_str("\n")?;
+    Ok(0)
 }
 
 /// As yet no label has a number.
@@ -131,7 +133,8 @@ pub(crate) fn text_of_labels(
     let mut text = String::new(alloc);
     let mut numbers = no_numbers(alloc, texts.len())?;
     let mut count = 0;
-    for (place, cell) in cells.iter().enumerate() {
+    let mut column = 0;
+    for cell in cells {
         let label = cell.label;
         match numbers[label] {
             Some(number) => write_number(&mut text, number)?,
@@ -143,7 +146,7 @@ pub(crate) fn text_of_labels(
                 count += 1;
             }
         }
-        end_line(&mut text, width, place + 1)?;
+        column = end_line(&mut text, width, column)?;
     }
     Ok(text)
 }

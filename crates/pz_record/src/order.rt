@@ -1,7 +1,7 @@
 //! The order of a level's cells.
 
-ghost use Rattle.std.specs.Prelude.{◌≡◌, ◌*◌, ◌<◌};
-ghost use Rattle.pz_record.specs.Order.{column_of, row_of};
+ghost use Rattle.std.specs.Prelude.{◌≡◌, ℕ, ◌+◌, ◌*◌, ◌<◌};
+ghost use Rattle.pz_record.specs.Order.{column_of, row_of, IsAt};
 
 use pz_grid::Level;
 
@@ -21,5 +21,20 @@ pub(crate) fn position(order: Order, level: &Level, number: u32) -> (u32, u32)
     match order {
         Order::Rows => (number % level.width(), number / level.width()),
         Order::Columns => (number / level.height(), number % level.height()),
+    }
+}
+
+/// The position behind a position of the map: where it is the last, one off the map. To walk so is faster than to divide for each cell.
+pub(crate) fn next_position(order: Order, level: &Level, x: u32, y: u32) -> (u32, u32)
+    requires x_in { x < level.now.grid.width }
+    requires y_in { y < level.now.grid.height }
+    ensures { (number : ℕ) → IsAt order level.now.grid number x y → IsAt order level.now.grid (number + 1) result.0 result.1 }
+{
+    let (width, height) = (level.width(), level.height());
+    match order {
+        Order::Rows if x + 1 < width => (x + 1, y),
+        Order::Rows => (0, y + 1),
+        Order::Columns if y + 1 < height => (x, y + 1),
+        Order::Columns => (x + 1, 0),
     }
 }

@@ -7,11 +7,12 @@ ghost use Rattle.pz_sheet.specs.Standing.{stands};
 ghost use Rattle.pz_record.specs.Labels.{IsLabelOf, set_text, text_at, text_of_cell};
 ghost use Rattle.pz_record.specs.LevelNames.{sets_in};
 ghost use Rattle.pz_record.specs.LevelText.{joined, text_of_cells, text_of_level};
+ghost use Rattle.pz_record.specs.Order.{IsAt};
 
 use crate::label_table::LabelTable;
 use crate::labelled_set::LabelledSet;
 use crate::labels::text_of_labels;
-use crate::order::{Order, position};
+use crate::order::{Order, next_position};
 use pz_base::text::Text;
 use pz_game::game::Game;
 use pz_grid::Level;
@@ -108,15 +109,15 @@ impl<'a> TextWriter<'a> {
         Ok(())
     }
 
-    /// Looks at the cell of a number.
-    fn look(&mut self, level: &Level, number: u32) -> Result<(), AllocError>
+    /// Looks at the cell of a number, which stands at a position.
+    fn look(&mut self, level: &Level, number: u32, x: u32, y: u32) -> Result<(), AllocError>
         requires within { number < level.now.grid.width * level.now.grid.height }
+        requires at { IsAt self.old.order level.now.grid number x y }
         requires next { number ≤ length self.old.cells }
         ensures cells { OnOk result (take (number + 1) self.new.cells ≡ take number self.old.cells ++ text_of_cell self.old.table.game self.old.order level.now.grid number ∷ []) }
         ensures game { self.new.table.game ≡ self.old.table.game }
         ensures order { self.new.order ≡ self.old.order }
     {
-        let (x, y) = position(self.order, level, number);
         let objects = level.objects_at(x, y);
         let place = number as usize;
         if self.is_same(place, &objects) {
@@ -146,8 +147,10 @@ impl<'a> TextWriter<'a> {
         ensures order { self.new.order ≡ self.old.order }
     {
         let count = level.width() * level.height();
+        let (mut x, mut y) = (0, 0);
         for number in 0..count {
-            self.look(level, number)?;
+            self.look(level, number, x, y)?;
+            (x, y) = next_position(self.order, level, x, y);
         }
         self.keep(count as usize);
         Ok(())

@@ -1,4 +1,5 @@
 use Rattle.std.proofs.Common.{◌≡◌, ◌≤◌, length, take}
+use Rattle.pz_record.specs.Order.{IsAt}
 use Rattle.pz_record.proofs.Ordered.{texts_in}
 use Rattle.pz_record.proofs.text_writer.TextWriter.look_over.Given as goal
 
@@ -8,4 +9,5 @@ invariant-loop-number l = record {
   long : l.number ≤ length l.self.cells;
   game : l.self.table.game ≡ l.fn.self.table.game;
   order : l.self.order ≡ l.fn.self.order;
+  at : IsAt l.fn.self.order l.level.grid l.number l.x l.y;
 }
