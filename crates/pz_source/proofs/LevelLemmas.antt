@@ -1,7 +1,8 @@
 -- Steps through the lines of LEVELS.
 use Rattle.std.proofs.Common.{◌≡◌, ℕ, ◌<◌, ◌≤◌, ◌+◌, ◌-◌, zero, suc, true, false, List, [], ◌∷◌, ◌++◌, length, take, drop, get_or, refl, ap, sym, ◌∙◌, arith, length-drop, Bool, true≢false}
 use Rattle.std.specs.List.{slice_range, list_all}
-use Rattle.std.specs.Prelude.{if◌then◌else◌, Option, Some, Result, Ok, Err}
+use Rattle.std.specs.Prelude.{if◌then◌else◌, Option, Some, None, Result, Ok, Err}
+use Rattle.pz_base.specs.Fault.{and_then}
 use Rattle.pz_base.proofs.EachLemmas.{behind, behind_at, some_behind}
 use Rattle.pz_base.specs.declared.fault.SourceFault.{SourceFault}
 use Rattle.std.proofs.lemmas.List.Folds.{list_all-append, list_all_at}
@@ -85,8 +86,14 @@ pub some_behind-next : (f : ℕ → Option ℕ) (done row : List ℕ) (i c y : �
     → some_behind f (done ++ y ∷ []) (drop (i + 1) row) ≡ some_behind f done (drop i row)
 some_behind-next f done row i c y lt is draws = rw (drop-next row i c lt is, draws) refl
 
+pub some_behind-stop : (f : ℕ → Option ℕ) (done row : List ℕ) (i c : ℕ) → i < length row → c ≡ get_or row i c → f c ≡ None → some_behind f done (drop i row) ≡ None
+some_behind-stop f done row i c lt is blank = rw (drop-next row i c lt is, blank) refl
+
 -- one row more
-pub rows-next : (glyph : ℕ → Option ℕ) (width : ℕ) (cells : List ℕ) (lines : List Line) (i : ℕ) (line : Line) (row : List ℕ) → i < length lines → line ≡ get_or lines i line
-    → glyphs_of glyph (take width line.text) ≡ Some row
-    → behind (λ r. r) (row_of glyph width) (cells ++ filled width 0 row) (drop (i + 1) lines) ≡ behind (λ r. r) (row_of glyph width) cells (drop i lines)
-rows-next glyph width cells lines i line row lt is read = rw (drop-next lines i line lt is, read) refl
+module _ (glyph : ℕ → Option ℕ) (width : ℕ) (cells : List ℕ) (lines : List Line) (i : ℕ) (line : Line) (lt : i < length lines) (is : line ≡ get_or lines i line) where
+  pub rows-next : (row : List ℕ) → glyphs_of glyph (take width line.text) ≡ Some row
+      → behind (λ r. r) (row_of glyph width) (cells ++ filled width 0 row) (drop (i + 1) lines) ≡ behind (λ r. r) (row_of glyph width) cells (drop i lines)
+  rows-next row read = rw (drop-next lines i line lt is, read) refl
+
+  pub rows-refused : (fault : SourceFault) → row_of glyph width line ≡ Err fault → behind (λ r. r) (row_of glyph width) cells (drop i lines) ≡ Err fault
+  rows-refused fault refused = ap (behind (λ r. r) (row_of glyph width) cells) (drop-next lines i line lt is) ∙ ap (λ r. and_then (λ y. behind (λ r. r) (row_of glyph width) (cells ++ y) (drop (i + 1) lines)) r) refused

@@ -4,7 +4,7 @@ ghost use Rattle.std.specs.Prelude.{◌≡◌, ◌≢◌, ◌≤◌, ◌<◌, �
 ghost use Rattle.std.specs.List.{list_any, slice_range};
 ghost use Rattle.pz_base.specs.declared.fault.Code.TheVariants as code;
 ghost use Rattle.pz_game.specs.Level.{is_playable};
-ghost use Rattle.pz_source.specs.Levels.{is_message, closed, entries_of, is_entry, draws, glyph_of, glyphs_of, filled, is_too_large, rows_of, entry_of, levels_of};
+ghost use Rattle.pz_source.specs.Levels.{is_message, closed, entries_of, is_entry, draws, glyph_of, glyphs_of, filled, is_too_large, row_of, rows_of, entry_of, levels_of};
 
 use pz_base::fault::{Code, SourceFault};
 use pz_base::listed::Listed;
@@ -149,6 +149,27 @@ fn next_glyph(row: &[usize], column: usize, last: usize) -> usize
     row.get(column).copied().unwrap_or(last)
 }
 
+/// The numbers of the glyphs of a row that is cut to a width, or its fault where one draws nothing.
+fn read_row(
+    alloc: Global,
+    names: &NameSet,
+    values: &[Denotation],
+    width: usize,
+    line: &Line,
+) -> Result<Vec<usize>, SourceFault>
+    ensures read { IfOk result (λ row. glyphs_of (glyph_of names.now values.now) (take width line.now.text) ≡ Some row.items) }
+    ensures refused { IfErr result (λ fault. fault.code ≢ code.Memory → row_of (glyph_of names.now values.now) width line.now ≡ Err fault) }
+    ensures whole { IfErr result (λ fault. fault.code ≡ code.Memory → fault.line ≡ 0) }
+{
+    match glyphs(alloc, names, values, cut_to(line.text.items(), width))? {
+        Some(row) => Ok(row),
+        None => Err(SourceFault {
+            code: Code::BadGlyph,
+            line: line.number,
+        }),
+    }
+}
+
 /// The cells of the rows of a level, or the first row with a glyph that draws nothing.
 fn rows(
     alloc: Global,
@@ -164,13 +185,7 @@ fn rows(
 {
     let mut cells = Vec::new(alloc);
     for line in lines {
-        let text = line.text.items();
-        let Some(row) = glyphs(alloc, names, values, cut_to(text, width))? else {
-            return Err(SourceFault {
-                code: Code::BadGlyph,
-                line: line.number,
-            });
-        };
+        let row = read_row(alloc, names, values, width, line)?;
         add_row(&mut cells, width, row.as_slice())?;
     }
     Ok(cells)
