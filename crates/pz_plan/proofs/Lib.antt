@@ -4,6 +4,7 @@ pub mod Products
 pub mod Directions
 pub mod Mentions
 pub mod Joining
+pub mod Numbered
 pub mod Only
 pub mod Shaping
 pub mod EachOf

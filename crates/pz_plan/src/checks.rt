@@ -46,7 +46,7 @@ fn has_many_gaps(rows: &[Listed<Cell>]) -> bool
 }
 
 /// What a phrase may be found by.
-#[derive(Clone, Copy, PartialEq, Eq, Debug)]
+#[derive(Clone, Copy)]
 enum Found {
     Unknown,
     Mixed,

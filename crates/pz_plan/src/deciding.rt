@@ -10,7 +10,7 @@ use pz_grammar::token::{Class, Lead};
 use std::alloc::{AllocError, Global};
 
 /// What choice is looked for.
-#[derive(Clone, Copy, PartialEq, Eq, Debug)]
+#[derive(Clone, Copy)]
 enum Wanted {
     Member(usize),
     Direction(Class),

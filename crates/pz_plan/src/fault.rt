@@ -8,7 +8,7 @@ use pz_base::fault::Code;
 use std::alloc::{AllocError, AllocFailed};
 
 /// What is wrong with a rule line.
-#[derive(Clone, Copy, PartialEq, Eq, Debug)]
+#[derive(Clone, Copy)]
 pub enum RuleFault {
     Memory,
     BadRule,

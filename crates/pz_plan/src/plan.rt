@@ -6,49 +6,49 @@ use pz_game::direction::Dir;
 use pz_grammar::token::{Class, Lead, Turn};
 
 /// An object, or one of the members of a property, by the number of the property's own name.
-#[derive(Clone, Copy, PartialEq, Eq, Debug)]
+#[derive(Clone, Copy, PartialEq, Eq)]
 pub enum Subject {
     Object(usize),
     Property(usize),
 }
 
 /// An object or a property of several members, with the word before it.
-#[derive(Clone, Copy, PartialEq, Eq, Debug)]
+#[derive(Clone, Copy, PartialEq, Eq)]
 pub struct Mention {
     pub lead: Option<Lead>,
     pub subject: Subject,
 }
 
 /// The cells of a row without its gap, and how many of them stand before the gap.
-#[derive(Drop, Debug)]
+#[derive(Drop)]
 pub struct PlanRow<T> {
     pub cells: Listed<Listed<T>>,
     pub gap: Option<usize>,
 }
 
 /// A cell, by its row and its place there.
-#[derive(Clone, Copy, PartialEq, Eq, Debug)]
+#[derive(Clone, Copy, PartialEq, Eq)]
 pub struct Spot {
     pub row: usize,
     pub cell: usize,
 }
 
 /// What a choice is asked for: a member of a property, or the direction of a word on something.
-#[derive(Clone, Copy, PartialEq, Eq, Debug)]
+#[derive(Clone, Copy)]
 pub enum Asked {
     Member(usize),
     Direction(Class, Subject),
 }
 
 /// A choice, and the cell that asks for it.
-#[derive(Clone, Copy, PartialEq, Eq, Debug)]
+#[derive(Clone, Copy)]
 pub struct Choice {
     pub spot: Spot,
     pub asked: Asked,
 }
 
 /// The word of a term: as it stands there, or the direction that a choice gives.
-#[derive(Clone, Copy, PartialEq, Eq, Debug)]
+#[derive(Clone, Copy)]
 pub enum TermWord {
     Bare,
     No,
@@ -59,14 +59,14 @@ pub enum TermWord {
 }
 
 /// The name of a term: an object, or the object that a choice gives.
-#[derive(Clone, Copy, PartialEq, Eq, Debug)]
+#[derive(Clone, Copy)]
 pub enum TermName {
     Object(usize),
     Chosen(usize),
 }
 
 /// An item of a cell, before the choices are made.
-#[derive(Clone, Copy, PartialEq, Eq, Debug)]
+#[derive(Clone, Copy)]
 pub struct Term {
     pub word: TermWord,
     pub name: TermName,
@@ -74,7 +74,7 @@ pub struct Term {
 
 /// A rule whose choices are numbered in the order of its text, with each term pointing at the choices that decide it, and the
 /// commands that it gives.
-#[derive(Drop, Debug)]
+#[derive(Drop)]
 pub struct Plan {
     pub directions: Listed<Dir>,
     pub choices: Listed<Choice>,

@@ -14,7 +14,7 @@ use pz_grammar::token::Lead;
 use std::alloc::{AllocError, Global};
 
 /// A side of a rule.
-#[derive(Clone, Copy, PartialEq, Eq, Debug)]
+#[derive(Clone, Copy)]
 pub enum Side {
     Left,
     Right,
