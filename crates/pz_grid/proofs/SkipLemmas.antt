@@ -21,7 +21,7 @@ use Rattle.pz_game.specs.Items.{names}
 use Rattle.pz_cells.specs.Pattern.{word_holds, item_holds, pattern_holds}
 use Rattle.pz_grid.specs.Places.{on_map, along, distance, position_of, holds_at, cell_holds, row_holds, place_in, gap_count, line_length, line_count, pairs, places}
 use Rattle.pz_grid.specs.Marks.{IsMarked}
-use Rattle.pz_grid.specs.Admitted.{marks_of, marks_item, marks_cell, admits, admits_line, admitted, searches_level, searches_line, line_of, start_of, starts_at, starts_in, start_count}
+use Rattle.pz_grid.specs.Admitted.{marks_of, marks_item, marks_cell, admits, admits_line, admitted, searches_level, searches_line, line_of, start_of, starts_at, starts_in, start_count, StartsNowhere}
 use Rattle.pz_grid.proofs.MarkLemmas.{in_row_from, in_column_from}
 use Rattle.pz_grid.proofs.GatherLemmas.{gather, range_more}
 use Rattle.pz_grid.proofs.FoundLemmas.{found_with, found_at, found_in, found_at_all, found_in_all}
@@ -152,9 +152,12 @@ gather_none {X} h none n = from 0 n where
   from a zero = refl
   from a (suc n) = ap (λ (xs : List X). xs ++ flat_map h (range_with_len (a + 1) n)) (none a) ∙ from (a + 1) n
 
-pub found_none : (state : LevelState) (row : RuleRow) (dir : Dir) (line : ℕ) → IsMarked state → searches_line state row dir line ≡ false → found_in state.grid row dir line ≡ []
-found_none state row dir line h e =
-    sym (found_in_all state.grid row dir line) ∙ gather_none (found_at state.grid row dir line) (λ start. sym (found_at_all state.grid row dir line start) ∙ gather_none (found_with state.grid row dir line start) (λ n. ap (λ (b : Bool). cond b (place_in dir line start n ∷ []) []) (line_none state row dir (place_in dir line start n) h (ap (searches_line state row dir) (line_of_place dir line start n) ∙ e))) (gap_count state.grid row dir)) (line_length state.grid dir)
+pub found_nowhere : (grid : Grid) (row : RuleRow) (dir : Dir) (line : ℕ) → StartsNowhere grid row dir line → found_in grid row dir line ≡ []
+found_nowhere grid row dir line none =
+    sym (found_in_all grid row dir line) ∙ gather_none (found_at grid row dir line) (λ start. sym (found_at_all grid row dir line start) ∙ gather_none (found_with grid row dir line start) (λ n. ap (λ (b : Bool). cond b (place_in dir line start n ∷ []) []) (none (place_in dir line start n) (line_of_place dir line start n))) (gap_count grid row dir)) (line_length grid dir)
+
+pub unsearched_nowhere : (state : LevelState) (row : RuleRow) (dir : Dir) (line : ℕ) → IsMarked state → searches_line state row dir line ≡ false → StartsNowhere state.grid row dir line
+unsearched_nowhere state row dir line h e place at = line_none state row dir place h (ap (searches_line state row dir) at ∙ e)
 
 -- ---- the count
 any_none : {X : Type 0} (p q : X → Bool) (xs : List X) → ((x : X) → p x ≡ true → q x ≡ false) → list_any p (filter q xs) ≡ false
@@ -217,11 +220,15 @@ bounded {X} f p size (x ∷ xs) h none = by_test (bounded f p size xs h none) (p
   by_test rest true e = step true e (product_step (count_by p xs) size (sum_by f xs) (f x) rest (h x))
   by_test rest false e = step false e (plain_step (count_by p xs) size (sum_by f xs) (f x) rest (none x e))
 
-starts_none : (state : LevelState) (row : RuleRow) (dir : Dir) (size line : ℕ) → IsMarked state → searches_line state row dir line ≡ false → starts_in dir (places state.grid row dir) size line ≡ 0
-starts_none state row dir size line h e =
-    count_none (λ (start : ℕ). list_any (starts_at dir line start) (places state.grid row dir)) (range_with_len 0 size) (λ start. any_none (starts_at dir line start) (row_holds state.grid row dir) (pairs state.grid row dir) (λ place at.
+-- no cell of a line is a start where no place starts in it, and no more are than the line has
+pub starts_nowhere : (grid : Grid) (row : RuleRow) (dir : Dir) (size line : ℕ) → StartsNowhere grid row dir line → starts_in dir (places grid row dir) size line ≡ 0
+starts_nowhere grid row dir size line none =
+    count_none (λ (start : ℕ). list_any (starts_at dir line start) (places grid row dir)) (range_with_len 0 size) (λ start. any_none (starts_at dir line start) (row_holds grid row dir) (pairs grid row dir) (λ place at.
     (let parts = and_parts (nat_eq (line_of dir place) line) (nat_eq (start_of dir place) start) at in
-    line_none state row dir place h (ap (searches_line state row dir) (eqb-true _ _ parts.0) ∙ e))))
+    none place (eqb-true _ _ parts.0))))
+
+pub starts_in_line : (dir : Dir) (found : List Place) (size line : ℕ) → starts_in dir found size line ≤ size
+starts_in_line dir found size line = omega (arith, count_by-le-length (λ (start : ℕ). list_any (starts_at dir line start) found) (range_with_len 0 size), length-range_with_len 0 size)
 
 -- how many lines are searched
 abbrev pub searched_lines : LevelState → RuleRow → Dir → ℕ → ℕ
@@ -232,8 +239,8 @@ pub starts_searched : (state : LevelState) (row : RuleRow) (dir : Dir) → IsMar
 starts_searched state row dir h =
     let size = line_length state.grid dir in
     bounded (starts_in dir (places state.grid row dir) size) (searches_line state row dir) size (range_with_len 0 (line_count state.grid dir))
-    (λ line. omega (arith, count_by-le-length (λ (start : ℕ). list_any (starts_at dir line start) (places state.grid row dir)) (range_with_len 0 size), length-range_with_len 0 size))
-    (λ line e. starts_none state row dir size line h e)
+    (λ line. starts_in_line dir (places state.grid row dir) size line)
+    (λ line e. starts_nowhere state.grid row dir size line (unsearched_nowhere state row dir line h e))
 
 -- and no more of these than of admitted ones
 pub searched_fewer : (state : LevelState) (row : RuleRow) (dir : Dir) → searched_lines state row dir (line_count state.grid dir) ≤ admitted state row dir
@@ -245,26 +252,31 @@ product_le n m size h = mul-le-mul_right size h
 pub starts_bounded : (state : LevelState) (row : RuleRow) (dir : Dir) → IsMarked state → start_count state.grid dir (places state.grid row dir) ≤ admitted state row dir * line_length state.grid dir
 starts_bounded state row dir h = omega (arith, starts_searched state row dir h, product_le (searched_lines state row dir (line_count state.grid dir)) (admitted state row dir) (line_length state.grid dir) (searched_fewer state row dir))
 
-pub tested_bounded : (state : LevelState) (row : RuleRow) (dir : Dir) (tested : ℕ) → tested ≡ searched_lines state row dir (line_count state.grid dir) * line_length state.grid dir → tested ≤ admitted state row dir * line_length state.grid dir
+pub tested_bounded : (state : LevelState) (row : RuleRow) (dir : Dir) (tested : ℕ) → tested ≤ searched_lines state row dir (line_count state.grid dir) * line_length state.grid dir → tested ≤ admitted state row dir * line_length state.grid dir
 tested_bounded state row dir tested e = omega (arith, e, product_le (searched_lines state row dir (line_count state.grid dir)) (admitted state row dir) (line_length state.grid dir) (searched_fewer state row dir))
 
 -- ---- one more line
-pub count_more : (p : ℕ → Bool) (n : ℕ) → count_by p (range_with_len 0 (n + 1)) ≡ count_by p (range_with_len 0 n) + cond (p n) 1 0
-count_more p n =
-    let f = λ (k : ℕ). let m : ℕ = cond (p k) 1 0 in m in
+pub sum_more : (f : ℕ → ℕ) (n : ℕ) → sum_by f (range_with_len 0 (n + 1)) ≡ sum_by f (range_with_len 0 n) + f n
+sum_more f n =
     let a : sum_by f (range_with_len 0 (n + 1)) ≡ sum_by f (range_with_len 0 n ++ (0 + n) ∷ []) = ap (sum_by f) (range_more 0 n) in
     let b : sum_by f ((0 + n) ∷ []) ≡ f n = (let e : 0 + n ≡ n = omega arith in let g : 0 + f (0 + n) ≡ f (0 + n) = omega arith in g ∙ ap f e) in
     a ∙ sum_by-append f (range_with_len 0 n) ((0 + n) ∷ []) ∙ ap (λ (k : ℕ). sum_by f (range_with_len 0 n) + k) b
 
--- the count of cells goes on
-pub tested_more : (p : ℕ → Bool) (n size tested more : ℕ) → tested ≡ count_by p (range_with_len 0 n) * size → more ≡ tested + cond (p n) size 0 → more ≡ count_by p (range_with_len 0 (n + 1)) * size
+pub count_more : (p : ℕ → Bool) (n : ℕ) → count_by p (range_with_len 0 (n + 1)) ≡ count_by p (range_with_len 0 n) + cond (p n) 1 0
+count_more p n = sum_more (λ (k : ℕ). let m : ℕ = cond (p k) 1 0 in m) n
+
+-- the counts of cells go on
+pub tested_more : (p : ℕ → Bool) (n size tested more : ℕ) → tested ≤ count_by p (range_with_len 0 n) * size → more ≤ tested + cond (p n) size 0 → more ≤ count_by p (range_with_len 0 (n + 1)) * size
 tested_more p n size tested more e f = by_test (p n) refl where
-  total : (b : Bool) (now next : ℕ) → tested ≡ now * size → more ≡ tested + cond b size 0 → next ≡ now + cond b 1 0 → more ≡ next * size
+  total : (b : Bool) (now next : ℕ) → tested ≤ now * size → more ≤ tested + cond b size 0 → next ≡ now + cond b 1 0 → more ≤ next * size
   total true now next q r t = omega (arith, q, r, ap (λ (k : ℕ). k * size) t)
   total false now next q r t = omega (arith, q, r, ap (λ (k : ℕ). k * size) t)
 
-  by_test : (b : Bool) → p n ≡ b → more ≡ count_by p (range_with_len 0 (n + 1)) * size
-  by_test b g = total b (count_by p (range_with_len 0 n)) (count_by p (range_with_len 0 (n + 1))) e (f ∙ ap (λ (d : Bool). tested + cond d size 0) g) (count_more p n ∙ ap (λ (d : Bool). count_by p (range_with_len 0 n) + cond d 1 0) g)
+  by_test : (b : Bool) → p n ≡ b → more ≤ count_by p (range_with_len 0 (n + 1)) * size
+  by_test b g = total b (count_by p (range_with_len 0 n)) (count_by p (range_with_len 0 (n + 1))) e (subst (λ (d : Bool). more ≤ tested + cond d size 0) g f) (count_more p n ∙ ap (λ (d : Bool). count_by p (range_with_len 0 n) + cond d 1 0) g)
+
+pub starts_more : (f : ℕ → ℕ) (n tested more : ℕ) → sum_by f (range_with_len 0 n) ≤ tested → tested + f n ≤ more → sum_by f (range_with_len 0 (n + 1)) ≤ more
+starts_more f n tested more e h = omega (arith, e, h, sum_more f n)
 
 pub count_yes : (p : ℕ → Bool) (n : ℕ) → p n ≡ true → count_by p (range_with_len 0 (n + 1)) ≡ count_by p (range_with_len 0 n) + 1
 count_yes p n e = count_more p n ∙ ap (λ (b : Bool). count_by p (range_with_len 0 n) + cond b 1 0) e

@@ -1,5 +1,5 @@
 -- The cells of a row that has a place hold somewhere on the map.
-use Rattle.std.proofs.Common.{◌≡◌, ℕ, ◌+◌, ◌-◌, List, [], Bool, true, false, cond, ◌&&◌, None, Some, get_or, sym, ◌∙◌, refl, subst}
+use Rattle.std.proofs.Common.{◌≡◌, ℕ, ◌+◌, ◌-◌, ◌<◌, List, [], Bool, true, false, cond, ◌&&◌, None, Some, get_or, sym, ◌∙◌, refl, subst}
 use Rattle.std.specs.Prelude.{nat_lt, All}
 use Rattle.std.proofs.lemmas.Bool.{ltb-true}
 use Rattle.std.proofs.lemmas.List.{get_or_default}
@@ -7,19 +7,25 @@ use Rattle.pz_game.specs.declared.direction.Dir.{Dir}
 use Rattle.pz_game.specs.declared.direction.Dir.TheVariants.{Up, Down, Left, Right, Action}
 use Rattle.pz_game.specs.declared.pattern.Item.{Item}
 use Rattle.pz_game.specs.Pattern.{RuleRow}
-use Rattle.pz_sheet.specs.Grid.{Grid}
-use Rattle.pz_sheet.specs.Searching.{HoldsSomewhere}
+use Rattle.pz_cells.specs.Pattern.{pattern_holds}
+use Rattle.pz_sheet.specs.Grid.{Grid, cell_at}
+use Rattle.pz_sheet.specs.Searching.{HoldsSomewhere, HoldsInRow, HoldsInColumn}
 use Rattle.pz_grid.specs.declared.places.Place.{Place}
 use Rattle.pz_grid.specs.Places.{on_map, along, distance, holds_at, row_holds, pairs, places}
+use Rattle.pz_grid.specs.Admitted.{line_of, StartsNowhere}
 use Rattle.pz_grid.proofs.PlaceLemmas.{back_from, holds_each_cell}
 use Rattle.pz_grid.proofs.SkipLemmas.{filter_none}
 
-on_map_somewhere : (grid : Grid) (pattern : List Item) (x y : ℕ) → holds_at grid pattern (on_map grid x y) ≡ true → HoldsSomewhere grid pattern
-on_map_somewhere grid pattern x y = by_tests (nat_lt x grid.width) (nat_lt y grid.height) refl refl where
-  by_tests : (a b : Bool) → nat_lt x grid.width ≡ a → nat_lt y grid.height ≡ b → holds_at grid pattern (cond (a && b) (Some (x, y)) None) ≡ true → HoldsSomewhere grid pattern
-  by_tests true true in_x in_y h = record { x = x; y = y; x_in = ltb-true x grid.width in_x; y_in = ltb-true y grid.height in_y; holds = h }
+-- a cell that holds stands on the map
+on_map_holds : (grid : Grid) (pattern : List Item) (x y : ℕ) → holds_at grid pattern (on_map grid x y) ≡ true → (x < grid.width) × (y < grid.height) × (pattern_holds (cell_at grid x y) pattern ≡ true)
+on_map_holds grid pattern x y = by_tests (nat_lt x grid.width) (nat_lt y grid.height) refl refl where
+  by_tests : (a b : Bool) → nat_lt x grid.width ≡ a → nat_lt y grid.height ≡ b → holds_at grid pattern (cond (a && b) (Some (x, y)) None) ≡ true → (x < grid.width) × (y < grid.height) × (pattern_holds (cell_at grid x y) pattern ≡ true)
+  by_tests true true in_x in_y h = (ltb-true x grid.width in_x, ltb-true y grid.height in_y, h)
   by_tests true false in_x in_y h = cc
   by_tests false b in_x in_y h = cc
+
+on_map_somewhere : (grid : Grid) (pattern : List Item) (x y : ℕ) → holds_at grid pattern (on_map grid x y) ≡ true → HoldsSomewhere grid pattern
+on_map_somewhere grid pattern x y h = let there = on_map_holds grid pattern x y h in record { x = x; y = y; x_in = there.0; y_in = there.1; holds = there.2 }
 
 along_somewhere : (grid : Grid) (pattern : List Item) (dir : Dir) (x y steps : ℕ) → holds_at grid pattern (along grid dir x y steps) ≡ true → HoldsSomewhere grid pattern
 along_somewhere grid pattern Right x y steps h = on_map_somewhere grid pattern (x + steps) y h
@@ -41,3 +47,40 @@ nowhere_none grid row dir may h e = filter_none (row_holds grid row dir) (pairs 
     by_test : (b : Bool) → row_holds grid row dir place ≡ b → row_holds grid row dir place ≡ false
     by_test false f = f
     by_test true f = (let wrong : false ≡ true = sym e ∙ h (each_somewhere grid row dir place f) in cc)
+
+-- ---- the same line by line
+module _ (grid : Grid) (row : RuleRow) (line : ℕ) where
+  in_row : (pattern : List Item) (x y : ℕ) → y ≡ line → holds_at grid pattern (on_map grid x y) ≡ true → HoldsInRow grid line pattern
+  in_row pattern x y same h = subst (λ (k : ℕ). HoldsInRow grid k pattern) same (let there = on_map_holds grid pattern x y h in record { x = x; x_in = there.0; holds = there.2 })
+
+  in_column : (pattern : List Item) (x y : ℕ) → x ≡ line → holds_at grid pattern (on_map grid x y) ≡ true → HoldsInColumn grid line pattern
+  in_column pattern x y same h = subst (λ (k : ℕ). HoldsInColumn grid k pattern) same (let there = on_map_holds grid pattern x y h in record { y = y; y_in = there.1; holds = there.2 })
+
+  -- where some cell of a row holds nowhere in a line, no place starts there
+  starts_nowhere : (dir : Dir) (may : Bool) (Holds : List Item → Type 0)
+      → ((place : Place) → line_of dir place ≡ line → (pattern : List Item) (steps : ℕ) → holds_at grid pattern (along grid dir place.x place.y steps) ≡ true → Holds pattern)
+      → (All Holds row.cells → may ≡ true) → may ≡ false → StartsNowhere grid row dir line
+  starts_nowhere dir may Holds find h e place at = by_test (row_holds grid row dir place) refl where
+    each : row_holds grid row dir place ≡ true → All Holds row.cells
+    each f k d within = subst Holds (get_or_default row.cells k [] d within) (find place at (get_or row.cells k []) (distance row.gap_at place.gap k) (holds_each_cell grid row dir place k within f))
+
+    by_test : (b : Bool) → row_holds grid row dir place ≡ b → row_holds grid row dir place ≡ false
+    by_test false f = f
+    by_test true f = (let wrong : false ≡ true = sym e ∙ h (each f) in cc)
+
+  module _ (may : Bool) (h : All (HoldsInRow grid line) row.cells → may ≡ true) (e : may ≡ false) where
+    pub right_nowhere : StartsNowhere grid row Right line
+    right_nowhere = starts_nowhere Right may (HoldsInRow grid line) (λ place at pattern steps f. in_row pattern (place.x + steps) place.y at f) h e
+
+    pub left_nowhere : StartsNowhere grid row Left line
+    left_nowhere = starts_nowhere Left may (HoldsInRow grid line) (λ place at pattern steps f. in_row pattern (place.x - steps) place.y at (back_from grid pattern steps place.x (on_map grid (place.x - steps) place.y) f).1) h e
+
+    pub action_nowhere : StartsNowhere grid row Action line
+    action_nowhere = starts_nowhere Action may (HoldsInRow grid line) (λ place at pattern steps f. let wrong : false ≡ true = f in cc) h e
+
+  module _ (may : Bool) (h : All (HoldsInColumn grid line) row.cells → may ≡ true) (e : may ≡ false) where
+    pub down_nowhere : StartsNowhere grid row Down line
+    down_nowhere = starts_nowhere Down may (HoldsInColumn grid line) (λ place at pattern steps f. in_column pattern place.x (place.y + steps) at f) h e
+
+    pub up_nowhere : StartsNowhere grid row Up line
+    up_nowhere = starts_nowhere Up may (HoldsInColumn grid line) (λ place at pattern steps f. in_column pattern place.x (place.y - steps) at (back_from grid pattern steps place.y (on_map grid place.x (place.y - steps)) f).1) h e

@@ -1,6 +1,6 @@
 -- The lines in which a row of a rule may start. A line is admitted if its set has every object that the row's first cell names as
 -- present. The search leaves out more: each line whose set lacks an object that some cell of the row names.
-use Rattle.std.specs.Prelude.{ℕ, List, [], ◌∷◌, Bool, true, not, ◌&&◌, ◌||◌, nat_eq, slice_index_or}
+use Rattle.std.specs.Prelude.{◌≡◌, ℕ, List, [], ◌∷◌, Bool, true, false, not, ◌&&◌, ◌||◌, nat_eq, slice_index_or}
 use Rattle.std.specs.List.{list_all, list_any, count_by, sum_by, range_with_len}
 use Rattle.pz_sets.specs.Sets.{member}
 use Rattle.pz_game.specs.declared.direction.Dir.{Dir}
@@ -10,7 +10,7 @@ use Rattle.pz_game.specs.Pattern.{RuleRow}
 use Rattle.pz_grid.specs.declared.places.Place.{Place}
 use Rattle.pz_sheet.specs.Grid.{Grid, LevelState}
 use Rattle.pz_game.specs.Items.{names}
-use Rattle.pz_grid.specs.Places.{line_count, line_length}
+use Rattle.pz_grid.specs.Places.{line_count, line_length, row_holds}
 
 -- the set of a line: of a column for up and down, else of a row
 abbrev pub marks_of : LevelState → Dir → ℕ → List ℕ
@@ -57,6 +57,10 @@ abbrev pub start_of : Dir → Place → ℕ
 start_of Up place = place.y
 start_of Down place = place.y
 start_of _ place = place.x
+
+-- no place of a row starts in a line
+abbrev pub StartsNowhere : Grid → RuleRow → Dir → ℕ → Type 0
+StartsNowhere grid row dir line = (place : Place) → line_of dir place ≡ line → row_holds grid row dir place ≡ false
 
 -- a place starts in this cell
 abbrev pub starts_at : Dir → ℕ → ℕ → Place → Bool

@@ -1,14 +1,15 @@
 // The lines in which a row of a rule may start.
 
-ghost use Rattle.std.specs.Prelude.{◌≡◌, ◌<◌, All, false, []};
+ghost use Rattle.std.specs.Prelude.{◌≡◌, ◌<◌, All, true, false, []};
 ghost use Rattle.std.specs.List.{list_all};
 ghost use Rattle.pz_game.specs.Masks.{IsLow};
 ghost use Rattle.pz_game.specs.Pattern.{IsRowOf};
-ghost use Rattle.pz_grid.specs.Admitted.{marks_of, marks_item, marks_cell, admits, admits_line, searches_level, searches_line};
+ghost use Rattle.pz_grid.specs.Admitted.{marks_of, marks_item, marks_cell, admits, admits_line, searches_level, searches_line, StartsNowhere};
 ghost use Rattle.pz_grid.specs.Places.{line_count, places};
 ghost use Rattle.pz_game.specs.declared.direction.Dir.{Dir};
 
 use crate::Level;
+use crate::bare::BareLevel;
 use crate::rewriting::names;
 use pz_game::direction::Dir;
 use pz_game::pattern::{Item, Pattern, Row};
@@ -95,5 +96,29 @@ impl Level {
         // (brings the proof the law of levels)
         let _ = self.width();
         marks_all(self.marks_of(dir, line), row)
+    }
+
+    /// Whether a place of the row may start in the line, as far as the line's set and its headings tell: false says that none does.
+    pub(crate) fn may_start(&self, row: &Row, dir: Dir, line: u32) -> bool
+        requires of_game { IsRowOf self.now.grid.layers row.now }
+        requires line_in { line < line_count self.now.grid dir }
+        ensures searched { result ≡ true → searches_line self.now row.now dir line ≡ true }
+        ensures none { result ≡ false → StartsNowhere self.now.grid row.now dir line }
+    {
+        // (brings the proof what the level is)
+        let _ = &self.bare;
+        self.searches_line(row, dir, line) && may_head(&self.bare, row, dir, line)
+    }
+}
+
+/// Whether something may head in a line as the cells of the row ask: false says that no place of the row starts there.
+fn may_head(bare: &BareLevel, row: &Row, dir: Dir, line: u32) -> bool
+    requires of_game { IsRowOf bare.now.grid.layers row.now }
+    requires line_in { line < line_count bare.now.grid dir }
+    ensures none { result ≡ false → StartsNowhere bare.now.grid row.now dir line }
+{
+    match dir {
+        Dir::Up | Dir::Down => bare.may_hold_in_column(line, row),
+        Dir::Left | Dir::Right | Dir::Action => bare.may_hold_in_row(line, row),
     }
 }

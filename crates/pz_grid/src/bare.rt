@@ -12,7 +12,7 @@ ghost use Rattle.pz_sheet.specs.Movement.{stilled};
 ghost use Rattle.pz_sheet.specs.Presence.{is_in, cell_of};
 ghost use Rattle.pz_sheet.specs.Pushing.{pushed};
 ghost use Rattle.pz_sheet.specs.Rewriting.{with_rewritten, changes};
-ghost use Rattle.pz_sheet.specs.Searching.{holds_in_row, holds_in_column, HoldsSomewhere, IsNext, IsLast};
+ghost use Rattle.pz_sheet.specs.Searching.{holds_in_row, holds_in_column, HoldsSomewhere, HoldsInRow, HoldsInColumn, IsNext, IsLast};
 ghost use Rattle.pz_sheet.specs.Standing.{standing_at, stands};
 
 use pz_cells::piece::Piece;
@@ -224,6 +224,32 @@ impl BareLevel {
             Sized::Small(sheet) => sheet.may_hold(row),
             Sized::Middle(sheet) => sheet.may_hold(row),
             Sized::Large(sheet) => sheet.may_hold(row),
+        }
+    }
+
+    /// Whether something may head in a row of the map as the cells of a rule's row ask: true where each of them holds somewhere in it.
+    pub(crate) fn may_hold_in_row(&self, y: u32, row: &Row) -> bool
+        requires y_in { y < self.now.grid.height }
+        requires of_game { IsRowOf self.now.grid.layers row.now }
+        ensures { All (HoldsInRow self.now.grid y) row.now.cells → result ≡ true }
+    {
+        match &self.sheet {
+            Sized::Small(sheet) => sheet.may_hold_in_row(y, row),
+            Sized::Middle(sheet) => sheet.may_hold_in_row(y, row),
+            Sized::Large(sheet) => sheet.may_hold_in_row(y, row),
+        }
+    }
+
+    /// Whether something may head in a column of the map as the cells of a rule's row ask: true where each of them holds somewhere in it.
+    pub(crate) fn may_hold_in_column(&self, x: u32, row: &Row) -> bool
+        requires x_in { x < self.now.grid.width }
+        requires of_game { IsRowOf self.now.grid.layers row.now }
+        ensures { All (HoldsInColumn self.now.grid x) row.now.cells → result ≡ true }
+    {
+        match &self.sheet {
+            Sized::Small(sheet) => sheet.may_hold_in_column(x, row),
+            Sized::Middle(sheet) => sheet.may_hold_in_column(x, row),
+            Sized::Large(sheet) => sheet.may_hold_in_column(x, row),
         }
     }
 

@@ -3,7 +3,7 @@
 ghost use Rattle.std.specs.Prelude.{◌≡◌, ◌≢◌, ℕ, ◌+◌, ◌*◌, ◌<◌, ◌≤◌, cond, [], ◌∷◌, ◌++◌, ◌^◌, filter, length, OnOk, IfOk, IfErr, IfSome, Ok, Err};
 ghost use Rattle.pz_game.specs.declared.limits.TheConstants.{MAX_SIDE};
 ghost use Rattle.pz_game.specs.Pattern.{AreOf, IsRowOf, AreRowsOf};
-ghost use Rattle.pz_grid.specs.Admitted.{admitted, searches_line, start_count};
+ghost use Rattle.pz_grid.specs.Admitted.{admitted, searches_line, starts_in, start_count};
 ghost use Rattle.pz_grid.specs.Places.{on_map, along, holds_at, position_of, distance, row_holds, line_count, line_length, place_in, holds_behind, pairs_at, pairs_in, places, searched, starts_with, still_holds, still_matches};
 ghost use Rattle.pz_sheet.specs.Searching.{IsNext};
 
@@ -351,13 +351,14 @@ impl Level {
         requires room { length found.old.items ≤ MATCH_LIMIT }
         requires few { tested ≤ 65536 }
         ensures added { OnOk result (found.new.items ≡ found.old.items ++ filter (row_holds self.now.grid row.now dir) (pairs_in self.now.grid row.now dir line)) }
-        ensures count { IfOk result (λ count. count ≡ tested + cond (searches_line self.now row.now dir line) (line_length self.now.grid dir) 0) }
+        ensures low { IfOk result (λ count. tested + starts_in dir (places self.now.grid row.now dir) (line_length self.now.grid dir) line ≤ count) }
+        ensures high { IfOk result (λ count. count ≤ tested + cond (searches_line self.now row.now dir line) (line_length self.now.grid dir) 0) }
         ensures few { IfOk result (λ count. count ≤ tested + MAX_SIDE) }
         ensures room { OnOk result (length found.new.items ≤ MATCH_LIMIT) }
         ensures limit { result ≡ Err GridFault.MatchLimit → MATCH_LIMIT < length (found.old.items ++ filter (row_holds self.now.grid row.now dir) (pairs_in self.now.grid row.now dir line)) }
     {
         let _ = &self.bare;
-        if self.searches_line(row, dir, line) {
+        if self.may_start(row, dir, line) {
             add_places_in(&self.bare, row, dir, line, found, tested)
         } else {
             Ok(tested)

@@ -1,9 +1,9 @@
--- A level notes each heading that a row asks for whose cells all hold somewhere.
-use Rattle.std.proofs.Common.{◌≡◌, ◌+◌, ◌*◌, ◌%◌, ◌<◌, ℕ, List, [], ◌∷◌, true, false, inl, inr, suc, length, get_or, arith, ap, sym, ◌∙◌, refl}
+-- A level notes each heading that a row of a rule asks for whose cells all hold somewhere, for the whole and for each line.
+use Rattle.std.proofs.Common.{◌≡◌, ◌+◌, ◌*◌, ◌%◌, ◌<◌, ℕ, List, [], ◌∷◌, true, false, inl, inr, suc, length, get_or, arith, ap, sym, ◌∙◌, refl, subst}
 use Rattle.std.specs.List.{All, list_any}
 use Rattle.std.proofs.lemmas.Bool.{cases_lt, or_cases}
 use Rattle.std.proofs.lemmas.List.{get_or_default}
-use Rattle.std.proofs.lemmas.Nat.{mul-add-lt}
+use Rattle.std.proofs.lemmas.Nat.{mul-add-lt, div-mul-add, mod-mul-add}
 use Rattle.pz_sets.specs.Sets.{member, IsWithin}
 use Rattle.pz_game.specs.declared.direction.Dir.{Dir}
 use Rattle.pz_game.specs.declared.pattern.Item.{Item}
@@ -14,37 +14,75 @@ use Rattle.pz_game.proofs.FlagLemmas.{flag_of}
 use Rattle.pz_cells.specs.declared.cell.Cell.{Cell}
 use Rattle.pz_cells.specs.Pattern.{pattern_holds}
 use Rattle.pz_cells.proofs.HoldLemmas.{met_all}
-use Rattle.pz_sheet.specs.Searching.{HoldsSomewhere}
-use Rattle.pz_sheet.specs.Seen.{grid_of, IsStored}
+use Rattle.pz_sheet.specs.Grid.{Grid}
+use Rattle.pz_sheet.specs.Searching.{HoldsSomewhere, HoldsInRow, HoldsInColumn}
+use Rattle.pz_sheet.specs.Seen.{HeadingSets, HeadsWithin, grid_of, IsStored}
 use Rattle.pz_sheet.proofs.SheetLemmas.{seen_at}
 
-module _ (N width height depth : ℕ) (layers : List ℕ) (sets : List (List ℕ)) (cells : List (Cell N)) (headings : List ℕ) (s : IsStored N width height depth layers sets cells headings) where
-  no_cell : Cell N
-  no_cell = record { objects = []; movement = [] }
+no_cell : (N : ℕ) → Cell N
+no_cell N = record { objects = []; movement = [] }
 
-  -- what a cell asks to head is noted where it holds somewhere
-  heads_here : (items : List Item) (layer : ℕ) (dir : Dir) → AreOf layers items → HoldsSomewhere (grid_of N width height depth layers cells) items → asks_toward layer dir items ≡ true → heads headings layer dir ≡ true
-  heads_here items layer dir are h asks =
-      let at = h.y * width + h.x in
-      let within : at < length cells = omega (arith, mul-add-lt h.y width h.x height h.y_in h.x_in, s.covers) in
-      let cell = get_or cells at no_cell in
-      let is : cell ≡ get_or cells at cell = get_or_default cells at no_cell cell within in
-      let there = seen_at N width height depth layers cells (grid_of N width height depth layers cells) at cell refl within is in
-      let met = met_all depth layers cell.objects cell.movement items s.layered (s.sound at no_cell within) are (ap (λ it. pattern_holds it items) there ∙ h.holds) in
-      s.noted at no_cell within (flag layer dir) (met.required layer dir asks)
+-- a cell of some number holds, and heads within a set
+record IsWhere (N : ℕ) (cells : List (Cell N)) (grid : Grid) (headings : List ℕ) (items : List Item) : Type 0 where
+  at : ℕ
+  within : at < length cells
+  holds : pattern_holds (get_or grid.cells at []) items ≡ true
+  noted : HeadsWithin N headings (get_or cells at (no_cell N))
 
-  -- the same for the cells of a row
-  heads_there : (rows : List (List Item)) (layer : ℕ) (dir : Dir) → All (AreOf layers) rows → All (HoldsSomewhere (grid_of N width height depth layers cells)) rows → list_any (asks_toward layer dir) rows ≡ true → heads headings layer dir ≡ true
-  heads_there [] layer dir are hold e = cc
-  heads_there (items ∷ rows) layer dir are hold e = elim (or_cases (asks_toward layer dir items) (list_any (asks_toward layer dir) rows) e) [
-    | inl here ↦ heads_here items layer dir (are 0 items (omega arith)) (hold 0 items (omega arith)) here
-    | inr later ↦ heads_there rows layer dir (λ k d h. are (suc k) d (omega (arith, h))) (λ k d h. hold (suc k) d (omega (arith, h))) later
-  ]
+module _ (N width height depth : ℕ) (layers : List ℕ) (sets : List (List ℕ)) (cells : List (Cell N)) (notes : HeadingSets) (s : IsStored N width height depth layers sets cells notes) where
+  abbrev grid : Grid
+  grid = grid_of N width height depth layers cells
 
-  pub asked_is_noted : (rows : List (List Item)) (required : List ℕ) → AreRequired rows required → All (AreOf layers) rows → All (HoldsSomewhere (grid_of N width height depth layers cells)) rows → IsWithin required headings
-  asked_is_noted rows required r are hold number e = elim (cases_lt (number % 128) 125) [
-    | inl low ↦ (let f = flag_of number low in
-        let asks : list_any (asks_toward f.0 f.1) rows ≡ true = sym (r.asked f.0 f.1) ∙ (ap (member required) f.2 ∙ e) in
-        sym (ap (member headings) f.2) ∙ heads_there rows f.0 f.1 are hold asks)
-    | inr high ↦ (let none : false ≡ true = sym (r.proper number high) ∙ e in cc)
-  ]
+  module _ (headings : List ℕ) (Holds : List Item → Type 0) (find : (items : List Item) → Holds items → IsWhere N cells grid headings items) where
+    -- what a cell asks to head is noted where it holds
+    heads_here : (items : List Item) (layer : ℕ) (dir : Dir) → AreOf layers items → Holds items → asks_toward layer dir items ≡ true → heads headings layer dir ≡ true
+    heads_here items layer dir are h asks =
+        let w = find items h in
+        let cell = get_or cells w.at (no_cell N) in
+        let is : cell ≡ get_or cells w.at cell = get_or_default cells w.at (no_cell N) cell w.within in
+        let there = seen_at N width height depth layers cells grid w.at cell refl w.within is in
+        let met = met_all depth layers cell.objects cell.movement items s.layered (s.sound w.at (no_cell N) w.within) are (ap (λ it. pattern_holds it items) there ∙ w.holds) in
+        w.noted (flag layer dir) (met.required layer dir asks)
+
+    -- the same for the cells of a row
+    heads_there : (rows : List (List Item)) (layer : ℕ) (dir : Dir) → All (AreOf layers) rows → All Holds rows → list_any (asks_toward layer dir) rows ≡ true → heads headings layer dir ≡ true
+    heads_there [] layer dir are hold e = cc
+    heads_there (items ∷ rows) layer dir are hold e = elim (or_cases (asks_toward layer dir items) (list_any (asks_toward layer dir) rows) e) [
+      | inl here ↦ heads_here items layer dir (are 0 items (omega arith)) (hold 0 items (omega arith)) here
+      | inr later ↦ heads_there rows layer dir (λ k d h. are (suc k) d (omega (arith, h))) (λ k d h. hold (suc k) d (omega (arith, h))) later
+    ]
+
+    asked_is_noted : (rows : List (List Item)) (required : List ℕ) → AreRequired rows required → All (AreOf layers) rows → All Holds rows → IsWithin required headings
+    asked_is_noted rows required r are hold number e = elim (cases_lt (number % 128) 125) [
+      | inl low ↦ (let f = flag_of number low in
+          let asks : list_any (asks_toward f.0 f.1) rows ≡ true = sym (r.asked f.0 f.1) ∙ (ap (member required) f.2 ∙ e) in
+          sym (ap (member headings) f.2) ∙ heads_there rows f.0 f.1 are hold asks)
+      | inr high ↦ (let none : false ≡ true = sym (r.proper number high) ∙ e in cc)
+    ]
+
+  in_cells : (x y : ℕ) → x < width → y < height → y * width + x < length cells
+  in_cells x y x_in y_in = omega (arith, mul-add-lt y width x height y_in x_in, s.covers)
+
+  pub asked_somewhere : (rows : List (List Item)) (required : List ℕ) → AreRequired rows required → All (AreOf layers) rows → All (HoldsSomewhere grid) rows → IsWithin required notes.whole
+  asked_somewhere = asked_is_noted notes.whole (HoldsSomewhere grid) (λ items h. record {
+    at = h.y * width + h.x;
+    within = in_cells h.x h.y h.x_in h.y_in;
+    holds = h.holds;
+    noted = (s.noted.each (h.y * width + h.x) (no_cell N) (in_cells h.x h.y h.x_in h.y_in)).whole;
+  })
+
+  pub asked_in_row : (y : ℕ) → y < height → (rows : List (List Item)) (required : List ℕ) → AreRequired rows required → All (AreOf layers) rows → All (HoldsInRow grid y) rows → IsWithin required (get_or notes.rows y [])
+  asked_in_row y y_in = asked_is_noted (get_or notes.rows y []) (HoldsInRow grid y) (λ items h. record {
+    at = y * width + h.x;
+    within = in_cells h.x y h.x_in y_in;
+    holds = h.holds;
+    noted = subst (λ (line : ℕ). HeadsWithin N (get_or notes.rows line []) (get_or cells (y * width + h.x) (no_cell N))) (div-mul-add y width h.x h.x_in) (s.noted.each (y * width + h.x) (no_cell N) (in_cells h.x y h.x_in y_in)).row;
+  })
+
+  pub asked_in_column : (x : ℕ) → x < width → (rows : List (List Item)) (required : List ℕ) → AreRequired rows required → All (AreOf layers) rows → All (HoldsInColumn grid x) rows → IsWithin required (get_or notes.columns x [])
+  asked_in_column x x_in = asked_is_noted (get_or notes.columns x []) (HoldsInColumn grid x) (λ items h. record {
+    at = h.y * width + x;
+    within = in_cells x h.y x_in h.y_in;
+    holds = h.holds;
+    noted = subst (λ (line : ℕ). HeadsWithin N (get_or notes.columns line []) (get_or cells (h.y * width + x) (no_cell N))) (mod-mul-add h.y width x x_in) (s.noted.each (h.y * width + x) (no_cell N) (in_cells x h.y x_in h.y_in)).column;
+  })

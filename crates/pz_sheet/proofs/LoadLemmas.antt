@@ -18,7 +18,7 @@ use Rattle.pz_cells.proofs.HoldLemmas.{place_seen}
 use Rattle.pz_cells.proofs.ShowLemmas.{lawful_from_shows, cell_from_shows}
 use Rattle.pz_cells.proofs.PlaceLemmas.{cell_changed}
 use Rattle.pz_sheet.specs.Loading.{glyph_cell, filled_cell}
-use Rattle.pz_sheet.specs.Seen.{seen, IsSound, HeadsWithin, IsStored}
+use Rattle.pz_sheet.specs.Seen.{seen, IsSound, HeadingSets, AreNoted, IsStored}
 use Rattle.pz_sheet.proofs.SheetLemmas.{IsTable}
 
 -- words without a number
@@ -62,8 +62,8 @@ glyphs_more N depth layers f numbers index d cells now cell within are sound e i
 }
 
 -- a level as it is drawn is stored with the sets of its game
-pub stored_drawn : (N : ℕ) (game : GameParts) (drawing : Drawing) (width height depth : ℕ) (layers layers_read : List ℕ) (sets : List (List ℕ)) (cells : List (Cell N)) (headings : List ℕ) → IsGame game → IsDrawing drawing → N ≤ 4 → length game.layers ≤ 128 * N → game.depth ≤ 25 * N → width ≡ drawing.width → height ≡ drawing.height → depth ≡ game.depth → layers ≡ game.layers → layers_read ≡ game.layers → length sets ≡ game.depth → IsTable layers_read sets → AreGlyphs N game.depth game.layers (glyph_cell game) drawing.cells cells → All (HeadsWithin N headings) cells → IsStored N width height depth layers sets cells headings
-stored_drawn N game drawing width height depth layers layers_read sets cells headings h d short room movement_room is_width is_height is_depth is_layers is_read deep table are noted = record {
+pub stored_drawn : (N : ℕ) (game : GameParts) (drawing : Drawing) (width height depth : ℕ) (layers layers_read : List ℕ) (sets : List (List ℕ)) (cells : List (Cell N)) (notes : HeadingSets) → IsGame game → IsDrawing drawing → N ≤ 4 → length game.layers ≤ 128 * N → game.depth ≤ 25 * N → width ≡ drawing.width → height ≡ drawing.height → depth ≡ game.depth → layers ≡ game.layers → layers_read ≡ game.layers → length sets ≡ game.depth → IsTable layers_read sets → AreGlyphs N game.depth game.layers (glyph_cell game) drawing.cells cells → AreNoted N width height notes cells → IsStored N width height depth layers sets cells notes
+stored_drawn N game drawing width height depth layers layers_read sets cells notes h d short room movement_room is_width is_height is_depth is_layers is_read deep table are noted = record {
   size = subst (λ (w : ℕ). IsSize w height) (sym is_width) (subst (IsSize drawing.width) (sym is_height) d.size);
   shallow = omega (arith, is_depth, h.shallow);
   few = omega (arith, long, h.laid, h.few);

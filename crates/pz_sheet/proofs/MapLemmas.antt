@@ -14,7 +14,7 @@ use Rattle.pz_cells.specs.Shown.{place_of, cell_of, Shows}
 use Rattle.pz_cells.proofs.HoldLemmas.{place_seen}
 use Rattle.pz_cells.proofs.ShowLemmas.{cell_from_shows}
 use Rattle.std.proofs.lemmas.List.FromFn.{length-map-range_with_len}
-use Rattle.pz_sheet.specs.Seen.{seen, IsSound, HeadsWithin, IsStored, AreMapped}
+use Rattle.pz_sheet.specs.Seen.{seen, IsSound, HeadingSets, AreNoted, IsStored, AreMapped}
 
 -- words that show what a function makes of each place
 pub cell_mapped : (depth : ℕ) (layers objects movement objects_new movement_new : List ℕ) (f : Option Piece → Option Piece) → ((object : ℕ) → member objects_new object ≡ true → object < length layers) → ((layer : ℕ) → Shows layers (member objects_new) (heads movement_new layer) layer (f (place_of layers objects movement layer))) → cell_of depth layers objects_new movement_new ≡ map f (cell_of depth layers objects movement)
@@ -68,8 +68,8 @@ mapped_all N depth layers f old now index past m =
     }
 
 -- ---- the level whose cells are changed
-pub stored_mapped : (N width height depth : ℕ) (layers : List ℕ) (sets : List (List ℕ)) (f : List (Option Piece) → List (Option Piece)) (old new : List (Cell N)) (headings next : List ℕ) → IsStored N width height depth layers sets old headings → AreMapped N depth layers f old new → All (HeadsWithin N next) new → IsStored N width height depth layers sets new next
-stored_mapped N width height depth layers sets f old new headings next s m noted = record {
+pub stored_mapped : (N width height depth : ℕ) (layers : List ℕ) (sets : List (List ℕ)) (f : List (Option Piece) → List (Option Piece)) (old new : List (Cell N)) (notes next : HeadingSets) → IsStored N width height depth layers sets old notes → AreMapped N depth layers f old new → AreNoted N width height next new → IsStored N width height depth layers sets new next
+stored_mapped N width height depth layers sets f old new notes next s m noted = record {
   size = s.size;
   shallow = s.shallow;
   few = s.few;
@@ -90,3 +90,8 @@ mapped_read N depth layers layers_read f old new same m = subst (λ (all : List 
 
 pub sound_read : (N : ℕ) (layers layers_read : List ℕ) (cells : List (Cell N)) → layers_read ≡ layers → All (IsSound N layers) cells → All (IsSound N layers_read) cells
 sound_read N layers layers_read cells same sound = subst (λ (all : List ℕ). All (IsSound N all) cells) (sym same) sound
+
+-- the same over cells and sizes that are read
+pub noted_read : (N width height wide high : ℕ) (notes : HeadingSets) (cells cells_read : List (Cell N)) → wide ≡ width → high ≡ height → cells_read ≡ cells → AreNoted N wide high notes cells_read → AreNoted N width height notes cells
+noted_read N width height wide high notes cells cells_read is_width is_height same noted =
+    subst (λ (w : ℕ). AreNoted N w height notes cells) is_width (subst (λ (h : ℕ). AreNoted N wide h notes cells) is_height (subst (AreNoted N wide high notes) same noted))

@@ -11,7 +11,7 @@ use Rattle.pz_cells.specs.declared.cell.Cell.{Cell}
 use Rattle.pz_cells.specs.declared.piece.Piece.{Piece}
 use Rattle.pz_cells.proofs.RewriteLemmas.{cell_alike, objects_alike, heads_alike}
 use Rattle.pz_sheet.specs.Grid.{Grid}
-use Rattle.pz_sheet.specs.Seen.{seen, grid_of, IsSound, IsStored, HaveSame}
+use Rattle.pz_sheet.specs.Seen.{seen, grid_of, IsSound, HeadingSets, IsStored, HaveSame}
 
 -- two sets of words that have the same numbers
 abbrev pub AreAlike : (N : ℕ) → Cell N → Cell N → Type 0
@@ -55,7 +55,7 @@ all_seen N depth layers a b low sound sound_b e =
 abbrev pub AreSized : Grid → Grid → Type 0
 AreSized a b = (a.width ≡ b.width) × (a.height ≡ b.height) × (a.depth ≡ b.depth) × (a.layers ≡ b.layers)
 
-module _ (N wa ha da : ℕ) (la : List ℕ) (sa : List (List ℕ)) (ca : List (Cell N)) (na : List ℕ) (wb hb db : ℕ) (lb : List ℕ) (sb : List (List ℕ)) (cb : List (Cell N)) (nb : List ℕ) (a : IsStored N wa ha da la sa ca na) (b : IsStored N wb hb db lb sb cb nb) where
+module _ (N wa ha da : ℕ) (la : List ℕ) (sa : List (List ℕ)) (ca : List (Cell N)) (na : HeadingSets) (wb hb db : ℕ) (lb : List ℕ) (sb : List (List ℕ)) (cb : List (Cell N)) (nb : HeadingSets) (a : IsStored N wa ha da la sa ca na) (b : IsStored N wb hb db lb sb cb nb) where
   sound_there : la ≡ lb → All (IsSound N la) cb
   sound_there e = subst (λ (l : List ℕ). All (IsSound N l) cb) (sym e) b.sound
 

@@ -1,14 +1,13 @@
 -- A cell of a level in words, and what is seen of it.
-use Rattle.std.proofs.Common.{◌≡◌, ℕ, zero, suc, ◌+◌, ◌*◌, ◌^◌, ◌<◌, ◌≤◌, List, [], Option, Some, None, Bool, true, false, ◌&&◌, ◌||◌, cond, map, set, length, get_or, ap, sym, ◌∙◌, subst, arith, get_or-set_same}
+use Rattle.std.proofs.Common.{◌≡◌, ℕ, zero, suc, ◌+◌, ◌*◌, ◌/◌, ◌%◌, ◌^◌, ◌<◌, ◌≤◌, List, [], Option, Some, None, Bool, true, false, ◌&&◌, cond, map, set, length, get_or, ap, sym, ◌∙◌, subst, arith, inl, inr, get_or-set_same, get_or-set_other}
 use Rattle.std.specs.Prelude.{nat_lt, IfSome, MatchOption}
-use Rattle.std.proofs.lemmas.Bool.{lt-ltb, or_left, or_right}
+use Rattle.std.proofs.lemmas.Bool.{lt-ltb, cases_eq}
 use Rattle.std.proofs.lemmas.List.{length-map, length-set, get_or-map, get_or_default, map-set}
 use Rattle.std.proofs.lemmas.List.FromFn.{length-map-range_with_len}
 use Rattle.std.proofs.lemmas.List.Elements.{All-map, All-set}
 use Rattle.std.specs.List.{All}
 use prog.Memory.{up}
 use Rattle.pz_game.specs.declared.limits.TheConstants.{MAX_OBJECTS}
-use Rattle.pz_sets.specs.Sets.{member, AreSame}
 use Rattle.pz_game.specs.declared.direction.Dir.{Dir}
 use Rattle.pz_cells.specs.declared.cell.Cell.{Cell}
 use Rattle.pz_cells.specs.declared.piece.Piece.{Piece}
@@ -19,7 +18,7 @@ use Rattle.pz_cells.proofs.HoldLemmas.{on_its_layer, place_seen, standing_by}
 use Rattle.pz_cells.proofs.PlaceLemmas.{lawful_changed, cell_changed}
 use Rattle.pz_sheet.specs.Grid.{Grid, IsLawful, cell_at, place_at, with_place}
 use Rattle.pz_sheet.specs.Standing.{standing_at}
-use Rattle.pz_sheet.specs.Seen.{seen, grid_of, IsSound, HeadsWithin, IsStored}
+use Rattle.pz_sheet.specs.Seen.{seen, grid_of, IsSound, HeadingSets, IsNoted, IsWider, IsStored}
 
 -- a number of a seen cell is one of a cell in words
 pub seen_within : (N width height depth : ℕ) (layers : List ℕ) (cells : List (Cell N)) (grid : Grid) (at : ℕ) → grid_of N width height depth layers cells ≡ grid → at < length grid.cells → at < length cells
@@ -51,7 +50,7 @@ cell_seen N depth layers cell sound = record {
 }
 
 -- a level in words is seen as a lawful one
-pub lawful_seen : (N width height depth : ℕ) (layers : List ℕ) (sets : List (List ℕ)) (cells : List (Cell N)) (headings : List ℕ) → IsStored N width height depth layers sets cells headings → IsLawful (grid_of N width height depth layers cells)
+pub lawful_seen : (N width height depth : ℕ) (layers : List ℕ) (sets : List (List ℕ)) (cells : List (Cell N)) (notes : HeadingSets) → IsStored N width height depth layers sets cells notes → IsLawful (grid_of N width height depth layers cells)
 lawful_seen N width height depth layers sets cells headings s = record {
   covers = length-map cells (seen N depth layers) ∙ s.covers;
   size = s.size;
@@ -102,8 +101,23 @@ piece_seen there heading object stand None e h = e ∙ ap (λ b. standing_by b h
 piece_seen there heading object stand (Some p) e h = e ∙ (ap (λ b. standing_by b heading) h.0 ∙ ap (λ (way : Option Dir). Some way) (sym h.2))
 
 -- ---- one cell anew
-pub stored_set : (N width height depth : ℕ) (layers : List ℕ) (sets : List (List ℕ)) (cells : List (Cell N)) (at : ℕ) (new : Cell N) (headings here next : List ℕ) → IsStored N width height depth layers sets cells headings → IsSound N layers new → AreSame here new.movement → ((number : ℕ) → member next number ≡ (member headings number || member here number)) → IsStored N width height depth layers sets (set cells at new) next
-stored_set N width height depth layers sets cells at new headings here next s sound same joined = record {
+pub still_noted : (N width index : ℕ) (old new : HeadingSets) (cell : Cell N) → IsWider old new → IsNoted N width old index cell → IsNoted N width new index cell
+still_noted N width index old new cell wider is = record {
+  whole = λ number e. wider.whole number (is.whole number e);
+  row = λ number e. wider.rows (index / width) number (is.row number e);
+  column = λ number e. wider.columns (index % width) number (is.column number e);
+}
+
+-- one more cell is noted
+pub noted_more : (N width : ℕ) (old new : HeadingSets) (cells : List (Cell N)) (index : ℕ) (here : Cell N) → index < length cells → here ≡ get_or cells index here → IsWider old new → IsNoted N width new index here
+    → ((number : ℕ) (cell : Cell N) → number < index → IsNoted N width old number (get_or cells number cell)) → (number : ℕ) (cell : Cell N) → number < index + 1 → IsNoted N width new number (get_or cells number cell)
+noted_more N width old new cells index here within is wider noted before number cell below = elim (cases_eq number index) [
+  | inl same ↦ subst (λ (k : ℕ). IsNoted N width new k (get_or cells k cell)) (sym same) (subst (IsNoted N width new index) (is ∙ get_or_default cells index here cell within) noted)
+  | inr other ↦ still_noted N width number old new (get_or cells number cell) wider (before number cell (omega (arith, below, other)))
+]
+
+pub stored_set : (N width height depth : ℕ) (layers : List ℕ) (sets : List (List ℕ)) (cells : List (Cell N)) (at : ℕ) (new : Cell N) (notes next : HeadingSets) → IsStored N width height depth layers sets cells notes → IsSound N layers new → IsNoted N (length notes.columns) next at new → IsWider notes next → IsStored N width height depth layers sets (set cells at new) next
+stored_set N width height depth layers sets cells at new notes next s sound here wider = record {
   size = s.size;
   shallow = s.shallow;
   few = s.few;
@@ -115,8 +129,20 @@ stored_set N width height depth layers sets cells at new headings here next s so
   table = s.table;
   covers = length-set cells at new ∙ s.covers;
   sound = All-set (IsSound N layers) cells at new sound s.sound;
-  noted = All-set (HeadsWithin N next) cells at new (λ number e. joined number ∙ or_right (member headings number) (member here number) (same number ∙ e)) (λ k d within number e. joined number ∙ or_left (member headings number) (member here number) (s.noted k d within number e));
-}
+  noted = record {
+    row_count = wider.row_count ∙ s.noted.row_count;
+    column_count = wider.column_count ∙ s.noted.column_count;
+    each = each;
+  };
+} where
+  each : (index : ℕ) (cell : Cell N) → index < length (set cells at new) → IsNoted N width next index (get_or (set cells at new) index cell)
+  each index cell within =
+      let there : index < length cells = omega (arith, within, length-set cells at new) in
+      elim (cases_eq index at) [
+        | inl same ↦ subst (λ (k : ℕ). IsNoted N width next k (get_or (set cells at new) k cell)) (sym same)
+            (subst (IsNoted N width next at) (sym (get_or-set_same cells at new cell (omega (arith, there, same)))) (subst (λ (w : ℕ). IsNoted N w next at new) s.noted.column_count here))
+        | inr other ↦ subst (IsNoted N width next index) (sym (get_or-set_other cells at index new cell other)) (still_noted N width index notes next (get_or cells index cell) wider (s.noted.each index cell there))
+      ]
 
 -- the cell at a position is changed by a function
 pub grid_set : (N width height depth : ℕ) (layers : List ℕ) (cells : List (Cell N)) (at place : ℕ) (cell new : Cell N) (f : List (Option Piece) → List (Option Piece)) → at < length cells → at ≡ place → cell ≡ get_or cells at cell → seen N depth layers new ≡ f (seen N depth layers cell)

@@ -31,3 +31,15 @@ pub record HoldsSomewhere (grid : Grid) (pattern : List Item) : Type 0 where
   pub x_in : x < grid.width
   pub y_in : y < grid.height
   pub holds : pattern_holds (cell_at grid x y) pattern ≡ true
+
+-- a rule's cell holds somewhere in a row of the map
+pub record HoldsInRow (grid : Grid) (y : ℕ) (pattern : List Item) : Type 0 where
+  pub x : ℕ
+  pub x_in : x < grid.width
+  pub holds : holds_in_row grid y pattern x ≡ true
+
+-- a rule's cell holds somewhere in a column of the map
+pub record HoldsInColumn (grid : Grid) (x : ℕ) (pattern : List Item) : Type 0 where
+  pub y : ℕ
+  pub y_in : y < grid.height
+  pub holds : holds_in_column grid x pattern y ≡ true

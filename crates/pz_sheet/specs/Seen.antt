@@ -1,6 +1,6 @@
 -- A level in words, seen by layers.
-use Rattle.std.specs.Prelude.{◌≡◌, ℕ, ◌*◌, ◌<◌, ◌≤◌, List, map, Option, length, slice_index_or, All}
-use Rattle.pz_sets.specs.Sets.{AreSame, IsWithin}
+use Rattle.std.specs.Prelude.{◌≡◌, ℕ, ◌*◌, ◌/◌, ◌%◌, ◌<◌, ◌≤◌, List, [], map, Option, length, nat_eq, ◌&&◌, ◌||◌, slice_index_or, All}
+use Rattle.pz_sets.specs.Sets.{member, AreSame, IsWithin}
 use Rattle.pz_game.specs.declared.limits.TheConstants.{MAX_OBJECTS, MAX_LAYERS}
 use Rattle.pz_game.specs.Size.{IsSize}
 use Rattle.pz_cells.specs.declared.cell.Cell.{Cell}
@@ -23,9 +23,40 @@ IsSound N layers cell = AreLawful layers cell.objects cell.movement
 abbrev pub HeadsWithin : (N : ℕ) → List ℕ → Cell N → Type 0
 HeadsWithin N headings cell = IsWithin cell.movement headings
 
+-- sets of headings: of the whole level, of each row and of each column
+pub record HeadingSets : Type 0 where
+  pub whole : List ℕ
+  pub rows : List (List ℕ)
+  pub columns : List (List ℕ)
+
+-- a cell of a number, counted row by row, heads nowhere but in the directions of the whole level, of its row and of its column
+pub record IsNoted (N width : ℕ) (notes : HeadingSets) (index : ℕ) (cell : Cell N) : Type 0 where
+  pub whole : HeadsWithin N notes.whole cell
+  pub row : HeadsWithin N (slice_index_or notes.rows (index / width) []) cell
+  pub column : HeadsWithin N (slice_index_or notes.columns (index % width) []) cell
+
+-- there is a set for each line, and no cell heads in a direction that isn't noted
+pub record AreNoted (N width height : ℕ) (notes : HeadingSets) (cells : List (Cell N)) : Type 0 where
+  pub row_count : length notes.rows ≡ height
+  pub column_count : length notes.columns ≡ width
+  pub each : (index : ℕ) (cell : Cell N) → index < length cells → IsNoted N width notes index (slice_index_or cells index cell)
+
+-- sets of lines with more in one line, and the same in all others
+pub record IsMoreIn (old new : List (List ℕ)) (line : ℕ) (headings : List ℕ) : Type 0 where
+  pub count : length new ≡ length old
+  pub sets : (other number : ℕ) → member (slice_index_or new other []) number ≡ (member (slice_index_or old other []) number || (nat_eq other line && member headings number))
+
+-- the sets have all that they had before
+pub record IsWider (old new : HeadingSets) : Type 0 where
+  pub row_count : length new.rows ≡ length old.rows
+  pub column_count : length new.columns ≡ length old.columns
+  pub whole : IsWithin old.whole new.whole
+  pub rows : (line : ℕ) → IsWithin (slice_index_or old.rows line []) (slice_index_or new.rows line [])
+  pub columns : (line : ℕ) → IsWithin (slice_index_or old.columns line []) (slice_index_or new.columns line [])
+
 -- what holds of the words of a level: there is room for its game, the sets of its layers are there, each cell is of the game, and none
 -- heads in a direction that isn't noted
-pub record IsStored (N width height depth : ℕ) (layers : List ℕ) (sets : List (List ℕ)) (cells : List (Cell N)) (headings : List ℕ) : Type 0 where
+pub record IsStored (N width height depth : ℕ) (layers : List ℕ) (sets : List (List ℕ)) (cells : List (Cell N)) (notes : HeadingSets) : Type 0 where
   pub size : IsSize width height
   pub shallow : depth ≤ MAX_LAYERS
   pub few : length layers ≤ MAX_OBJECTS
@@ -37,7 +68,7 @@ pub record IsStored (N width height depth : ℕ) (layers : List ℕ) (sets : Lis
   pub table : (layer : ℕ) (other : List ℕ) → layer < length sets → IsSetOf layers (slice_index_or sets layer other) layer
   pub covers : length cells ≡ width * height
   pub sound : All (IsSound N layers) cells
-  pub noted : All (HeadsWithin N headings) cells
+  pub noted : AreNoted N width height notes cells
 
 -- cells of words that are seen as others, each made from one of those by a function
 pub record AreMapped (N depth : ℕ) (layers : List ℕ) (f : List (Option Piece) → List (Option Piece)) (old new : List (Cell N)) : Type 0 where

@@ -44,7 +44,7 @@ impl<const N: usize> Sheet<N> {
         ensures { self.new.grid ≡ with_cell self.old.grid (change_seen N self.old.grid.depth self.old.grid.layers change.now) }
     {
         self.cells[change.index] = change.cell;
-        self.headings = self.headings.union(&change.cell.heading_set());
+        self.notes.note(change.index, &change.cell);
     }
 }
 

@@ -14,6 +14,7 @@ impl<const N: usize> Sheet<N> {
         let layers = Vec::from_slice(alloc, &self.layers)?;
         let sets = Vec::from_slice(alloc, &self.sets)?;
         let cells = Vec::from_slice(alloc, &self.cells)?;
+        let notes = self.notes.copy()?;
         let copy = Sheet {
             width: self.width,
             height: self.height,
@@ -21,7 +22,7 @@ impl<const N: usize> Sheet<N> {
             layers,
             sets,
             cells,
-            headings: self.headings,
+            notes,
         };
         Ok(copy)
     }
@@ -34,19 +35,19 @@ impl<const N: usize> Sheet<N> {
         make_room(&mut self.layers, other.layers.len())?;
         make_room(&mut self.sets, other.sets.len())?;
         make_room(&mut self.cells, other.cells.len())?;
+        self.notes.copy_from(&other.notes)?;
         self.width = other.width;
         self.height = other.height;
         self.depth = other.depth;
         refill(&mut self.layers, &other.layers);
         refill(&mut self.sets, &other.sets);
         refill(&mut self.cells, &other.cells);
-        self.headings = other.headings;
         Ok(())
     }
 }
 
 /// Makes room for so many items in all. Err: memory was refused.
-fn make_room<T>(items: &mut Vec<T>, count: usize) -> Result<(), AllocError>
+pub(crate) fn make_room<T>(items: &mut Vec<T>, count: usize) -> Result<(), AllocError>
     ensures items { items.new.items ≡ items.old.items }
     ensures room { OnOk result (count ≤ vec_capacity items.new) }
 {
@@ -55,7 +56,7 @@ fn make_room<T>(items: &mut Vec<T>, count: usize) -> Result<(), AllocError>
 }
 
 /// Puts copies of others in the place of the items.
-fn refill<T: Copy + Drop>(items: &mut Vec<T>, others: &[T])
+pub(crate) fn refill<T: Copy + Drop>(items: &mut Vec<T>, others: &[T])
     requires { length others.now ≤ vec_capacity items.old }
     ensures { items.new.items ≡ others.now }
 {

@@ -1,14 +1,11 @@
 //! Where something heads in a level.
 
-ghost use Rattle.std.specs.Prelude.{◌≡◌, ◌≤◌, All, true};
+ghost use Rattle.std.specs.Prelude.{◌≡◌, ◌<◌, All, true};
 ghost use Rattle.pz_game.specs.Pattern.{IsRowOf};
-ghost use Rattle.pz_sheet.specs.Searching.{HoldsSomewhere};
-ghost use Rattle.pz_sheet.specs.Seen.{HeadsWithin};
+ghost use Rattle.pz_sheet.specs.Searching.{HoldsSomewhere, HoldsInRow, HoldsInColumn};
 
 use crate::Sheet;
-use pz_cells::cell::Cell;
 use pz_game::pattern::Row;
-use pz_sets::set::NumberSet;
 use pz_sets::words::has_subset;
 
 impl<const N: usize> Sheet<N> {
@@ -17,18 +14,24 @@ impl<const N: usize> Sheet<N> {
         requires of_game { IsRowOf self.now.grid.layers row.now }
         ensures { All (HoldsSomewhere self.now.grid) row.now.cells → result ≡ true }
     {
-        has_subset(self.headings.words(), row.required().words())
+        has_subset(self.notes.whole().words(), row.required().words())
     }
-}
 
-/// The headings of cells.
-pub(crate) fn headings_of<const N: usize>(cells: &[Cell<N>]) -> NumberSet
-    requires short { N ≤ 4 }
-    ensures { All (HeadsWithin N result) cells.now }
-{
-    let mut headings = NumberSet::empty();
-    for cell in cells {
-        headings = headings.union(&cell.heading_set());
+    /// Whether something may head in a row of the map as the cells of a rule's row ask: true where each of them holds somewhere in it.
+    pub fn may_hold_in_row(&self, y: u32, row: &Row) -> bool
+        requires y_in { y < self.now.grid.height }
+        requires of_game { IsRowOf self.now.grid.layers row.now }
+        ensures { All (HoldsInRow self.now.grid y) row.now.cells → result ≡ true }
+    {
+        has_subset(self.notes.row(y).words(), row.required().words())
     }
-    headings
+
+    /// Whether something may head in a column of the map as the cells of a rule's row ask: true where each of them holds somewhere in it.
+    pub fn may_hold_in_column(&self, x: u32, row: &Row) -> bool
+        requires x_in { x < self.now.grid.width }
+        requires of_game { IsRowOf self.now.grid.layers row.now }
+        ensures { All (HoldsInColumn self.now.grid x) row.now.cells → result ≡ true }
+    {
+        has_subset(self.notes.column(x).words(), row.required().words())
+    }
 }

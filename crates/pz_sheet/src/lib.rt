@@ -4,6 +4,7 @@
 ghost use Rattle.std.specs.Prelude.{◌≡◌, ◌+◌, ◌*◌, ◌<◌, length};
 ghost use Rattle.pz_sheet.specs.Grid.{IsLawful};
 
+use notes::Notes;
 use pz_cells::cell::Cell;
 use pz_sets::set::NumberSet;
 use std::marker::Model;
@@ -13,14 +14,15 @@ mod copying;
 mod headings;
 mod loading;
 mod movement;
+mod notes;
 mod place;
 mod pushing;
 mod reading;
 mod sameness;
 mod searching;
 
-/// The cells of a level, in `N` words for the objects and `N` for their headings, with the sets of the objects of the game's layers, and at
-/// least the headings of all cells.
+/// The cells of a level, in `N` words for the objects and `N` for their headings, with the sets of the objects of the game's layers, and
+/// what is noted of where the cells head.
 #[derive(Drop)]
 pub struct Sheet<const N: usize> {
     width: u32,
@@ -29,7 +31,7 @@ pub struct Sheet<const N: usize> {
     layers: Vec<usize>,
     sets: Vec<NumberSet>,
     cells: Vec<Cell<N>>,
-    headings: NumberSet,
+    notes: Notes,
 }
 
 impl<const N: usize> Model for Sheet<N> {
@@ -40,7 +42,7 @@ impl<const N: usize> Model for Sheet<N> {
 
     ghost view = { λ a. record { grid = grid_of N a.width a.height a.depth a.layers.items a.cells.items } };
 
-    ghost invariant = { λ a. IsStored N a.width a.height a.depth a.layers.items a.sets.items a.cells.items a.headings };
+    ghost invariant = { λ a. IsStored N a.width a.height a.depth a.layers.items a.sets.items a.cells.items a.notes };
 }
 
 impl<const N: usize> Sheet<N> {

@@ -10,7 +10,7 @@ ghost use Rattle.pz_sheet.specs.Loading.{with_object, glyph_cell, drawn, filled_
 ghost use Rattle.pz_sheet.specs.Seen.{seen, IsSound, AreMapped};
 
 use crate::Sheet;
-use crate::headings::headings_of;
+use crate::notes::Notes;
 use pz_cells::cell::Cell;
 use pz_cells::piece::Piece;
 use pz_game::game::Game;
@@ -30,15 +30,18 @@ impl<const N: usize> Sheet<N> {
         let layers = Vec::from_slice(alloc, game.layers())?;
         let sets = layer_sets(alloc, game.depth(), game.layers())?;
         let cells = glyph_cells(alloc, game, &sets, drawing.cells())?;
-        let headings = headings_of(&cells);
+        let width = drawing.width();
+        let height = drawing.height();
+        let mut notes = Notes::empty(alloc, width as usize, height as usize)?;
+        notes.renew(&cells);
         Ok(Sheet {
-            width: drawing.width(),
-            height: drawing.height(),
+            width,
+            height,
             depth: game.depth(),
             layers,
             sets,
             cells,
-            headings,
+            notes,
         })
     }
 
@@ -57,7 +60,7 @@ impl<const N: usize> Sheet<N> {
             layer,
             piece,
         );
-        self.headings = headings_of(&self.cells);
+        self.notes.renew(&self.cells);
     }
 }
 

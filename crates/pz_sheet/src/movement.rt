@@ -8,7 +8,6 @@ ghost use Rattle.pz_sheet.specs.Movement.{stilled};
 ghost use Rattle.pz_sheet.specs.Seen.{IsSound, AreMapped};
 
 use crate::Sheet;
-use crate::headings::headings_of;
 use pz_cells::cell::Cell;
 
 impl<const N: usize> Sheet<N> {
@@ -28,7 +27,7 @@ impl<const N: usize> Sheet<N> {
         ensures lawful { IsLawful self.new.grid }
     {
         still_cells(&mut self.cells, self.depth, &self.layers);
-        self.headings = headings_of(&self.cells);
+        self.notes.renew(&self.cells);
     }
 }
 

@@ -39,7 +39,7 @@ impl<const N: usize> Sheet<N> {
         let here = self.cells[index].place(&self.layers, self.sets[layer].words(), layer);
         let cell = &mut self.cells[index];
         cell.put(&self.layers, layer, here, place);
-        self.headings = self.headings.union(&cell.heading_set());
+        self.notes.note(index, cell);
     }
 
     /// Whether a rule's cell holds at a position of the map.
@@ -65,7 +65,7 @@ impl<const N: usize> Sheet<N> {
         let index = self.index(x, y);
         let cell = &mut self.cells[index];
         let changed = cell.rewrite(self.depth, &self.layers, &self.sets, left, right);
-        self.headings = self.headings.union(&cell.heading_set());
+        self.notes.note(index, cell);
         changed
     }
 }

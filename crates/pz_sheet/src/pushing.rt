@@ -8,7 +8,6 @@ ghost use Rattle.pz_sheet.specs.Pushing.{pushed_place, pushed};
 ghost use Rattle.pz_sheet.specs.Seen.{IsSound, AreMapped};
 
 use crate::Sheet;
-use crate::headings::headings_of;
 use pz_cells::cell::Cell;
 use pz_game::direction::Dir;
 
@@ -19,7 +18,7 @@ impl<const N: usize> Sheet<N> {
         ensures lawful { IsLawful self.new.grid }
     {
         push_cells(&mut self.cells, self.depth, &self.layers, players, dir);
-        self.headings = headings_of(&self.cells);
+        self.notes.renew(&self.cells);
     }
 }
 

@@ -1,13 +1,14 @@
 use Rattle.std.proofs.Common.{ℕ, ◌*◌, ◌<◌, ◌≤◌, ◌≡◌, [], List, length, arith, ap, sym, ◌∙◌, subst, Ok, Err}
+use Rattle.std.specs.List.{sum_by, range_with_len}
 use Rattle.std.proofs.lemmas.Result.{err_from_is_err_and}
 use Rattle.pz_grid.specs.declared.places.GridFault.TheVariants.{MatchLimit}
 use Rattle.pz_grid.specs.declared.places.Place.{Place}
 use Rattle.pz_grid.specs.declared.places.TheConstants.{MATCH_LIMIT}
 use Rattle.pz_grid.specs.Places.{line_count, line_length, places}
-use Rattle.pz_grid.specs.Admitted.{searches_line, start_count}
+use Rattle.pz_grid.specs.Admitted.{searches_line, starts_in, start_count}
 use Rattle.pz_grid.proofs.GatherLemmas.{gather}
 use Rattle.pz_grid.proofs.FoundLemmas.{found_in, places_all, gather_step, gather_too_long, searched-within, searched-over, limit_if_not_memory}
-use Rattle.pz_grid.proofs.SkipLemmas.{searched_lines, tested_more, starts_searched, tested_bounded, starts_of_none}
+use Rattle.pz_grid.proofs.SkipLemmas.{searched_lines, tested_more, starts_more, tested_bounded, starts_of_none}
 use Rattle.pz_grid.proofs.places.places_counted.Goals as goal
 
 pub returns-in_err-tested-clause-fault : goal.returns-in_err-tested-clause-fault
@@ -29,7 +30,8 @@ loop-line-preserved c =
     let i = c.loop-line.invariant in
     record {
       added = gather_step h c.loop-line.line [] c.loop-line.found.items c.add_searched.new.found.items i.added c.in_ok-tested.ensures.added;
-      counted = tested_more (searches_line state c.args.row.now c.args.dir) c.loop-line.line (line_length state.grid c.args.dir) c.loop-line.tested _ i.counted c.in_ok-tested.ensures.count;
+      high = tested_more (searches_line state c.args.row.now c.args.dir) c.loop-line.line (line_length state.grid c.args.dir) c.loop-line.tested _ i.high c.in_ok-tested.ensures.high;
+      low = starts_more (starts_in c.args.dir (places state.grid c.args.row.now c.args.dir) (line_length state.grid c.args.dir)) c.loop-line.line c.loop-line.tested _ i.low c.in_ok-tested.ensures.low;
       few = omega (arith, i.few, c.in_ok-tested.ensures.few);
       room = c.in_ok-tested.ensures.room;
     }
@@ -48,8 +50,8 @@ returns-clause-low c =
     let dir = c.args.dir in
     let last : c.loop-line.line ≡ line_count state.grid dir = omega arith in
     let all = c.loop-line.invariant.added ∙ ap (gather (found_in state.grid row dir)) last ∙ places_all state.grid row dir in
-    let total : c.loop-line.tested ≡ searched_lines state row dir (line_count state.grid dir) * line_length state.grid dir = c.loop-line.invariant.counted ∙ ap (λ (n : ℕ). searched_lines state row dir n * line_length state.grid dir) last in
-    subst (λ (xs : List Place). start_count state.grid dir xs ≤ c.loop-line.tested) (sym all) (subst (λ (n : ℕ). start_count state.grid dir (places state.grid row dir) ≤ n) (sym total) (starts_searched state row dir c.width.ensures.marked))
+    let low : start_count state.grid dir (places state.grid row dir) ≤ c.loop-line.tested = subst (λ (n : ℕ). sum_by (starts_in dir (places state.grid row dir) (line_length state.grid dir)) (range_with_len 0 n) ≤ c.loop-line.tested) last c.loop-line.invariant.low in
+    subst (λ (xs : List Place). start_count state.grid dir xs ≤ c.loop-line.tested) (sym all) low
 
 pub returns-clause-high : goal.returns-clause-high
 returns-clause-high c =
@@ -57,7 +59,7 @@ returns-clause-high c =
     let row = c.args.row.now in
     let dir = c.args.dir in
     let last : c.loop-line.line ≡ line_count state.grid dir = omega arith in
-    tested_bounded state row dir c.loop-line.tested (c.loop-line.invariant.counted ∙ ap (λ (n : ℕ). searched_lines state row dir n * line_length state.grid dir) last)
+    tested_bounded state row dir c.loop-line.tested (subst (λ (n : ℕ). c.loop-line.tested ≤ searched_lines state row dir n * line_length state.grid dir) last c.loop-line.invariant.high)
 
 pub returns-then-not-is_searched_for-clause-found : goal.returns-then-not-is_searched_for-clause-found
 returns-then-not-is_searched_for-clause-found c =

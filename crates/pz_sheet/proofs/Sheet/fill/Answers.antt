@@ -2,10 +2,8 @@ use Rattle.std.proofs.Common.{◌≡◌, ◌<◌, ℕ, List, Some, length, arith
 use Rattle.pz_cells.specs.Cell.{IsOnLayer}
 use Rattle.pz_sheet.specs.Grid.{Grid, BareState}
 use Rattle.pz_sheet.specs.Loading.{filled_cell}
-use Rattle.std.specs.List.{All}
-use Rattle.pz_sheet.specs.Seen.{HeadsWithin}
 use Rattle.pz_sheet.proofs.SheetLemmas.{small_cell, set_read, lawful_seen}
-use Rattle.pz_sheet.proofs.MapLemmas.{stored_mapped, mapped_read, sound_read}
+use Rattle.pz_sheet.proofs.MapLemmas.{stored_mapped, mapped_read, sound_read, noted_read}
 use Rattle.pz_sheet.proofs.Sheet.fill.Goals as goal
 
 pub fill_cells-requires : goal.fill_cells-requires
@@ -46,9 +44,9 @@ fill_cells-requires g c =
 pub invariant_of-self : goal.invariant_of-self
 invariant_of-self g c =
     let a = c.self.inside in
-    stored_mapped _ a.width a.height a.depth a.layers.items a.sets.items (filled_cell c.args.layer c.args.piece) a.cells.items c.fill_cells.new.cells.items a.headings c.headings_of-self-inside.result c.self.invariant
+    stored_mapped _ a.width a.height a.depth a.layers.items a.sets.items (filled_cell c.args.layer c.args.piece) a.cells.items c.fill_cells.new.cells.items a.notes c.renew.new.self c.self.invariant
     (mapped_read _ a.depth a.layers.items c.deref.result.now (filled_cell c.args.layer c.args.piece) a.cells.items c.fill_cells.new.cells.items c.deref.ensures.value c.fill_cells.ensures)
-    (subst (All (HeadsWithin _ c.headings_of-self-inside.result)) c.deref-2.ensures.value c.headings_of-self-inside.ensures)
+    (noted_read _ a.width a.height _ _ c.renew.new.self c.fill_cells.new.cells.items c.deref-2.result.now c.self.invariant.noted.column_count c.self.invariant.noted.row_count c.deref-2.ensures.value c.renew.ensures)
 
 pub returns-clause-lawful : goal.returns-clause-lawful
 returns-clause-lawful g c = lawful_seen _ _ _ _ _ _ _ _ (invariant_of-self g c)

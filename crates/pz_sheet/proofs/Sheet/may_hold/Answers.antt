@@ -1,4 +1,4 @@
-use Rattle.std.proofs.Common.{get_or, ap, sym, subst}
+use Rattle.std.proofs.Common.{get_or, ap, sym, ◌∙◌, subst}
 use Rattle.std.specs.List.{All}
 use Rattle.pz_sets.specs.Sets.{IsWithin}
 use Rattle.pz_game.specs.Masks.{IsLow}
@@ -6,7 +6,7 @@ use Rattle.pz_game.specs.Pattern.{AreOf}
 use Rattle.pz_cells.proofs.HoldLemmas.{low_of_game}
 use Rattle.pz_sheet.specs.Grid.{Grid, BareState}
 use Rattle.pz_sheet.specs.Searching.{HoldsSomewhere}
-use Rattle.pz_sheet.proofs.HeadingLemmas.{asked_is_noted}
+use Rattle.pz_sheet.proofs.HeadingLemmas.{asked_somewhere}
 use Rattle.pz_sheet.proofs.Sheet.may_hold.Goals as goal
 
 pub returns : goal.returns
@@ -16,5 +16,5 @@ returns g c = λ hold.
     let e = ap (λ (s : BareState). s.grid) c.self.view_is in
     let of_game : All (AreOf a.layers.items) cells = subst (λ (grid : Grid). All (AreOf grid.layers) cells) (sym e) c.requires.of_game in
     let low : All (All IsLow) cells = λ k d within. low_of_game a.depth a.layers.items (get_or cells k d) c.self.invariant.layered c.self.invariant.few c.self.invariant.shallow (of_game k d within) in
-    let noted = asked_is_noted _ a.width a.height a.depth a.layers.items a.sets.items a.cells.items a.headings c.self.invariant cells c.required.result.now (c.required.ensures low) of_game (subst (λ (grid : Grid). All (HoldsSomewhere grid) cells) (sym e) hold) in
-    c.has_subset.ensures.1 (subst (λ wanted. IsWithin wanted c.words.result.now) (sym c.words-2.ensures.words) (subst (IsWithin c.required.result.now) (sym c.words.ensures.words) noted))
+    let noted = asked_somewhere _ a.width a.height a.depth a.layers.items a.sets.items a.cells.items a.notes c.self.invariant cells c.required.result.now (c.required.ensures low) of_game (subst (λ (grid : Grid). All (HoldsSomewhere grid) cells) (sym e) hold) in
+    c.has_subset.ensures.1 (subst (λ wanted. IsWithin wanted c.words.result.now) (sym c.words-2.ensures.words) (subst (IsWithin c.required.result.now) (sym (c.words.ensures.words ∙ c.whole.ensures)) noted))

@@ -69,8 +69,8 @@ invariant_of-self g c =
     let at = c.index-index.result in
     let within = seen_within _ _ _ a.depth a.layers.items a.cells.items _ at e c.index-index.ensures.within in
     let sound = sound_at _ a.layers.items a.cells.items at c.index_mut-cell.result.now c.self.invariant.sound within c.index_mut-cell.ensures.value in
-    stored_set _ a.width a.height a.depth a.layers.items a.sets.items a.cells.items at c.put.new.self a.headings c.heading_set.result c.union-self-inside.result c.self.invariant
-    (sound_changed _ a.layers.items _ c.index_mut-cell.result.now c.put.new.self c.args.layer c.args.place c.deref-2.ensures.value sound c.put.ensures) c.heading_set.ensures c.union-self-inside.ensures
+    stored_set _ a.width a.height a.depth a.layers.items a.sets.items a.cells.items at c.put.new.self a.notes c.note.new.self c.self.invariant
+    (sound_changed _ a.layers.items _ c.index_mut-cell.result.now c.put.new.self c.args.layer c.args.place c.deref-2.ensures.value sound c.put.ensures) c.note.ensures.noted c.note.ensures.wider
 
 pub returns-clause-put : goal.returns-clause-put
 returns-clause-put g c =

@@ -56,8 +56,8 @@ pub invariant_of-self : goal.invariant_of-self
 invariant_of-self g c =
     let a = c.self.inside in
     let new = c.rewrite-changed.new.self in
-    stored_set _ a.width a.height a.depth a.layers.items a.sets.items a.cells.items c.index-index.result new a.headings c.heading_set.result c.union-self-inside.result c.self.invariant
-    (subst (λ (layers : List ℕ). AreLawful layers new.objects new.movement) c.deref.ensures.value c.rewrite-changed.ensures.lawful) c.heading_set.ensures c.union-self-inside.ensures
+    stored_set _ a.width a.height a.depth a.layers.items a.sets.items a.cells.items c.index-index.result new a.notes c.note.new.self c.self.invariant
+    (subst (λ (layers : List ℕ). AreLawful layers new.objects new.movement) c.deref.ensures.value c.rewrite-changed.ensures.lawful) c.note.ensures.noted c.note.ensures.wider
 
 pub returns-clause-level : goal.returns-clause-level
 returns-clause-level g c =

@@ -1,9 +1,7 @@
-use Rattle.std.proofs.Common.{map, subst}
+use Rattle.std.proofs.Common.{map}
 use Rattle.pz_cells.specs.Cell.{still_place}
-use Rattle.std.specs.List.{All}
-use Rattle.pz_sheet.specs.Seen.{HeadsWithin}
 use Rattle.pz_sheet.proofs.SheetLemmas.{small_cell, lawful_seen}
-use Rattle.pz_sheet.proofs.MapLemmas.{stored_mapped, mapped_read, sound_read}
+use Rattle.pz_sheet.proofs.MapLemmas.{stored_mapped, mapped_read, sound_read, noted_read}
 use Rattle.pz_sheet.proofs.Sheet.still_all.Goals as goal
 
 pub still_cells-requires : goal.still_cells-requires
@@ -12,9 +10,9 @@ still_cells-requires g c = (small_cell _ c.self.invariant.short, (c.self.invaria
 pub invariant_of-self : goal.invariant_of-self
 invariant_of-self g c =
     let a = c.self.inside in
-    stored_mapped _ a.width a.height a.depth a.layers.items a.sets.items (map still_place) a.cells.items c.still_cells.new.cells.items a.headings c.headings_of-self-inside.result c.self.invariant
+    stored_mapped _ a.width a.height a.depth a.layers.items a.sets.items (map still_place) a.cells.items c.still_cells.new.cells.items a.notes c.renew.new.self c.self.invariant
     (mapped_read _ a.depth a.layers.items c.deref.result.now (map still_place) a.cells.items c.still_cells.new.cells.items c.deref.ensures.value c.still_cells.ensures)
-    (subst (All (HeadsWithin _ c.headings_of-self-inside.result)) c.deref-2.ensures.value c.headings_of-self-inside.ensures)
+    (noted_read _ a.width a.height _ _ c.renew.new.self c.still_cells.new.cells.items c.deref-2.result.now c.self.invariant.noted.column_count c.self.invariant.noted.row_count c.deref-2.ensures.value c.renew.ensures)
 
 pub returns-clause-lawful : goal.returns-clause-lawful
 returns-clause-lawful g c = lawful_seen _ _ _ _ _ _ _ _ (invariant_of-self g c)

@@ -12,8 +12,8 @@ invariant_of-self g c =
     let a = c.self.inside in
     let change = c.args.change.now in
     let e = ap (λ (s : BareState). s.grid) c.self.view_is in
-    stored_set _ a.width a.height a.depth a.layers.items a.sets.items a.cells.items change.index change.cell a.headings c.heading_set.result c.union-self-inside.result c.self.invariant
-    (subst (λ (grid : Grid). IsSound g.row.N grid.layers change.cell) (sym e) c.requires.sound) c.heading_set.ensures c.union-self-inside.ensures
+    stored_set _ a.width a.height a.depth a.layers.items a.sets.items a.cells.items change.index change.cell a.notes c.note.new.self c.self.invariant
+    (subst (λ (grid : Grid). IsSound g.row.N grid.layers change.cell) (sym e) c.requires.sound) c.note.ensures.noted c.note.ensures.wider
 
 pub returns : goal.returns
 returns g c =

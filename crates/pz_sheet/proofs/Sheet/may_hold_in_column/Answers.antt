@@ -1,0 +1,21 @@
+use Rattle.std.proofs.Common.{◌<◌, get_or, arith, ap, sym, ◌∙◌, subst}
+use Rattle.std.specs.List.{All}
+use Rattle.pz_sets.specs.Sets.{IsWithin}
+use Rattle.pz_game.specs.Masks.{IsLow}
+use Rattle.pz_game.specs.Pattern.{AreOf}
+use Rattle.pz_cells.proofs.HoldLemmas.{low_of_game}
+use Rattle.pz_sheet.specs.Grid.{Grid, BareState}
+use Rattle.pz_sheet.specs.Searching.{HoldsInColumn}
+use Rattle.pz_sheet.proofs.HeadingLemmas.{asked_in_column}
+use Rattle.pz_sheet.proofs.Sheet.may_hold_in_column.Goals as goal
+
+pub returns : goal.returns
+returns g c = λ hold.
+    let a = c.self.inside in
+    let cells = c.args.row.now.cells in
+    let e = ap (λ (s : BareState). s.grid) c.self.view_is in
+    let x_in : c.args.x < a.width = omega (arith, c.requires.x_in, ap (λ (grid : Grid). grid.width) e) in
+    let of_game : All (AreOf a.layers.items) cells = subst (λ (grid : Grid). All (AreOf grid.layers) cells) (sym e) c.requires.of_game in
+    let low : All (All IsLow) cells = λ k d within. low_of_game a.depth a.layers.items (get_or cells k d) c.self.invariant.layered c.self.invariant.few c.self.invariant.shallow (of_game k d within) in
+    let noted = asked_in_column _ a.width a.height a.depth a.layers.items a.sets.items a.cells.items a.notes c.self.invariant c.args.x x_in cells c.required.result.now (c.required.ensures low) of_game (subst (λ (grid : Grid). All (HoldsInColumn grid c.args.x) cells) (sym e) hold) in
+    c.has_subset.ensures.1 (subst (λ wanted. IsWithin wanted c.words.result.now) (sym c.words-2.ensures.words) (subst (IsWithin c.required.result.now) (sym (c.words.ensures.words ∙ c.column.ensures)) noted))
