@@ -106,6 +106,25 @@ fn confirm(mut desk: Desk, mut sent: SentAll, job: &Job, ended: &Ended)
     desk.taker.left(&mut sent);
 }
 
+/// The first of the fault below and that of the worker, where there is one.
+fn first_fault(
+    below: &Result<(Maker, Sessions), ReplayFault>,
+    worked: &Worked,
+) -> Option<ReplayFault>
+    ensures { result ≡ first_fault (fault_in below.now) (fault_of worked.now) }
+{
+    match (below, worked.end) {
+        (Err(ReplayFault::Memory), _) | (_, End::Memory) => Some(ReplayFault::Memory),
+        (Err(ReplayFault::Workers), _) => Some(ReplayFault::Workers),
+        (Err(ReplayFault::GateClosed), _) | (_, End::GateClosed) => Some(ReplayFault::GateClosed),
+        (Err(ReplayFault::LaneLost), _) => Some(ReplayFault::LaneLost),
+        (Ok(_), End::Finished) => match &worked.sent {
+            None => Some(ReplayFault::LaneLost),
+            Some(_) => None,
+        },
+    }
+}
+
 /// Puts what one worker handed back to what the crew below it made. Of two faults the first goes on up.
 fn settle(
     claims: &Claims,
@@ -124,21 +143,25 @@ fn settle(
     ensures lost { result ≡ Err ReplayFault.LaneLost → (worked.sent ≡ None) ⊎ (below ≡ Err ReplayFault.LaneLost) }
     ensures opened { IfErr result (λ fault. fault ≡ ReplayFault.GateClosed → (worked.end ≡ End.GateClosed) ⊎ (below ≡ Err ReplayFault.GateClosed)) }
 {
-    let Worked { end, ended, sent } = worked;
-    let (maker, sessions) = match (below, end) {
-        (Err(ReplayFault::Memory), _) | (_, End::Memory) => return Err(ReplayFault::Memory),
-        (Err(ReplayFault::Workers), _) => return Err(ReplayFault::Workers),
-        (Err(ReplayFault::GateClosed), _) | (_, End::GateClosed) => {
-            return Err(ReplayFault::GateClosed);
-        }
-        (Err(ReplayFault::LaneLost), _) => return Err(ReplayFault::LaneLost),
-        (Ok(made), End::Finished) => made,
+    if let Some(fault) = first_fault(&below, &worked) {
+        drop(below);
+        drop(worked);
+        drop(desk);
+        return Err(fault);
+    }
+    let Ok((maker, sessions)) = below else {
+        unreachable!();
     };
+    let Worked {
+        end: _,
+        ended,
+        sent,
+    } = worked;
     let Some(ended) = ended else {
         unreachable!();
     };
     let Some(sent) = sent else {
-        return Err(ReplayFault::LaneLost);
+        unreachable!();
     };
     confirm(desk, sent, job, &ended);
     let maker = claims.join(maker, ended);
@@ -187,13 +210,13 @@ fn crew<'s, 'e, R: Threads + Wait + Sync, G: Gate + Sync>(
         return gather(rt, maker, desks, sessions);
     }
     let Some(sender) = open_lane(shared.alloc, shared.capacity, desks) else {
-        let _ = gather(rt, maker, desks, sessions);
+        drop(gather(rt, maker, desks, sessions));
         return Err(ReplayFault::Memory);
     };
     let (maker, seat) = shared.claims.split(maker);
     let Some(worker) = start(scope, shared, seat, sender) else {
-        let _ = desks.pop();
-        let _ = gather(rt, maker, desks, sessions);
+        drop(desks.pop());
+        drop(gather(rt, maker, desks, sessions));
         return Err(ReplayFault::Memory);
     };
     let below = crew(scope, shared, maker, left - 1, desks, sessions);

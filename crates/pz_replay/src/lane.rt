@@ -20,7 +20,7 @@ pub enum End {
 }
 
 /// What a worker sends.
-#[derive(Drop, Debug)]
+#[derive(Drop)]
 pub enum Message {
     /// The next item of the session of this number.
     Piece(usize, Item),
