@@ -7,7 +7,7 @@ use pz_base::name::Name;
 use pz_game::rule_line::RuleLine;
 
 /// A word that begins or ends a loop of groups.
-#[derive(Clone, Copy, PartialEq, Eq, Debug)]
+#[derive(Clone, Copy)]
 pub enum LoopWord {
     Start,
     End,

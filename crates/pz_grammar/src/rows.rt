@@ -12,14 +12,14 @@ use pz_base::listing::pushed;
 use std::alloc::{AllocError, Global};
 
 /// The cells of a row that are ended, and the one that isn't.
-#[derive(Drop, Debug)]
+#[derive(Drop)]
 struct OpenRow {
     cells: Listed<Cell>,
     cell: Cell,
 }
 
 /// What a token does inside a row.
-#[derive(Drop, Debug)]
+#[derive(Drop)]
 enum Step<'a> {
     Going(OpenRow, &'a [Token]),
     Ended(Listed<Cell>, &'a [Token]),

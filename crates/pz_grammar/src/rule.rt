@@ -4,21 +4,21 @@ use crate::token::{Command, Lead, Token};
 use pz_base::listed::Listed;
 
 /// A name, by its number, with the word before it; None as a name: nothing has that name.
-#[derive(Clone, Copy, PartialEq, Eq, Debug)]
+#[derive(Clone, Copy)]
 pub struct Phrase {
     pub lead: Option<Lead>,
     pub name: Option<usize>,
 }
 
 /// A cell of a row: the gap, or phrases.
-#[derive(Drop, Debug)]
+#[derive(Drop)]
 pub enum Cell {
     Gap,
     Items(Listed<Phrase>),
 }
 
 /// A rule as it is written: whether a `+` stands before it, its prefixes, the rows of both sides, and its commands.
-#[derive(Drop, Debug)]
+#[derive(Drop)]
 pub struct Rule {
     pub is_joined: bool,
     pub prefixes: Listed<Token>,

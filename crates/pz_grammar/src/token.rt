@@ -3,7 +3,7 @@
 use pz_game::direction::Dir;
 
 /// A direction that turns with the rule: as if the rule looked to the right, up, down, back and ahead.
-#[derive(Clone, Copy, PartialEq, Eq, Debug)]
+#[derive(Clone, Copy, PartialEq, Eq)]
 pub enum Turn {
     Up,
     Down,
@@ -12,7 +12,7 @@ pub enum Turn {
 }
 
 /// A word for several directions.
-#[derive(Clone, Copy, PartialEq, Eq, Debug)]
+#[derive(Clone, Copy, PartialEq, Eq)]
 pub enum Class {
     Moving,
     Orthogonal,
@@ -23,7 +23,7 @@ pub enum Class {
 }
 
 /// A word that may stand before a name: `no`, or a movement word.
-#[derive(Clone, Copy, PartialEq, Eq, Debug)]
+#[derive(Clone, Copy, PartialEq, Eq)]
 pub enum Lead {
     No,
     Stationary,
@@ -33,7 +33,7 @@ pub enum Lead {
 }
 
 /// A command, as a rule line gives it. Sounds and messages have no effect.
-#[derive(Clone, Copy, PartialEq, Eq, Debug)]
+#[derive(Clone, Copy)]
 pub enum Command {
     Again,
     Cancel,
@@ -45,7 +45,7 @@ pub enum Command {
 }
 
 /// A word of a rule line. A name is given by its number; None: nothing has that name.
-#[derive(Clone, Copy, PartialEq, Eq, Debug)]
+#[derive(Clone, Copy)]
 pub enum Token {
     Open,
     Close,

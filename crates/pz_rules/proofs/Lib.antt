@@ -3,6 +3,7 @@ mod EqualLemmas
 mod MarkLemmas
 mod KeptLemmas
 mod Expanding
+mod Mapped
 mod Belonging
 mod Ownership
 mod Examples

@@ -1,5 +1,6 @@
 -- The items of a program are of objects of the game.
 use Rattle.std.proofs.Common.{◌≡◌, ℕ, ◌+◌, ◌<◌, nat_lt, Bool, true, false, ◌&&◌, ◌==◌, if◌then◌else◌, List, [], ◌∷◌, ◌++◌, length, get_or, Option, Some, None, IfSome, Result, Ok, Err, refl, sym, ◌∙◌, subst, arith, codes}
+use Rattle.std.specs.Prelude.{IfOk}
 use Rattle.std.specs.List.{All, list_any, list_all, slice_get}
 use Rattle.std.specs.Option.{option_map_or, option_and_then}
 use Rattle.std.proofs.lemmas.Bool.{and_parts, and_from, lt-ltb, ltb-true, eqb-true}
@@ -297,4 +298,7 @@ program-owned game program is e =
       late = owned (block_is_of game.layers) (IsBlockOf game.layers) (block-owned game.layers) program.late a.1;
     }
 
-pub ruleset owning = (program-owned)
+-- and so is what stands for it where memory may fail
+pub result-owned : (game : GameParts) (r : Result Program SourceFault) → IsGame game → IfOk r (λ program. program_of game ≡ Ok program) → IfOk r (IsProgramOf game.layers)
+result-owned game (Ok program) is e = program-owned game program is e
+result-owned game (Err fault) is e = tt

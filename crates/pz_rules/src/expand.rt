@@ -81,7 +81,6 @@ fn read_program(alloc: Global, game: &Game) -> Result<Program, SourceFault>
 
 /// The program of a game, or its first fault: the first check that names a rule line, of the first line that it names. Memory,
 /// with line 0, may come in place of either.
-#[tactic(auto, using(crate::proofs::Ownership::owning))]
 pub fn expand(alloc: Global, game: &Game) -> Result<Program, SourceFault>
     ensures program { IfOk result (λ program. program_of game.now ≡ Ok program) }
     ensures owned { IfOk result (λ program. IsProgramOf game.now.layers program) }
