@@ -57,6 +57,24 @@ fn make_case(
     Ok(Case { name, plan })
 }
 
+/// The cases of the entries, in their order.
+fn make_cases(
+    rulebooks: &mut Rulebooks,
+    programs: &mut Programs,
+    alloc: Global,
+    entries: Vec<Entry>,
+    order: Order,
+) -> Result<Vec<Case>, AllocError>
+    ensures { IfOk result (λ cases. cases.items ≡ job_of order entries.items) }
+{
+    let mut cases = Vec::new(alloc);
+    for entry in entries {
+        let case = make_case(rulebooks, programs, alloc, entry, order)?;
+        cases.push(case)?;
+    }
+    Ok(cases)
+}
+
 /// The job that the entries make, each level's cells in this order: a case for each entry. An entry whose source or rules
 /// can't be read, or whose index leaves no level, makes a case that is refused.
 pub fn prepare(alloc: Global, entries: Vec<Entry>, order: Order) -> Result<Job, AllocError>
@@ -65,10 +83,6 @@ pub fn prepare(alloc: Global, entries: Vec<Entry>, order: Order) -> Result<Job, 
 {
     let mut rulebooks = Rulebooks::new(alloc);
     let mut programs = Programs::new(alloc);
-    let mut cases = Vec::new(alloc);
-    for entry in entries {
-        let case = make_case(&mut rulebooks, &mut programs, alloc, entry, order)?;
-        cases.push(case)?;
-    }
+    let cases = make_cases(&mut rulebooks, &mut programs, alloc, entries, order)?;
     Ok(Job::new(cases))
 }

@@ -41,6 +41,7 @@ impl Programs {
         ensures { IfOk result (λ shared. arc_value shared ≡ program) }
     {
         if let Some(made) = self.made_before(&program) {
+            drop(program);
             return Arc::try_clone(made);
         }
         let shared = Arc::new(alloc, program)?;

@@ -1,10 +1,12 @@
 //! The rulebooks of sources.
 
-ghost use Rattle.std.specs.Prelude.{◌≡◌, ◌≢◌, IfOk, IfErr, IfSome};
-ghost use Rattle.pz_job.specs.Rulebooks.{rulebook_of, shared_in, AreKept};
+ghost use Rattle.std.specs.Prelude.{◌≡◌, ◌≢◌, IfOk, IfErr, IfSome, Ok, Err};
+ghost use Rattle.pz_rules.specs.Drafts.{program_of};
+ghost use Rattle.pz_job.specs.Rulebooks.{or_refused, rulebook_of, shared_in, AreKept};
 
 use crate::programs::Programs;
 use pz_base::fault::{Code, SourceFault};
+use pz_game::game::Game;
 use pz_rules::expand::expand;
 use pz_session::item::Refusal;
 use pz_session::rulebook::Rulebook;
@@ -27,28 +29,51 @@ fn refusal_of(fault: SourceFault) -> Result<Refusal, AllocError>
     }
 }
 
+/// What a source gives that has a fault.
+fn refused(fault: SourceFault) -> Result<Answer, AllocError>
+    ensures { IfOk result (λ answer. (shared_in answer ≡ Err (Refusal.Source fault)) × (fault.code ≢ Code.Memory)) }
+{
+    let refusal = refusal_of(fault)?;
+    Ok(Err(refusal))
+}
+
+/// A rulebook, to be shared.
+fn share(alloc: Global, rulebook: Rulebook) -> Result<Answer, AllocError>
+    ensures { IfOk result (λ answer. shared_in answer ≡ Ok rulebook) }
+{
+    let rulebook = Arc::new(alloc, rulebook)?;
+    Ok(Ok(rulebook))
+}
+
+/// What a game gives with its rules. A game goes out of scope by a call: it has many parts.
+fn with_rules(programs: &mut Programs, alloc: Global, game: Game) -> Result<Answer, AllocError>
+    ensures { IfOk result (λ answer. shared_in answer ≡ or_refused (program_of game) (λ program. Ok (record { game = game; program = program }))) }
+{
+    let program = match expand(alloc, &game) {
+        Ok(program) => program,
+        Err(fault) => {
+            drop(game);
+            return refused(fault);
+        }
+    };
+    match programs.shared(alloc, program) {
+        Ok(program) => share(alloc, Rulebook::new(game, program)),
+        Err(fault) => {
+            drop(game);
+            Err(fault)
+        }
+    }
+}
+
 /// What a source gives that is read now.
 #[tactic(auto, unfolding(crate::specs::Rulebooks::rulebook_of))]
 fn read_rulebook(programs: &mut Programs, alloc: Global, source: &str) -> Result<Answer, AllocError>
     ensures { IfOk result (λ answer. shared_in answer ≡ rulebook_of source.now) }
 {
-    let game = match read_game(alloc, source) {
-        Ok(game) => game,
-        Err(fault) => {
-            let refusal = refusal_of(fault)?;
-            return Ok(Err(refusal));
-        }
-    };
-    let program = match expand(alloc, &game) {
-        Ok(program) => program,
-        Err(fault) => {
-            let refusal = refusal_of(fault)?;
-            return Ok(Err(refusal));
-        }
-    };
-    let program = programs.shared(alloc, program)?;
-    let rulebook = Arc::new(alloc, Rulebook::new(game, program))?;
-    Ok(Ok(rulebook))
+    match read_game(alloc, source) {
+        Ok(game) => with_rules(programs, alloc, game),
+        Err(fault) => refused(fault),
+    }
 }
 
 /// The same answer once more: its rulebook is shared.
@@ -103,9 +128,17 @@ impl Rulebooks {
         ensures { IfOk result (λ answer. shared_in answer ≡ rulebook_of source.now) }
     {
         let answer = read_rulebook(programs, alloc, source)?;
-        let kept = again(&answer)?;
-        let text = String::from_str(alloc, source)?;
-        self.answers.insert(text, kept)?;
+        self.keep(alloc, source, &answer)?;
         Ok(answer)
+    }
+
+    /// Keeps what a source gave.
+    fn keep(&mut self, alloc: Global, source: &str, answer: &Answer) -> Result<(), AllocError>
+        requires { shared_in answer.now ≡ rulebook_of source.now }
+    {
+        let text = String::from_str(alloc, source)?;
+        let kept = again(answer)?;
+        self.answers.insert(text, kept)?;
+        Ok(())
     }
 }
