@@ -39,6 +39,3 @@ unless-pass check later e = rw e refl
 -- what is read after something else
 pub and_then-ok : {A B : Type 0} (next : A → Result B SourceFault) (r : Result A SourceFault) (x : A) → r ≡ Ok x → and_then next r ≡ next x
 and_then-ok next r x e = rw e refl
-
-pub and_then-err : {A B : Type 0} (next : A → Result B SourceFault) (r : Result A SourceFault) (fault : SourceFault) → r ≡ Err fault → and_then next r ≡ Err fault
-and_then-err next r fault e = rw e refl

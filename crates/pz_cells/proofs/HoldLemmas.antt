@@ -222,21 +222,6 @@ met_all depth layers objects movement (x ∷ xs) low lawful are holds =
       ];
     }
 
-all_four : (a b d e : Bool) → (((a && b) && d) && e) ≡ true → (a ≡ true) × (b ≡ true) × (d ≡ true) × (e ≡ true)
-all_four true true true true h = (refl, refl, refl, refl)
-all_four true true true false h = cc
-all_four true true false e h = cc
-all_four true false d e h = cc
-all_four false b d e h = cc
-
-from_four : (a b d e : Bool) → a ≡ true → b ≡ true → d ≡ true → e ≡ true → (((a && b) && d) && e) ≡ true
-from_four a b d e p q r s = ap (λ x. ((x && b) && d) && e) p ∙ ap (λ x. (x && d) && e) q ∙ ap (λ x. x && e) r ∙ s
-
-both_ways : (x y : Bool) → (x ≡ true → y ≡ true) → (y ≡ true → x ≡ true) → x ≡ y
-both_ways true y f g = sym (f refl)
-both_ways false true f g = g refl
-both_ways false false f g = refl
-
 -- the sets of a cell of a rule are met by those of a cell
 abbrev pub AreMetBy : List ℕ → List ℕ → Masks → Type 0
 AreMetBy objects movement masks = (IsWithin masks.present objects × AreApart masks.absent objects) × (IsWithin masks.required movement × AreApart masks.forbidden movement)

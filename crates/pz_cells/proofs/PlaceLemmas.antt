@@ -12,13 +12,6 @@ use Rattle.pz_game.specs.Headings.{is_toward, IsProper, heads, heading_in}
 use Rattle.pz_cells.specs.Shown.{IsSetOf, place_of, cell_of, Shows, AreLawful, Changes}
 use Rattle.pz_cells.proofs.ShowLemmas.{first_toward, place_shown, cell_from_shows}
 
--- a layer without an object
-pub place_none : (layers objects movement : List ℕ) (layer : ℕ) → AreLawful layers objects movement → ((object : ℕ) → member objects object ≡ true → get_or layers object 0 ≡ layer → ⊥) → None ≡ place_of layers objects movement layer
-place_none layers objects movement layer lawful none = by_place (place_of layers objects movement layer) refl (lawful.shows layer) where
-  by_place : (place : Option Piece) → place_of layers objects movement layer ≡ place → Shows layers (member objects) (heads movement layer) layer place → None ≡ place_of layers objects movement layer
-  by_place None e shown = sym e
-  by_place (Some piece) e shown = absurd (none piece.object shown.0 shown.1)
-
 -- a layer with one
 pub place_some : (layers objects movement : List ℕ) (layer object : ℕ) → AreLawful layers objects movement → member objects object ≡ true → get_or layers object 0 ≡ layer → Some (record { object = object; heading = heading_in movement layer }) ≡ place_of layers objects movement layer
 place_some layers objects movement layer object lawful here on = by_place (place_of layers objects movement layer) refl (lawful.shows layer) where
@@ -111,16 +104,6 @@ changes_nothing layers objects movement layer lawful free = record {
   same_objects = λ object apart. refl;
   proper = lawful.proper;
   same_movement = λ other dir apart. refl;
-}
-
--- one change of a layer after another
-pub changes_twice : (layers objects movement objects_mid movement_mid objects_new movement_new : List ℕ) (layer : ℕ) (mid place : Option Piece) → Changes layers objects movement objects_mid movement_mid layer mid → Changes layers objects_mid movement_mid objects_new movement_new layer place → Changes layers objects movement objects_new movement_new layer place
-changes_twice layers objects movement objects_mid movement_mid objects_new movement_new layer mid place a b = record {
-  of_game = b.of_game;
-  here = b.here;
-  same_objects = λ object apart. b.same_objects object apart ∙ a.same_objects object apart;
-  proper = b.proper;
-  same_movement = λ other dir apart. b.same_movement other dir apart ∙ a.same_movement other dir apart;
 }
 
 -- the place of the layer that changed

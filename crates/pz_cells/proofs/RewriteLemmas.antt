@@ -240,13 +240,6 @@ cell_rewritten depth layers left right objects movement objects_new movement_new
     (λ layer low. subst (Shows layers (member objects_new) (heads movement_new layer) layer) (sym (get_or-map-range_with_len f 0 (length old) layer layer None (omega (arith, long)) (omega arith)))
     (rewritten_shows layers left right (member objects) (heads movement) (member objects_new) (heads movement_new) are r layer (get_or old layer None) (subst (Shows layers (member objects) (heads movement layer) layer) (sym (place layer low)) (lawful.shows layer))))
 
--- where something is placed there is a layer
-pub layers_within : (layers : List ℕ) (depth : ℕ) (right : List Item) (r : Masks) → AreOf layers right → AreMasksOf right r → All (λ layer. layer < depth) layers → (layer : ℕ) → member r.layers layer ≡ true → layer < depth
-layers_within layers depth right r are mr low layer here = by_found (placed_on layer right) refl (sym (mr.layers layer) ∙ here) where
-  by_found : (o : Option Item) → placed_on layer right ≡ o → is_some (placed_on layer right) ≡ true → layer < depth
-  by_found None e some = absurd (let f : false ≡ true = sym (ap is_some e) ∙ some in cc)
-  by_found (Some item) e some = (let is = placed_is layers layer right item are e in subst (λ (n : ℕ). n < depth) is.1 (low item.object 0 is.0))
-
 -- what is placed is of the game
 pub placed_within : (layers : List ℕ) (right : List Item) (r : Masks) → AreOf layers right → AreMasksOf right r → (object : ℕ) → member r.placed object ≡ true → object < length layers
 placed_within layers right r are mr object here = (let p = mr.placed_only object here in subst (λ (k : ℕ). k < length layers) p.3 (placed_is layers p.0 right p.1 are p.2).0)

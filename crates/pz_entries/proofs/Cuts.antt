@@ -18,10 +18,6 @@ split_found p xs k e =
     let P : ℕ → Type 0 = λ n. (n < length xs) × (slice_split p xs ≡ take n xs ∷ slice_split p (drop (n + 1) xs)) in
     subst P parts.1 (within, slice_split_first p xs 0 within)
 
--- where the colon that is looked for is none, the text is not cut
-pub cut_none_more : (x : ℕ) (xs : List ℕ) → cut_last xs ≡ None → eqb x 58 ≡ false → cut_last (x ∷ xs) ≡ None
-cut_none_more x xs e n = rw (e, n) refl
-
 pub cut_there : (xs ys : List ℕ) → cut_last ys ≡ None → cut_last (xs ++ 58 ∷ ys) ≡ Some (xs, ys)
 cut_there [] ys e = rw e refl
 cut_there (x ∷ xs) ys e = rw (cut_there xs ys e) refl
@@ -30,9 +26,6 @@ pub cut_at : (xs : List ℕ) (k : ℕ) → k < length xs → get_or xs k 0 ≡ 5
 cut_at xs k h e none =
     let parts : take k xs ++ 58 ∷ drop (k + 1) xs ≡ xs = ap (λ x. take k xs ++ x ∷ drop (k + 1) xs) (sym e) ∙ ap (λ l. take k xs ++ l) (sym (drop_more xs k 0 h)) ∙ take-append-drop k xs in
     subst (λ l. cut_last l ≡ Some (take k xs, drop (k + 1) xs)) parts (cut_there (take k xs) (drop (k + 1) xs) none)
-
-pub cut_none_at : (xs : List ℕ) (k : ℕ) → k < length xs → eqb (get_or xs k 0) 58 ≡ false → cut_last (drop (k + 1) xs) ≡ None → cut_last (drop k xs) ≡ None
-cut_none_at xs k h e none = rw (drop_more xs k 0 h) (cut_none_more (get_or xs k 0) (drop (k + 1) xs) none e)
 
 none_before : (p : ℕ → Bool) (xs : List ℕ) → nat_lt (position_or_len p xs) (length xs) ≡ false → slice_split p xs ≡ xs ∷ []
 none_before p [] e = refl

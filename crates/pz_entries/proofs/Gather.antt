@@ -12,19 +12,8 @@ use Rattle.pz_entries.specs.Json.{listed, list_of}
 abbrev pub gathered : {A B : Type 0} → (A → Option B) → List B → List A → Option (List B)
 gathered f done rest = option_map (λ ys. done ++ ys) (all_some (map f rest))
 
-option_map-map : {A B C : Type 0} (f : A → B) (g : B → C) (h : A → C) (o : Option A) → ((a : A) → g (f a) ≡ h a) → option_map g (option_map f o) ≡ option_map h o
-option_map-map f g h None e = refl
-option_map-map f g h (Some x) e = ap Some (e x)
-
-pub gathered_more : {A B : Type 0} (f : A → Option B) (done : List B) (x : A) (y : B) (rest : List A) → f x ≡ Some y → gathered f done (x ∷ rest) ≡ gathered f (done ++ y ∷ []) rest
-gathered_more {B = B} f done x y rest e =
-    rw e (option_map-map (λ (xs : List B). y ∷ xs) (λ (ys : List B). done ++ ys) (λ (ys : List B). (done ++ y ∷ []) ++ ys) (all_some (map f rest)) (λ xs. sym (append_assoc done (y ∷ []) xs)))
-
 gathered_none : {A B : Type 0} (f : A → Option B) (done : List B) (x : A) (rest : List A) → f x ≡ None → gathered f done (x ∷ rest) ≡ None
 gathered_none f done x rest e = rw e refl
-
-gathered_all : {A B : Type 0} (f : A → Option B) (done : List B) → gathered f done [] ≡ Some done
-gathered_all f done = ap Some (append-nil done)
 
 same : {B : Type 0} (o : Option (List B)) → option_map (λ (ys : List B). [] ++ ys) o ≡ o
 same None = refl

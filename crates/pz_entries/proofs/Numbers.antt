@@ -34,9 +34,6 @@ pub reading_more : (most n i : ℕ) (ds : List ℕ) (x : ℕ) → i < length ds 
     → reading_on most n (drop i ds) ≡ reading_on most (n * 10 + (x - 48)) (drop (i + 1) ds)
 reading_more most n i ds x h e digit = rw (drop_more ds i 0 h, ← e) (reading_cons most n x (drop (i + 1) ds) digit)
 
-pub reading_bad : (most n i : ℕ) (ds : List ℕ) (x : ℕ) → i < length ds → x ≡ get_or ds i 0 → is_ascii_digit x ≡ false → reading_on most n (drop i ds) ≡ None
-reading_bad most n i ds x h e digit = rw (drop_more ds i 0 h, ← e, digit) refl
-
 grows : (n : ℕ) (ds : List ℕ) → n ≤ digits_value_after 10 n ds
 grows n [] = omega arith
 grows n (d ∷ ds) = let more : n * 10 + digit_value d ≤ digits_value_after 10 (n * 10 + digit_value d) ds = grows (n * 10 + digit_value d) ds in omega arith

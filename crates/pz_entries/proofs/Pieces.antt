@@ -58,14 +58,6 @@ pub reading_whole : (o : Option (List (List (List ℕ)))) → option_map (λ cs.
 reading_whole None = refl
 reading_whole (Some cs) = refl
 
--- at the last part
-pub reading_ends : (sets : List (List (List ℕ))) (text : List ℕ) (done : List (List (List ℕ))) → slice_split is_comma text ≡ text ∷ [] → length text ≡ 0 → option_map (λ cs. done ++ cs) (reading_with sets text) ≡ Some done
-reading_ends sets [] done e none = ap Some (append-nil done)
-reading_ends sets (b ∷ text) done e none = absurd (omega arith)
-
-pub reading_open : (sets : List (List (List ℕ))) (text : List ℕ) (b : ℕ) (bs : List ℕ) → slice_split is_comma text ≡ text ∷ [] → (length text == 0) ≡ false → reading_with sets text ≡ None
-reading_open sets text b bs e some = rw (e, some) refl
-
 -- cells that are kept as places among the sets
 at_front : (sets more : List (List (List ℕ))) (k : ℕ) → k < length sets → take (length sets) more ≡ sets → get_or more k [] ≡ get_or sets k []
 at_front sets more k h e = sym (get_or-take (length sets) more k [] h) ∙ ap (λ l. get_or l k []) e
@@ -111,21 +103,6 @@ pub below_read : (sets : List (List (List ℕ))) (piece : List ℕ) (o : Option 
     → MatchOption o (read_piece sets piece ≡ None) (λ place. read_piece sets piece ≡ Some (get_or sets place [], sets))
 below_read sets piece None e h = read_unknown sets piece e (sym h)
 below_read sets piece (Some k) e h = read_known sets piece k e (sym h)
-
-below_within : (n : ℕ) (o : Option ℕ) (k : ℕ) → below n o ≡ Some k → k < n
-below_within n None k e = cc
-below_within n (Some j) k e =
-    let parts = chosen (nat_lt j n) j k e in
-    let within : j < n = ltb-true j n parts.0 in
-    omega (arith, parts.1)
-
-pub below_found : (sets : List (List (List ℕ))) (digits : List ℕ) (o : Option ℕ) → o ≡ below (length sets) (number_of digits) → IfSome o (λ place. place < length sets)
-below_found sets digits None h = tt
-below_found sets digits (Some k) h = below_within (length sets) (number_of digits) k (sym h)
-
-pub front_itself : (sets : List (List (List ℕ))) (o : Option ℕ) → IfSome o (λ _. take (length sets) sets ≡ sets)
-front_itself sets None = tt
-front_itself sets (Some k) = take_all (length sets) sets (omega arith)
 
 get_or-last : (sets : List (List (List ℕ))) (set : List (List ℕ)) → get_or (sets ++ set ∷ []) (length sets) [] ≡ set
 get_or-last [] set = refl

@@ -44,52 +44,6 @@ first_found f n end x before within here =
     let e : end ≡ n + suc (end - n - 1) = omega arith in
     ap (λ k. first_of (map f (range_with_len 0 k))) e ∙ ap (λ xs. first_of (map f xs)) (range_split 0 n (suc (end - n - 1))) ∙ first_split f 0 n None before (range_with_len (0 + n) (suc (end - n - 1))) ∙ ap (λ v. first_of (v ∷ map f (range_with_len (0 + n + 1) (end - n - 1)))) (ap f (let q : 0 + n ≡ n = omega arith in q) ∙ here)
 
-is_cell-empty : (depth : ℕ) (layers : List ℕ) → IsCell depth layers (empty_cell depth)
-is_cell-empty depth layers =
-    let none : Option Piece = None in
-    record {
-      deep = length-replicate depth none;
-      on_layers = λ layer. elim (cases_lt layer depth) [
-        | inl within ↦ subst (IsOnLayer layers layer) (sym (get_or-replicate depth layer none none within)) tt
-        | inr past ↦ subst (IsOnLayer layers layer) (sym (get_or_past (replicate depth none) layer none (omega (arith, length-replicate depth none)))) tt
-      ];
-    }
-
-is_cell-fold : (depth : ℕ) (layers objects : List ℕ) (cell : List (Option Piece)) → All (λ object. object < length layers) objects → IsCell depth layers cell → IsCell depth layers (fold (with_object layers) cell objects)
-is_cell-fold depth layers [] cell named h = h
-is_cell-fold depth layers (object ∷ objects) cell named h =
-    is_cell-fold depth layers objects (with_object layers cell object) (λ k d q. named (suc k) d (omega arith)) (is_cell-set depth layers cell (get_or layers object 0) (Some (still_piece object)) h (named 0 object (omega arith), refl))
-
--- the objects that a glyph draws are objects of the game
-glyph-named : (game : GameParts) (number : ℕ) → IsGame game → number < length game.values → All (λ object. object < length game.layers) (glyph_objects game number)
-glyph-named game number h within =
-    elim (slice_get_cases game.values number).1 [
-      | inl found ↦ (let denoted : IsDenoted (length game.objects) found.0 = subst (IsDenoted (length game.objects)) found.3 (All-get_or (IsDenoted (length game.objects)) game.values number found.0 found.1 h.members) in
-          subst (λ (o : Option Denotation). All (λ object. object < length game.layers) (option_map_or (λ d. d.members) o [])) (sym found.2) (subst (λ (n : ℕ). All (λ object. object < n) found.0.members) (sym h.laid) denoted.all))
-      | inr past ↦ absurd (omega (arith, past.0))
-    ]
-
-pub lawful-drawn : (game : GameParts) (drawing : Drawing) → IsGame game → IsDrawing drawing → All (λ number. number < length game.values) drawing.cells → IsLawful (drawn game drawing)
-lawful-drawn game drawing h d numbers = record {
-  covers = length-map drawing.cells (glyph_cell game) ∙ d.covers;
-  size = d.size;
-  shallow = h.shallow;
-  few = omega (arith, h.laid, h.few);
-  layered = h.layered;
-  stacked = All-from_get_or (IsCell game.depth game.layers) (map (glyph_cell game) drawing.cells) [] (λ i within.
-      let inside : i < length drawing.cells = omega (arith, length-map drawing.cells (glyph_cell game)) in
-      let number = get_or drawing.cells i 0 in
-      subst (IsCell game.depth game.layers) (sym (get_or-map (glyph_cell game) drawing.cells i 0 [] inside)) (is_cell-fold game.depth game.layers (glyph_objects game number) (empty_cell game.depth) (glyph-named game number h (All-get_or (λ n. n < length game.values) drawing.cells i 0 inside numbers)) (is_cell-empty game.depth game.layers)));
-}
-
-filled_on_layer : (layers : List ℕ) (layer : ℕ) (piece : Piece) (place : Option Piece) → IsOnLayer layers layer (Some piece) → IsOnLayer layers layer place → IsOnLayer layers layer (Some (unwrap_or place piece))
-filled_on_layer layers layer piece None on h = on
-filled_on_layer layers layer piece (Some here) on h = h
-
-pub lawful-filled : (layer : ℕ) (piece : Piece) (grid : Grid) → IsOnLayer grid.layers layer (Some piece) → IsLawful grid → IsLawful (filled layer piece grid)
-lawful-filled layer piece grid on h =
-    lawful-map grid (filled_cell layer piece) (λ cell k. is_cell-set grid.depth grid.layers cell layer (Some (unwrap_or (get_or cell layer None) piece)) k (filled_on_layer grid.layers layer piece (get_or cell layer None) on (k.on_layers layer))) h
-
 -- an entry that is played is one of the game
 pub playable_within : (game : GameParts) (index : ℕ) → is_playable (entry_at game index) ≡ true → index < length game.levels
 playable_within game index playable = elim (cases_lt index (length game.levels)) [

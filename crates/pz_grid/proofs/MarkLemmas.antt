@@ -61,15 +61,6 @@ is_in_cons (Some piece) places object = by_test (nat_eq piece.object object) whe
   by_test true = refl
   by_test false = refl
 
-or_grouped : (a b d : Bool) → (a || (b || d)) ≡ ((a || b) || d)
-or_grouped true b d = refl
-or_grouped false b d = refl
-
-pub is_in_append : (xs ys : List (Option Piece)) (object : ℕ) → is_in (xs ++ ys) object ≡ (is_in xs object || is_in ys object)
-is_in_append [] ys object = refl
-is_in_append (x ∷ xs) ys object =
-    is_in_cons x (xs ++ ys) object ∙ ap (λ (b : Bool). is_in (x ∷ []) object || b) (is_in_append xs ys object) ∙ or_grouped (is_in (x ∷ []) object) (is_in xs object) (is_in ys object) ∙ ap (λ (b : Bool). b || is_in ys object) (sym (is_in_cons x xs object))
-
 -- what stands on a layer of a cell is in the cell
 pub is_in_at : (cell : List (Option Piece)) (layer object : ℕ) → is_in (get_or cell layer None ∷ []) object ≡ true → is_in cell object ≡ true
 is_in_at [] layer object e = e

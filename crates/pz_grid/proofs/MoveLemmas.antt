@@ -15,15 +15,6 @@ use Rattle.pz_grid.specs.Staying.{IsStill, KeepsStill, IsMove}
 use Rattle.pz_grid.proofs.StayLemmas.{still-moved_to}
 use Rattle.pz_grid.proofs.MarkLemmas.{in_row_from, in_column_from, is_in_at, is_in_cells, piece_is_in, still_same}
 
-pub moves_none : (state : LevelState) → IsMove state state
-moves_none state = record {
-  width = refl;
-  height = refl;
-  still = λ index layer object h. h;
-  rows = λ line object e. inl e;
-  columns = λ line object e. inl e;
-}
-
 -- one part of a movement after another
 pub moves_on : (a b d : LevelState) → IsMove a b → IsMove b d → IsMove a d
 moves_on a b d p q = record {
@@ -117,8 +108,6 @@ widened_move old settled new h g r d = record {
 }
 
 -- ---- rewriting
-pub widened_none : (state : LevelState) (test : ℕ → Bool) → IsWidenedBy state state test
-widened_none state test = record { rows = λ line object e. inl e; columns = λ line object e. inl e }
 
 pub widened_on : (a b d : LevelState) (p q : ℕ → Bool) → ((object : ℕ) → q object ≡ true → p object ≡ true) → IsWidenedBy a b p → IsWidenedBy b d q → IsWidenedBy a d p
 widened_on a b d p q within h k = record {

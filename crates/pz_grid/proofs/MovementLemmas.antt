@@ -36,9 +36,3 @@ size-move_at pass at = size-move_place pass at (place_at pass.grid at.x at.y at.
 
 pub same_size_on : (a b d : Grid) → SameSize a b → SameSize b d → SameSize a d
 same_size_on a b d p q = record { width = q.width ∙ p.width; height = q.height ∙ p.height; depth = q.depth ∙ p.depth; layers = q.layers ∙ p.layers }
-
--- a loop that writes f of each element over it
-pub map_over_read : {X : Type 0} (f : X → X) (xs ys : List X) (i : ℕ) (d : X) → i < length xs → ys ≡ map f (take i xs) ++ drop i xs → set ys i (f (get_or ys i d)) ≡ map f (take (i + 1) xs) ++ drop (i + 1) xs
-map_over_read f xs ys i d within e =
-    let long : length ys ≡ length xs = ap length e ∙ length-append (map f (take i xs)) (drop i xs) ∙ omega (arith, length-map (take i xs) f, length-take i xs, length-drop i xs) in
-    map_over_more f xs ys i (get_or ys i d) within e (get_or_default ys i d (get_or ys i d) (omega arith))

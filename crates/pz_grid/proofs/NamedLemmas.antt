@@ -12,10 +12,6 @@ use Rattle.pz_cells.proofs.HoldLemmas.{low_of_game}
 use Rattle.pz_sheet.specs.Grid.{Grid, IsLawful}
 use Rattle.pz_grid.specs.Admitted.{marks_item, marks_cell}
 
--- items of a game are within the limits of games
-pub low_cells : (grid : Grid) (row : RuleRow) → IsLawful grid → IsRowOf grid.layers row → All (All IsLow) row.cells
-low_cells grid row lawful of_game = λ i d within. low_of_game grid.depth grid.layers (get_or row.cells i d) lawful.layered (omega (arith, lawful.few)) (omega (arith, lawful.shallow)) (of_game i d within)
-
 -- every object that is named is in a set, or one isn't
 item_marked : (marks : List ℕ) (item : Item) → (names item.word ≡ true → member marks item.object ≡ true) → marks_item marks item ≡ true
 item_marked marks item h = by (names item.word) h where

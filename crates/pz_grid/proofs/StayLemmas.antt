@@ -52,23 +52,3 @@ still-moved_to pass at piece (Some goal) e g index layer object h =
     let none : Option Piece = None in
     let one : Some (still_piece object) ≡ none = sym h ∙ here in
     cc) taken
-
-still-move_place : (pass : Pass) (at : Spot) (place : Option Piece) → place_at pass.grid at.x at.y at.layer ≡ place → KeepsStill pass.grid (move_place pass at place).grid
-still-move_place pass at None e index layer object h = h
-still-move_place pass at (Some piece) e index layer object h = still-moved_to pass at piece (heading_goal pass.grid at piece.heading) e refl index layer object h
-
--- a move leaves what is still
-pub still-move_at : (pass : Pass) (at : Spot) → KeepsStill pass.grid (move_at pass at).grid
-still-move_at pass at = still-move_place pass at (place_at pass.grid at.x at.y at.layer) refl
-
-pub still-fold : (all : List Spot) (pass : Pass) → KeepsStill pass.grid (fold move_at pass all).grid
-still-fold [] pass index layer object h = h
-still-fold (at ∷ all) pass index layer object h = still-fold all (move_at pass at) index layer object (still-move_at pass at index layer object h)
-
--- so do the passes of the movement
-pub still-settle : (n : ℕ) (grid : Grid) → KeepsStill grid (settle n grid)
-still-settle zero grid index layer object h = h
-still-settle (suc n) grid index layer object h = by_moved (λ g. still-settle n (pass_of grid).grid index layer object g) (pass_of grid).moved where
-  by_moved : (IsStill (pass_of grid).grid.cells index layer object → IsStill (settle n (pass_of grid).grid).cells index layer object) → (b : Bool) → IsStill (cond b (settle n (pass_of grid).grid) grid).cells index layer object
-  by_moved rest true = rest (still-fold (spots grid) (in_pass grid false) index layer object h)
-  by_moved rest false = h

@@ -27,9 +27,6 @@ written_more x y a b c p q = record {
   sound = q.sound ∙ p.sound;
 }
 
-pub sent_none : (n : ℕ) (o : Writes) → IsSent [] n n o o
-sent_none n o = record { counted = omega arith; written = written_none o }
-
 pub sent_more : (x y : List ℕ) (l m n : ℕ) (a b c : Writes) → IsSent x l m a b → IsSent y m n b c → IsSent (x ++ y) l n a c
 sent_more x y l m n a b c p q = record {
   counted = omega (arith, length-append x y, p.counted, q.counted);

@@ -8,19 +8,6 @@ use Rattle.pz_names.specs.declared.meaning.Meaning.TheVariants.{Itself, Same, Al
 use Rattle.pz_names.specs.declared.meaning.Meaning.{Meaning}
 use Rattle.pz_game.specs.declared.denotation.Denotation.{Denotation}
 
--- a round over what chains of n lines give is what chains of one line more give
-pub value_at-round : (known : ℕ → Option Denotation) (n : ℕ) (meanings : List Meaning) → ((k : ℕ) → known k ≡ value_at n meanings k)
-    → (k : ℕ) → denotation_next known meanings k ≡ value_at (n + 1) meanings k
-unfolding value_at
-value_at-round known n meanings same k =
-    let functions : known ≡ value_at n meanings = λ i. λ j. same j i in
-    ap (λ f. denotation_next f meanings k) functions ∙ ap (λ m. value_at m meanings k) (sym (add-one n))
-
--- no chain of lines
-pub value_at-none : (meanings : List Meaning) (k : ℕ) → value_at 0 meanings k ≡ None
-unfolding value_at
-value_at-none meanings k = refl
-
 -- one part more, of which the name is known
 pub gathered-step : (known : ℕ → Option Denotation) (mentions parts : List ℕ) (i : ℕ) (d : Denotation) → i < length parts → known (get_or parts i 0) ≡ Some d
     → gathered known (with_mentions mentions d.members) (drop (i + 1) parts) ≡ gathered known mentions (drop i parts)

@@ -12,17 +12,6 @@ use Rattle.pz_names.specs.declared.meaning.Meaning.{Meaning}
 use Rattle.pz_names.specs.declared.meaning.Meaning.TheVariants.{Itself, Same, AllOf, AnyOf}
 use Rattle.pz_game.specs.declared.denotation.Denotation.{Denotation}
 
--- where one round more changes nothing, no further round does
-pub value_at-settled : (meanings : List Meaning) (n : ℕ) → ((k : ℕ) → value_at (suc n) meanings k ≡ value_at n meanings k)
-    → (m k : ℕ) → value_at (m + n) meanings k ≡ value_at n meanings k
-unfolding value_at
-value_at-settled meanings n still zero k = ap (λ j. value_at j meanings k) (let e : 0 + n ≡ n = omega arith in e)
-value_at-settled meanings n still (suc m) k =
-    let same = value_at-settled meanings n still m in
-    let functions : value_at (m + n) meanings ≡ value_at n meanings = λ i. λ j. same j i in
-    ap (λ j. value_at j meanings k) (let e : suc m + n ≡ suc (m + n) = omega arith in e)
-    ∙ (ap (λ f. denotation_next f meanings k) functions ∙ still k)
-
 -- where a part is not known, the members can't be gathered
 gathered-missing : (f : ℕ → Option Denotation) (y : ℕ) → f y ≡ None → (mentions parts : List ℕ) → list_any (λ p. p == y) parts ≡ true → gathered f mentions parts ≡ None
 gathered-missing f y none mentions [] h = cc

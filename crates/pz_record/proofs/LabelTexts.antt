@@ -123,16 +123,6 @@ kept_front texts more text e = rw e (front texts)
     front [] = refl
     front (t ∷ ts) = ap (λ l. t ∷ l) (front ts)
 
-pub last_label : (texts more : List (List ℕ)) (text : List ℕ) → more ≡ texts ++ text ∷ [] → (length texts < length more) × (text_at more (length texts) ≡ text)
-last_label texts more text e = rw e (longer texts, at_end texts)
-  where
-    longer : (ts : List (List ℕ)) → length ts < length (ts ++ text ∷ [])
-    longer ts = rw (one_known ts text) (omega arith)
-
-    at_end : (ts : List (List ℕ)) → text_at (ts ++ text ∷ []) (length ts) ≡ text
-    at_end [] = refl
-    at_end (t ∷ ts) = at_end ts
-
 -- tests that agree choose the same names
 pub chosen_same : (f g : ℕ → Bool) → ((n : ℕ) → f n ≡ g n) → (k : ℕ) (names : List (List ℕ)) → chosen_from f k names ≡ chosen_from g k names
 chosen_same f g e k [] = refl

@@ -48,10 +48,6 @@ next_column Columns grid k x y is end at =
     record { column = ap (λ n. n + 1) at.column ∙ sym next.1; row = sym next.0 }
 next_column Rows grid k x y is end at = cc
 
-pub first_at : (order : Order) (grid : Grid) → 0 < grid.width → 0 < grid.height → IsAt order grid 0 0 0
-first_at Rows grid wide high = record { column = sym (mod-eq_of_lt wide); row = sym (div-eq_of_lt wide) }
-first_at Columns grid wide high = record { column = sym (div-eq_of_lt high); row = sym (mod-eq_of_lt high) }
-
 -- a number of a cell stands on the map
 pub on_map : (order : Order) (grid : Grid) (k x y : ℕ) → k < grid.width * grid.height → 0 < grid.width → 0 < grid.height → IsAt order grid k x y → (x < grid.width) × (y < grid.height)
 on_map Rows grid k x y within wide high at =

@@ -43,10 +43,3 @@ member_inserted words number word within h other = elim (cases_eq (other / 128) 
   | inl e ↦ member_set_same words (number / 128) word other within e ∙ h (other % 128) ∙ ap (λ b. b || in_word (get_or words (number / 128) 0) (other % 128)) (same_remainder other number e) ∙ ap (λ (k : ℕ). nat_eq other number || in_word (get_or words k 0) (other % 128)) (sym e)
   | inr e ↦ member_set_other words (number / 128) word other e ∙ sym (ap (λ b. b || member words other) (ne_eqb other number (λ s. e (ap (λ (n : ℕ). n / 128) s))))
 ]
-
--- a bit less in one word
-pub member_removed : (words : List ℕ) (number word : ℕ) → number / 128 < length words → ((bit : ℕ) → bit < 128 → in_word word bit ≡ (not (nat_eq bit (number % 128)) && in_word (get_or words (number / 128) 0) bit)) → (other : ℕ) → member (set words (number / 128) word) other ≡ (not (nat_eq other number) && member words other)
-member_removed words number word within h other = elim (cases_eq (other / 128) (number / 128)) [
-  | inl e ↦ member_set_same words (number / 128) word other within e ∙ h (other % 128) (omega arith) ∙ ap (λ b. not b && in_word (get_or words (number / 128) 0) (other % 128)) (same_remainder other number e) ∙ ap (λ (k : ℕ). not (nat_eq other number) && in_word (get_or words k 0) (other % 128)) (sym e)
-  | inr e ↦ member_set_other words (number / 128) word other e ∙ sym (ap (λ b. not b && member words other) (ne_eqb other number (λ s. e (ap (λ (n : ℕ). n / 128) s))))
-]

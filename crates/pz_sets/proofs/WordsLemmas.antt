@@ -38,15 +38,6 @@ word_of_test P words others h index bit low =
     let b : (128 * index + bit) % 128 ≡ bit = omega arith in
     rw (a, b) at (h (128 * index + bit))
 
--- an empty word more
-pub member_more : (words : List ℕ) (number : ℕ) → member (words ++ 0 ∷ []) number ≡ member words number
-member_more words number = ap (λ (w : ℕ). in_word w (number % 128)) (zero_more words (number / 128)) where
-  zero_more : (xs : List ℕ) (k : ℕ) → get_or (xs ++ 0 ∷ []) k 0 ≡ get_or xs k 0
-  zero_more [] zero = refl
-  zero_more [] (suc k) = refl
-  zero_more (x ∷ xs) zero = refl
-  zero_more (x ∷ xs) (suc k) = zero_more xs k
-
 -- one word anew gives the same set if it has the same bits
 pub changed_word : (words : List ℕ) (index new : ℕ) (same : Bool) → index < length words → (IsTrue same ↔ ((bit : ℕ) → bit < 128 → in_word new bit ≡ in_word (get_or words index 0) bit)) → ((not same ≡ false) ↔ ((number : ℕ) → member (set words index new) number ≡ member words number))
 changed_word words index new same within alike = (forth, back) where

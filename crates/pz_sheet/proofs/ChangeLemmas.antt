@@ -133,15 +133,6 @@ found_more N depth layers cells older index x y r changes now a is more f =
       within = subst (All P) (sym more) (All-append P changes (new ∷ []) f.within (All-cons P new [] (a.in_cells, sound) (All-nil P)));
     }
 
-append_none : {X : Type 0} (xs : List X) → xs ++ [] ≡ xs
-append_none [] = refl
-append_none (x ∷ xs) = ap (λ l. x ∷ l) (append_none xs)
-
-pub found_all : (N depth : ℕ) (layers : List ℕ) (cells older : List (Cell N)) (changes : List (Change N)) (index : ℕ) → length cells ≤ index → AreFound N depth layers cells older changes index → map (change_seen N depth layers) changes ≡ changed_from 0 (map (seen N depth layers) cells) (map (seen N depth layers) older)
-found_all N depth layers cells older changes index past f =
-    sym (append_none (map (change_seen N depth layers) changes))
-    ∙ (ap (λ (l : List (Cell N)). map (change_seen N depth layers) changes ++ changed_from index (map (seen N depth layers) l) (map (seen N depth layers) (drop index older))) (sym (drop_all index cells past)) ∙ f.changes_are)
-
 -- a change of a cell of up to four words is no larger than memory
 pub small_change : (n : ℕ) → n ≤ 4 → up 16 (16 + up 16 (up 16 (0 + n * 16) + n * 16)) < 2 ^ 63
 small_change zero h = omega arith

@@ -84,12 +84,6 @@ module _ (N wa ha da : ℕ) (la : List ℕ) (sa : List (List ℕ)) (ca : List (C
     λ e. second.1 (same_grids (is ∙ (e ∙ sym is_other))),
   )
 
-pub decided_first : (grid other : Grid) (x : Bool) → (IsTrue x ↔ AreSized grid other) → x ≡ false → IsTrue false ↔ (grid ≡ other)
-decided_first grid other x first f = (
-  λ u. cc,
-  λ e. sym f ∙ first.1 (ap (λ (g : Grid). g.width) e, ap (λ (g : Grid). g.height) e, ap (λ (g : Grid). g.depth) e, ap (λ (g : Grid). g.layers) e),
-)
-
 -- ---- a loop over the cells of both
 abbrev pub AreAlikeTo : (N : ℕ) → List (Cell N) → List (Cell N) → ℕ → Type 0
 AreAlikeTo N a b index = (k : ℕ) (cell other : Cell N) → k < index → AreAlike N (get_or a k cell) (get_or b k other)

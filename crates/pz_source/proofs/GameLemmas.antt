@@ -214,10 +214,3 @@ module _ (lines : List Line) (objects : List NameLine) (legend : List Line) (par
 pub behind_objects : (lines : List Line) (objects : List NameLine) (part : List Line) → part ≡ lines_in section.Objects lines → outside_profile lines ≡ None → objects_of part ≡ Ok objects
     → game_of_lines lines ≡ game_of_objects lines objects
 behind_objects lines objects part same inside read = rw (inside, sym (ap objects_of same), read) refl
-
-pub at_profile : (lines : List Line) (fault : SourceFault) → outside_profile lines ≡ Some fault → game_of_lines lines ≡ Err fault
-at_profile lines fault e = rw e refl
-
-pub at_objects : (lines : List Line) (part : List Line) (fault : SourceFault) → part ≡ lines_in section.Objects lines → outside_profile lines ≡ None → objects_of part ≡ Err fault
-    → game_of_lines lines ≡ Err fault
-at_objects lines part fault same inside read = rw (inside, sym (ap objects_of same), read) refl

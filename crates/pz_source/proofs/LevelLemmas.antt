@@ -26,9 +26,6 @@ filled-step row width last i lt =
     ap (λ n. filled n last (drop i row)) more
     ∙ (ap (λ x. x ∷ filled (width - (i + 1)) x (drop 1 (drop i row))) here ∙ ap (λ r. get_or row i last ∷ filled (width - (i + 1)) (get_or row i last) r) (drop-one i row))
 
-pub range-none : {A : Type 0} (xs : List A) (n : ℕ) → slice_range xs n n ≡ []
-range-none xs n = ap (λ k. take k (drop n xs)) (let e : n - n ≡ 0 = omega arith in e)
-
 pub range-next : {A : Type 0} (xs : List A) (start place : ℕ) (x : A) → start ≤ place → place < length xs → x ≡ get_or xs place x
     → slice_range xs start (place + 1) ≡ slice_range xs start place ++ x ∷ []
 range-next xs start place x within below is =
@@ -38,13 +35,6 @@ range-next xs start place x within below is =
     let at : start + (place - start) ≡ place = omega arith in
     let here : x ≡ get_or (drop start xs) (place - start) x = is ∙ (ap (λ n. get_or xs n x) (sym at) ∙ sym (get_or-drop start xs (place - start) x)) in
     ap (λ n. take n (drop start xs)) more ∙ take-next (drop start xs) (place - start) x low here
-
-pub entries-blank : (rows : List Line) (line : Line) (more : List Line) → is_blank line ≡ true → entries_of rows (line ∷ more) ≡ closed rows ++ entries_of [] more
-entries-blank rows line more e = rw e refl
-
-pub entries-message : (rows : List Line) (line : Line) (more : List Line) → is_blank line ≡ false → is_message line ≡ true
-    → entries_of rows (line ∷ more) ≡ closed rows ++ (line ∷ []) ∷ entries_of [] more
-entries-message rows line more e m = rw (e, m) refl
 
 pub entries-row : (rows : List Line) (line : Line) (more : List Line) → is_blank line ≡ false → is_message line ≡ false
     → entries_of rows (line ∷ more) ≡ entries_of (rows ++ line ∷ []) more

@@ -15,14 +15,6 @@ use Rattle.pz_turn.specs.Outcome.{Outcome}
 use Rattle.pz_turn.specs.Instance.{taken, applied_at, given, outcome_of, applied_with, applied}
 use Rattle.pz_turn.proofs.Limits.{within_limit, over_limit}
 
-pub given_none : (all : List (List Place)) (commands : Commands) → length all ≡ 0 → given all commands ≡ no_commands
-given_none [] commands none = refl
-given_none (places ∷ all) commands none = absurd (omega arith)
-
-pub given_some : (all : List (List Place)) (commands : Commands) → 0 < length all → given all commands ≡ commands
-given_some [] commands some = absurd (omega arith)
-given_some (places ∷ all) commands some = refl
-
 map-nothing_behind : (all : List (List Place)) (behind : List Place) → behind ≡ [] → map (λ places. places ++ behind) all ≡ all
 map-nothing_behind [] behind none = refl
 map-nothing_behind (places ∷ all) behind none = rw (map-nothing_behind all behind none) (ap (λ (ps : List Place). ps ∷ all) (ap (λ b. places ++ b) none ∙ append-nil places))
