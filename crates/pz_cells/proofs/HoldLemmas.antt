@@ -1,5 +1,5 @@
 -- What holds in a cell, by sets.
-use Rattle.std.proofs.Common.{◌≡◌, ◌≢◌, inl, inr, ℕ, suc, ◌<◌, ◌≤◌, List, [], ◌∷◌, Option, Some, None, Bool, true, false, not, cond, ◌&&◌, length, get_or, arith, ap, sym, ◌∙◌, refl, subst, nat_eq, eq-eqb}
+use Rattle.std.proofs.Common.{◌≡◌, ◌≢◌, inl, inr, ℕ, suc, ◌<◌, ◌≤◌, List, [], ◌∷◌, Option, Some, None, Bool, true, false, not, cond, length, get_or, arith, ap, sym, ◌∙◌, refl, subst, nat_eq, eq-eqb}
 use Rattle.std.specs.Prelude.{All, IfSome, IsTrue, ◌↔◌}
 use Rattle.std.proofs.lemmas.Bool.{cases_lt, eqb-true, and_parts, or_cases, or_left, or_right, and_from}
 use Rattle.std.proofs.lemmas.List.{get_or_past}

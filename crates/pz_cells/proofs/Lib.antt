@@ -3,4 +3,5 @@ pub mod PlaceLemmas
 pub mod CellLemmas
 pub mod SameLemmas
 pub mod HoldLemmas
+pub mod FitLemmas
 pub mod RewriteLemmas

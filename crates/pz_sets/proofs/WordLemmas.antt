@@ -72,21 +72,23 @@ covers_from_and word wanted e i set = implied (in_word word i) (in_word wanted i
 pub and_from_covers : (word wanted : ℕ) → ((i : ℕ) → in_word wanted i ≡ true → in_word word i ≡ true) → bit_and word wanted ≡ wanted
 and_from_covers word wanted h = same_from_in_word (bit_and word wanted) wanted (λ i. in_word-and word wanted i ∙ implies (in_word word i) (in_word wanted i) (h i))
 
-excluded : (x y z : Bool) → z ≡ (x && y) → z ≡ false → y ≡ true → x ≡ false
-excluded true y z e f g = cc
-excluded false y z e f g = refl
+-- a bit that is neither missing nor wrong
+pub met_bit : (x wanted unwanted : Bool) → ((wanted && not x) || (unwanted && x)) ≡ false → (wanted ≡ true → x ≡ true) × (unwanted ≡ true → x ≡ false)
+met_bit true true true e = cc
+met_bit true false true e = cc
+met_bit true true false e = (λ t. refl, λ t. cc)
+met_bit true false false e = (λ t. refl, λ t. cc)
+met_bit false true unwanted e = cc
+met_bit false false unwanted e = (λ t. cc, λ t. refl)
 
-excludes : (x y : Bool) → (y ≡ true → x ≡ false) → (x && y) ≡ false
-excludes true true h = h refl
-excludes true false h = refl
-excludes false y h = refl
-
--- the test `word & unwanted == 0`
-pub apart_from_and : (word unwanted : ℕ) → bit_and word unwanted ≡ 0 → (i : ℕ) → in_word unwanted i ≡ true → in_word word i ≡ false
-apart_from_and word unwanted e i set = excluded (in_word word i) (in_word unwanted i) (in_word (bit_and word unwanted) i) (in_word-and word unwanted i) (ap (λ (n : ℕ). in_word n i) e ∙ in_word-zero i) set
-
-pub and_from_apart : (word unwanted : ℕ) → ((i : ℕ) → in_word unwanted i ≡ true → in_word word i ≡ false) → bit_and word unwanted ≡ 0
-and_from_apart word unwanted h = same_from_in_word (bit_and word unwanted) 0 (λ i. in_word-and word unwanted i ∙ excludes (in_word word i) (in_word unwanted i) (h i) ∙ sym (in_word-zero i))
+pub bit_met : (x wanted unwanted : Bool) → (wanted ≡ true → x ≡ true) → (unwanted ≡ true → x ≡ false) → ((wanted && not x) || (unwanted && x)) ≡ false
+bit_met true true true p q = q refl
+bit_met true false true p q = q refl
+bit_met true true false p q = refl
+bit_met true false false p q = refl
+bit_met false true unwanted p q = sym (p refl)
+bit_met false false true p q = refl
+bit_met false false false p q = refl
 
 -- ---- a word from a place on
 pub high_inside : (start bit : ℕ) → start ≤ bit → bit < 128 → in_word (2 ^ 128 - 2 ^ start) bit ≡ true

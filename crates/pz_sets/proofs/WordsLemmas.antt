@@ -1,5 +1,5 @@
 -- What holds word by word.
-use Rattle.std.proofs.Common.{◌≡◌, inl, inr, ℕ, zero, suc, refl, ◌+◌, ◌*◌, ◌/◌, ◌%◌, ◌<◌, ◌≤◌, List, [], ◌∷◌, ◌++◌, Bool, true, false, not, set, get_or-set_same, length, get_or, arith, ap, sym, ◌∙◌, subst}
+use Rattle.std.proofs.Common.{◌≡◌, inl, inr, ℕ, refl, ◌+◌, ◌*◌, ◌/◌, ◌%◌, ◌<◌, ◌≤◌, List, Bool, true, false, not, set, get_or-set_same, length, get_or, arith, ap, sym, ◌∙◌, subst}
 use Rattle.std.specs.Prelude.{IsTrue, ◌↔◌}
 use Rattle.pz_sets.proofs.SetLemmas.{member_set_same, member_set_other}
 use Rattle.std.proofs.lemmas.Bool.{cases_lt, cases_eq}

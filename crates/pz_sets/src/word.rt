@@ -49,11 +49,20 @@ pub fn covers(word: u128, wanted: u128) -> bool
     word & wanted == wanted
 }
 
-/// Whether a word has no bit of another.
-pub fn is_apart(word: u128, unwanted: u128) -> bool
-    ensures { IsTrue result ↔ ((bit : ℕ) → bit < 128 → in_word unwanted bit ≡ true → in_word word bit ≡ false) }
+/// Whether a word has no bit.
+pub fn is_empty(word: u128) -> bool
+    ensures { IsTrue result ↔ ((bit : ℕ) → bit < 128 → in_word word bit ≡ false) }
 {
-    word & unwanted == 0
+    word == 0
+}
+
+/// Whether a word has each bit of a second, and none of a third.
+pub fn meets(word: u128, wanted: u128, unwanted: u128) -> bool
+    ensures { IsTrue result ↔ (((bit : ℕ) → bit < 128 → in_word wanted bit ≡ true → in_word word bit ≡ true) × ((bit : ℕ) → bit < 128 → in_word unwanted bit ≡ true → in_word word bit ≡ false)) }
+{
+    let missing = minus(wanted, word);
+    let wrong = common(unwanted, word);
+    is_empty(union(missing, wrong))
 }
 
 pub fn same(word: u128, other: u128) -> bool

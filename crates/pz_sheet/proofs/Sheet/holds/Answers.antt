@@ -25,8 +25,14 @@ holds-requires g c =
           (
             omega (arith, c.self.invariant.shallow),
             (
-              subst (λ (layers : List ℕ). AreOf layers c.args.pattern.now) (sym same) of_game,
-              subst (λ (layers : List ℕ). AreLawful layers cell.objects cell.movement) (sym same) (sound_at _ a.layers.items a.cells.items at cell c.self.invariant.sound within c.index.ensures),
+              omega (arith, ap (λ (layers : List ℕ). length layers) same, c.self.invariant.room),
+              (
+                c.self.invariant.movement_room,
+                (
+                subst (λ (layers : List ℕ). AreOf layers c.args.pattern.now) (sym same) of_game,
+                subst (λ (layers : List ℕ). AreLawful layers cell.objects cell.movement) (sym same) (sound_at _ a.layers.items a.cells.items at cell c.self.invariant.sound within c.index.ensures),
+                ),
+              ),
             ),
           ),
         ),

@@ -1,5 +1,31 @@
+use Rattle.std.proofs.Common.{ℕ, ◌/◌, ◌<◌, sym, subst}
+use Rattle.pz_cells.proofs.FitLemmas.{masks_fit}
 use Rattle.pz_cells.proofs.HoldLemmas.{holds_by_sets, low_of_game, both_decide, first_decides}
 use Rattle.pz_cells.proofs.cell.Cell.holds.Goals as goal
+
+pub meets-requires : goal.meets-requires
+meets-requires g c =
+    let layers = c.args.layers.now in
+    let items = c.args.pattern.now in
+    let low = low_of_game c.args.depth layers items c.requires.layered c.requires.few c.requires.shallow c.requires.of_game in
+    let fit = masks_fit c.args.depth layers items c.masks-masks.result.now _ (c.masks-masks.ensures low) c.requires.layered c.requires.of_game c.requires.room c.requires.movement_room in
+    let long = sym c.word_count.ensures.objects in
+    record {
+      wanted = λ number here. subst (λ (n : ℕ). number / 128 < n) long (fit.present number here);
+      unwanted = λ number here. subst (λ (n : ℕ). number / 128 < n) long (fit.absent number here);
+    }
+
+pub meets-requires-then-meets : goal.meets-requires-then-meets
+meets-requires-then-meets g c =
+    let layers = c.args.layers.now in
+    let items = c.args.pattern.now in
+    let low = low_of_game c.args.depth layers items c.requires.layered c.requires.few c.requires.shallow c.requires.of_game in
+    let fit = masks_fit c.args.depth layers items c.masks-masks.result.now _ (c.masks-masks.ensures low) c.requires.layered c.requires.of_game c.requires.room c.requires.movement_room in
+    let long = sym c.word_count.ensures.movement in
+    record {
+      wanted = λ number here. subst (λ (n : ℕ). number / 128 < n) long (fit.required number here);
+      unwanted = λ number here. subst (λ (n : ℕ). number / 128 < n) long (fit.forbidden number here);
+    }
 
 pub returns-then-meets : goal.returns-then-meets
 returns-then-meets g c =

@@ -1,0 +1,9 @@
+use Rattle.std.proofs.Common.{◌≡◌, ℕ, ◌/◌, ◌<◌, true, false}
+use Rattle.pz_sets.specs.Sets.{member}
+use Rattle.pz_sets.proofs.words.meets.Given as goal
+
+abbrev pub invariant-loop-index : goal.invariant-loop-index
+invariant-loop-index l = record {
+  wanted : (number : ℕ) → number / 128 < l.index → member l.wanted number ≡ true → member l.words number ≡ true;
+  unwanted : (number : ℕ) → number / 128 < l.index → member l.unwanted number ≡ true → member l.words number ≡ false;
+}
