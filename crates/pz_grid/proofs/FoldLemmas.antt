@@ -4,9 +4,10 @@ use Rattle.std.specs.Prelude.{fold}
 use Rattle.std.specs.List.{list_all, enumerate_from, zip}
 use Rattle.std.proofs.lemmas.List.{take_all, take_more}
 use Rattle.std.proofs.lemmas.List.Sums.{fold-append}
-use Rattle.std.proofs.lemmas.List.FromFn.{length-enumerate_from, get_or-enumerate_from}
+use Rattle.std.proofs.lemmas.List.FromFn.{length-enumerate_from}
 use Rattle.std.proofs.lemmas.List.Folds.{list_all_more, list_all_at}
 use Rattle.std.proofs.lemmas.Slice.Zip.{length-zip, get_or-zip}
+use Rattle.pz_sheet.proofs.RunLemmas.{numbered_at}
 
 -- one more of a fold
 pub fold_take_more : {A S : Type 0} (f : S → A → S) (start : S) (xs : List A) (i : ℕ) (d x : A) → i < length xs → get_or xs i d ≡ x → fold f start (take (i + 1) xs) ≡ f (fold f start (take i xs)) x
@@ -24,10 +25,6 @@ fold_zip_more f start xs ys i x y in_x in_y is_x is_y =
 
 pub fold_zip_all : {A B S : Type 0} (f : S → A × B → S) (start : S) (xs : List A) (ys : List B) (i : ℕ) → min (length xs) (length ys) ≤ i → fold f start (take i (zip xs ys)) ≡ fold f start (zip xs ys)
 fold_zip_all f start xs ys i past = ap (fold f start) (take_all i (zip xs ys) (omega (arith, length-zip xs ys)))
-
-pub numbered_at : {X : Type 0} (xs : List X) (i : ℕ) (x : X) → i < length xs → get_or xs i x ≡ x → get_or (enumerate_from 0 xs) i (0, x) ≡ (i, x)
-numbered_at {X} xs i x within is =
-    get_or-enumerate_from 0 xs i (0, x) within ∙ ap (λ (n : ℕ). let e : ℕ × X = (n, get_or xs i x) in e) (omega arith) ∙ ap (λ (y : X). let e : ℕ × X = (i, y) in e) is
 
 -- one more of a fold over two lists beside one another, with their numbers
 pub fold_numbered_more : {A B S : Type 0} (f : S → ℕ × (A × B) → S) (start : S) (xs : List A) (ys : List B) (i : ℕ) (x : A) (y : B) → i < length xs → i < length ys → x ≡ get_or xs i x → y ≡ get_or ys i y → fold f start (take (i + 1) (enumerate_from 0 (zip xs ys))) ≡ f (fold f start (take i (enumerate_from 0 (zip xs ys)))) (i, (x, y))
@@ -52,19 +49,3 @@ all_zip_fails {A} {B} p xs ys i x y in_x in_y is_x is_y here =
 
 pub all_zip_all : {A B : Type 0} (p : A × B → Bool) (xs : List A) (ys : List B) (i : ℕ) → min (length xs) (length ys) ≤ i → list_all p (take i (zip xs ys)) ≡ true → list_all p (zip xs ys) ≡ true
 all_zip_all p xs ys i past e = ap (list_all p) (sym (take_all i (zip xs ys) (omega (arith, length-zip xs ys)))) ∙ e
-
--- one more element of a list with its numbers passes
-pub enumerate_more : {X : Type 0} (p : ℕ × X → Bool) (xs : List X) (i : ℕ) (x : X) → i < length xs → x ≡ get_or xs i x → list_all p (take i (enumerate_from 0 xs)) ≡ true → p (i, x) ≡ true → list_all p (take (i + 1) (enumerate_from 0 xs)) ≡ true
-enumerate_more p xs i x h is before here =
-    let within : i < length (enumerate_from 0 xs) = omega (arith, length-enumerate_from 0 xs) in
-    list_all_more p (enumerate_from 0 xs) i (0, x) within ∙ ap (λ b. b && p (get_or (enumerate_from 0 xs) i (0, x))) before ∙ ap p (numbered_at xs i x h (sym is)) ∙ here
-
--- an element that fails
-pub enumerate_fails : {X : Type 0} (p : ℕ × X → Bool) (xs : List X) (i : ℕ) (x : X) → i < length xs → x ≡ get_or xs i x → p (i, x) ≡ false → list_all p (enumerate_from 0 xs) ≡ false
-enumerate_fails p xs i x h is here =
-    let within : i < length (enumerate_from 0 xs) = omega (arith, length-enumerate_from 0 xs) in
-    list_all_at p (enumerate_from 0 xs) i (0, x) within (ap p (numbered_at xs i x h (sym is)) ∙ here)
-
--- all passed
-pub enumerate_all : {X : Type 0} (p : ℕ × X → Bool) (xs : List X) (i : ℕ) → length xs ≤ i → list_all p (take i (enumerate_from 0 xs)) ≡ true → list_all p (enumerate_from 0 xs) ≡ true
-enumerate_all p xs i h e = ap (list_all p) (sym (take_all i (enumerate_from 0 xs) (omega (arith, length-enumerate_from 0 xs)))) ∙ e

@@ -9,7 +9,7 @@ use Rattle.pz_game.specs.Pattern.{RuleRow, IsRow}
 use Rattle.pz_sheet.specs.Grid.{Grid}
 use Rattle.pz_grid.specs.declared.places.Place.{Place}
 use Rattle.pz_grid.specs.Places.{along, holds_at, holds_behind, distance, cell_holds, row_holds, place_in, gap_count, line_length}
-use Rattle.pz_grid.proofs.FoldLemmas.{enumerate_fails}
+use Rattle.pz_sheet.proofs.RunLemmas.{enumerate_fails}
 use Rattle.pz_grid.proofs.FoundLemmas.{found_with, found_at, found_at_all}
 use Rattle.pz_grid.proofs.GatherLemmas.{gather}
 use Rattle.pz_grid.proofs.StartLemmas.{gather_skip}

@@ -17,6 +17,7 @@ pub mod FoundLemmas
 pub mod RewritingLemmas
 pub mod PlaceLemmas
 pub mod NamedLemmas
+pub mod HeadLemmas
 pub mod StartLemmas
 pub mod GapLemmas
 pub mod SkipLemmas

@@ -15,7 +15,7 @@ use Rattle.pz_game.specs.Pattern.{RuleRow, IsRow}
 use Rattle.pz_grid.specs.declared.places.Place.{Place}
 use Rattle.pz_sheet.specs.Grid.{Grid}
 use Rattle.pz_grid.specs.Places.{on_map, along, distance, holds_at, cell_holds, row_holds, line_count, line_length, place_in, gap_count, pairs_at, pairs_in, pairs, places, still_holds}
-use Rattle.pz_grid.proofs.FoldLemmas.{numbered_at}
+use Rattle.pz_sheet.proofs.RunLemmas.{numbered_at}
 
 -- what is in one of the lists is in all of them together
 gathered : {X : Type 0} (h : ℕ → List X) (a n k : ℕ) (x : X) → a ≤ k → k < a + n → Contains (h k) x → Contains (flat_map h (range_with_len a n)) x

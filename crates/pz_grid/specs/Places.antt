@@ -1,10 +1,10 @@
 -- The places of a row of a rule: all pairs of a start cell and a gap whose cells are on the map and hold. Left and right go by
 -- rows from the top, and in a row from the left; up and down by columns from the left, and in a column from the top. For one
 -- start cell the gaps ascend; a row without `...` has the gap 0 alone.
-use Rattle.std.specs.Prelude.{ℕ, ◌+◌, ◌-◌, List, map, filter, length, Bool, false, Option, Some, None, Result, Ok, Err, nat_lt, nat_le, nat_eq, ◌&&◌, ◌||◌, if◌then◌else◌, is_some}
+use Rattle.std.specs.Prelude.{ℕ, ◌+◌, List, take, map, filter, length, Bool, Option, Some, None, Result, Ok, Err, nat_lt, nat_le, nat_eq, ◌&&◌, ◌||◌, if◌then◌else◌, is_some}
 use Rattle.std.specs.List.{list_all, enumerate_from, flat_map, range_with_len, zip}
 use Rattle.pz_game.specs.declared.direction.Dir.{Dir}
-use Rattle.pz_game.specs.declared.direction.Dir.TheVariants.{Up, Down, Left, Right, Action}
+use Rattle.pz_game.specs.declared.direction.Dir.TheVariants.{Up, Down}
 use Rattle.pz_game.specs.declared.instance.Instance.{Instance}
 use Rattle.pz_game.specs.declared.pattern.Item.{Item}
 use Rattle.pz_game.specs.Pattern.{RuleRow}
@@ -12,21 +12,9 @@ use Rattle.pz_grid.specs.declared.places.GridFault.{GridFault}
 use Rattle.pz_grid.specs.declared.places.GridFault.TheVariants.{MatchLimit}
 use Rattle.pz_grid.specs.declared.places.Place.{Place}
 use Rattle.pz_grid.specs.declared.places.TheConstants.{MATCH_LIMIT}
-use Rattle.pz_sheet.specs.Grid.{Grid, cell_at}
-use Rattle.pz_sheet.specs.Searching.{holds_in_row, holds_in_column}
-use Rattle.pz_cells.specs.Pattern.{pattern_holds}
-
--- a position, if it is on the map
-abbrev pub on_map : Grid → ℕ → ℕ → Option (ℕ × ℕ)
-on_map grid x y = if nat_lt x grid.width && nat_lt y grid.height then Some (x, y) else None
-
--- the position some cells on from another, if it is on the map; the action leads nowhere
-abbrev pub along : Grid → Dir → ℕ → ℕ → ℕ → Option (ℕ × ℕ)
-along grid Right x y steps = on_map grid (x + steps) y
-along grid Left x y steps = if nat_le steps x then on_map grid (x - steps) y else None
-along grid Down x y steps = on_map grid x (y + steps)
-along grid Up x y steps = if nat_le steps y then on_map grid x (y - steps) else None
-along grid Action x y steps = None
+use Rattle.pz_sheet.specs.Grid.{Grid}
+use Rattle.pz_sheet.specs.Runs.{runs_in_row, runs_in_column}
+pub use Rattle.pz_sheet.specs.Runs.{on_map, along, holds_at}
 
 -- how far a row's cell is from its start: the cells after the gap are as much farther as it spans
 abbrev pub distance : Option ℕ → ℕ → ℕ → ℕ
@@ -37,11 +25,7 @@ distance (Some at) gap index = if nat_le at index then index + gap else index
 abbrev pub position_of : Grid → Dir → Option ℕ → Place → ℕ → Option (ℕ × ℕ)
 position_of grid dir gap_at place index = along grid dir place.x place.y (distance gap_at place.gap index)
 
--- a rule's cell holds at a position; off the map nothing does
-abbrev pub holds_at : Grid → List Item → Option (ℕ × ℕ) → Bool
-holds_at grid pattern None = false
-holds_at grid pattern (Some (x, y)) = pattern_holds (cell_at grid x y) pattern
-
+-- a cell of a row is on the map and holds
 abbrev pub cell_holds : Grid → RuleRow → Dir → Place → ℕ × List Item → Bool
 cell_holds grid row dir place (index, pattern) = holds_at grid pattern (position_of grid dir row.gap_at place index)
 
@@ -65,11 +49,19 @@ place_in Up line start gap = record { x = line; y = start; gap = gap }
 place_in Down line start gap = record { x = line; y = start; gap = gap }
 place_in _ line start gap = record { x = start; y = line; gap = gap }
 
--- a row's first cell holds at a start in a line
-abbrev pub starts_with : Grid → Dir → ℕ → List Item → ℕ → Bool
-starts_with grid Up line first start = holds_in_column grid line first start
-starts_with grid Down line first start = holds_in_column grid line first start
-starts_with grid _ line first start = holds_in_row grid line first start
+-- the cells of a row before its gap, or all
+abbrev pub cells_before : Option ℕ → List (List Item) → List (List Item)
+cells_before None cells = cells
+cells_before (Some at) cells = take at cells
+
+abbrev pub head_of : RuleRow → List (List Item)
+head_of row = cells_before row.gap_at row.cells
+
+-- a row's cells before its gap hold one after another from a start in a line on
+abbrev pub starts_with : Grid → Dir → ℕ → List (List Item) → ℕ → Bool
+starts_with grid Up line head start = runs_in_column grid Up line head start
+starts_with grid Down line head start = runs_in_column grid Down line head start
+starts_with grid dir line head start = runs_in_row grid dir line head start
 
 -- the cell of a row that is the first behind its gap holds, where the gap spans that many cells
 abbrev pub holds_behind : Grid → Dir → ℕ → ℕ → List Item → ℕ → ℕ → Bool

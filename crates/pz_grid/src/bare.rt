@@ -5,13 +5,13 @@ ghost use Rattle.pz_sets.specs.Sets.{member};
 ghost use Rattle.pz_sets.specs.declared.set.TheConstants.{CAPACITY};
 ghost use Rattle.pz_game.specs.Pattern.{AreOf, IsRowOf};
 ghost use Rattle.pz_cells.specs.Cell.{IsOnLayer, still_place};
-ghost use Rattle.pz_cells.specs.Pattern.{pattern_holds};
 ghost use Rattle.pz_sheet.specs.Grid.{IsLawful, cell_at, place_at, with_place};
 ghost use Rattle.pz_sheet.specs.Loading.{drawn, filled};
 ghost use Rattle.pz_sheet.specs.Movement.{stilled};
 ghost use Rattle.pz_sheet.specs.Presence.{is_in, cell_of};
 ghost use Rattle.pz_sheet.specs.Pushing.{pushed};
 ghost use Rattle.pz_sheet.specs.Rewriting.{with_rewritten, changes};
+ghost use Rattle.pz_sheet.specs.Runs.{runs_in_row, runs_in_column};
 ghost use Rattle.pz_sheet.specs.Searching.{holds_in_row, holds_in_column, HoldsSomewhere, HoldsInRow, HoldsInColumn, IsNext, IsLast};
 ghost use Rattle.pz_sheet.specs.Standing.{standing_at, stands};
 
@@ -201,20 +201,6 @@ impl BareLevel {
         }
     }
 
-    /// Whether a rule's cell holds at a position of the map.
-    pub(crate) fn holds(&self, x: u32, y: u32, pattern: &Pattern) -> bool
-        requires x_in { x < self.now.grid.width }
-        requires y_in { y < self.now.grid.height }
-        requires of_game { AreOf self.now.grid.layers pattern.now }
-        ensures { result ≡ pattern_holds (cell_at self.now.grid x y) pattern.now }
-    {
-        match &self.sheet {
-            Sized::Small(sheet) => sheet.holds(x, y, pattern),
-            Sized::Middle(sheet) => sheet.holds(x, y, pattern),
-            Sized::Large(sheet) => sheet.holds(x, y, pattern),
-        }
-    }
-
     /// Whether something may head as the cells of a row ask: true where each of them holds somewhere.
     pub(crate) fn may_hold(&self, row: &Row) -> bool
         requires of_game { IsRowOf self.now.grid.layers row.now }
@@ -304,6 +290,46 @@ impl BareLevel {
             Sized::Small(sheet) => sheet.last_in_column(x, end, pattern),
             Sized::Middle(sheet) => sheet.last_in_column(x, end, pattern),
             Sized::Large(sheet) => sheet.last_in_column(x, end, pattern),
+        }
+    }
+
+    /// The first column from one on from which rules' cells hold in a row of the map.
+    pub(crate) fn next_run_in_row(
+        &self,
+        dir: Dir,
+        y: u32,
+        from: u32,
+        patterns: &[Pattern],
+    ) -> Option<u32>
+        requires some { 0 < length patterns.now }
+        requires y_in { y < self.now.grid.height }
+        requires of_game { All (AreOf self.now.grid.layers) patterns.now }
+        ensures { IsNext (runs_in_row self.now.grid dir y patterns.now) from self.now.grid.width result }
+    {
+        match &self.sheet {
+            Sized::Small(sheet) => sheet.next_run_in_row(dir, y, from, patterns),
+            Sized::Middle(sheet) => sheet.next_run_in_row(dir, y, from, patterns),
+            Sized::Large(sheet) => sheet.next_run_in_row(dir, y, from, patterns),
+        }
+    }
+
+    /// The first row from one on from which rules' cells hold in a column of the map.
+    pub(crate) fn next_run_in_column(
+        &self,
+        dir: Dir,
+        x: u32,
+        from: u32,
+        patterns: &[Pattern],
+    ) -> Option<u32>
+        requires some { 0 < length patterns.now }
+        requires x_in { x < self.now.grid.width }
+        requires of_game { All (AreOf self.now.grid.layers) patterns.now }
+        ensures { IsNext (runs_in_column self.now.grid dir x patterns.now) from self.now.grid.height result }
+    {
+        match &self.sheet {
+            Sized::Small(sheet) => sheet.next_run_in_column(dir, x, from, patterns),
+            Sized::Middle(sheet) => sheet.next_run_in_column(dir, x, from, patterns),
+            Sized::Large(sheet) => sheet.next_run_in_column(dir, x, from, patterns),
         }
     }
 

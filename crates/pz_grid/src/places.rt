@@ -1,17 +1,18 @@
 //! The places of a row of a rule: where it holds.
 
-ghost use Rattle.std.specs.Prelude.{◌≡◌, ◌≢◌, ℕ, ◌+◌, ◌*◌, ◌<◌, ◌≤◌, cond, [], ◌∷◌, ◌++◌, ◌^◌, filter, length, OnOk, IfOk, IfErr, IfSome, Ok, Err};
+ghost use Rattle.std.specs.Prelude.{◌≡◌, ◌≢◌, All, true, ℕ, ◌+◌, ◌*◌, ◌<◌, ◌≤◌, cond, [], ◌∷◌, ◌++◌, ◌^◌, filter, length, OnOk, IfOk, IfErr, IfSome, Ok, Err};
 ghost use Rattle.pz_game.specs.declared.limits.TheConstants.{MAX_SIDE};
 ghost use Rattle.pz_game.specs.Pattern.{AreOf, IsRowOf, AreRowsOf};
 ghost use Rattle.pz_grid.specs.Admitted.{admitted, searches_line, starts_in, start_count};
-ghost use Rattle.pz_grid.specs.Places.{on_map, along, holds_at, position_of, distance, row_holds, line_count, line_length, place_in, holds_behind, pairs_at, pairs_in, places, searched, starts_with, still_holds, still_matches};
+ghost use Rattle.pz_grid.specs.Places.{on_map, along, position_of, distance, row_holds, line_count, line_length, place_in, holds_behind, pairs_at, head_of, pairs_in, places, searched, starts_with, still_holds, still_matches};
 ghost use Rattle.pz_sheet.specs.Searching.{IsNext};
 
 use crate::Level;
-use crate::bare::BareLevel;
+use crate::bare::{BareLevel, Sized};
 use pz_game::direction::Dir;
 use pz_game::instance::Instance;
 use pz_game::pattern::{Pattern, Row};
+use pz_sheet::Sheet;
 use std::alloc::Global;
 
 /// The greatest number of places that a search gives.
@@ -82,17 +83,6 @@ impl BareLevel {
     {
         self.along(dir, place.x, place.y, distance(gap_at, place.gap, index))
     }
-
-    fn holds_at(&self, pattern: &Pattern, position: Option<(u32, u32)>) -> bool
-        requires inside { IfSome position (λ at. (at.0 < self.now.grid.width) × (at.1 < self.now.grid.height)) }
-        requires of_game { AreOf self.now.grid.layers pattern.now }
-        ensures { result ≡ holds_at self.now.grid pattern.now position }
-    {
-        match position {
-            None => false,
-            Some((x, y)) => self.holds(x, y, pattern),
-        }
-    }
 }
 
 impl Level {
@@ -124,18 +114,41 @@ fn distance(gap_at: Option<u32>, gap: u32, index: usize) -> usize
     }
 }
 
+/// Whether all cells of a row, which may have a gap, are on the map and hold, where it starts at a place.
+fn spread_holds<const N: usize>(sheet: &Sheet<N>, row: &Row, dir: Dir, place: Place) -> bool
+    requires of_game { IsRowOf sheet.now.grid.layers row.now }
+    ensures { result ≡ row_holds sheet.now.grid row.now dir place }
+{
+    for (index, pattern) in row.cells().iter().enumerate() {
+        let steps = distance(row.gap_at(), place.gap, index);
+        if !sheet.holds_along(dir, place.x, place.y, steps, pattern) {
+            return false;
+        }
+    }
+    true
+}
+
+/// Whether all cells of a row are on the map and hold, where it starts at a place: without a gap they stand one after another.
+fn holds_in<const N: usize>(sheet: &Sheet<N>, row: &Row, dir: Dir, place: Place) -> bool
+    requires of_game { IsRowOf sheet.now.grid.layers row.now }
+    ensures { result ≡ row_holds sheet.now.grid row.now dir place }
+{
+    match row.gap_at() {
+        None => sheet.run_holds(dir, place.x, place.y, row.cells()),
+        Some(_) => spread_holds(sheet, row, dir, place),
+    }
+}
+
 /// Whether all cells of a row are on the map and hold, where it starts at a place.
 fn row_holds(bare: &BareLevel, row: &Row, dir: Dir, place: Place) -> bool
     requires of_game { IsRowOf bare.now.grid.layers row.now }
     ensures { result ≡ row_holds bare.now.grid row.now dir place }
 {
-    for (index, pattern) in row.cells().iter().enumerate() {
-        let position = bare.position_of(dir, row.gap_at(), place, index);
-        if !bare.holds_at(pattern, position) {
-            return false;
-        }
+    match &bare.sheet {
+        Sized::Small(sheet) => holds_in(sheet, row, dir, place),
+        Sized::Middle(sheet) => holds_in(sheet, row, dir, place),
+        Sized::Large(sheet) => holds_in(sheet, row, dir, place),
     }
-    true
 }
 
 fn line_count(bare: &BareLevel, dir: Dir) -> u32
@@ -175,16 +188,45 @@ fn place_in(dir: Dir, line: u32, start: u32, gap: u32) -> Place
     }
 }
 
-/// The first start from one on in a line at which a row's first cell holds.
-fn next_start(bare: &BareLevel, dir: Dir, line: u32, from: u32, first: &Pattern) -> Option<u32>
+/// The cells of a row that stand before its gap: all, if it has none.
+fn head_of(row: &Row) -> &[Pattern]
+    ensures cells { result.now ≡ head_of row.now }
+    ensures some { 0 < length result.now }
+{
+    let cells = row.cells();
+    match row.gap_at() {
+        None => cells,
+        Some(at) => &cells[..at as usize],
+    }
+}
+
+/// The first start from one on in a line from which the cells of a row before its gap hold one after another.
+fn next_start(bare: &BareLevel, dir: Dir, line: u32, from: u32, head: &[Pattern]) -> Option<u32>
+    requires some { 0 < length head.now }
     requires line_in { line < line_count bare.now.grid dir }
-    requires of_game { AreOf bare.now.grid.layers first.now }
-    ensures { IsNext (starts_with bare.now.grid dir line first.now) from (line_length bare.now.grid dir) result }
+    requires of_game { All (AreOf bare.now.grid.layers) head.now }
+    ensures { IsNext (starts_with bare.now.grid dir line head.now) from (line_length bare.now.grid dir) result }
 {
     match dir {
-        Dir::Up | Dir::Down => bare.next_in_column(line, from, first),
-        Dir::Left | Dir::Right | Dir::Action => bare.next_in_row(line, from, first),
+        Dir::Up | Dir::Down => bare.next_run_in_column(dir, line, from, head),
+        Dir::Left | Dir::Right | Dir::Action => bare.next_run_in_row(dir, line, from, head),
     }
+}
+
+/// Adds a place.
+fn add_found(place: Place, found: &mut Vec<Place>) -> Result<(), GridFault>
+    requires room { length found.old.items ≤ MATCH_LIMIT }
+    ensures added { OnOk result (found.new.items ≡ found.old.items ++ (place ∷ [])) }
+    ensures room { OnOk result (length found.new.items ≤ MATCH_LIMIT) }
+    ensures limit { result ≡ Err GridFault.MatchLimit → MATCH_LIMIT < length (found.old.items ++ (place ∷ [])) }
+{
+    if found.len() == MATCH_LIMIT {
+        return Err(GridFault::MatchLimit);
+    }
+    if found.push(place).is_err() {
+        return Err(GridFault::Memory);
+    }
+    Ok(())
 }
 
 /// Adds the place if the row holds there.
@@ -202,14 +244,10 @@ fn add_place(
     ensures limit { result ≡ Err GridFault.MatchLimit → MATCH_LIMIT < length (found.old.items ++ filter (row_holds bare.now.grid row.now dir) (place ∷ [])) }
 {
     if row_holds(bare, row, dir, place) {
-        if found.len() == MATCH_LIMIT {
-            return Err(GridFault::MatchLimit);
-        }
-        if found.push(place).is_err() {
-            return Err(GridFault::Memory);
-        }
+        add_found(place, found)
+    } else {
+        Ok(())
     }
-    Ok(())
 }
 
 /// The first gap from a place's own on for which the row's first cell behind its gap, that of the number `at`, holds.
@@ -276,7 +314,7 @@ fn add_places_with_gaps(
     Ok(())
 }
 
-/// Adds the places that start in a cell.
+/// Adds the places that start in a cell from which the cells of the row before its gap hold.
 fn add_places_at(
     bare: &BareLevel,
     row: &Row,
@@ -288,19 +326,20 @@ fn add_places_at(
     requires of_game { IsRowOf bare.now.grid.layers row.now }
     requires line_in { line < line_count bare.now.grid dir }
     requires start_in { start < line_length bare.now.grid dir }
+    requires starts { starts_with bare.now.grid dir line (head_of row.now) start ≡ true }
     requires room { length found.old.items ≤ MATCH_LIMIT }
     ensures added { OnOk result (found.new.items ≡ found.old.items ++ filter (row_holds bare.now.grid row.now dir) (pairs_at bare.now.grid row.now dir line start)) }
     ensures room { OnOk result (length found.new.items ≤ MATCH_LIMIT) }
     ensures limit { result ≡ Err GridFault.MatchLimit → MATCH_LIMIT < length (found.old.items ++ filter (row_holds bare.now.grid row.now dir) (pairs_at bare.now.grid row.now dir line start)) }
 {
     match row.gap_at() {
-        None => add_place(bare, row, dir, place_in(dir, line, start, 0), found),
+        None => add_found(place_in(dir, line, start, 0), found),
         Some(at) => add_places_with_gaps(bare, row, dir, line, start, at, found),
     }
 }
 
-/// Adds the places that start in a line, and counts the start cells that it tests: the row's first cell is tested at each of them, and the
-/// rest of the row only where that holds.
+/// Adds the places that start in a line, and counts the start cells that it tests: each is searched for the cells before the row's gap, and
+/// the gaps only where these hold.
 fn add_places_in(
     bare: &BareLevel,
     row: &Row,
@@ -320,9 +359,9 @@ fn add_places_in(
     ensures limit { result ≡ Err GridFault.MatchLimit → MATCH_LIMIT < length (found.old.items ++ filter (row_holds bare.now.grid row.now dir) (pairs_in bare.now.grid row.now dir line)) }
 {
     let length = line_length(bare, dir);
-    let first = &row.cells()[0];
+    let head = head_of(row);
     let mut from = 0;
-    'starts: while let Some(start) = next_start(bare, dir, line, from, first) {
+    'starts: while let Some(start) = next_start(bare, dir, line, from, head) {
         add_places_at(bare, row, dir, line, start, found)?;
         from = start + 1;
     }

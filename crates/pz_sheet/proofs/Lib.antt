@@ -5,3 +5,4 @@ pub mod LoadLemmas
 pub mod SameLemmas
 pub mod HeadingLemmas
 pub mod ChangeLemmas
+pub mod RunLemmas

@@ -9,3 +9,4 @@ pub mod Pushing
 pub mod Loading
 pub mod Rewriting
 pub mod Searching
+pub mod Runs

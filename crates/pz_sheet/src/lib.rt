@@ -18,6 +18,7 @@ mod notes;
 mod place;
 mod pushing;
 mod reading;
+mod runs;
 mod sameness;
 mod searching;
 

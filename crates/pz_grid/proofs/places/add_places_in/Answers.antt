@@ -1,10 +1,10 @@
-use Rattle.std.proofs.Common.{◌<◌, ◌≡◌, ◌++◌, List, length, get_or, arith, ap, sym, ◌∙◌, subst, Err}
+use Rattle.std.proofs.Common.{◌<◌, ◌≡◌, ◌++◌, List, length, arith, ap, sym, ◌∙◌, subst, Err}
 use Rattle.std.proofs.lemmas.Result.{err_from_is_err_and}
 use Rattle.pz_game.specs.declared.pattern.Item.{Item}
 use Rattle.pz_grid.specs.declared.places.TheConstants.{MATCH_LIMIT}
 use Rattle.pz_grid.specs.declared.places.GridFault.TheVariants.{MatchLimit}
 use Rattle.pz_grid.specs.declared.places.Place.{Place}
-use Rattle.pz_grid.specs.Places.{line_length}
+use Rattle.pz_grid.specs.Places.{line_length, starts_with}
 use Rattle.pz_grid.proofs.FoundLemmas.{gather_step, gather_too_long, found_at, found_in_all}
 use Rattle.pz_grid.proofs.StartLemmas.{none_at, gather_skip}
 use Rattle.pz_grid.proofs.places.add_places_in.Goals as goal
@@ -14,15 +14,15 @@ returns-in_err-add_places_at-clause-limit c = λ is.
     let p = err_from_is_err_and c.from_residual.result c.from_residual.ensures.1 in
     let grid = c.args.bare.now.grid in
     let row = c.args.row.now in
-    let h = found_at grid row c.args.dir c.args.line in
-    let first = c.index-cells-0.result in
-    let read : first ≡ get_or row.cells 0 first = c.index-cells-0.is ∙ ap (λ (xs : List (List Item)). get_or xs 0 first) c.cells.ensures.cells in
-    let skipped = gather_skip h c.starts.from c.in-Some.start c.in-Some.ensures.0 (λ k low high. none_at grid row c.args.dir c.args.line k first c.cells.ensures.row read (c.in-Some.ensures.3 k low high)) in
+    let dir = c.args.dir in
+    let line = c.args.line in
+    let h = found_at grid row dir line in
+    let skipped = gather_skip h c.starts.from c.in-Some.start c.in-Some.ensures.0 (λ k low high. none_at grid row dir line k (sym (ap (λ (head : List (List Item)). starts_with grid dir line head k) c.head_of-head.ensures.cells) ∙ c.in-Some.ensures.3 k low high)) in
     let added = c.starts.invariant.added ∙ ap (λ (xs : List Place). c.args.found.now.items ++ xs) (sym skipped) in
     let why : p.0 ≡ MatchLimit = (let both = sym p.1 ∙ is in cc) in
     let too_long = c.in_err-add_places_at.ensures.limit (ap Err (sym p.2 ∙ why)) in
-    let t = gather_too_long h c.in-Some.start (line_length grid c.args.dir) MATCH_LIMIT c.args.found.now.items c.starts.found.items added c.in-Some.ensures.1 too_long in
-    subst (λ (xs : List Place). MATCH_LIMIT < length (c.args.found.now.items ++ xs)) (found_in_all grid row c.args.dir c.args.line) t
+    let t = gather_too_long h c.in-Some.start (line_length grid dir) MATCH_LIMIT c.args.found.now.items c.starts.found.items added c.in-Some.ensures.1 too_long in
+    subst (λ (xs : List Place). MATCH_LIMIT < length (c.args.found.now.items ++ xs)) (found_in_all grid row dir line) t
 
 pub overflow_add-from : goal.overflow_add-from
 overflow_add-from c = omega (arith, c.in-Some.ensures.1, c.line_length-length.ensures.value, c.line_length-length.ensures.small)
@@ -31,10 +31,10 @@ pub starts-preserved : goal.starts-preserved
 starts-preserved c =
     let grid = c.args.bare.now.grid in
     let row = c.args.row.now in
-    let h = found_at grid row c.args.dir c.args.line in
-    let first = c.index-cells-0.result in
-    let read : first ≡ get_or row.cells 0 first = c.index-cells-0.is ∙ ap (λ (xs : List (List Item)). get_or xs 0 first) c.cells.ensures.cells in
-    let skipped = gather_skip h c.starts.from c.in-Some.start c.in-Some.ensures.0 (λ k low high. none_at grid row c.args.dir c.args.line k first c.cells.ensures.row read (c.in-Some.ensures.3 k low high)) in
+    let dir = c.args.dir in
+    let line = c.args.line in
+    let h = found_at grid row dir line in
+    let skipped = gather_skip h c.starts.from c.in-Some.start c.in-Some.ensures.0 (λ k low high. none_at grid row dir line k (sym (ap (λ (head : List (List Item)). starts_with grid dir line head k) c.head_of-head.ensures.cells) ∙ c.in-Some.ensures.3 k low high)) in
     let added = c.starts.invariant.added ∙ ap (λ (xs : List Place). c.args.found.now.items ++ xs) (sym skipped) in
     record {
       added = gather_step h c.in-Some.start c.args.found.now.items c.starts.found.items c.add_places_at.new.found.items added c.in_ok-add_places_at.ensures.added;
@@ -46,8 +46,8 @@ pub returns-clause-added : goal.returns-clause-added
 returns-clause-added c =
     let grid = c.args.bare.now.grid in
     let row = c.args.row.now in
-    let h = found_at grid row c.args.dir c.args.line in
-    let first = c.index-cells-0.result in
-    let read : first ≡ get_or row.cells 0 first = c.index-cells-0.is ∙ ap (λ (xs : List (List Item)). get_or xs 0 first) c.cells.ensures.cells in
-    let skipped = gather_skip h c.starts.from (line_length grid c.args.dir) c.starts.invariant.within (λ k low high. none_at grid row c.args.dir c.args.line k first c.cells.ensures.row read (c.in_default.ensures k low high)) in
-    c.starts.invariant.added ∙ ap (λ (xs : List Place). c.args.found.now.items ++ xs) (sym skipped ∙ found_in_all grid row c.args.dir c.args.line)
+    let dir = c.args.dir in
+    let line = c.args.line in
+    let h = found_at grid row dir line in
+    let skipped = gather_skip h c.starts.from (line_length grid dir) c.starts.invariant.within (λ k low high. none_at grid row dir line k (sym (ap (λ (head : List (List Item)). starts_with grid dir line head k) c.head_of-head.ensures.cells) ∙ c.in_default.ensures k low high)) in
+    c.starts.invariant.added ∙ ap (λ (xs : List Place). c.args.found.now.items ++ xs) (sym skipped ∙ found_in_all grid row dir line)

@@ -29,8 +29,8 @@ holds-requires g c =
               (
                 c.self.invariant.movement_room,
                 (
-                subst (λ (layers : List ℕ). AreOf layers c.args.pattern.now) (sym same) of_game,
-                subst (λ (layers : List ℕ). AreLawful layers cell.objects cell.movement) (sym same) (sound_at _ a.layers.items a.cells.items at cell c.self.invariant.sound within c.index.ensures),
+                  subst (λ (layers : List ℕ). AreOf layers c.args.pattern.now) (sym same) of_game,
+                  subst (λ (layers : List ℕ). AreLawful layers cell.objects cell.movement) (sym same) (sound_at _ a.layers.items a.cells.items at cell c.self.invariant.sound within c.index.ensures),
                 ),
               ),
             ),

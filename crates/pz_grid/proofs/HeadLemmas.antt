@@ -1,0 +1,63 @@
+-- A row's cells before its gap stand one after another.
+use Rattle.std.proofs.Common.{◌≡◌, ℕ, zero, suc, ◌+◌, ◌<◌, ◌≤◌, List, [], ◌∷◌, Option, Some, None, Bool, true, ◌&&◌, cond, length, get_or, take, arith, ap, sym, ◌∙◌, refl, subst, filter, length-take}
+use Rattle.std.specs.Prelude.{All, nat_le}
+use Rattle.std.specs.List.{list_all, enumerate_from}
+use Rattle.std.proofs.lemmas.Bool.{leb-true, false_from_ne_true}
+use Rattle.std.proofs.lemmas.List.{get_or-take, get_or_default}
+use Rattle.pz_game.specs.declared.direction.Dir.{Dir}
+use Rattle.pz_game.specs.declared.pattern.Item.{Item}
+use Rattle.pz_game.specs.Pattern.{RuleRow}
+use Rattle.pz_sheet.specs.Grid.{Grid}
+use Rattle.pz_sheet.specs.Runs.{along, holds_at, holds_along, run_holds}
+use Rattle.pz_sheet.proofs.RunLemmas.{enumerate_more, enumerate_all}
+use Rattle.pz_grid.specs.declared.places.Place.{Place}
+use Rattle.pz_grid.specs.Places.{distance, cell_holds, row_holds, cells_before, head_of}
+use Rattle.pz_grid.proofs.PlaceLemmas.{holds_each_cell}
+
+-- tests that agree
+all_alike : {X : Type 0} (p q : ℕ × X → Bool) (xs : List X) (n : ℕ) → ((k : ℕ) (x : X) → p (k, x) ≡ q (k, x)) → list_all p (enumerate_from n xs) ≡ list_all q (enumerate_from n xs)
+all_alike p q [] n h = refl
+all_alike p q (x ∷ xs) n h = ap (λ b. b && list_all p (enumerate_from (n + 1) xs)) (h n x) ∙ ap (λ b. q (n, x) && b) (all_alike p q xs (n + 1) h)
+
+-- the cells of a row without a gap stand one after another
+pub row_is_run : (grid : Grid) (row : RuleRow) (dir : Dir) (place : Place) → row.gap_at ≡ None → row_holds grid row dir place ≡ run_holds grid dir place.x place.y row.cells
+row_is_run grid row dir place none = all_alike (cell_holds grid row dir place) (holds_along grid dir place.x place.y) row.cells 0 (λ k pattern. ap (λ (gap_at : Option ℕ). holds_at grid pattern (along grid dir place.x place.y (distance gap_at place.gap k))) none)
+
+-- what holds of each element holds of all
+all_from_each : {X : Type 0} (p : ℕ × X → Bool) (xs : List X) (d : X) → ((k : ℕ) → k < length xs → p (k, get_or xs k d) ≡ true) → list_all p (enumerate_from 0 xs) ≡ true
+all_from_each p xs d each = enumerate_all p xs (length xs) (omega arith) (up_to (length xs) (omega arith)) where
+  up_to : (n : ℕ) → n ≤ length xs → list_all p (take n (enumerate_from 0 xs)) ≡ true
+  up_to zero low = refl
+  up_to (suc n) low =
+      let here = get_or xs n d in
+      let within : n < length xs = omega (arith, low) in
+      ap (λ (k : ℕ). list_all p (take k (enumerate_from 0 xs))) (let e : suc n ≡ n + 1 = omega arith in e)
+      ∙ enumerate_more p xs n here within (get_or_default xs n d here within) (up_to n (omega (arith, low))) (each n within)
+
+-- the cells before a gap, which are as far from the start as they are from each other
+near : (at gap k : ℕ) → k < at → distance (Some at) gap k ≡ k
+near at gap k before = ap (λ (b : Bool). cond b (k + gap) k) (false_from_ne_true (nat_le at k) (λ e. let low = leb-true at k e in absurd (omega (arith, low, before))))
+
+in_both : (at k : ℕ) (cells : List (List Item)) → k < length (take at cells) → (k < at) × (k < length cells)
+in_both at k cells within = (omega (arith, within, length-take at cells), omega (arith, within, length-take at cells))
+
+-- where a row holds the cells before its gap do
+pub head_from_row : (grid : Grid) (row : RuleRow) (dir : Dir) (place : Place) → row_holds grid row dir place ≡ true → run_holds grid dir place.x place.y (head_of row) ≡ true
+head_from_row grid row dir place h = by_gap row.gap_at refl where
+  by_gap : (gap_at : Option ℕ) → row.gap_at ≡ gap_at → run_holds grid dir place.x place.y (cells_before gap_at row.cells) ≡ true
+  by_gap None e = sym (row_is_run grid row dir place e) ∙ h
+  by_gap (Some at) e = all_from_each (holds_along grid dir place.x place.y) (take at row.cells) [] (λ k within.
+      let low = in_both at k row.cells within in
+      ap (λ (pattern : List Item). holds_along grid dir place.x place.y (k, pattern)) (get_or-take at row.cells k [] low.0)
+      ∙ ap (λ (steps : ℕ). holds_at grid (get_or row.cells k []) (along grid dir place.x place.y steps)) (sym (ap (λ (o : Option ℕ). distance o place.gap k) e ∙ near at place.gap k low.0))
+      ∙ holds_each_cell grid row dir place k low.1 h)
+
+-- what holds of all cells holds of those before the gap
+pub all_before : (P : List Item → Type 0) (row : RuleRow) → All P row.cells → All P (head_of row)
+all_before P row all = by_gap row.gap_at where
+  by_gap : (gap_at : Option ℕ) → All P (cells_before gap_at row.cells)
+  by_gap None = all
+  by_gap (Some at) = λ k d within. let low = in_both at k row.cells within in subst P (sym (get_or-take at row.cells k d low.0)) (all k d low.1)
+
+pub filter_one : {X : Type 0} (p : X → Bool) (x : X) → p x ≡ true → filter p (x ∷ []) ≡ x ∷ []
+filter_one {X} p x e = ap (λ (b : Bool). let none : List X = [] in cond b (x ∷ none) none) e

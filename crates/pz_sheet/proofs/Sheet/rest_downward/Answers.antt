@@ -1,0 +1,27 @@
+use Rattle.std.proofs.Common.{arith, sym, ◌∙◌}
+use Rattle.pz_game.specs.declared.direction.Dir.TheVariants.{Down}
+use Rattle.pz_sheet.specs.Runs.{holds_along}
+use Rattle.pz_sheet.proofs.RunLemmas.{enumerate_more, enumerate_fails, enumerate_all, down_in, down_past}
+use Rattle.pz_sheet.proofs.Sheet.rest_downward.Goals as goal
+
+pub returns-then-patterns-height : goal.returns-then-patterns-height
+returns-then-patterns-height g c = sym (down_past c.args.self.now.grid c.args.x c.args.y c.args.patterns.now c.requires.some (omega (arith, c.if-patterns-height.true, c.height.ensures.height, c.requires.y_in)))
+
+pub returns-then-not-holds : goal.returns-then-not-holds
+returns-then-not-holds g c =
+    let grid = c.args.self.now.grid in
+    let pattern = c.index-patterns-index.result in
+    let i = c.loop-index.index in
+    let here = down_in grid pattern c.args.x c.args.y i c.requires.x_in (omega (arith, c.if-patterns-height.false, c.loop-index-test.true, c.height.ensures.height, c.requires.y_in)) ∙ sym c.holds.ensures ∙ c.if-not-holds.true in
+    sym (enumerate_fails (holds_along grid Down c.args.x c.args.y) c.args.patterns.now i pattern c.loop-index-test.true c.index-patterns-index.is here)
+
+pub loop-index-preserved : goal.loop-index-preserved
+loop-index-preserved g c =
+    let grid = c.args.self.now.grid in
+    let pattern = c.index-patterns-index.result in
+    let i = c.loop-index.index in
+    let here = down_in grid pattern c.args.x c.args.y i c.requires.x_in (omega (arith, c.if-patterns-height.false, c.loop-index-test.true, c.height.ensures.height, c.requires.y_in)) ∙ sym c.holds.ensures ∙ c.if-not-holds.false in
+    enumerate_more (holds_along grid Down c.args.x c.args.y) c.args.patterns.now i pattern c.loop-index-test.true c.index-patterns-index.is c.loop-index.invariant here
+
+pub returns : goal.returns
+returns g c = sym (enumerate_all (holds_along c.args.self.now.grid Down c.args.x c.args.y) c.args.patterns.now c.loop-index.index (omega (arith, c.loop-index-test.false)) c.loop-index.invariant)
