@@ -47,7 +47,7 @@ impl<const N: usize> Cell<N> {
     {
         // (brings the proof how many words there are)
         let _ = self.word_count();
-        words::next(&self.movement, 0).is_none()
+        words::is_disjoint(&self.movement, &self.movement)
     }
 
     /// The object's piece, if it stands in the cell. The layers are those of the game's objects.

@@ -5,3 +5,5 @@ pub mod LoadLemmas
 pub mod SameLemmas
 pub mod HeadingLemmas
 pub mod ChangeLemmas
+pub mod LineLemmas
+pub mod StillLemmas
