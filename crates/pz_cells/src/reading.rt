@@ -45,9 +45,7 @@ impl<const N: usize> Cell<N> {
         requires short { N ≤ 4 }
         ensures { result ≡ true → (number : ℕ) → member self.now.movement number ≡ false }
     {
-        // (brings the proof how many words there are)
-        let _ = self.word_count();
-        words::next(&self.movement, 0).is_none()
+        words::is_empty(&self.movement)
     }
 
     /// The object's piece, if it stands in the cell. The layers are those of the game's objects.

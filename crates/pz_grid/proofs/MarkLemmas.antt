@@ -5,22 +5,20 @@ use Rattle.std.specs.List.{list_any, range_with_len}
 use Rattle.std.proofs.lemmas.Bool.{cases_eq, cases_lt, cases_order, eqb-true, or_cases, or_left, or_right}
 use Rattle.std.proofs.lemmas.Nat.{mul-add-lt}
 use Rattle.std.proofs.lemmas.List.{length-set, get_or_past, get_or-set_same, get_or-set_other}
-use Rattle.std.proofs.lemmas.List.Folds.{list_any-append}
 use Rattle.pz_sets.specs.Sets.{member}
 use Rattle.pz_game.specs.declared.direction.Dir.{Dir}
 use Rattle.pz_game.specs.declared.pattern.Item.{Item}
 use Rattle.pz_cells.specs.declared.piece.Piece.{Piece}
 use Rattle.pz_cells.specs.Cell.{still_place}
 use Rattle.pz_cells.specs.Standing.{standing}
-use Rattle.pz_sheet.specs.Presence.{is_in}
+use Rattle.pz_sheet.specs.Presence.{is_in, in_row, in_column}
 use Rattle.pz_sheet.specs.Grid.{Grid, LevelState, cell_at, with_place}
 use Rattle.pz_sheet.specs.Movement.{stilled}
 use Rattle.pz_sheet.specs.Pushing.{pushed_place, pushed, is_one_of}
 use Rattle.pz_game.specs.Items.{names, names_object, forbids_object, placed_on, is_on, tells_of}
 use Rattle.pz_cells.specs.Rewriting.{kept, replaced, rewritten_place, rewritten_cell}
 use Rattle.pz_sheet.specs.Rewriting.{with_rewritten}
-use Rattle.pz_grid.specs.Marks.{in_row, in_column, is_marked, IsMarked, IsMarkedAt}
-use Rattle.pz_grid.proofs.GatherLemmas.{range_more}
+use Rattle.pz_grid.specs.Marks.{is_marked, IsMarked, IsMarkedAt}
 
 -- ---- a test over numbers
 pub any_in : (p : ℕ → Bool) (a n k : ℕ) → a ≤ k → k < a + n → p k ≡ true → list_any p (range_with_len a n) ≡ true
@@ -42,13 +40,6 @@ passes_from p a (suc n) e = elim (or_cases (p a) (list_any p (range_with_len (a 
   | inl here ↦ record { at = a; within = omega arith; holds = here }
   | inr rest ↦ (let f = passes_from p (a + 1) n rest in record { at = f.at; within = omega (arith, f.within); holds = f.holds })
 ]
-
-pub any_more : (p : ℕ → Bool) (n : ℕ) → list_any p (range_with_len 0 (n + 1)) ≡ (list_any p (range_with_len 0 n) || p n)
-any_more p n =
-    ap (list_any p) (range_more 0 n) ∙ list_any-append p (range_with_len 0 n) ((0 + n) ∷ []) ∙ ap (λ (b : Bool). list_any p (range_with_len 0 n) || b) (or_no (p (0 + n)) ∙ ap p (let e : 0 + n ≡ n = omega arith in e)) where
-      or_no : (b : Bool) → (b || false) ≡ b
-      or_no true = refl
-      or_no false = refl
 
 -- ---- which objects are in a cell
 pub is_in_cons : (first : Option Piece) (places : List (Option Piece)) (object : ℕ) → is_in (first ∷ places) object ≡ (is_in (first ∷ []) object || is_in places object)

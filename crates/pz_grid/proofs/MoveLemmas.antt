@@ -5,12 +5,12 @@ use Rattle.std.proofs.lemmas.Bool.{and_parts, eqb-true, or_cases}
 use Rattle.pz_game.specs.declared.pattern.Item.{Item}
 use Rattle.pz_cells.specs.declared.piece.Piece.{Piece}
 use Rattle.pz_cells.specs.Cell.{still_piece, still_place}
-use Rattle.pz_sheet.specs.Presence.{is_in}
+use Rattle.pz_sheet.specs.Presence.{is_in, in_row, in_column}
 use Rattle.pz_sheet.specs.Grid.{Grid, LevelState, place_at, with_place}
 use Rattle.pz_grid.specs.Movement.{in_pass, spot, heading_goal}
 use Rattle.pz_sheet.specs.Movement.{stilled}
 use Rattle.pz_game.specs.Items.{names, names_object}
-use Rattle.pz_grid.specs.Marks.{in_row, in_column, is_marked, IsMore, IsWidened, IsWidenedBy}
+use Rattle.pz_grid.specs.Marks.{is_marked, IsMore, IsWidened, IsWidenedBy}
 use Rattle.pz_grid.specs.Staying.{IsStill, KeepsStill, IsMove}
 use Rattle.pz_grid.proofs.StayLemmas.{still-moved_to}
 use Rattle.pz_grid.proofs.MarkLemmas.{in_row_from, in_column_from, is_in_at, is_in_cells, piece_is_in, still_same}

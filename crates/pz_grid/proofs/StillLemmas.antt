@@ -1,11 +1,14 @@
--- A cell in which nothing heads anywhere is left as it is by a pass.
-use Rattle.std.proofs.Common.{◌≡◌, ℕ, zero, suc, List, [], ◌∷◌, Bool, Option, Some, None, map, get_or, refl, ap, ◌∙◌}
+-- A cell in which nothing heads anywhere is left as it is by a pass, and so is a column of such cells.
+use Rattle.std.proofs.Common.{◌≡◌, ℕ, zero, suc, ◌+◌, ◌<◌, List, [], ◌∷◌, Bool, Option, Some, None, map, get_or, arith, refl, ap, ◌∙◌}
+use Rattle.std.specs.List.{range_with_len}
 use Rattle.std.specs.Prelude.{fold}
 use Rattle.pz_game.specs.declared.direction.Dir.{Dir}
 use Rattle.pz_cells.specs.declared.piece.Piece.{Piece}
 use Rattle.pz_cells.specs.Cell.{still_piece, still_place}
 use Rattle.pz_sheet.specs.Grid.{Grid, cell_at, place_at}
-use Rattle.pz_grid.specs.Movement.{Pass, Spot, spot, in_pass, heading_goal, moved_to, move_place, move_at}
+use Rattle.pz_grid.specs.Movement.{Pass, Spot, spot, in_pass, heading_goal, moved_to, move_place, move_at, spots_at}
+use Rattle.pz_grid.proofs.GatherLemmas.{gather}
+use Rattle.pz_grid.proofs.MovementLemmas.{fold_gather_more}
 
 still_at : (cell : List (Option Piece)) (layer : ℕ) → get_or (map still_place cell) layer None ≡ still_place (get_or cell layer None)
 still_at [] layer = refl
@@ -26,3 +29,14 @@ all_stay grid moved x y (layer ∷ layers) is =
     let here : place_at grid x y layer ≡ still_place (place_at grid x y layer) = ap (λ (cell : List (Option Piece)). get_or cell layer None) is ∙ still_at (cell_at grid x y) layer in
     let first : move_at (in_pass grid moved) (spot x y layer) ≡ in_pass grid moved = stays (in_pass grid moved) (spot x y layer) (place_at grid x y layer) here in
     ap (λ (pass : Pass). fold move_at pass (map (spot x y) layers)) first ∙ all_stay grid moved x y layers is
+
+pub column_stays : (grid : Grid) (moved : Bool) (x depth n : ℕ) → ((y : ℕ) → y < n → cell_at grid x y ≡ map still_place (cell_at grid x y))
+    → fold move_at (in_pass grid moved) (gather (spots_at depth x) n) ≡ in_pass grid moved
+column_stays grid moved x depth zero still = refl
+column_stays grid moved x depth (suc n) still =
+    let start = in_pass grid moved in
+    let cell = spots_at depth x in
+    ap (λ (k : ℕ). fold move_at start (gather cell k)) (let e : suc n ≡ n + 1 = omega arith in e)
+    ∙ fold_gather_more move_at start cell n
+    ∙ ap (λ (pass : Pass). fold move_at pass (cell n)) (column_stays grid moved x depth n (λ y below. still y (omega (arith, below))))
+    ∙ all_stay grid moved x n (range_with_len 0 depth) (still n (omega arith))

@@ -6,7 +6,7 @@ use Rattle.pz_game.specs.declared.pattern.Word.TheVariants.{Present, Absent}
 use Rattle.pz_game.specs.Pattern.{RuleRow}
 use Rattle.pz_sheet.specs.Grid.{LevelState}
 use Rattle.pz_grid.specs.Places.{places}
-use Rattle.pz_grid.specs.Marks.{in_row, in_column}
+use Rattle.pz_sheet.specs.Presence.{in_row, in_column}
 use Rattle.pz_grid.specs.Admitted.{admitted, searches_line, searches_level, start_count}
 use Rattle.pz_grid.proofs.WorkedPlaces.{bare, player, wall, level, item, only, at, row}
 

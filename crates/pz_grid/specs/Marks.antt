@@ -1,19 +1,11 @@
 -- The marks of a level: for each row and each column a set of objects that holds at least those that stand there.
 use Rattle.std.specs.Prelude.{◌≡◌, ℕ, ◌<◌, List, [], Bool, true, ◌&&◌, ◌||◌, ◌⊎◌, nat_eq, length, slice_index_or}
-use Rattle.std.specs.List.{list_any, range_with_len}
+use Rattle.std.specs.List.{list_any}
 use Rattle.pz_sets.specs.Sets.{member}
 use Rattle.pz_game.specs.Pattern.{RuleRow}
-use Rattle.pz_sheet.specs.Grid.{Grid, LevelState, cell_at}
-use Rattle.pz_sheet.specs.Presence.{is_in}
+use Rattle.pz_sheet.specs.Grid.{LevelState}
+use Rattle.pz_sheet.specs.Presence.{in_row, in_column}
 use Rattle.pz_game.specs.Items.{names_object}
-
--- an object stands in a row
-abbrev pub in_row : Grid → ℕ → ℕ → Bool
-in_row grid line object = list_any (λ x. is_in (cell_at grid x line) object) (range_with_len 0 grid.width)
-
--- an object stands in a column
-abbrev pub in_column : Grid → ℕ → ℕ → Bool
-in_column grid line object = list_any (λ y. is_in (cell_at grid line y) object) (range_with_len 0 grid.height)
 
 -- an object is in the set of a line
 abbrev pub is_marked : List (List ℕ) → ℕ → ℕ → Bool

@@ -8,7 +8,7 @@ ghost use Rattle.pz_cells.specs.Cell.{IsOnLayer, still_place};
 ghost use Rattle.pz_sheet.specs.Grid.{IsLawful, cell_at, place_at, with_place};
 ghost use Rattle.pz_sheet.specs.Loading.{drawn, filled};
 ghost use Rattle.pz_sheet.specs.Movement.{stilled};
-ghost use Rattle.pz_sheet.specs.Presence.{is_in, cell_of};
+ghost use Rattle.pz_sheet.specs.Presence.{is_in, cell_of, in_row, in_column};
 ghost use Rattle.pz_sheet.specs.Pushing.{pushed};
 ghost use Rattle.pz_sheet.specs.Rewriting.{with_rewritten, changes};
 ghost use Rattle.pz_sheet.specs.Runs.{runs_in_row, runs_in_column};
@@ -397,6 +397,42 @@ impl BareLevel {
             Sized::Small(sheet) => sheet.fill(layer, piece),
             Sized::Middle(sheet) => sheet.fill(layer, piece),
             Sized::Large(sheet) => sheet.fill(layer, piece),
+        }
+    }
+
+    /// The objects that stand in a row of the map.
+    pub(crate) fn row_objects(&self, y: u32) -> NumberSet
+        requires { y < self.now.grid.height }
+        ensures { (object : ℕ) → member result object ≡ in_row self.now.grid y object }
+    {
+        match &self.sheet {
+            Sized::Small(sheet) => sheet.row_objects(y),
+            Sized::Middle(sheet) => sheet.row_objects(y),
+            Sized::Large(sheet) => sheet.row_objects(y),
+        }
+    }
+
+    /// The objects that stand in a column of the map.
+    pub(crate) fn column_objects(&self, x: u32) -> NumberSet
+        requires { x < self.now.grid.width }
+        ensures { (object : ℕ) → member result object ≡ in_column self.now.grid x object }
+    {
+        match &self.sheet {
+            Sized::Small(sheet) => sheet.column_objects(x),
+            Sized::Middle(sheet) => sheet.column_objects(x),
+            Sized::Large(sheet) => sheet.column_objects(x),
+        }
+    }
+
+    /// Whether no heading is noted for a column of the map: where that is true, nothing in it heads anywhere.
+    pub(crate) fn is_column_still(&self, x: u32) -> bool
+        requires { x < self.now.grid.width }
+        ensures { result ≡ true → (y : ℕ) → y < self.now.grid.height → cell_at self.now.grid x y ≡ map still_place (cell_at self.now.grid x y) }
+    {
+        match &self.sheet {
+            Sized::Small(sheet) => sheet.is_column_still(x),
+            Sized::Middle(sheet) => sheet.is_column_still(x),
+            Sized::Large(sheet) => sheet.is_column_still(x),
         }
     }
 }

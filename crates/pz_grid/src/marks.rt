@@ -3,10 +3,10 @@
 ghost use Rattle.std.specs.Prelude.{◌≡◌, ◌≤◌, ℕ, ◌<◌, ◌&&◌, ◌||◌, Bool, All, IfOk, true, length, nat_eq, Option, IfSome, [], ◌∷◌};
 ghost use Rattle.pz_sets.specs.Sets.{member};
 ghost use Rattle.pz_sets.specs.declared.set.TheConstants.{CAPACITY};
-ghost use Rattle.pz_sheet.specs.Grid.{IsLawful, cell_at};
-ghost use Rattle.pz_sheet.specs.Presence.{is_in};
+ghost use Rattle.pz_sheet.specs.Grid.{IsLawful};
+ghost use Rattle.pz_sheet.specs.Presence.{in_row, in_column};
 ghost use Rattle.pz_game.specs.Items.{names, names_object};
-ghost use Rattle.pz_grid.specs.Marks.{in_row, in_column, is_marked, IsExact, IsMore};
+ghost use Rattle.pz_grid.specs.Marks.{is_marked, IsExact, IsMore};
 
 use crate::Level;
 use crate::bare::BareLevel;
@@ -94,7 +94,7 @@ fn mark_rows(bare: &BareLevel, marks: &mut Vec<NumberSet>)
     ensures exact { (line object : ℕ) → line < bare.now.grid.height → is_marked marks.new.items line object ≡ in_row bare.now.grid line object }
 {
     for line in 0..bare.height() {
-        marks[line as usize] = row_set(bare, line);
+        marks[line as usize] = bare.row_objects(line);
     }
 }
 
@@ -105,41 +105,8 @@ fn mark_columns(bare: &BareLevel, marks: &mut Vec<NumberSet>)
     ensures exact { (line object : ℕ) → line < bare.now.grid.width → is_marked marks.new.items line object ≡ in_column bare.now.grid line object }
 {
     for line in 0..bare.width() {
-        marks[line as usize] = column_set(bare, line);
+        marks[line as usize] = bare.column_objects(line);
     }
-}
-
-/// The objects that stand in a row.
-fn row_set(bare: &BareLevel, line: u32) -> NumberSet
-    requires { line < bare.now.grid.height }
-    ensures { (object : ℕ) → member result object ≡ in_row bare.now.grid line object }
-{
-    let mut set = NumberSet::empty();
-    for x in 0..bare.width() {
-        add_cell(bare, x, line, &mut set);
-    }
-    set
-}
-
-/// The objects that stand in a column.
-fn column_set(bare: &BareLevel, line: u32) -> NumberSet
-    requires { line < bare.now.grid.width }
-    ensures { (object : ℕ) → member result object ≡ in_column bare.now.grid line object }
-{
-    let mut set = NumberSet::empty();
-    for y in 0..bare.height() {
-        add_cell(bare, line, y, &mut set);
-    }
-    set
-}
-
-/// Adds the objects of a cell.
-fn add_cell(bare: &BareLevel, x: u32, y: u32, set: &mut NumberSet)
-    requires x_in { x < bare.now.grid.width }
-    requires y_in { y < bare.now.grid.height }
-    ensures { (object : ℕ) → member set.new object ≡ (is_in (cell_at bare.now.grid x y) object || member set.old object) }
-{
-    *set = bare.objects_at(x, y).union(set);
 }
 
 /// The objects of some sets.

@@ -1,10 +1,11 @@
 // The movement of pieces that head somewhere.
 
-ghost use Rattle.std.specs.Prelude.{◌≡◌, ◌<◌, IfSome, fold, map, nat_eq, true};
+ghost use Rattle.std.specs.Prelude.{◌≡◌, ℕ, ◌<◌, IfSome, fold, map, nat_eq, true};
 ghost use Rattle.pz_cells.specs.Cell.{IsOnLayer, still_place};
 ghost use Rattle.pz_sets.specs.declared.set.TheConstants.{CAPACITY};
 ghost use Rattle.pz_sheet.specs.Grid.{cell_at, IsLawful, IsOfGame, SameSize, place_at, with_place};
-ghost use Rattle.pz_grid.specs.Marks.{in_row, in_column, IsMarked, IsMarkedAt, IsWidened};
+ghost use Rattle.pz_sheet.specs.Presence.{in_row, in_column};
+ghost use Rattle.pz_grid.specs.Marks.{IsMarked, IsMarkedAt, IsWidened};
 ghost use Rattle.pz_grid.specs.Staying.{IsMove};
 ghost use Rattle.pz_grid.specs.Movement.{neighbour, heading_goal, spot, in_pass, move_at, spots_at, spots_in, pass_of, moving, settle, resolved};
 ghost use Rattle.pz_sheet.specs.Movement.{stilled};
@@ -106,6 +107,14 @@ impl Level {
         self.bare.is_still(x, y)
     }
 
+    /// Whether no heading is noted for a column of the map: where that is true, nothing in it heads anywhere.
+    fn is_column_still(&self, x: u32) -> bool
+        requires { x < self.now.grid.width }
+        ensures { result ≡ true → (y : ℕ) → y < self.now.grid.height → cell_at self.now.grid x y ≡ map still_place (cell_at self.now.grid x y) }
+    {
+        self.bare.is_column_still(x)
+    }
+
     /// Puts a piece that is marked, or nothing, on a layer of a position of the map.
     fn put(&mut self, x: u32, y: u32, layer: usize, place: Option<Piece>)
         requires x_in { x < self.old.grid.width }
@@ -178,6 +187,9 @@ impl Level {
         ensures size { SameSize self.old.grid self.new.grid }
         ensures marks { IsMove self.old self.new }
     {
+        if self.is_column_still(x) {
+            return moved_before;
+        }
         let mut moved = moved_before;
         for y in 0..self.height() {
             moved = self.pass_at(x, y, moved);

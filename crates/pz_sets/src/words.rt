@@ -49,6 +49,18 @@ pub fn has_subset(words: &[u128], wanted: &[u128]) -> bool
     true
 }
 
+/// Whether the set has no number.
+pub fn is_empty(words: &[u128]) -> bool
+    ensures { IsTrue result ↔ ((number : ℕ) → member words.now number ≡ false) }
+{
+    for index in 0..words.len() {
+        if !word::is_empty(words[index]) {
+            return false;
+        }
+    }
+    true
+}
+
 /// Whether a set has each number of a second and none of a third, which have no number beyond the words of the first.
 pub fn meets(words: &[u128], wanted: &[u128], unwanted: &[u128]) -> bool
     requires wanted { (number : ℕ) → member wanted.now number ≡ true → number / 128 < length words.now }

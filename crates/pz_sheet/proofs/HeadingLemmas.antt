@@ -19,7 +19,7 @@ use Rattle.pz_sheet.specs.Searching.{HoldsSomewhere, HoldsInRow, HoldsInColumn}
 use Rattle.pz_sheet.specs.Seen.{HeadingSets, HeadsWithin, grid_of, IsStored}
 use Rattle.pz_sheet.proofs.SheetLemmas.{seen_at}
 
-no_cell : (N : ℕ) → Cell N
+pub no_cell : (N : ℕ) → Cell N
 no_cell N = record { objects = []; movement = [] }
 
 -- a cell of some number holds, and heads within a set

@@ -6,3 +6,5 @@ pub mod SameLemmas
 pub mod HeadingLemmas
 pub mod ChangeLemmas
 pub mod RunLemmas
+pub mod LineLemmas
+pub mod StillLemmas

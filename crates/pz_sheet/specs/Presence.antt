@@ -1,8 +1,8 @@
--- Which objects are in a cell.
+-- Which objects are in a cell, in a row and in a column.
 use Rattle.std.specs.Prelude.{ℕ, Bool, List, [], Option, is_some, slice_index_or}
-use Rattle.std.specs.List.{list_any, list_all}
+use Rattle.std.specs.List.{list_any, list_all, range_with_len}
 use Rattle.pz_cells.specs.declared.piece.Piece.{Piece}
-use Rattle.pz_sheet.specs.Grid.{Grid}
+use Rattle.pz_sheet.specs.Grid.{Grid, cell_at}
 use Rattle.pz_cells.specs.Standing.{standing}
 
 -- an object is in a cell
@@ -20,3 +20,11 @@ holds_each objects cell = list_all (is_in cell) objects
 -- the cell of a number, counted row by row
 abbrev pub cell_of : Grid → ℕ → List (Option Piece)
 cell_of grid index = slice_index_or grid.cells index []
+
+-- an object stands in a row
+abbrev pub in_row : Grid → ℕ → ℕ → Bool
+in_row grid line object = list_any (λ x. is_in (cell_at grid x line) object) (range_with_len 0 grid.width)
+
+-- an object stands in a column
+abbrev pub in_column : Grid → ℕ → ℕ → Bool
+in_column grid line object = list_any (λ y. is_in (cell_at grid line y) object) (range_with_len 0 grid.height)

@@ -1,5 +1,5 @@
 -- A level in words, seen by layers.
-use Rattle.std.specs.Prelude.{◌≡◌, ℕ, ◌*◌, ◌/◌, ◌%◌, ◌<◌, ◌≤◌, List, [], map, Option, length, nat_eq, ◌&&◌, ◌||◌, slice_index_or, All}
+use Rattle.std.specs.Prelude.{◌≡◌, ℕ, ◌*◌, ◌/◌, ◌%◌, ◌<◌, ◌≤◌, List, [], map, Option, false, length, nat_eq, ◌&&◌, ◌||◌, slice_index_or, All}
 use Rattle.pz_sets.specs.Sets.{member, AreSame, IsWithin}
 use Rattle.pz_game.specs.declared.limits.TheConstants.{MAX_OBJECTS, MAX_LAYERS}
 use Rattle.pz_game.specs.Size.{IsSize}
@@ -40,6 +40,10 @@ pub record AreNoted (N width height : ℕ) (notes : HeadingSets) (cells : List (
   pub row_count : length notes.rows ≡ height
   pub column_count : length notes.columns ≡ width
   pub each : (index : ℕ) (cell : Cell N) → index < length cells → IsNoted N width notes index (slice_index_or cells index cell)
+
+-- no cell heads anywhere
+abbrev pub HeadNowhere : (N : ℕ) → List (Cell N) → Type 0
+HeadNowhere N cells = (index : ℕ) (cell : Cell N) (number : ℕ) → index < length cells → member (slice_index_or cells index cell).movement number ≡ false
 
 -- sets of lines with more in one line, and the same in all others
 pub record IsMoreIn (old new : List (List ℕ)) (line : ℕ) (headings : List ℕ) : Type 0 where

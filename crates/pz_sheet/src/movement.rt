@@ -1,13 +1,15 @@
 //! The end of all movement.
 
-ghost use Rattle.std.specs.Prelude.{◌≡◌, ℕ, ◌<◌, ◌≤◌, true, All, length, map};
+ghost use Rattle.std.specs.Prelude.{◌≡◌, ℕ, ◌<◌, ◌≤◌, true, false, All, length, map};
 ghost use Rattle.pz_cells.specs.Cell.{still_place};
 ghost use Rattle.pz_cells.specs.Shown.{cell_of, AreLawful};
+ghost use Rattle.pz_sets.specs.Sets.{member};
 ghost use Rattle.pz_sheet.specs.Grid.{IsLawful, cell_at};
 ghost use Rattle.pz_sheet.specs.Movement.{stilled};
-ghost use Rattle.pz_sheet.specs.Seen.{IsSound, AreMapped};
+ghost use Rattle.pz_sheet.specs.Seen.{IsSound, AreMapped, HeadNowhere};
 
 use crate::Sheet;
+use crate::notes::is_empty;
 use pz_cells::cell::Cell;
 
 impl<const N: usize> Sheet<N> {
@@ -21,20 +23,40 @@ impl<const N: usize> Sheet<N> {
         self.cells[index].is_still()
     }
 
+    /// Whether no heading is noted for a column of the map: where that is true, nothing in it heads anywhere.
+    pub fn is_column_still(&self, x: u32) -> bool
+        requires { x < self.now.grid.width }
+        ensures { result ≡ true → (y : ℕ) → y < self.now.grid.height → cell_at self.now.grid x y ≡ map still_place (cell_at self.now.grid x y) }
+    {
+        is_empty(self.notes.column(x))
+    }
+
     /// Stills every piece.
     pub fn still_all(&mut self)
         ensures stilled { self.new.grid ≡ stilled self.old.grid }
         ensures lawful { IsLawful self.new.grid }
     {
+        if is_empty(self.notes.whole()) {
+            return;
+        }
+        self.still_each();
+    }
+
+    /// Stills every piece, cell by cell.
+    fn still_each(&mut self)
+        ensures stilled { self.new.grid ≡ stilled self.old.grid }
+        ensures lawful { IsLawful self.new.grid }
+    {
         still_cells(&mut self.cells, self.depth, &self.layers);
-        self.notes.renew(&self.cells);
+        self.notes.clear();
     }
 }
 
 fn still_cells<const N: usize>(cells: &mut Vec<Cell<N>>, depth: usize, layers: &[usize])
     requires short { N ≤ 4 }
     requires sound { All (IsSound N layers.now) cells.old.items }
-    ensures { AreMapped N depth layers.now (map still_place) cells.old.items cells.new.items }
+    ensures mapped { AreMapped N depth layers.now (map still_place) cells.old.items cells.new.items }
+    ensures nowhere { HeadNowhere N cells.new.items }
 {
     for index in 0..cells.len() {
         still_cell(&mut cells[index], depth, layers);
@@ -45,6 +67,7 @@ fn still_cell<const N: usize>(cell: &mut Cell<N>, depth: usize, layers: &[usize]
     requires lawful { AreLawful layers.now cell.old.objects cell.old.movement }
     ensures lawful { AreLawful layers.now cell.new.objects cell.new.movement }
     ensures cell { cell_of depth layers.now cell.new.objects cell.new.movement ≡ map still_place (cell_of depth layers.now cell.old.objects cell.old.movement) }
+    ensures none { (number : ℕ) → member cell.new.movement number ≡ false }
 {
     // (the contract alone speaks of the layers)
     let _ = depth;

@@ -1,6 +1,6 @@
 //! What a level notes of where its cells head.
 
-ghost use Rattle.std.specs.Prelude.{◌≡◌, ◌≤◌, ◌<◌, ◌*◌, ◌/◌, ◌%◌, ◌||◌, ℕ, [], false, length, slice_index_or, IfOk, OnOk, OnErr};
+ghost use Rattle.std.specs.Prelude.{◌≡◌, ◌≤◌, ◌<◌, ◌*◌, ◌/◌, ◌%◌, ◌||◌, ℕ, [], true, false, length, slice_index_or, IfOk, OnOk, OnErr};
 ghost use Rattle.pz_sets.specs.Sets.{member};
 ghost use Rattle.pz_sheet.specs.Seen.{HeadingSets, IsNoted, AreNoted, IsWider, IsMoreIn};
 
@@ -101,7 +101,7 @@ impl Notes {
     }
 
     /// Forgets all headings.
-    fn clear(&mut self)
+    pub(crate) fn clear(&mut self)
         ensures rows { length self.new.rows ≡ length self.old.rows }
         ensures columns { length self.new.columns ≡ length self.old.columns }
     {
@@ -136,6 +136,13 @@ impl Notes {
         refill(&mut self.columns, &other.columns);
         Ok(())
     }
+}
+
+/// Whether a set of headings has none.
+pub(crate) fn is_empty(headings: &NumberSet) -> bool
+    ensures { result ≡ true → (number : ℕ) → member headings.now number ≡ false }
+{
+    headings.same(&NumberSet::empty())
 }
 
 /// Adds headings to the set of a line.

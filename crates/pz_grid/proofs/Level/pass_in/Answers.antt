@@ -3,7 +3,13 @@ use Rattle.std.specs.Prelude.{fold}
 use Rattle.pz_grid.specs.Movement.{Pass, in_pass, move_at, spots_at}
 use Rattle.pz_grid.proofs.MoveLemmas.{moves_on}
 use Rattle.pz_grid.proofs.MovementLemmas.{fold_gather_more, same_size_on}
+use Rattle.pz_grid.proofs.StillLemmas.{column_stays}
 use Rattle.pz_grid.proofs.Level.pass_in.Goals as goal
+
+pub returns-then-is_column_still-clause-pass : goal.returns-then-is_column_still-clause-pass
+returns-then-is_column_still-clause-pass c =
+    let grid = c.args.self.now.grid in
+    sym (column_stays grid c.args.moved_before c.args.x grid.depth grid.height (c.is_column_still.ensures c.if-is_column_still.true))
 
 pub loop-y-preserved : goal.loop-y-preserved
 loop-y-preserved c =

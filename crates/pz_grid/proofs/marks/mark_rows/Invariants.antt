@@ -1,5 +1,6 @@
 use Rattle.std.proofs.Common.{◌≡◌, ◌<◌, ℕ, length}
-use Rattle.pz_grid.specs.Marks.{is_marked, in_row}
+use Rattle.pz_sheet.specs.Presence.{in_row}
+use Rattle.pz_grid.specs.Marks.{is_marked}
 use Rattle.pz_grid.proofs.marks.mark_rows.Given as goal
 
 abbrev pub invariant-loop-line : goal.invariant-loop-line

@@ -1,18 +1,21 @@
-use Rattle.std.proofs.Common.{map}
-use Rattle.pz_cells.specs.Cell.{still_place}
-use Rattle.pz_sheet.proofs.SheetLemmas.{small_cell, lawful_seen}
-use Rattle.pz_sheet.proofs.MapLemmas.{stored_mapped, mapped_read, sound_read, noted_read}
+use Rattle.std.proofs.Common.{◌≡◌, ℕ, List, Option, false, ap, sym, ◌∙◌, subst}
+use Rattle.pz_sets.specs.Sets.{member}
+use Rattle.pz_cells.specs.declared.piece.Piece.{Piece}
+use Rattle.pz_sheet.specs.Grid.{Grid, BareState, IsLawful}
+use Rattle.pz_sheet.specs.Seen.{grid_of}
+use Rattle.pz_sheet.specs.Movement.{stilled}
+use Rattle.pz_sheet.proofs.SheetLemmas.{lawful_seen}
+use Rattle.pz_sheet.proofs.StillLemmas.{all_are_still}
 use Rattle.pz_sheet.proofs.Sheet.still_all.Goals as goal
 
-pub still_cells-requires : goal.still_cells-requires
-still_cells-requires g c = (small_cell _ c.self.invariant.short, (c.self.invariant.short, sound_read _ c.self.inside.layers.items c.deref.result.now c.self.inside.cells.items c.deref.ensures.value c.self.invariant.sound))
-
-pub invariant_of-self : goal.invariant_of-self
-invariant_of-self g c =
+pub returns-then-is_empty-clause-stilled : goal.returns-then-is_empty-clause-stilled
+returns-then-is_empty-clause-stilled g c =
     let a = c.self.inside in
-    stored_mapped _ a.width a.height a.depth a.layers.items a.sets.items (map still_place) a.cells.items c.still_cells.new.cells.items a.notes c.renew.new.self c.self.invariant
-    (mapped_read _ a.depth a.layers.items c.deref.result.now (map still_place) a.cells.items c.still_cells.new.cells.items c.deref.ensures.value c.still_cells.ensures)
-    (noted_read _ a.width a.height _ _ c.renew.new.self c.still_cells.new.cells.items c.deref-2.result.now c.self.invariant.noted.column_count c.self.invariant.noted.row_count c.deref-2.ensures.value c.renew.ensures)
+    let e = ap (λ (s : BareState). s.grid) c.self.view_is in
+    let none : (number : ℕ) → member a.notes.whole number ≡ false = λ number. ap (λ words. member words number) (sym c.whole.ensures) ∙ c.is_empty.ensures c.if-is_empty.true number in
+    let still = ap (λ (cells : List (List (Option Piece))). record (grid_of g.row.N a.width a.height a.depth a.layers.items a.cells.items) { cells = cells })
+    (all_are_still g.row.N a.width a.height a.depth a.layers.items a.sets.items a.cells.items a.notes c.self.invariant none) in
+    sym e ∙ still ∙ ap stilled e
 
-pub returns-clause-lawful : goal.returns-clause-lawful
-returns-clause-lawful g c = lawful_seen _ _ _ _ _ _ _ _ (invariant_of-self g c)
+pub returns-then-is_empty-clause-lawful : goal.returns-then-is_empty-clause-lawful
+returns-then-is_empty-clause-lawful g c = subst IsLawful (ap (λ (s : BareState). s.grid) c.self.view_is) (lawful_seen _ _ _ _ _ _ _ _ c.self.invariant)

@@ -1,0 +1,77 @@
+-- A cell that heads nowhere is still, and so is each cell of a line, or of a level, of which no heading is noted.
+use Rattle.std.proofs.Common.{◌≡◌, ◌+◌, ◌*◌, ◌%◌, ◌<◌, ℕ, suc, List, [], ◌∷◌, Option, Bool, true, false, inl, inr, map, set, length, get_or, arith, ap, sym, ◌∙◌, refl, subst, get_or-set_same, get_or-set_other}
+use Rattle.std.specs.List.{All}
+use Rattle.std.proofs.lemmas.Bool.{cases_eq}
+use Rattle.std.proofs.lemmas.List.{get_or_default}
+use Rattle.std.proofs.lemmas.List.Elements.{All-map}
+use Rattle.std.proofs.lemmas.Nat.{mul-add-lt, mod-mul-add}
+use Rattle.pz_sets.specs.Sets.{member, IsWithin}
+use Rattle.pz_game.specs.Headings.{heads, flag}
+use Rattle.pz_cells.specs.declared.cell.Cell.{Cell}
+use Rattle.pz_cells.specs.declared.piece.Piece.{Piece}
+use Rattle.pz_cells.specs.Cell.{still_place}
+use Rattle.pz_cells.specs.Shown.{place_of}
+use Rattle.pz_sheet.specs.Grid.{cell_at}
+use Rattle.pz_sheet.specs.Seen.{seen, grid_of, IsSound, HeadingSets, HeadsWithin, HeadNowhere, AreNoted, IsStored}
+use Rattle.pz_sheet.proofs.SheetLemmas.{seen_at}
+use Rattle.pz_sheet.proofs.HeadingLemmas.{no_cell}
+use Rattle.pz_sheet.proofs.MapLemmas.{cell_mapped, still_shows}
+
+pub still_seen : (N depth : ℕ) (layers : List ℕ) (cell : Cell N) → IsSound N layers cell → ((number : ℕ) → member cell.movement number ≡ false) → seen N depth layers cell ≡ map still_place (seen N depth layers cell)
+still_seen N depth layers cell sound none =
+    cell_mapped depth layers cell.objects cell.movement cell.objects cell.movement still_place sound.of_game
+    (λ layer. still_shows layers (member cell.objects) (heads cell.movement layer) (heads cell.movement layer) layer (place_of layers cell.objects cell.movement layer) (λ dir. none (flag layer dir)) (sound.shows layer))
+
+-- what is within nothing has nothing
+none_within : (wanted words : List ℕ) → IsWithin wanted words → ((number : ℕ) → member words number ≡ false) → (number : ℕ) → member wanted number ≡ false
+none_within wanted words within none number = by_there (member wanted number) refl where
+  by_there : (b : Bool) → member wanted number ≡ b → member wanted number ≡ false
+  by_there false e = e
+  by_there true e = let f : false ≡ true = sym (none number) ∙ within number e in cc
+
+same_all : (f : List (Option Piece) → List (Option Piece)) (cells : List (List (Option Piece))) → All (λ cell. cell ≡ f cell) cells → cells ≡ map f cells
+same_all f [] same = refl
+same_all f (cell ∷ cells) same =
+    ap (λ (first : List (Option Piece)). first ∷ cells) (same 0 cell (omega arith))
+    ∙ ap (λ (rest : List (List (Option Piece))). f cell ∷ rest) (same_all f cells (λ k d within. same (suc k) d (omega (arith, within))))
+
+module _ (N width height depth : ℕ) (layers : List ℕ) (sets : List (List ℕ)) (cells : List (Cell N)) (notes : HeadingSets) (s : IsStored N width height depth layers sets cells notes) where
+  -- no heading is noted for a column
+  pub column_is_still : (x y : ℕ) → x < width → y < height → ((number : ℕ) → member (get_or notes.columns x []) number ≡ false)
+      → cell_at (grid_of N width height depth layers cells) x y ≡ map still_place (cell_at (grid_of N width height depth layers cells) x y)
+  column_is_still x y x_in y_in none =
+      let at = y * width + x in
+      let within : at < length cells = omega (arith, mul-add-lt y width x height y_in x_in, s.covers) in
+      let cell = get_or cells at (no_cell N) in
+      let noted : HeadsWithin N (get_or notes.columns x []) cell = subst (λ (line : ℕ). HeadsWithin N (get_or notes.columns line []) cell) (mod-mul-add y width x x_in) (s.noted.each at (no_cell N) within).column in
+      let still = still_seen N depth layers cell (s.sound at (no_cell N) within) (none_within cell.movement (get_or notes.columns x []) noted none) in
+      let here = seen_at N width height depth layers cells (grid_of N width height depth layers cells) at cell refl within (get_or_default cells at (no_cell N) cell within) in
+      sym here ∙ still ∙ ap (λ (places : List (Option Piece)). map still_place places) here
+
+  -- no heading is noted at all
+  pub all_are_still : ((number : ℕ) → member notes.whole number ≡ false) → map (seen N depth layers) cells ≡ map (map still_place) (map (seen N depth layers) cells)
+  all_are_still none =
+      same_all (map still_place) (map (seen N depth layers) cells) (All-map (λ cell. cell ≡ map still_place cell) (seen N depth layers) cells
+      (λ k d within. still_seen N depth layers (get_or cells k d) (s.sound k d within) (none_within (get_or cells k d).movement notes.whole (s.noted.each k d within).whole none)))
+
+-- cells that head nowhere need no notes
+pub noted_nowhere : (N width height : ℕ) (notes : HeadingSets) (cells : List (Cell N)) → length notes.rows ≡ height → length notes.columns ≡ width → HeadNowhere N cells → AreNoted N width height notes cells
+noted_nowhere N width height notes cells rows columns nowhere = record {
+  row_count = rows;
+  column_count = columns;
+  each = λ index cell within. record {
+    whole = λ number e. absurd (heads_not index cell within number e);
+    row = λ number e. absurd (heads_not index cell within number e);
+    column = λ number e. absurd (heads_not index cell within number e);
+  };
+} where
+  heads_not : (index : ℕ) (cell : Cell N) → index < length cells → (number : ℕ) → member (get_or cells index cell).movement number ≡ true → ⊥
+  heads_not index cell within number e = let f : false ≡ true = sym (nowhere index cell number within) ∙ e in cc
+
+-- one more cell heads nowhere
+pub nowhere_more : (N : ℕ) (cells : List (Cell N)) (index : ℕ) (new : Cell N) → index < length cells → ((number : ℕ) → member new.movement number ≡ false)
+    → ((k : ℕ) (cell : Cell N) (number : ℕ) → k < index → member (get_or cells k cell).movement number ≡ false) → (k : ℕ) (cell : Cell N) (number : ℕ) → k < index + 1 → member (get_or (set cells index new) k cell).movement number ≡ false
+nowhere_more N cells index new within none before k cell number below = elim (cases_eq k index) [
+  | inl same ↦ ap (λ (there : Cell N). member there.movement number) (ap (λ (i : ℕ). get_or (set cells index new) i cell) same ∙ get_or-set_same cells index new cell within) ∙ none number
+  | inr other ↦ ap (λ (there : Cell N). member there.movement number) (get_or-set_other cells index k new cell other) ∙ before k cell number (omega (arith, below, other))
+]
