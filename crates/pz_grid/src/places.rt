@@ -26,6 +26,13 @@ pub struct Place {
     pub gap: u32,
 }
 
+/// A line of the map that is searched in a direction: a column for up and down, else a row.
+#[derive(Clone, Copy)]
+struct Line {
+    dir: Dir,
+    number: u32,
+}
+
 /// Why a search has no answer: memory was refused, or the row has more places than `MATCH_LIMIT`.
 #[derive(Clone, Copy, PartialEq, Eq, Debug)]
 pub enum GridFault {
@@ -171,18 +178,18 @@ fn line_length(bare: &BareLevel, dir: Dir) -> u32
     }
 }
 
-fn place_in(dir: Dir, line: u32, start: u32, gap: u32) -> Place
-    ensures { result ≡ place_in dir line start gap }
+fn place_in(line: Line, start: u32, gap: u32) -> Place
+    ensures { result ≡ place_in line.dir line.number start gap }
 {
-    match dir {
+    match line.dir {
         Dir::Up | Dir::Down => Place {
-            x: line,
+            x: line.number,
             y: start,
             gap,
         },
         Dir::Left | Dir::Right | Dir::Action => Place {
             x: start,
-            y: line,
+            y: line.number,
             gap,
         },
     }
@@ -201,15 +208,20 @@ fn head_of(row: &Row) -> &[Pattern]
 }
 
 /// The first start from one on in a line from which the cells of a row before its gap hold one after another.
-fn next_start(bare: &BareLevel, dir: Dir, line: u32, from: u32, head: &[Pattern]) -> Option<u32>
+fn next_start(bare: &BareLevel, line: Line, from: u32, head: &[Pattern]) -> Option<u32>
     requires some { 0 < length head.now }
-    requires line_in { line < line_count bare.now.grid dir }
+    requires line_in { line.number < line_count bare.now.grid line.dir }
     requires of_game { All (AreOf bare.now.grid.layers) head.now }
-    ensures { IsNext (starts_with bare.now.grid dir line head.now) from (line_length bare.now.grid dir) result }
+    ensures { IsNext (starts_with bare.now.grid line.dir line.number head.now) from (line_length bare.now.grid line.dir) result }
 {
-    match dir {
-        Dir::Up | Dir::Down => bare.next_run_in_column(dir, line, from, head),
-        Dir::Left | Dir::Right | Dir::Action => bare.next_run_in_row(dir, line, from, head),
+    match line.dir {
+        Dir::Up | Dir::Down => bare.next_run_in_column(line.dir, line.number, from, head),
+        Dir::Left | Dir::Right | Dir::Action => bare.next_run_in_row(
+            line.dir,
+            line.number,
+            from,
+            head,
+        ),
     }
 }
 
@@ -288,27 +300,26 @@ fn next_gap(bare: &BareLevel, dir: Dir, from: Place, at: u32, behind: &Pattern) 
 fn add_places_with_gaps(
     bare: &BareLevel,
     row: &Row,
-    dir: Dir,
-    line: u32,
+    line: Line,
     start: u32,
     at: u32,
     found: &mut Vec<Place>,
 ) -> Result<(), GridFault>
     requires of_game { IsRowOf bare.now.grid.layers row.now }
-    requires line_in { line < line_count bare.now.grid dir }
-    requires start_in { start < line_length bare.now.grid dir }
+    requires line_in { line.number < line_count bare.now.grid line.dir }
+    requires start_in { start < line_length bare.now.grid line.dir }
     requires gap_at { row.now.gap_at ≡ Some at }
     requires room { length found.old.items ≤ MATCH_LIMIT }
-    ensures added { OnOk result (found.new.items ≡ found.old.items ++ filter (row_holds bare.now.grid row.now dir) (pairs_at bare.now.grid row.now dir line start)) }
+    ensures added { OnOk result (found.new.items ≡ found.old.items ++ filter (row_holds bare.now.grid row.now line.dir) (pairs_at bare.now.grid row.now line.dir line.number start)) }
     ensures room { OnOk result (length found.new.items ≤ MATCH_LIMIT) }
-    ensures limit { result ≡ Err GridFault.MatchLimit → MATCH_LIMIT < length (found.old.items ++ filter (row_holds bare.now.grid row.now dir) (pairs_at bare.now.grid row.now dir line start)) }
+    ensures limit { result ≡ Err GridFault.MatchLimit → MATCH_LIMIT < length (found.old.items ++ filter (row_holds bare.now.grid row.now line.dir) (pairs_at bare.now.grid row.now line.dir line.number start)) }
 {
     // (brings the proof how short a line is)
-    let _ = line_length(bare, dir);
+    let _ = line_length(bare, line.dir);
     let behind = &row.cells()[at as usize];
     let mut from = 0;
-    'gaps: while let Some(gap) = next_gap(bare, dir, place_in(dir, line, start, from), at, behind) {
-        add_place(bare, row, dir, place_in(dir, line, start, gap), found)?;
+    'gaps: while let Some(gap) = next_gap(bare, line.dir, place_in(line, start, from), at, behind) {
+        add_place(bare, row, line.dir, place_in(line, start, gap), found)?;
         from = gap + 1;
     }
     Ok(())
@@ -318,23 +329,22 @@ fn add_places_with_gaps(
 fn add_places_at(
     bare: &BareLevel,
     row: &Row,
-    dir: Dir,
-    line: u32,
+    line: Line,
     start: u32,
     found: &mut Vec<Place>,
 ) -> Result<(), GridFault>
     requires of_game { IsRowOf bare.now.grid.layers row.now }
-    requires line_in { line < line_count bare.now.grid dir }
-    requires start_in { start < line_length bare.now.grid dir }
-    requires starts { starts_with bare.now.grid dir line (head_of row.now) start ≡ true }
+    requires line_in { line.number < line_count bare.now.grid line.dir }
+    requires start_in { start < line_length bare.now.grid line.dir }
+    requires starts { starts_with bare.now.grid line.dir line.number (head_of row.now) start ≡ true }
     requires room { length found.old.items ≤ MATCH_LIMIT }
-    ensures added { OnOk result (found.new.items ≡ found.old.items ++ filter (row_holds bare.now.grid row.now dir) (pairs_at bare.now.grid row.now dir line start)) }
+    ensures added { OnOk result (found.new.items ≡ found.old.items ++ filter (row_holds bare.now.grid row.now line.dir) (pairs_at bare.now.grid row.now line.dir line.number start)) }
     ensures room { OnOk result (length found.new.items ≤ MATCH_LIMIT) }
-    ensures limit { result ≡ Err GridFault.MatchLimit → MATCH_LIMIT < length (found.old.items ++ filter (row_holds bare.now.grid row.now dir) (pairs_at bare.now.grid row.now dir line start)) }
+    ensures limit { result ≡ Err GridFault.MatchLimit → MATCH_LIMIT < length (found.old.items ++ filter (row_holds bare.now.grid row.now line.dir) (pairs_at bare.now.grid row.now line.dir line.number start)) }
 {
     match row.gap_at() {
-        None => add_found(place_in(dir, line, start, 0), found),
-        Some(at) => add_places_with_gaps(bare, row, dir, line, start, at, found),
+        None => add_found(place_in(line, start, 0), found),
+        Some(at) => add_places_with_gaps(bare, row, line, start, at, found),
     }
 }
 
@@ -343,26 +353,25 @@ fn add_places_at(
 fn add_places_in(
     bare: &BareLevel,
     row: &Row,
-    dir: Dir,
-    line: u32,
+    line: Line,
     found: &mut Vec<Place>,
     tested: u64,
 ) -> Result<u64, GridFault>
     requires of_game { IsRowOf bare.now.grid.layers row.now }
-    requires line_in { line < line_count bare.now.grid dir }
+    requires line_in { line.number < line_count bare.now.grid line.dir }
     requires room { length found.old.items ≤ MATCH_LIMIT }
     requires few { tested ≤ 65536 }
-    ensures added { OnOk result (found.new.items ≡ found.old.items ++ filter (row_holds bare.now.grid row.now dir) (pairs_in bare.now.grid row.now dir line)) }
-    ensures count { IfOk result (λ count. count ≡ tested + line_length bare.now.grid dir) }
+    ensures added { OnOk result (found.new.items ≡ found.old.items ++ filter (row_holds bare.now.grid row.now line.dir) (pairs_in bare.now.grid row.now line.dir line.number)) }
+    ensures count { IfOk result (λ count. count ≡ tested + line_length bare.now.grid line.dir) }
     ensures few { IfOk result (λ count. count ≤ tested + MAX_SIDE) }
     ensures room { OnOk result (length found.new.items ≤ MATCH_LIMIT) }
-    ensures limit { result ≡ Err GridFault.MatchLimit → MATCH_LIMIT < length (found.old.items ++ filter (row_holds bare.now.grid row.now dir) (pairs_in bare.now.grid row.now dir line)) }
+    ensures limit { result ≡ Err GridFault.MatchLimit → MATCH_LIMIT < length (found.old.items ++ filter (row_holds bare.now.grid row.now line.dir) (pairs_in bare.now.grid row.now line.dir line.number)) }
 {
-    let length = line_length(bare, dir);
+    let length = line_length(bare, line.dir);
     let head = head_of(row);
     let mut from = 0;
-    'starts: while let Some(start) = next_start(bare, dir, line, from, head) {
-        add_places_at(bare, row, dir, line, start, found)?;
+    'starts: while let Some(start) = next_start(bare, line, from, head) {
+        add_places_at(bare, row, line, start, found)?;
         from = start + 1;
     }
     Ok(tested + length as u64)
@@ -398,7 +407,7 @@ impl Level {
     {
         let _ = &self.bare;
         if self.may_start(row, dir, line) {
-            add_places_in(&self.bare, row, dir, line, found, tested)
+            add_places_in(&self.bare, row, Line { dir, number: line }, found, tested)
         } else {
             Ok(tested)
         }
