@@ -1,10 +1,11 @@
 //! The places of a row of a rule: where it holds.
 
-ghost use Rattle.std.specs.Prelude.{◌≡◌, ◌≢◌, All, true, ℕ, ◌+◌, ◌*◌, ◌<◌, ◌≤◌, cond, [], ◌∷◌, ◌++◌, ◌^◌, filter, length, OnOk, IfOk, IfErr, IfSome, Ok, Err};
+ghost use Rattle.std.specs.List.{list_all, enumerate_from};
+ghost use Rattle.std.specs.Prelude.{◌≡◌, ◌≢◌, All, take, true, ℕ, ◌+◌, ◌*◌, ◌<◌, ◌≤◌, cond, [], ◌∷◌, ◌++◌, ◌^◌, filter, length, OnOk, IfOk, IfErr, IfSome, Ok, Err};
 ghost use Rattle.pz_game.specs.declared.limits.TheConstants.{MAX_SIDE};
 ghost use Rattle.pz_game.specs.Pattern.{AreOf, IsRowOf, AreRowsOf};
 ghost use Rattle.pz_grid.specs.Admitted.{admitted, searches_line, starts_in, start_count};
-ghost use Rattle.pz_grid.specs.Places.{on_map, along, position_of, distance, row_holds, line_count, line_length, place_in, holds_behind, pairs_at, head_of, pairs_in, places, searched, starts_with, still_holds, still_matches};
+ghost use Rattle.pz_grid.specs.Places.{on_map, along, position_of, distance, cell_holds, row_holds, line_count, line_length, place_in, holds_behind, pairs_at, head_of, pairs_in, places, searched, starts_with, still_holds, still_matches};
 ghost use Rattle.pz_sheet.specs.Searching.{IsNext};
 
 use crate::Level;
@@ -121,14 +122,22 @@ fn distance(gap_at: Option<u32>, gap: u32, index: usize) -> usize
     }
 }
 
-/// Whether all cells of a row, which may have a gap, are on the map and hold, where it starts at a place.
-fn spread_holds<const N: usize>(sheet: &Sheet<N>, row: &Row, dir: Dir, place: Place) -> bool
+/// Whether all cells of a row, which may have a gap, are on the map and hold, where it starts at a place and those before a number do.
+fn spread_holds<const N: usize>(
+    sheet: &Sheet<N>,
+    row: &Row,
+    dir: Dir,
+    place: Place,
+    from: usize,
+) -> bool
     requires of_game { IsRowOf sheet.now.grid.layers row.now }
+    requires begun { list_all (cell_holds sheet.now.grid row.now dir place) (take from (enumerate_from 0 row.now.cells)) ≡ true }
     ensures { result ≡ row_holds sheet.now.grid row.now dir place }
 {
-    for (index, pattern) in row.cells().iter().enumerate() {
+    let cells = row.cells();
+    for index in from..cells.len() {
         let steps = distance(row.gap_at(), place.gap, index);
-        if !sheet.holds_along(dir, place.x, place.y, steps, pattern) {
+        if !sheet.holds_along(dir, place.x, place.y, steps, &cells[index]) {
             return false;
         }
     }
@@ -142,7 +151,7 @@ fn holds_in<const N: usize>(sheet: &Sheet<N>, row: &Row, dir: Dir, place: Place)
 {
     match row.gap_at() {
         None => sheet.run_holds(dir, place.x, place.y, row.cells()),
-        Some(_) => spread_holds(sheet, row, dir, place),
+        Some(_) => spread_holds(sheet, row, dir, place, 0),
     }
 }
 
@@ -155,6 +164,19 @@ fn row_holds(bare: &BareLevel, row: &Row, dir: Dir, place: Place) -> bool
         Sized::Small(sheet) => holds_in(sheet, row, dir, place),
         Sized::Middle(sheet) => holds_in(sheet, row, dir, place),
         Sized::Large(sheet) => holds_in(sheet, row, dir, place),
+    }
+}
+
+/// The same where the cells before a number are on the map and hold.
+fn rest_holds(bare: &BareLevel, row: &Row, dir: Dir, place: Place, from: usize) -> bool
+    requires of_game { IsRowOf bare.now.grid.layers row.now }
+    requires begun { list_all (cell_holds bare.now.grid row.now dir place) (take from (enumerate_from 0 row.now.cells)) ≡ true }
+    ensures { result ≡ row_holds bare.now.grid row.now dir place }
+{
+    match &bare.sheet {
+        Sized::Small(sheet) => spread_holds(sheet, row, dir, place, from),
+        Sized::Middle(sheet) => spread_holds(sheet, row, dir, place, from),
+        Sized::Large(sheet) => spread_holds(sheet, row, dir, place, from),
     }
 }
 
@@ -241,21 +263,23 @@ fn add_found(place: Place, found: &mut Vec<Place>) -> Result<(), GridFault>
     Ok(())
 }
 
-/// Adds the place if the row holds there.
+/// Adds the place if the row holds there, of which the cells before a number do.
 fn add_place(
     bare: &BareLevel,
     row: &Row,
     dir: Dir,
     place: Place,
+    from: usize,
     found: &mut Vec<Place>,
 ) -> Result<(), GridFault>
     requires of_game { IsRowOf bare.now.grid.layers row.now }
+    requires begun { list_all (cell_holds bare.now.grid row.now dir place) (take from (enumerate_from 0 row.now.cells)) ≡ true }
     requires room { length found.old.items ≤ MATCH_LIMIT }
     ensures added { OnOk result (found.new.items ≡ found.old.items ++ filter (row_holds bare.now.grid row.now dir) (place ∷ [])) }
     ensures room { OnOk result (length found.new.items ≤ MATCH_LIMIT) }
     ensures limit { result ≡ Err GridFault.MatchLimit → MATCH_LIMIT < length (found.old.items ++ filter (row_holds bare.now.grid row.now dir) (place ∷ [])) }
 {
-    if row_holds(bare, row, dir, place) {
+    if rest_holds(bare, row, dir, place, from) {
         add_found(place, found)
     } else {
         Ok(())
@@ -295,8 +319,8 @@ fn next_gap(bare: &BareLevel, dir: Dir, from: Place, at: u32, behind: &Pattern) 
     }
 }
 
-/// Adds the places that start in a cell, of a row with a gap before the cell of the number `at`: the row is tested for those gaps alone
-/// for which that cell holds.
+/// Adds the places that start in a cell from which the cells before the gap hold, of a row with a gap before the cell of the number `at`:
+/// the cells behind that one are tested for those gaps alone for which it holds.
 fn add_places_with_gaps(
     bare: &BareLevel,
     row: &Row,
@@ -309,6 +333,7 @@ fn add_places_with_gaps(
     requires line_in { line.number < line_count bare.now.grid line.dir }
     requires start_in { start < line_length bare.now.grid line.dir }
     requires gap_at { row.now.gap_at ≡ Some at }
+    requires starts { starts_with bare.now.grid line.dir line.number (head_of row.now) start ≡ true }
     requires room { length found.old.items ≤ MATCH_LIMIT }
     ensures added { OnOk result (found.new.items ≡ found.old.items ++ filter (row_holds bare.now.grid row.now line.dir) (pairs_at bare.now.grid row.now line.dir line.number start)) }
     ensures room { OnOk result (length found.new.items ≤ MATCH_LIMIT) }
@@ -319,7 +344,8 @@ fn add_places_with_gaps(
     let behind = &row.cells()[at as usize];
     let mut from = 0;
     'gaps: while let Some(gap) = next_gap(bare, line.dir, place_in(line, start, from), at, behind) {
-        add_place(bare, row, line.dir, place_in(line, start, gap), found)?;
+        let place = place_in(line, start, gap);
+        add_place(bare, row, line.dir, place, at as usize + 1, found)?;
         from = gap + 1;
     }
     Ok(())
