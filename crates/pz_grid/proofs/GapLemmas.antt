@@ -31,7 +31,7 @@ gap_fails grid row dir at behind place has within is fails =
     enumerate_fails (cell_holds grid row dir place) row.cells at behind within is (ap (λ (steps : ℕ). holds_at grid behind (along grid dir place.x place.y steps)) far ∙ fails)
 
 -- all places in a line that start in a cell have the same x and y
-same_start : (grid : Grid) (dir : Dir) (line start from gap at : ℕ) (behind : List Item) → holds_behind grid dir (place_in dir line start gap).x (place_in dir line start gap).y behind at (place_in dir line start gap).gap ≡ holds_behind grid dir (place_in dir line start from).x (place_in dir line start from).y behind at gap
+pub same_start : (grid : Grid) (dir : Dir) (line start from gap at : ℕ) (behind : List Item) → holds_behind grid dir (place_in dir line start gap).x (place_in dir line start gap).y behind at (place_in dir line start gap).gap ≡ holds_behind grid dir (place_in dir line start from).x (place_in dir line start from).y behind at gap
 same_start grid Right line start from gap at behind = refl
 same_start grid Left line start from gap at behind = refl
 same_start grid Down line start from gap at behind = refl

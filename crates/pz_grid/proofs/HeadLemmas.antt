@@ -2,16 +2,18 @@
 use Rattle.std.proofs.Common.{◌≡◌, ℕ, zero, suc, ◌+◌, ◌<◌, ◌≤◌, List, [], ◌∷◌, Option, Some, None, Bool, true, ◌&&◌, cond, length, get_or, take, arith, ap, sym, ◌∙◌, refl, subst, filter, length-take}
 use Rattle.std.specs.Prelude.{All, nat_le}
 use Rattle.std.specs.List.{list_all, enumerate_from}
-use Rattle.std.proofs.lemmas.Bool.{leb-true, false_from_ne_true}
+use Rattle.std.proofs.lemmas.Bool.{leb-true, le-leb, false_from_ne_true}
+use Rattle.std.proofs.lemmas.List.FromFn.{length-enumerate_from}
+use Rattle.std.proofs.lemmas.List.Sums.{AllPass-from_list_all}
 use Rattle.std.proofs.lemmas.List.{get_or-take, get_or_default}
 use Rattle.pz_game.specs.declared.direction.Dir.{Dir}
 use Rattle.pz_game.specs.declared.pattern.Item.{Item}
 use Rattle.pz_game.specs.Pattern.{RuleRow}
 use Rattle.pz_sheet.specs.Grid.{Grid}
 use Rattle.pz_sheet.specs.Runs.{along, holds_at, holds_along, run_holds}
-use Rattle.pz_sheet.proofs.RunLemmas.{enumerate_more, enumerate_all}
+use Rattle.pz_sheet.proofs.RunLemmas.{numbered_at, enumerate_more, enumerate_all}
 use Rattle.pz_grid.specs.declared.places.Place.{Place}
-use Rattle.pz_grid.specs.Places.{distance, cell_holds, row_holds, cells_before, head_of}
+use Rattle.pz_grid.specs.Places.{distance, cell_holds, row_holds, holds_behind, cells_before, head_of}
 use Rattle.pz_grid.proofs.PlaceLemmas.{holds_each_cell}
 
 -- tests that agree
@@ -61,3 +63,34 @@ all_before P row all = by_gap row.gap_at where
 
 pub filter_one : {X : Type 0} (p : X → Bool) (x : X) → p x ≡ true → filter p (x ∷ []) ≡ x ∷ []
 filter_one {X} p x e = ap (λ (b : Bool). let none : List X = [] in cond b (x ∷ none) none) e
+
+each_from_all : {X : Type 0} (p : ℕ × X → Bool) (xs : List X) (d : X) (k : ℕ) → k < length xs → list_all p (enumerate_from 0 xs) ≡ true → p (k, get_or xs k d) ≡ true
+each_from_all p xs d k within h =
+    let x = get_or xs k d in
+    let all = AllPass-from_list_all p (enumerate_from 0 xs) h k (0, x) (omega (arith, length-enumerate_from 0 xs)) in
+    sym (ap p (numbered_at xs k x within (sym (get_or_default xs k d x within)))) ∙ all
+
+-- where the cells before a gap hold and so does the one behind it, what is left is the rest
+pub begun_with_gap : (grid : Grid) (row : RuleRow) (dir : Dir) (place : Place) (at : ℕ) (behind : List Item) → row.gap_at ≡ Some at → at < length row.cells → behind ≡ get_or row.cells at behind → run_holds grid dir place.x place.y (head_of row) ≡ true → holds_behind grid dir place.x place.y behind at place.gap ≡ true
+    → list_all (cell_holds grid row dir place) (take (at + 1) (enumerate_from 0 row.cells)) ≡ true
+begun_with_gap grid row dir place at behind has within is head here =
+    enumerate_more (cell_holds grid row dir place) row.cells at behind within is (up_to at (omega arith)) (ap (λ (steps : ℕ). holds_at grid behind (along grid dir place.x place.y steps)) far ∙ here) where
+      far : distance row.gap_at place.gap at ≡ at + place.gap
+      far = ap (λ (o : Option ℕ). distance o place.gap at) has ∙ ap (λ (b : Bool). cond b (at + place.gap) at) (le-leb at at (omega arith))
+
+      before : run_holds grid dir place.x place.y (take at row.cells) ≡ true
+      before = ap (λ (o : Option ℕ). run_holds grid dir place.x place.y (cells_before o row.cells)) (sym has) ∙ head
+
+      each : (k : ℕ) → k < at → cell_holds grid row dir place (k, get_or row.cells k []) ≡ true
+      each k low =
+          ap (λ (steps : ℕ). holds_at grid (get_or row.cells k []) (along grid dir place.x place.y steps)) (ap (λ (o : Option ℕ). distance o place.gap k) has ∙ near at place.gap k low)
+          ∙ ap (λ (pattern : List Item). holds_along grid dir place.x place.y (k, pattern)) (sym (get_or-take at row.cells k [] low))
+          ∙ each_from_all (holds_along grid dir place.x place.y) (take at row.cells) [] k (omega (arith, low, within, length-take at row.cells)) before
+
+      up_to : (n : ℕ) → n ≤ at → list_all (cell_holds grid row dir place) (take n (enumerate_from 0 row.cells)) ≡ true
+      up_to zero low = refl
+      up_to (suc n) low =
+          let pattern = get_or row.cells n [] in
+          let there : n < length row.cells = omega (arith, low, within) in
+          ap (λ (k : ℕ). list_all (cell_holds grid row dir place) (take k (enumerate_from 0 row.cells))) (let e : suc n ≡ n + 1 = omega arith in e)
+          ∙ enumerate_more (cell_holds grid row dir place) row.cells n pattern there (get_or_default row.cells n [] pattern there) (up_to n (omega (arith, low))) (each n (omega (arith, low)))

@@ -15,7 +15,7 @@ use Rattle.pz_grid.proofs.GatherLemmas.{gather, gather_more}
 use Rattle.pz_grid.proofs.HeadLemmas.{row_is_run, head_from_row}
 
 -- the start of a line is that of each place there
-starts_at : (grid : Grid) (dir : Dir) (line start gap : ℕ) (head : List (List Item)) → starts_with grid dir line head start ≡ run_holds grid dir (place_in dir line start gap).x (place_in dir line start gap).y head
+pub starts_at : (grid : Grid) (dir : Dir) (line start gap : ℕ) (head : List (List Item)) → starts_with grid dir line head start ≡ run_holds grid dir (place_in dir line start gap).x (place_in dir line start gap).y head
 starts_at grid Right line start gap head = refl
 starts_at grid Left line start gap head = refl
 starts_at grid Down line start gap head = refl

@@ -1,10 +1,11 @@
 //! The places of a row of a rule: where it holds.
 
-ghost use Rattle.std.specs.Prelude.{◌≡◌, ◌≢◌, All, true, ℕ, ◌+◌, ◌*◌, ◌<◌, ◌≤◌, cond, [], ◌∷◌, ◌++◌, ◌^◌, filter, length, OnOk, IfOk, IfErr, IfSome, Ok, Err};
+ghost use Rattle.std.specs.List.{list_all, enumerate_from};
+ghost use Rattle.std.specs.Prelude.{◌≡◌, ◌≢◌, All, take, true, ℕ, ◌+◌, ◌*◌, ◌<◌, ◌≤◌, cond, [], ◌∷◌, ◌++◌, ◌^◌, filter, length, OnOk, IfOk, IfErr, IfSome, Ok, Err};
 ghost use Rattle.pz_game.specs.declared.limits.TheConstants.{MAX_SIDE};
 ghost use Rattle.pz_game.specs.Pattern.{AreOf, IsRowOf, AreRowsOf};
 ghost use Rattle.pz_grid.specs.Admitted.{admitted, searches_line, starts_in, start_count};
-ghost use Rattle.pz_grid.specs.Places.{on_map, along, position_of, distance, row_holds, line_count, line_length, place_in, holds_behind, pairs_at, head_of, pairs_in, places, searched, starts_with, still_holds, still_matches};
+ghost use Rattle.pz_grid.specs.Places.{on_map, along, position_of, distance, cell_holds, row_holds, line_count, line_length, place_in, holds_behind, pairs_at, head_of, pairs_in, places, searched, starts_with, still_holds, still_matches};
 ghost use Rattle.pz_sheet.specs.Searching.{IsNext};
 
 use crate::Level;
@@ -24,6 +25,13 @@ pub struct Place {
     pub x: u32,
     pub y: u32,
     pub gap: u32,
+}
+
+/// A line of the map that is searched in a direction: a column for up and down, else a row.
+#[derive(Clone, Copy)]
+struct Line {
+    dir: Dir,
+    number: u32,
 }
 
 /// Why a search has no answer: memory was refused, or the row has more places than `MATCH_LIMIT`.
@@ -114,14 +122,22 @@ fn distance(gap_at: Option<u32>, gap: u32, index: usize) -> usize
     }
 }
 
-/// Whether all cells of a row, which may have a gap, are on the map and hold, where it starts at a place.
-fn spread_holds<const N: usize>(sheet: &Sheet<N>, row: &Row, dir: Dir, place: Place) -> bool
+/// Whether all cells of a row, which may have a gap, are on the map and hold, where it starts at a place and those before a number do.
+fn spread_holds<const N: usize>(
+    sheet: &Sheet<N>,
+    row: &Row,
+    dir: Dir,
+    place: Place,
+    from: usize,
+) -> bool
     requires of_game { IsRowOf sheet.now.grid.layers row.now }
+    requires begun { list_all (cell_holds sheet.now.grid row.now dir place) (take from (enumerate_from 0 row.now.cells)) ≡ true }
     ensures { result ≡ row_holds sheet.now.grid row.now dir place }
 {
-    for (index, pattern) in row.cells().iter().enumerate() {
+    let cells = row.cells();
+    for index in from..cells.len() {
         let steps = distance(row.gap_at(), place.gap, index);
-        if !sheet.holds_along(dir, place.x, place.y, steps, pattern) {
+        if !sheet.holds_along(dir, place.x, place.y, steps, &cells[index]) {
             return false;
         }
     }
@@ -135,7 +151,7 @@ fn holds_in<const N: usize>(sheet: &Sheet<N>, row: &Row, dir: Dir, place: Place)
 {
     match row.gap_at() {
         None => sheet.run_holds(dir, place.x, place.y, row.cells()),
-        Some(_) => spread_holds(sheet, row, dir, place),
+        Some(_) => spread_holds(sheet, row, dir, place, 0),
     }
 }
 
@@ -148,6 +164,19 @@ fn row_holds(bare: &BareLevel, row: &Row, dir: Dir, place: Place) -> bool
         Sized::Small(sheet) => holds_in(sheet, row, dir, place),
         Sized::Middle(sheet) => holds_in(sheet, row, dir, place),
         Sized::Large(sheet) => holds_in(sheet, row, dir, place),
+    }
+}
+
+/// The same where the cells before a number are on the map and hold.
+fn rest_holds(bare: &BareLevel, row: &Row, dir: Dir, place: Place, from: usize) -> bool
+    requires of_game { IsRowOf bare.now.grid.layers row.now }
+    requires begun { list_all (cell_holds bare.now.grid row.now dir place) (take from (enumerate_from 0 row.now.cells)) ≡ true }
+    ensures { result ≡ row_holds bare.now.grid row.now dir place }
+{
+    match &bare.sheet {
+        Sized::Small(sheet) => spread_holds(sheet, row, dir, place, from),
+        Sized::Middle(sheet) => spread_holds(sheet, row, dir, place, from),
+        Sized::Large(sheet) => spread_holds(sheet, row, dir, place, from),
     }
 }
 
@@ -171,18 +200,18 @@ fn line_length(bare: &BareLevel, dir: Dir) -> u32
     }
 }
 
-fn place_in(dir: Dir, line: u32, start: u32, gap: u32) -> Place
-    ensures { result ≡ place_in dir line start gap }
+fn place_in(line: Line, start: u32, gap: u32) -> Place
+    ensures { result ≡ place_in line.dir line.number start gap }
 {
-    match dir {
+    match line.dir {
         Dir::Up | Dir::Down => Place {
-            x: line,
+            x: line.number,
             y: start,
             gap,
         },
         Dir::Left | Dir::Right | Dir::Action => Place {
             x: start,
-            y: line,
+            y: line.number,
             gap,
         },
     }
@@ -201,15 +230,20 @@ fn head_of(row: &Row) -> &[Pattern]
 }
 
 /// The first start from one on in a line from which the cells of a row before its gap hold one after another.
-fn next_start(bare: &BareLevel, dir: Dir, line: u32, from: u32, head: &[Pattern]) -> Option<u32>
+fn next_start(bare: &BareLevel, line: Line, from: u32, head: &[Pattern]) -> Option<u32>
     requires some { 0 < length head.now }
-    requires line_in { line < line_count bare.now.grid dir }
+    requires line_in { line.number < line_count bare.now.grid line.dir }
     requires of_game { All (AreOf bare.now.grid.layers) head.now }
-    ensures { IsNext (starts_with bare.now.grid dir line head.now) from (line_length bare.now.grid dir) result }
+    ensures { IsNext (starts_with bare.now.grid line.dir line.number head.now) from (line_length bare.now.grid line.dir) result }
 {
-    match dir {
-        Dir::Up | Dir::Down => bare.next_run_in_column(dir, line, from, head),
-        Dir::Left | Dir::Right | Dir::Action => bare.next_run_in_row(dir, line, from, head),
+    match line.dir {
+        Dir::Up | Dir::Down => bare.next_run_in_column(line.dir, line.number, from, head),
+        Dir::Left | Dir::Right | Dir::Action => bare.next_run_in_row(
+            line.dir,
+            line.number,
+            from,
+            head,
+        ),
     }
 }
 
@@ -229,21 +263,23 @@ fn add_found(place: Place, found: &mut Vec<Place>) -> Result<(), GridFault>
     Ok(())
 }
 
-/// Adds the place if the row holds there.
+/// Adds the place if the row holds there, of which the cells before a number do.
 fn add_place(
     bare: &BareLevel,
     row: &Row,
     dir: Dir,
     place: Place,
+    from: usize,
     found: &mut Vec<Place>,
 ) -> Result<(), GridFault>
     requires of_game { IsRowOf bare.now.grid.layers row.now }
+    requires begun { list_all (cell_holds bare.now.grid row.now dir place) (take from (enumerate_from 0 row.now.cells)) ≡ true }
     requires room { length found.old.items ≤ MATCH_LIMIT }
     ensures added { OnOk result (found.new.items ≡ found.old.items ++ filter (row_holds bare.now.grid row.now dir) (place ∷ [])) }
     ensures room { OnOk result (length found.new.items ≤ MATCH_LIMIT) }
     ensures limit { result ≡ Err GridFault.MatchLimit → MATCH_LIMIT < length (found.old.items ++ filter (row_holds bare.now.grid row.now dir) (place ∷ [])) }
 {
-    if row_holds(bare, row, dir, place) {
+    if rest_holds(bare, row, dir, place, from) {
         add_found(place, found)
     } else {
         Ok(())
@@ -283,32 +319,33 @@ fn next_gap(bare: &BareLevel, dir: Dir, from: Place, at: u32, behind: &Pattern) 
     }
 }
 
-/// Adds the places that start in a cell, of a row with a gap before the cell of the number `at`: the row is tested for those gaps alone
-/// for which that cell holds.
+/// Adds the places that start in a cell from which the cells before the gap hold, of a row with a gap before the cell of the number `at`:
+/// the cells behind that one are tested for those gaps alone for which it holds.
 fn add_places_with_gaps(
     bare: &BareLevel,
     row: &Row,
-    dir: Dir,
-    line: u32,
+    line: Line,
     start: u32,
     at: u32,
     found: &mut Vec<Place>,
 ) -> Result<(), GridFault>
     requires of_game { IsRowOf bare.now.grid.layers row.now }
-    requires line_in { line < line_count bare.now.grid dir }
-    requires start_in { start < line_length bare.now.grid dir }
+    requires line_in { line.number < line_count bare.now.grid line.dir }
+    requires start_in { start < line_length bare.now.grid line.dir }
     requires gap_at { row.now.gap_at ≡ Some at }
+    requires starts { starts_with bare.now.grid line.dir line.number (head_of row.now) start ≡ true }
     requires room { length found.old.items ≤ MATCH_LIMIT }
-    ensures added { OnOk result (found.new.items ≡ found.old.items ++ filter (row_holds bare.now.grid row.now dir) (pairs_at bare.now.grid row.now dir line start)) }
+    ensures added { OnOk result (found.new.items ≡ found.old.items ++ filter (row_holds bare.now.grid row.now line.dir) (pairs_at bare.now.grid row.now line.dir line.number start)) }
     ensures room { OnOk result (length found.new.items ≤ MATCH_LIMIT) }
-    ensures limit { result ≡ Err GridFault.MatchLimit → MATCH_LIMIT < length (found.old.items ++ filter (row_holds bare.now.grid row.now dir) (pairs_at bare.now.grid row.now dir line start)) }
+    ensures limit { result ≡ Err GridFault.MatchLimit → MATCH_LIMIT < length (found.old.items ++ filter (row_holds bare.now.grid row.now line.dir) (pairs_at bare.now.grid row.now line.dir line.number start)) }
 {
     // (brings the proof how short a line is)
-    let _ = line_length(bare, dir);
+    let _ = line_length(bare, line.dir);
     let behind = &row.cells()[at as usize];
     let mut from = 0;
-    'gaps: while let Some(gap) = next_gap(bare, dir, place_in(dir, line, start, from), at, behind) {
-        add_place(bare, row, dir, place_in(dir, line, start, gap), found)?;
+    'gaps: while let Some(gap) = next_gap(bare, line.dir, place_in(line, start, from), at, behind) {
+        let place = place_in(line, start, gap);
+        add_place(bare, row, line.dir, place, at as usize + 1, found)?;
         from = gap + 1;
     }
     Ok(())
@@ -318,23 +355,22 @@ fn add_places_with_gaps(
 fn add_places_at(
     bare: &BareLevel,
     row: &Row,
-    dir: Dir,
-    line: u32,
+    line: Line,
     start: u32,
     found: &mut Vec<Place>,
 ) -> Result<(), GridFault>
     requires of_game { IsRowOf bare.now.grid.layers row.now }
-    requires line_in { line < line_count bare.now.grid dir }
-    requires start_in { start < line_length bare.now.grid dir }
-    requires starts { starts_with bare.now.grid dir line (head_of row.now) start ≡ true }
+    requires line_in { line.number < line_count bare.now.grid line.dir }
+    requires start_in { start < line_length bare.now.grid line.dir }
+    requires starts { starts_with bare.now.grid line.dir line.number (head_of row.now) start ≡ true }
     requires room { length found.old.items ≤ MATCH_LIMIT }
-    ensures added { OnOk result (found.new.items ≡ found.old.items ++ filter (row_holds bare.now.grid row.now dir) (pairs_at bare.now.grid row.now dir line start)) }
+    ensures added { OnOk result (found.new.items ≡ found.old.items ++ filter (row_holds bare.now.grid row.now line.dir) (pairs_at bare.now.grid row.now line.dir line.number start)) }
     ensures room { OnOk result (length found.new.items ≤ MATCH_LIMIT) }
-    ensures limit { result ≡ Err GridFault.MatchLimit → MATCH_LIMIT < length (found.old.items ++ filter (row_holds bare.now.grid row.now dir) (pairs_at bare.now.grid row.now dir line start)) }
+    ensures limit { result ≡ Err GridFault.MatchLimit → MATCH_LIMIT < length (found.old.items ++ filter (row_holds bare.now.grid row.now line.dir) (pairs_at bare.now.grid row.now line.dir line.number start)) }
 {
     match row.gap_at() {
-        None => add_found(place_in(dir, line, start, 0), found),
-        Some(at) => add_places_with_gaps(bare, row, dir, line, start, at, found),
+        None => add_found(place_in(line, start, 0), found),
+        Some(at) => add_places_with_gaps(bare, row, line, start, at, found),
     }
 }
 
@@ -343,26 +379,25 @@ fn add_places_at(
 fn add_places_in(
     bare: &BareLevel,
     row: &Row,
-    dir: Dir,
-    line: u32,
+    line: Line,
     found: &mut Vec<Place>,
     tested: u64,
 ) -> Result<u64, GridFault>
     requires of_game { IsRowOf bare.now.grid.layers row.now }
-    requires line_in { line < line_count bare.now.grid dir }
+    requires line_in { line.number < line_count bare.now.grid line.dir }
     requires room { length found.old.items ≤ MATCH_LIMIT }
     requires few { tested ≤ 65536 }
-    ensures added { OnOk result (found.new.items ≡ found.old.items ++ filter (row_holds bare.now.grid row.now dir) (pairs_in bare.now.grid row.now dir line)) }
-    ensures count { IfOk result (λ count. count ≡ tested + line_length bare.now.grid dir) }
+    ensures added { OnOk result (found.new.items ≡ found.old.items ++ filter (row_holds bare.now.grid row.now line.dir) (pairs_in bare.now.grid row.now line.dir line.number)) }
+    ensures count { IfOk result (λ count. count ≡ tested + line_length bare.now.grid line.dir) }
     ensures few { IfOk result (λ count. count ≤ tested + MAX_SIDE) }
     ensures room { OnOk result (length found.new.items ≤ MATCH_LIMIT) }
-    ensures limit { result ≡ Err GridFault.MatchLimit → MATCH_LIMIT < length (found.old.items ++ filter (row_holds bare.now.grid row.now dir) (pairs_in bare.now.grid row.now dir line)) }
+    ensures limit { result ≡ Err GridFault.MatchLimit → MATCH_LIMIT < length (found.old.items ++ filter (row_holds bare.now.grid row.now line.dir) (pairs_in bare.now.grid row.now line.dir line.number)) }
 {
-    let length = line_length(bare, dir);
+    let length = line_length(bare, line.dir);
     let head = head_of(row);
     let mut from = 0;
-    'starts: while let Some(start) = next_start(bare, dir, line, from, head) {
-        add_places_at(bare, row, dir, line, start, found)?;
+    'starts: while let Some(start) = next_start(bare, line, from, head) {
+        add_places_at(bare, row, line, start, found)?;
         from = start + 1;
     }
     Ok(tested + length as u64)
@@ -398,7 +433,7 @@ impl Level {
     {
         let _ = &self.bare;
         if self.may_start(row, dir, line) {
-            add_places_in(&self.bare, row, dir, line, found, tested)
+            add_places_in(&self.bare, row, Line { dir, number: line }, found, tested)
         } else {
             Ok(tested)
         }

@@ -1,8 +1,8 @@
 -- The bits of a word, as tests.
-use Rattle.std.proofs.Common.{◌≡◌, ◌⊎◌, inl, inr, ℕ, ◌-◌, ◌^◌, ◌<◌, ◌≤◌, Bool, true, false, not, ◌&&◌, ◌||◌, min, max, bit_and, bit_or, arith, ap, sym, ◌∙◌, refl, nat_eq, eq-eqb}
+use Rattle.std.proofs.Common.{◌≡◌, ◌⊎◌, inl, inr, ℕ, ◌+◌, ◌%◌, ◌-◌, ◌^◌, ◌<◌, ◌≤◌, Bool, true, false, not, ◌&&◌, ◌||◌, min, max, bit_and, bit_or, bit_xor, cond, arith, ap, sym, ◌∙◌, refl, nat_eq, eq-eqb}
 use Rattle.std.specs.Int.{bit_at}
 use Rattle.std.proofs.lemmas.Bool.{cases_lt, eqb-true}
-use Rattle.std.proofs.lemmas.Nat.Bits.{bit_at_and, bit_at_or, bit_at-lt, same_from_bits, same_from_bits_below, bit_at_above, bit_at-zero, bit_at_mask_inside, bit_at_mask_below}
+use Rattle.std.proofs.lemmas.Nat.Bits.{bit_at_and, bit_at_or, bit_at_xor, bit_at-lt, same_from_bits, same_from_bits_below, bit_at_above, bit_at-zero, bit_at_mask_inside, bit_at_mask_below}
 use Rattle.pz_sets.specs.Sets.{in_word}
 
 pub bit_cases : (n : ℕ) → n < 2 → (n ≡ 0) ⊎ (n ≡ 1)
@@ -33,6 +33,12 @@ min_bits x y z e p q = (let f = λ (s t : Bool). s && t in elim (bit_cases x p) 
   | inr a ↦ elim (bit_cases y q) [ inl b ↦ by_tests f x y z 1 0 0 a b (omega (arith, a, b, e)) refl | inr b ↦ by_tests f x y z 1 1 1 a b (omega (arith, a, b, e)) refl ]
 ])
 
+xor_bits : (x y z : ℕ) → z ≡ (x + y) % 2 → x < 2 → y < 2 → nat_eq z 1 ≡ cond (nat_eq x 1) (not (nat_eq y 1)) (nat_eq y 1)
+xor_bits x y z e p q = (let f = λ (s t : Bool). cond s (not t) t in elim (bit_cases x p) [
+  | inl a ↦ elim (bit_cases y q) [ inl b ↦ by_tests f x y z 0 0 0 a b (omega (arith, a, b, e)) refl | inr b ↦ by_tests f x y z 0 1 1 a b (omega (arith, a, b, e)) refl ]
+  | inr a ↦ elim (bit_cases y q) [ inl b ↦ by_tests f x y z 1 0 1 a b (omega (arith, a, b, e)) refl | inr b ↦ by_tests f x y z 1 1 0 a b (omega (arith, a, b, e)) refl ]
+])
+
 pub flip_bit : (x y : ℕ) → y ≡ 1 - x → x < 2 → nat_eq y 1 ≡ not (nat_eq x 1)
 flip_bit x y e p = elim (bit_cases x p) [ inl a ↦ (let f : y ≡ 1 = omega (arith, a, e) in rw (f, a)) | inr a ↦ (let f : y ≡ 0 = omega (arith, a, e) in rw (f, a)) ]
 
@@ -41,6 +47,9 @@ in_word-or a b i = max_bits (bit_at a i) (bit_at b i) (bit_at (bit_or a b) i) (b
 
 pub in_word-and : (a b i : ℕ) → in_word (bit_and a b) i ≡ (in_word a i && in_word b i)
 in_word-and a b i = min_bits (bit_at a i) (bit_at b i) (bit_at (bit_and a b) i) (bit_at_and a b i) (bit_at-lt a i) (bit_at-lt b i)
+
+pub in_word-xor : (a b i : ℕ) → in_word (bit_xor a b) i ≡ cond (in_word a i) (not (in_word b i)) (in_word b i)
+in_word-xor a b i = xor_bits (bit_at a i) (bit_at b i) (bit_at (bit_xor a b) i) (bit_at_xor a b i) (bit_at-lt a i) (bit_at-lt b i)
 
 -- bits that answer alike are alike
 pub bit_from_in_word : (a b i : ℕ) → in_word a i ≡ in_word b i → bit_at a i ≡ bit_at b i
@@ -72,8 +81,11 @@ covers_from_and word wanted e i set = implied (in_word word i) (in_word wanted i
 pub and_from_covers : (word wanted : ℕ) → ((i : ℕ) → in_word wanted i ≡ true → in_word word i ≡ true) → bit_and word wanted ≡ wanted
 and_from_covers word wanted h = same_from_in_word (bit_and word wanted) wanted (λ i. in_word-and word wanted i ∙ implies (in_word word i) (in_word wanted i) (h i))
 
--- a bit that is neither missing nor wrong
-pub met_bit : (x wanted unwanted : Bool) → ((wanted && not x) || (unwanted && x)) ≡ false → (wanted ≡ true → x ≡ true) × (unwanted ≡ true → x ≡ false)
+-- what picks of each bit the one of two that must be 0
+abbrev pub unmet : Bool → Bool → Bool → Bool
+unmet x wanted unwanted = cond wanted (not (x && cond wanted (not unwanted) unwanted)) (x && cond wanted (not unwanted) unwanted)
+
+pub met_bit : (x wanted unwanted : Bool) → unmet x wanted unwanted ≡ false → (wanted ≡ true → x ≡ true) × (unwanted ≡ true → x ≡ false)
 met_bit true true true e = cc
 met_bit true false true e = cc
 met_bit true true false e = (λ t. refl, λ t. cc)
@@ -81,14 +93,13 @@ met_bit true false false e = (λ t. refl, λ t. cc)
 met_bit false true unwanted e = cc
 met_bit false false unwanted e = (λ t. cc, λ t. refl)
 
-pub bit_met : (x wanted unwanted : Bool) → (wanted ≡ true → x ≡ true) → (unwanted ≡ true → x ≡ false) → ((wanted && not x) || (unwanted && x)) ≡ false
+pub bit_met : (x wanted unwanted : Bool) → (wanted ≡ true → x ≡ true) → (unwanted ≡ true → x ≡ false) → unmet x wanted unwanted ≡ false
 bit_met true true true p q = q refl
 bit_met true false true p q = q refl
 bit_met true true false p q = refl
 bit_met true false false p q = refl
 bit_met false true unwanted p q = sym (p refl)
-bit_met false false true p q = refl
-bit_met false false false p q = refl
+bit_met false false unwanted p q = refl
 
 -- ---- a word from a place on
 pub high_inside : (start bit : ℕ) → start ≤ bit → bit < 128 → in_word (2 ^ 128 - 2 ^ start) bit ≡ true

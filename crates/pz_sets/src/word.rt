@@ -1,6 +1,6 @@
 //! The bits of a word.
 
-ghost use Rattle.std.specs.Prelude.{◌≡◌, ℕ, ◌<◌, ◌≤◌, ◌↔◌, IsTrue, true, false, not, ◌&&◌, ◌||◌, nat_eq, MatchOption};
+ghost use Rattle.std.specs.Prelude.{◌≡◌, ℕ, ◌<◌, ◌≤◌, ◌↔◌, IsTrue, true, false, not, ◌&&◌, ◌||◌, nat_eq, if◌then◌else◌, MatchOption};
 ghost use Rattle.pz_sets.specs.Sets.{in_word};
 
 pub fn has(word: u128, bit: usize) -> bool
@@ -56,13 +56,21 @@ pub fn is_empty(word: u128) -> bool
     word == 0
 }
 
-/// Whether a word has each bit of a second, and none of a third.
+/// The bits that one word alone of two has.
+pub fn differing(word: u128, other: u128) -> u128
+    ensures { (bit : ℕ) → in_word result bit ≡ (if in_word word bit then not (in_word other bit) else in_word other bit) }
+{
+    word ^ other
+}
+
+/// Whether a word has each bit of a second, and none of a third: a bit that it has must not be unwanted, one that it lacks not wanted.
 pub fn meets(word: u128, wanted: u128, unwanted: u128) -> bool
     ensures { IsTrue result ↔ (((bit : ℕ) → bit < 128 → in_word wanted bit ≡ true → in_word word bit ≡ true) × ((bit : ℕ) → bit < 128 → in_word unwanted bit ≡ true → in_word word bit ≡ false)) }
 {
-    let missing = minus(wanted, word);
-    let wrong = common(unwanted, word);
-    is_empty(union(missing, wrong))
+    // (picks of each bit the one of the two that must be 0; written so that a loop computes `apart` once)
+    let apart = differing(wanted, unwanted);
+    let picked = common(word, apart);
+    is_empty(differing(wanted, picked))
 }
 
 pub fn same(word: u128, other: u128) -> bool

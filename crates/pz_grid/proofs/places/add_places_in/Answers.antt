@@ -14,8 +14,8 @@ returns-in_err-add_places_at-clause-limit c = λ is.
     let p = err_from_is_err_and c.from_residual.result c.from_residual.ensures.1 in
     let grid = c.args.bare.now.grid in
     let row = c.args.row.now in
-    let dir = c.args.dir in
-    let line = c.args.line in
+    let dir = c.args.line.dir in
+    let line = c.args.line.number in
     let h = found_at grid row dir line in
     let skipped = gather_skip h c.starts.from c.in-Some.start c.in-Some.ensures.0 (λ k low high. none_at grid row dir line k (sym (ap (λ (head : List (List Item)). starts_with grid dir line head k) c.head_of-head.ensures.cells) ∙ c.in-Some.ensures.3 k low high)) in
     let added = c.starts.invariant.added ∙ ap (λ (xs : List Place). c.args.found.now.items ++ xs) (sym skipped) in
@@ -31,8 +31,8 @@ pub starts-preserved : goal.starts-preserved
 starts-preserved c =
     let grid = c.args.bare.now.grid in
     let row = c.args.row.now in
-    let dir = c.args.dir in
-    let line = c.args.line in
+    let dir = c.args.line.dir in
+    let line = c.args.line.number in
     let h = found_at grid row dir line in
     let skipped = gather_skip h c.starts.from c.in-Some.start c.in-Some.ensures.0 (λ k low high. none_at grid row dir line k (sym (ap (λ (head : List (List Item)). starts_with grid dir line head k) c.head_of-head.ensures.cells) ∙ c.in-Some.ensures.3 k low high)) in
     let added = c.starts.invariant.added ∙ ap (λ (xs : List Place). c.args.found.now.items ++ xs) (sym skipped) in
@@ -46,8 +46,8 @@ pub returns-clause-added : goal.returns-clause-added
 returns-clause-added c =
     let grid = c.args.bare.now.grid in
     let row = c.args.row.now in
-    let dir = c.args.dir in
-    let line = c.args.line in
+    let dir = c.args.line.dir in
+    let line = c.args.line.number in
     let h = found_at grid row dir line in
     let skipped = gather_skip h c.starts.from (line_length grid dir) c.starts.invariant.within (λ k low high. none_at grid row dir line k (sym (ap (λ (head : List (List Item)). starts_with grid dir line head k) c.head_of-head.ensures.cells) ∙ c.in_default.ensures k low high)) in
     c.starts.invariant.added ∙ ap (λ (xs : List Place). c.args.found.now.items ++ xs) (sym skipped ∙ found_in_all grid row dir line)

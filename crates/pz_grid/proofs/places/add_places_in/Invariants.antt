@@ -7,10 +7,10 @@ use Rattle.pz_grid.proofs.places.add_places_in.Given as goal
 
 abbrev pub invariant-starts : goal.invariant-starts
 invariant-starts l = record {
-  added : l.found.items ≡ l.initial.found.items ++ gather (found_at l.bare.grid l.row l.dir l.line) l.from;
-  within : l.from ≤ line_length l.bare.grid l.dir;
+  added : l.found.items ≡ l.initial.found.items ++ gather (found_at l.bare.grid l.row l.line.dir l.line.number) l.from;
+  within : l.from ≤ line_length l.bare.grid l.line.dir;
   room : length l.found.items ≤ MATCH_LIMIT;
 }
 
 abbrev pub decreases-starts : goal.decreases-starts
-decreases-starts l = line_length l.bare.grid l.dir - l.from
+decreases-starts l = line_length l.bare.grid l.line.dir - l.from

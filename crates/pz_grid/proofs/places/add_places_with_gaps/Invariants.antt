@@ -7,10 +7,10 @@ use Rattle.pz_grid.proofs.places.add_places_with_gaps.Given as goal
 
 abbrev pub invariant-gaps : goal.invariant-gaps
 invariant-gaps l = record {
-  added : l.found.items ≡ l.initial.found.items ++ gather (found_with l.bare.grid l.row l.dir l.line l.start) l.from;
-  within : l.from ≤ line_length l.bare.grid l.dir;
+  added : l.found.items ≡ l.initial.found.items ++ gather (found_with l.bare.grid l.row l.line.dir l.line.number l.start) l.from;
+  within : l.from ≤ line_length l.bare.grid l.line.dir;
   room : length l.found.items ≤ MATCH_LIMIT;
 }
 
 abbrev pub decreases-gaps : goal.decreases-gaps
-decreases-gaps l = line_length l.bare.grid l.dir - l.from
+decreases-gaps l = line_length l.bare.grid l.line.dir - l.from
