@@ -7,3 +7,4 @@ pub mod HeadingLemmas
 pub mod ChangeLemmas
 pub mod LineLemmas
 pub mod StillLemmas
+pub mod HoldingLemmas
