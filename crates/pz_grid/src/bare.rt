@@ -1,6 +1,7 @@
 //! A level without its marks, in as many words a cell as its game needs: each call goes to the sheet that has it.
 
 ghost use Rattle.std.specs.Prelude.{◌≡◌, ℕ, ◌<◌, ◌≤◌, ◌↔◌, IsTrue, true, map, length, slice_index, All, IfOk, IfSome, Some, None, MatchOption};
+ghost use Rattle.std.specs.List.{list_any, list_all};
 ghost use Rattle.pz_sets.specs.Sets.{member};
 ghost use Rattle.pz_sets.specs.declared.set.TheConstants.{CAPACITY};
 ghost use Rattle.pz_game.specs.Pattern.{AreOf, IsRowOf};
@@ -8,7 +9,7 @@ ghost use Rattle.pz_cells.specs.Cell.{IsOnLayer, still_place};
 ghost use Rattle.pz_sheet.specs.Grid.{IsLawful, cell_at, place_at, with_place};
 ghost use Rattle.pz_sheet.specs.Loading.{drawn, filled};
 ghost use Rattle.pz_sheet.specs.Movement.{stilled};
-ghost use Rattle.pz_sheet.specs.Presence.{is_in, cell_of, in_row, in_column};
+ghost use Rattle.pz_sheet.specs.Presence.{is_in, cell_of, holds_both, holds_if, in_row, in_column};
 ghost use Rattle.pz_sheet.specs.Pushing.{pushed};
 ghost use Rattle.pz_sheet.specs.Rewriting.{with_rewritten, changes};
 ghost use Rattle.pz_sheet.specs.Runs.{runs_in_row, runs_in_column};
@@ -433,6 +434,28 @@ impl BareLevel {
             Sized::Small(sheet) => sheet.is_column_still(x),
             Sized::Middle(sheet) => sheet.is_column_still(x),
             Sized::Large(sheet) => sheet.is_column_still(x),
+        }
+    }
+
+    /// Whether some cell holds one of some objects, and one of others.
+    pub(crate) fn some_holds(&self, objects: &[usize], others: &[usize]) -> bool
+        ensures { result ≡ list_any (holds_both objects.now others.now) self.now.grid.cells }
+    {
+        match &self.sheet {
+            Sized::Small(sheet) => sheet.some_holds(objects, others),
+            Sized::Middle(sheet) => sheet.some_holds(objects, others),
+            Sized::Large(sheet) => sheet.some_holds(objects, others),
+        }
+    }
+
+    /// Whether each cell that holds one of some objects holds one of others.
+    pub(crate) fn all_hold(&self, objects: &[usize], others: &[usize]) -> bool
+        ensures { result ≡ list_all (holds_if objects.now others.now) self.now.grid.cells }
+    {
+        match &self.sheet {
+            Sized::Small(sheet) => sheet.all_hold(objects, others),
+            Sized::Middle(sheet) => sheet.all_hold(objects, others),
+            Sized::Large(sheet) => sheet.all_hold(objects, others),
         }
     }
 }

@@ -1,7 +1,8 @@
 // Which objects are in a cell.
 
 ghost use Rattle.std.specs.Prelude.{◌≡◌, ◌<◌, length};
-ghost use Rattle.pz_sheet.specs.Presence.{is_in, holds_one, holds_each, cell_of};
+ghost use Rattle.std.specs.List.{list_any, list_all};
+ghost use Rattle.pz_sheet.specs.Presence.{is_in, holds_one, holds_each, holds_both, holds_if, cell_of};
 
 use crate::Level;
 
@@ -34,5 +35,19 @@ impl Level {
         ensures { result ≡ holds_each objects.now (cell_of self.now.grid index) }
     {
         objects.iter().all(|object| self.is_in(index, *object))
+    }
+
+    /// Whether some cell holds one of some objects, and one of others.
+    pub fn some_holds(&self, objects: &[usize], others: &[usize]) -> bool
+        ensures { result ≡ list_any (holds_both objects.now others.now) self.now.grid.cells }
+    {
+        self.bare.some_holds(objects, others)
+    }
+
+    /// Whether each cell that holds one of some objects holds one of others.
+    pub fn all_hold(&self, objects: &[usize], others: &[usize]) -> bool
+        ensures { result ≡ list_all (holds_if objects.now others.now) self.now.grid.cells }
+    {
+        self.bare.all_hold(objects, others)
     }
 }

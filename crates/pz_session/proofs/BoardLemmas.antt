@@ -1,9 +1,26 @@
--- All levels of a session are its game's.
-use Rattle.std.proofs.Common.{◌≡◌, ℕ, List, [], ◌∷◌, Option, Some, MatchOption, All, drop, refl, sym, subst}
+-- All levels of a session are its game's, and a step that is cancelled leaves the level.
+use Rattle.std.proofs.Common.{◌≡◌, ℕ, List, [], ◌∷◌, Option, Some, None, MatchOption, Bool, true, false, not, cond, Result, Ok, Err, All, drop, refl, ap, sym, ◌∙◌, subst}
+use Rattle.std.specs.Prelude.{IfOk}
 use Rattle.std.proofs.lemmas.List.Elements.{All-head, All-tail}
 use Rattle.pz_game.specs.declared.game.GameParts.{GameParts}
+use Rattle.pz_game.specs.declared.commands.Commands.{Commands}
+use Rattle.pz_game.specs.declared.direction.Dir.{Dir}
+use Rattle.pz_game.specs.declared.instance.Program.{Program}
+use Rattle.pz_game.specs.Commands.{has, cancel, restart}
+use Rattle.pz_game.specs.Game.{players_of}
 use Rattle.pz_sheet.specs.Grid.{Grid, IsOfGame, LevelState}
+use Rattle.pz_sheet.specs.Sameness.{same_grid}
 use Rattle.pz_grid.specs.Loading.{loaded}
+use Rattle.pz_turn.specs.declared.outcome.StepFault.{StepFault}
+use Rattle.pz_turn.specs.declared.step.StepEnd.{StepEnd}
+use Rattle.pz_turn.specs.Outcome.{Outcome}
+use Rattle.pz_turn.specs.Step.{given_input, must_cancel, with_cancel, ended, step_ended, step_of, rules_run}
+use Rattle.pz_session.specs.declared.item.FrameKind.{FrameKind}
+use Rattle.pz_session.specs.declared.item.FrameKind.TheVariants.{Move, Tick}
+use Rattle.pz_session.specs.declared.item.Stop.{Stop}
+use Rattle.pz_session.specs.Chain.{Link}
+use Rattle.pz_session.specs.Turn.{is_idle}
+use Rattle.pz_session.specs.Board.{State, at_level, showing_end, restarted, reached_link, effect, keeping, idle, pressed_to, press_link, ticked_to, tick_link}
 
 -- a level that is loaded
 pub loaded_of_game : (game : GameParts) (index : ℕ) (grid : Grid) → grid ≡ loaded game index → IsOfGame game grid
@@ -18,3 +35,64 @@ taken P old new found level all is newest rest =
     let first : old ≡ level.grid ∷ drop 1 old = subst (λ (o : Option LevelState). MatchOption o (old ≡ []) (λ newest. old ≡ newest.grid ∷ drop 1 old)) is newest in
     let held : All P (level.grid ∷ drop 1 old) = subst (All P) first all in
     (All-head P level.grid (drop 1 old) held, subst (All P) (sym rest) (All-tail P level.grid (drop 1 old) held))
+
+-- ---- a step that is cancelled
+abbrev end_by : Bool → Grid → Grid → Commands → Outcome Grid
+end_by b before after commands =
+    cond b (record { level = before; commands = commands; changed = false }) (record { level = after; commands = commands; changed = not (same_grid after before) })
+
+ended_cancelled : (before after : Grid) (commands : Commands) → has (ended before after commands).commands cancel ≡ true → (ended before after commands).level ≡ before
+ended_cancelled before after commands = by_test (has commands cancel) refl where
+  by_test : (b : Bool) → has commands cancel ≡ b → has (end_by b before after commands).commands cancel ≡ true → (end_by b before after commands).level ≡ before
+  by_test true e h = refl
+  by_test false e h = let f : false ≡ true = sym e ∙ h in cc
+
+-- its end is the level that it began with
+stays : (game : GameParts) (program : Program) (grid : Grid) (input : Option Dir) (end : Outcome Grid) → step_of game program grid input ≡ Ok end → has end.commands cancel ≡ true → end.level ≡ grid
+unfolding step_of
+stays game program grid input end = by_run (rules_run program (given_input (players_of game) input grid)) where
+  by_run : (run : Result (Outcome Grid) StepFault) → step_ended game input grid run ≡ Ok end → has end.commands cancel ≡ true → end.level ≡ grid
+  by_run (Err fault) e h = cc
+  by_run (Ok gone) e h =
+      let commands = with_cancel (must_cancel game input grid gone.level) gone.commands in
+      let same : ended grid gone.level commands ≡ end = cc in
+      sym (ap (λ (x : Outcome Grid). x.level) same) ∙ ended_cancelled grid gone.level commands (ap (λ (x : Outcome Grid). has x.commands cancel) same ∙ h)
+
+pub stays_cancelled : (game : GameParts) (program : Program) (grid : Grid) (input : Option Dir) (result : Result StepEnd StepFault) → IfOk result (λ end. step_of game program grid input ≡ Ok (record { level = end.level.grid; commands = end.commands; changed = end.changed }))
+    → IfOk result (λ end. has end.commands cancel ≡ true → end.level.grid ≡ grid)
+stays_cancelled game program grid input (Ok end) e = stays game program grid input (record { level = end.level.grid; commands = end.commands; changed = end.changed }) e
+stays_cancelled game program grid input (Err fault) e = tt
+
+-- the effect of a step on the level that it began with is that on the one where it ends
+pub effect_moved : (kind : FrameKind) (state : State) (end : Outcome Grid) → (has end.commands cancel ≡ true → end.level ≡ state.level) → effect kind (at_level end.level state) end ≡ effect kind state end
+unfolding effect restarted
+effect_moved kind state end same = by_test (has end.commands cancel) refl where
+  by_test : (b : Bool) → has end.commands cancel ≡ b
+      → cond b (showing_end kind (at_level end.level state)) (cond (has end.commands restart) (restarted (at_level end.level state)) (reached_link kind end.commands end.changed (at_level end.level state)))
+      ≡ cond b (showing_end kind state) (cond (has end.commands restart) (restarted state) (reached_link kind end.commands end.changed (at_level end.level state)))
+  by_test true e = ap (λ (grid : Grid). showing_end kind (at_level grid state)) (same e)
+  by_test false e = refl
+
+abbrev ok_link : Link State → Result (Link State) Stop
+ok_link link = Ok link
+
+-- a press whose step ends on a level that took the place of the one before it, which is kept
+pub pressed : (dir : Dir) (state next : State) (end : Outcome Grid) (link : Result (Link State) Stop) → step_of state.game state.program state.level (Some dir) ≡ Ok end → (has end.commands cancel ≡ true → end.level ≡ state.level)
+    → next ≡ at_level end.level (keeping state) → ok_link (effect Move next (record { level = next.level; commands = end.commands; changed = end.changed })) ≡ link → press_link dir state ≡ link
+unfolding press_link
+pressed dir state next end link stepped same is given =
+    ap (pressed_to state) stepped
+    ∙ ap ok_link (sym (effect_moved Move (keeping state) end same))
+    ∙ ap (λ (there : State). ok_link (effect Move there (record { level = there.level; commands = end.commands; changed = end.changed }))) (sym is)
+    ∙ given
+
+-- a tick that isn't idle, whose step ends on a level that took the place of the one before it
+pub ticked : (state next : State) (end : Outcome Grid) (link : Result (Link State) Stop) → step_of state.game state.program state.level None ≡ Ok end → is_idle end ≡ false → (has end.commands cancel ≡ true → end.level ≡ state.level)
+    → next ≡ at_level end.level state → ok_link (effect Tick next (record { level = next.level; commands = end.commands; changed = end.changed })) ≡ link → tick_link state ≡ link
+unfolding tick_link
+ticked state next end link stepped busy same is given =
+    ap (ticked_to state) stepped
+    ∙ ap (λ (b : Bool). ok_link (cond b (idle state) (effect Tick state end))) busy
+    ∙ ap ok_link (sym (effect_moved Tick state end same))
+    ∙ ap (λ (there : State). ok_link (effect Tick there (record { level = there.level; commands = end.commands; changed = end.changed }))) (sym is)
+    ∙ given

@@ -1,7 +1,7 @@
 //! The levels of a session between two links, and the links that lead on from them.
 
 ghost use Rattle.std.specs.Prelude.{◌≡◌, ◌≢◌, ◌<◌, ◌+◌, true, if◌then◌else◌, length, IfOk, IfErr, OnOk, Ok, Err};
-ghost use Rattle.pz_game.specs.Commands.{has, checkpoint};
+ghost use Rattle.pz_game.specs.Commands.{has, cancel, checkpoint};
 ghost use Rattle.pz_game.specs.Level.{is_playable};
 ghost use Rattle.pz_game.specs.Instance.{IsProgramOf};
 ghost use Rattle.pz_sheet.specs.Grid.{IsOfGame};
@@ -32,6 +32,7 @@ use pz_turn::step::{StepEnd, step};
 use pz_turn::win::won;
 use std::alloc::{AllocError, Global};
 use std::marker::Model;
+use std::mem::replace;
 
 /// A session between two links: the entry of LEVELS that is played, its level, the target of a restart, the levels that an undo
 /// takes back, the level before an input until that input's chain is over, and whether play is over.
@@ -121,7 +122,7 @@ fn opened(alloc: Global, game: &Game, entry: usize) -> Result<(Level, Level), Al
 }
 
 impl<'a> Board<'a> {
-    ghost use Rattle.pz_session.specs.Board.{loaded_at, frame_of, showing, showing_end, start_link, restarted, ending, won_link, kept_link, reached_link, effect, press_link, tick_link, undone, undo_link, ticks_at_start, keeping};
+    ghost use Rattle.pz_session.specs.Board.{loaded_at, at_level, frame_of, showing, showing_end, start_link, restarted, ending, won_link, kept_link, reached_link, effect, press_link, tick_link, undone, undo_link, ticks_at_start, keeping};
 
     /// A session at the level of an entry, as it is loaded.
     pub fn load(
@@ -192,6 +193,14 @@ impl<'a> Board<'a> {
         self.show(FrameKind::Start, goes_on)
     }
 
+    /// Shows the level, which is the target again.
+    fn show_target(&mut self) -> Result<Shown, AllocError>
+        ensures { IfOk result (λ shown. GivesLink (Ok (showing FrameKind.Restart self.old (ticks_at_start self.old))) self.new (Ok shown)) }
+    {
+        let goes_on = self.ticks_at_start();
+        self.show(FrameKind::Restart, goes_on)
+    }
+
     /// The level is the target again.
     #[tactic(auto, unfolding(crate::specs::Board::restarted))]
     fn restart(&mut self) -> Result<Shown, AllocError>
@@ -199,8 +208,7 @@ impl<'a> Board<'a> {
     {
         let level = self.target.copy()?;
         put(&mut self.level, level);
-        let goes_on = self.ticks_at_start();
-        self.show(FrameKind::Restart, goes_on)
+        self.show_target()
     }
 
     /// The level of an entry, as it is loaded: it is the target, and there is no past.
@@ -303,41 +311,47 @@ impl<'a> Board<'a> {
         self.keep(kind, commands, changed)
     }
 
-    /// The effect of a step.
+    /// The effect of a step that led to the level.
     #[tactic(auto, unfolding(crate::specs::Board::effect))]
-    fn take(&mut self, kind: FrameKind, end: StepEnd) -> Result<Shown, AllocError>
-        requires { IsOfGame self.old.game end.level.grid }
-        ensures { IfOk result (λ shown. GivesLink (Ok (effect kind self.old (record { level = end.level.grid; commands = end.commands; changed = end.changed }))) self.new (Ok shown)) }
+    fn take(
+        &mut self,
+        kind: FrameKind,
+        commands: Commands,
+        changed: bool,
+    ) -> Result<Shown, AllocError>
+        ensures { IfOk result (λ shown. GivesLink (Ok (effect kind self.old (record { level = self.old.level; commands = commands; changed = changed }))) self.new (Ok shown)) }
     {
-        let StepEnd {
-            level,
-            commands,
-            changed,
-        } = end;
         if commands.contains(Commands::CANCEL) {
-            drop(level);
             return self.show(kind, false);
         }
         if commands.contains(Commands::RESTART) {
-            drop(level);
             return self.restart();
         }
-        put(&mut self.level, level);
         self.reach(kind, commands, changed)
     }
 
-    /// Keeps the level for the past until the chain is over.
-    fn keep_before(&mut self) -> Result<(), AllocError>
-        ensures { OnOk result (self.new ≡ keeping self.old) }
+    /// Puts another level in the place of this one.
+    fn go_to(&mut self, level: Level)
+        requires { IsOfGame self.old.game level.grid }
+        ensures { self.new ≡ at_level level.grid self.old }
     {
-        let before = self.level.copy()?;
-        put(&mut self.before, Some(before));
-        Ok(())
+        put(&mut self.level, level);
     }
 
-    /// A step from the level, which leads to another level of its game. The level itself stays as it is.
+    /// Puts another level in the place of this one, which is kept for the past until the chain is over.
+    fn leave_for(&mut self, level: Level)
+        requires { IsOfGame self.old.game level.grid }
+        ensures { self.new ≡ at_level level.grid (keeping self.old) }
+    {
+        let before = replace(&mut self.level, level);
+        put(&mut self.before, Some(before));
+    }
+
+    /// A step from the level, which leads to another level of its game, and to the same where it is cancelled. The level itself stays
+    /// as it is.
     fn turn(&self, input: Option<Dir>) -> Result<StepEnd, StepFault>
         ensures end { IfOk result (λ end. step_of self.now.game self.now.program self.now.level input ≡ Ok (record { level = end.level.grid; commands = end.commands; changed = end.changed })) }
+        ensures cancelled { IfOk result (λ end. has end.commands cancel ≡ true → end.level.grid ≡ self.now.level) }
         ensures game { IfOk result (λ end. IsOfGame self.now.game end.level.grid) }
         ensures fault { IfErr result (λ fault. fault ≢ Memory → step_of self.now.game self.now.program self.now.level input ≡ Err fault) }
     {
@@ -349,9 +363,14 @@ impl<'a> Board<'a> {
     fn press(&mut self, dir: Dir) -> Result<Shown, PlayFault>
         ensures { GivesLink (press_link dir self.old) self.new result }
     {
-        self.keep_before()?;
         let end = self.turn(Some(dir))?;
-        let shown = self.take(FrameKind::Move, end)?;
+        let StepEnd {
+            level,
+            commands,
+            changed,
+        } = end;
+        self.leave_for(level);
+        let shown = self.take(FrameKind::Move, commands, changed)?;
         Ok(shown)
     }
 
@@ -369,7 +388,13 @@ impl<'a> Board<'a> {
                 goes_on: false,
             });
         }
-        let shown = self.take(FrameKind::Tick, end)?;
+        let StepEnd {
+            level,
+            commands,
+            changed,
+        } = end;
+        self.go_to(level);
+        let shown = self.take(FrameKind::Tick, commands, changed)?;
         Ok(shown)
     }
 
@@ -392,11 +417,13 @@ impl<'a> Board<'a> {
     }
 
     /// A restart input.
+    #[tactic(auto, unfolding(crate::specs::Board::restarted))]
     fn start_again(&mut self) -> Result<Shown, AllocError>
         ensures { IfOk result (λ shown. GivesLink (Ok (restarted (keeping self.old))) self.new (Ok shown)) }
     {
-        self.keep_before()?;
-        self.restart()
+        let target = self.target.copy()?;
+        self.leave_for(target);
+        self.show_target()
     }
 }
 

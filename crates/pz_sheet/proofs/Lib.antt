@@ -8,3 +8,4 @@ pub mod ChangeLemmas
 pub mod RunLemmas
 pub mod LineLemmas
 pub mod StillLemmas
+pub mod HoldingLemmas

@@ -1,15 +1,18 @@
 -- Objects that are given a direction.
-use Rattle.std.proofs.Common.{◌≡◌, ◌≢◌, inl, inr, ℕ, ◌+◌, ◌<◌, ◌≤◌, List, [], ◌∷◌, Option, Some, None, Bool, true, false, ◌||◌, cond, map, drop, length, get_or, nat_eq, ap, sym, ◌∙◌, refl, subst, eq-eqb}
+use Rattle.std.proofs.Common.{◌≡◌, ◌≢◌, inl, inr, ℕ, suc, ◌+◌, ◌<◌, ◌≤◌, List, [], ◌∷◌, ◌++◌, Option, Some, None, Bool, true, false, ◌||◌, cond, map, set, take, drop, length, get_or, nat_eq, arith, ap, sym, ◌∙◌, refl, subst, eq-eqb, length-append, length-drop, length-take}
 use Rattle.std.specs.Prelude.{IfSome}
-use Rattle.std.proofs.lemmas.Bool.{cases_eq, ne_eqb}
-use Rattle.std.proofs.lemmas.List.{drop_more, drop_all}
+use Rattle.std.specs.List.{All}
+use Rattle.std.proofs.lemmas.Bool.{cases_eq, false≢true, ne_eqb}
+use Rattle.std.proofs.lemmas.List.{append-nil, drop_more, drop_all, get_or_default, length-map, set-get_or, take_all}
+use Rattle.std.proofs.lemmas.List.Edits.{map_over_more}
 use Rattle.pz_sets.specs.Sets.{member}
 use Rattle.pz_game.specs.declared.direction.Dir.{Dir}
 use Rattle.pz_game.specs.Headings.{heads, heading_in}
 use Rattle.pz_cells.specs.declared.piece.Piece.{Piece}
 use Rattle.pz_cells.specs.Shown.{place_of, cell_of, Shows, AreLawful, Changes}
 use Rattle.pz_cells.proofs.PlaceLemmas.{lawful_changed, shows_changed, place_some, object_there}
-use Rattle.pz_sheet.specs.Pushing.{is_one_of, pushed_place}
+use Rattle.pz_sheet.specs.Grid.{Grid}
+use Rattle.pz_sheet.specs.Pushing.{is_one_of, pushed_place, pushed_at, pushed}
 use Rattle.pz_sheet.proofs.MapLemmas.{cell_mapped}
 
 pub pushed_none : (dir : Dir) (place : Option Piece) → pushed_place [] dir place ≡ place
@@ -101,3 +104,48 @@ turned_shows layers objects movement objects_new movement_new object dir t layer
 pub cell_turned : (depth : ℕ) (layers objects movement objects_new movement_new : List ℕ) (object : ℕ) (dir : Dir) → AreTurned layers objects movement objects_new movement_new object dir → cell_of depth layers objects_new movement_new ≡ map (pushed_place (object ∷ []) dir) (cell_of depth layers objects movement)
 cell_turned depth layers objects movement objects_new movement_new object dir t =
     cell_mapped depth layers objects movement objects_new movement_new (pushed_place (object ∷ []) dir) (lawful_turned layers objects movement objects_new movement_new object dir t).of_game (turned_shows layers objects movement objects_new movement_new object dir t)
+
+-- nobody of some players stands there
+pub absent_pushed : (depth : ℕ) (layers objects movement players : List ℕ) (dir : Dir) → AreLawful layers objects movement → All (λ player. member objects player ≡ false) players → map (pushed_place players dir) (cell_of depth layers objects movement) ≡ cell_of depth layers objects movement
+absent_pushed depth layers objects movement [] dir lawful none = all_pushed_none dir (cell_of depth layers objects movement)
+absent_pushed depth layers objects movement (player ∷ players) dir lawful none =
+    let cell = cell_of depth layers objects movement in
+    let missing : member objects player ≡ false = none 0 player (omega arith) in
+    let one : cell ≡ map (pushed_place (player ∷ []) dir) cell = cell_turned depth layers objects movement objects movement player dir (record {
+      lawful = lawful;
+      turned = λ e. absurd (false≢true (sym missing ∙ e));
+      same_objects = λ e. refl;
+      same_movement = λ e. refl;
+    }) in
+    sym (all_pushed_more player players dir cell) ∙ (ap (map (pushed_place players dir)) (sym one) ∙ absent_pushed depth layers objects movement players dir lawful (λ k d within. none (suc k) d (omega (arith, within))))
+
+-- a cell that a push leaves as it is
+pub unpushed_at : (players : List ℕ) (dir : Dir) (index : ℕ) (grid : Grid) → map (pushed_place players dir) (get_or grid.cells index []) ≡ get_or grid.cells index [] → grid ≡ pushed_at players dir index grid
+unpushed_at players dir index grid same =
+    ap (λ (cells : List (List (Option Piece))). record grid { cells = cells }) (sym (ap (set grid.cells index) same ∙ set-get_or grid.cells index []))
+
+pub pushed_long : (players : List ℕ) (dir : Dir) (index : ℕ) (old now : Grid) → now ≡ record old { cells = map (map (pushed_place players dir)) (take index old.cells) ++ drop index old.cells } → length now.cells ≡ length old.cells
+pushed_long players dir index old now is =
+    let f = map (pushed_place players dir) in
+    omega (arith, ap (λ (g : Grid). length g.cells) is ∙ length-append (map f (take index old.cells)) (drop index old.cells), length-map (take index old.cells) f, length-take index old.cells, length-drop index old.cells)
+
+-- one more cell is pushed
+pub pushed_on : (players : List ℕ) (dir : Dir) (index : ℕ) (old now next : Grid) → index < length old.cells
+    → now ≡ record old { cells = map (map (pushed_place players dir)) (take index old.cells) ++ drop index old.cells } → next ≡ pushed_at players dir index now
+    → next ≡ record old { cells = map (map (pushed_place players dir)) (take (index + 1) old.cells) ++ drop (index + 1) old.cells }
+pushed_on players dir index old now next within is e =
+    let f = map (pushed_place players dir) in
+    let cells = map f (take index old.cells) ++ drop index old.cells in
+    let here = get_or cells index [] in
+    let inside : index < length cells = omega (arith, within, ap (λ (g : Grid). length g.cells) is, pushed_long players dir index old now is) in
+    e ∙ ap (λ (grid : Grid). pushed_at players dir index grid) is
+    ∙ ap (λ (all : List (List (Option Piece))). record old { cells = all }) (map_over_more f old.cells cells index here within refl (get_or_default cells index [] here inside))
+
+-- all cells are pushed
+pub pushed_end : (players : List ℕ) (dir : Dir) (index : ℕ) (old now : Grid) → length old.cells ≤ index
+    → now ≡ record old { cells = map (map (pushed_place players dir)) (take index old.cells) ++ drop index old.cells } → now ≡ pushed players dir old
+pushed_end players dir index old now past is =
+    let f = map (pushed_place players dir) in
+    is ∙ ap (λ (all : List (List (Option Piece))). record old { cells = all })
+    (ap (λ (rest : List (List (Option Piece))). map f (take index old.cells) ++ rest) (drop_all index old.cells past)
+    ∙ (append-nil (map f (take index old.cells)) ∙ ap (map f) (take_all index old.cells past)))

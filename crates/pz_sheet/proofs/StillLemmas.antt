@@ -1,5 +1,5 @@
 -- A cell that heads nowhere is still, and so is each cell of a line, or of a level, of which no heading is noted.
-use Rattle.std.proofs.Common.{◌≡◌, ◌+◌, ◌*◌, ◌%◌, ◌<◌, ℕ, suc, List, [], ◌∷◌, Option, Bool, true, false, inl, inr, map, set, length, get_or, arith, ap, sym, ◌∙◌, refl, subst, get_or-set_same, get_or-set_other}
+use Rattle.std.proofs.Common.{◌≡◌, ◌+◌, ◌*◌, ◌<◌, ℕ, suc, List, [], ◌∷◌, Option, Bool, true, false, inl, inr, map, set, length, get_or, arith, ap, sym, ◌∙◌, refl, subst, get_or-set_same, get_or-set_other}
 use Rattle.std.specs.List.{All}
 use Rattle.std.proofs.lemmas.Bool.{cases_eq}
 use Rattle.std.proofs.lemmas.List.{get_or_default}

@@ -6,6 +6,7 @@ pub mod Changes
 pub mod Presence
 pub mod Movement
 pub mod Pushing
+pub mod Holding
 pub mod Loading
 pub mod Rewriting
 pub mod Searching

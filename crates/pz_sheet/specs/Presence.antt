@@ -1,5 +1,5 @@
 -- Which objects are in a cell, in a row and in a column.
-use Rattle.std.specs.Prelude.{ℕ, Bool, List, [], Option, is_some, slice_index_or}
+use Rattle.std.specs.Prelude.{ℕ, Bool, not, ◌&&◌, ◌||◌, List, [], Option, is_some, slice_index_or}
 use Rattle.std.specs.List.{list_any, list_all, range_with_len}
 use Rattle.pz_cells.specs.declared.piece.Piece.{Piece}
 use Rattle.pz_sheet.specs.Grid.{Grid, cell_at}
@@ -28,3 +28,11 @@ in_row grid line object = list_any (λ x. is_in (cell_at grid x line) object) (r
 -- an object stands in a column
 abbrev pub in_column : Grid → ℕ → ℕ → Bool
 in_column grid line object = list_any (λ y. is_in (cell_at grid line y) object) (range_with_len 0 grid.height)
+
+-- one of some objects is in a cell, and one of others
+abbrev pub holds_both : List ℕ → List ℕ → List (Option Piece) → Bool
+holds_both objects others cell = holds_one objects cell && holds_one others cell
+
+-- if one of some objects is in a cell, so is one of others
+abbrev pub holds_if : List ℕ → List ℕ → List (Option Piece) → Bool
+holds_if objects others cell = not (holds_one objects cell) || holds_one others cell

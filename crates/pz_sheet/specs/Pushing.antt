@@ -1,5 +1,5 @@
 -- The direction of an input, given to the player.
-use Rattle.std.specs.Prelude.{ℕ, Bool, List, map, Option, Some, None, nat_eq, if◌then◌else◌}
+use Rattle.std.specs.Prelude.{ℕ, Bool, List, [], map, Option, Some, None, nat_eq, slice_set, slice_index_or, if◌then◌else◌}
 use Rattle.std.specs.List.{list_any}
 use Rattle.pz_game.specs.declared.direction.Dir.{Dir}
 use Rattle.pz_cells.specs.declared.piece.Piece.{Piece}
@@ -16,3 +16,8 @@ pushed_place players dir (Some piece) =
 
 abbrev pub pushed : List ℕ → Dir → Grid → Grid
 pushed players dir grid = record grid { cells = map (map (pushed_place players dir)) grid.cells }
+
+-- the level with the player pushed in the cell of a number alone
+abbrev pub pushed_at : List ℕ → Dir → ℕ → Grid → Grid
+pushed_at players dir index grid =
+    record grid { cells = slice_set grid.cells index (map (pushed_place players dir) (slice_index_or grid.cells index [])) }

@@ -12,6 +12,7 @@ use std::marker::Model;
 pub mod changes;
 mod copying;
 mod headings;
+mod holding;
 mod lines;
 mod loading;
 mod movement;

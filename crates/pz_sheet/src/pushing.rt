@@ -1,15 +1,18 @@
 //! The direction of an input, given to the player.
 
-ghost use Rattle.std.specs.Prelude.{◌≡◌, ◌≤◌, ◌<◌, ◌*◌, ℕ, All, [], ◌∷◌, map};
+ghost use Rattle.std.specs.Prelude.{◌≡◌, ◌≤◌, ◌<◌, ◌*◌, ℕ, All, [], ◌∷◌, length, map};
 ghost use Rattle.pz_game.specs.declared.limits.TheConstants.{MAX_LAYERS};
 ghost use Rattle.pz_cells.specs.Shown.{cell_of, AreLawful};
 ghost use Rattle.pz_sheet.specs.Grid.{IsLawful};
-ghost use Rattle.pz_sheet.specs.Pushing.{pushed_place, pushed};
-ghost use Rattle.pz_sheet.specs.Seen.{IsSound, AreMapped};
+ghost use Rattle.pz_sheet.specs.Holding.{IsSetFor};
+ghost use Rattle.pz_sheet.specs.Pushing.{pushed_place, pushed_at, pushed};
 
 use crate::Sheet;
+use crate::holding::set_of;
 use pz_cells::cell::Cell;
 use pz_game::direction::Dir;
+use pz_sets::set::NumberSet;
+use pz_sets::words::is_disjoint;
 
 impl<const N: usize> Sheet<N> {
     /// Lets each of some objects head in a direction.
@@ -17,27 +20,33 @@ impl<const N: usize> Sheet<N> {
         ensures pushed { self.new.grid ≡ pushed players.now dir self.old.grid }
         ensures lawful { IsLawful self.new.grid }
     {
-        push_cells(&mut self.cells, self.depth, &self.layers, players, dir);
-        self.notes.renew(&self.cells);
+        let set = set_of(players);
+        for index in 0..self.cell_count() {
+            self.push_at(index, players, &set, dir);
+        }
+        // (brings the proof the law of the level)
+        let _ = self.width();
     }
-}
 
-fn push_cells<const N: usize>(
-    cells: &mut Vec<Cell<N>>,
-    depth: usize,
-    layers: &[usize],
-    players: &[usize],
-    dir: Dir,
-)
-    requires short { N ≤ 4 }
-    requires shallow { depth ≤ MAX_LAYERS }
-    requires movement_room { depth ≤ 25 * N }
-    requires layered { All (λ layer. layer < depth) layers.now }
-    requires sound { All (IsSound N layers.now) cells.old.items }
-    ensures { AreMapped N depth layers.now (map (pushed_place players.now dir)) cells.old.items cells.new.items }
-{
-    for index in 0..cells.len() {
-        push_cell(&mut cells[index], depth, layers, players, dir);
+    /// Lets each of some objects head in a direction, in the cell of a number. Only a cell that holds one of them is changed.
+    fn push_at(&mut self, index: usize, players: &[usize], set: &NumberSet, dir: Dir)
+        requires within { index < length self.old.grid.cells }
+        requires set { IsSetFor players.now set.now }
+        ensures { self.new.grid ≡ pushed_at players.now dir index self.old.grid }
+    {
+        if is_disjoint(set.words(), &self.cells[index].objects) {
+            return;
+        }
+        self.push_in(index, players, dir);
+    }
+
+    fn push_in(&mut self, index: usize, players: &[usize], dir: Dir)
+        requires { index < length self.old.grid.cells }
+        ensures { self.new.grid ≡ pushed_at players.now dir index self.old.grid }
+    {
+        let cell = &mut self.cells[index];
+        push_cell(cell, self.depth, &self.layers, players, dir);
+        self.notes.note(index, cell);
     }
 }
 

@@ -1,3 +1,4 @@
+pub mod Winning
 pub mod Applying
 pub mod Combining
 pub mod Limits

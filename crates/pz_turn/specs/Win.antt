@@ -1,6 +1,6 @@
 -- When a level is won: there are win lines, and all of them hold. `All X on Y` holds if each cell that fits X fits Y, `Some X on Y`
 -- if some cell fits both, `No X on Y` if none does. Without `on` each cell fits the second: so `All X` always holds.
-use Rattle.std.specs.Prelude.{ℕ, Bool, true, false, not, ◌&&◌, ◌||◌, List, Option, Some, None, length, nat_lt, slice_get}
+use Rattle.std.specs.Prelude.{◌≡◌, ℕ, Bool, true, false, not, ◌&&◌, ◌||◌, List, Option, Some, None, length, nat_lt, slice_get}
 use Rattle.std.specs.List.{list_any, list_all}
 use Rattle.std.specs.Option.{option_map_or}
 use Rattle.pz_game.specs.declared.denotation.Kind.{Kind}
@@ -11,7 +11,7 @@ use Rattle.pz_game.specs.declared.win_line.WinLine.{WinLine}
 use Rattle.pz_game.specs.declared.game.GameParts.{GameParts}
 use Rattle.pz_cells.specs.declared.piece.Piece.{Piece}
 use Rattle.pz_sheet.specs.Grid.{Grid}
-use Rattle.pz_sheet.specs.Presence.{holds_one, holds_each}
+use Rattle.pz_sheet.specs.Presence.{holds_one, holds_each, holds_both, holds_if}
 
 -- a cell fits an aggregate that it holds wholly, and an object or a property of which it holds a member
 abbrev pub fits_kind : Kind → List ℕ → List (Option Piece) → Bool
@@ -34,6 +34,11 @@ fits_both game line cell = fits game line.subject cell && fits_on game line.on c
 -- if a cell fits the first name of a line, it fits the second
 abbrev pub fits_if : GameParts → WinLine → List (Option Piece) → Bool
 fits_if game line cell = not (fits game line.subject cell) || fits_on game line.on cell
+
+-- a cell fits a line where it holds one of some objects, and of others
+pub record AreAsked (game : GameParts) (line : WinLine) (objects others : List ℕ) : Type 0 where
+  pub both : (cell : List (Option Piece)) → fits_both game line cell ≡ holds_both objects others cell
+  pub if_first : (cell : List (Option Piece)) → fits_if game line cell ≡ holds_if objects others cell
 
 -- a line as a sentence over all cells
 abbrev pub holds_of : Quantifier → GameParts → WinLine → List (List (Option Piece)) → Bool

@@ -1,9 +1,10 @@
 //! When a level is won.
 
-ghost use Rattle.std.specs.Prelude.{◌≡◌, ◌<◌, length};
+ghost use Rattle.std.specs.Prelude.{◌≡◌, ◌<◌, List, Option, IfSome, length};
 ghost use Rattle.std.specs.List.{list_any, list_all};
-ghost use Rattle.pz_sheet.specs.Presence.{cell_of};
-ghost use Rattle.pz_turn.specs.Win.{fits_kind, fits, fits_on, fits_both, fits_if, line_holds, has_won};
+ghost use Rattle.pz_cells.specs.declared.piece.Piece.{Piece};
+ghost use Rattle.pz_sheet.specs.Presence.{cell_of, holds_one};
+ghost use Rattle.pz_turn.specs.Win.{fits_kind, fits, fits_on, fits_both, fits_if, line_holds, has_won, AreAsked};
 
 use pz_game::denotation::{Denotation, Kind};
 use pz_game::game::Game;
@@ -78,7 +79,8 @@ fn some_fits(game: &Game, level: &Level, line: WinLine) -> bool
     false
 }
 
-fn line_holds(game: &Game, level: &Level, line: WinLine) -> bool
+/// Whether a line holds, cell by cell.
+fn line_holds_by_cell(game: &Game, level: &Level, line: WinLine) -> bool
     ensures { result ≡ line_holds game.now level.now.grid line }
 {
     match line.quantifier {
@@ -86,6 +88,61 @@ fn line_holds(game: &Game, level: &Level, line: WinLine) -> bool
         Quantifier::Some => some_fits(game, level, line),
         Quantifier::No => !some_fits(game, level, line),
     }
+}
+
+/// The objects of which a cell must hold one to fit a name. None: it takes more than that, or there is no such name.
+fn members_of(game: &Game, number: usize) -> Option<&[usize]>
+    ensures { IfSome result (λ members. (cell : List (Option Piece)) → fits game.now number cell ≡ holds_one members.now cell) }
+{
+    match game.values().get(number) {
+        None => None,
+        Some(denotation) => match denotation.kind {
+            Kind::Aggregate => None,
+            Kind::Object | Kind::Property => Some(denotation.members.items()),
+        },
+    }
+}
+
+/// The objects of which a cell must hold one to fit what stands after `on`. Without it, those of the first name: what fits that fits both.
+fn others_of<'a>(game: &'a Game, line: WinLine, objects: &'a [usize]) -> Option<&'a [usize]>
+    requires { (cell : List (Option Piece)) → fits game.now line.subject cell ≡ holds_one objects.now cell }
+    ensures { IfSome result (λ others. AreAsked game.now line objects.now others.now) }
+{
+    match line.on {
+        None => Some(objects),
+        Some(number) => members_of(game, number),
+    }
+}
+
+/// Whether a line holds that asks for one of some objects in a cell, and for one of others.
+fn line_holds_of(
+    game: &Game,
+    level: &Level,
+    line: WinLine,
+    objects: &[usize],
+    others: &[usize],
+) -> bool
+    requires { AreAsked game.now line objects.now others.now }
+    ensures { result ≡ line_holds game.now level.now.grid line }
+{
+    // (the contract alone speaks of the game)
+    let _ = game;
+    match line.quantifier {
+        Quantifier::All => level.all_hold(objects, others),
+        Quantifier::Some => level.some_holds(objects, others),
+        Quantifier::No => !level.some_holds(objects, others),
+    }
+}
+
+fn line_holds(game: &Game, level: &Level, line: WinLine) -> bool
+    ensures { result ≡ line_holds game.now level.now.grid line }
+{
+    if let Some(objects) = members_of(game, line.subject) {
+        if let Some(others) = others_of(game, line, objects) {
+            return line_holds_of(game, level, line, objects, others);
+        }
+    }
+    line_holds_by_cell(game, level, line)
 }
 
 fn all_hold(game: &Game, level: &Level, lines: &[WinLine]) -> bool

@@ -1,6 +1,5 @@
-use Rattle.std.proofs.Common.{◌≡◌, ◌<◌, List, Option, map, arith, ap, sym, ◌∙◌, subst}
+use Rattle.std.proofs.Common.{◌≡◌, ◌<◌, map, arith, ap, sym, ◌∙◌, subst}
 use Rattle.pz_sets.specs.Sets.{member}
-use Rattle.pz_cells.specs.declared.piece.Piece.{Piece}
 use Rattle.pz_cells.specs.Cell.{still_place}
 use Rattle.pz_sheet.specs.Grid.{Grid, BareState, cell_at}
 use Rattle.pz_sheet.proofs.StillLemmas.{column_is_still}

@@ -1,7 +1,7 @@
 use Rattle.std.proofs.Common.{◌≡◌, ℕ, List, Option, false, ap, sym, ◌∙◌, subst}
 use Rattle.pz_sets.specs.Sets.{member}
 use Rattle.pz_cells.specs.declared.piece.Piece.{Piece}
-use Rattle.pz_sheet.specs.Grid.{Grid, BareState, IsLawful}
+use Rattle.pz_sheet.specs.Grid.{BareState, IsLawful}
 use Rattle.pz_sheet.specs.Seen.{grid_of}
 use Rattle.pz_sheet.specs.Movement.{stilled}
 use Rattle.pz_sheet.proofs.SheetLemmas.{lawful_seen}

@@ -1,0 +1,10 @@
+use Rattle.std.proofs.Common.{◌≡◌, true, subst}
+use Rattle.std.specs.Prelude.{IfOk}
+use Rattle.pz_game.specs.Commands.{has, cancel}
+use Rattle.pz_session.specs.Board.{State}
+use Rattle.pz_session.proofs.BoardLemmas.{stays_cancelled}
+use Rattle.pz_session.proofs.board.Board.turn.Goals as goal
+
+pub returns-clause-cancelled : goal.returns-clause-cancelled
+returns-clause-cancelled c =
+    subst (λ (s : State). IfOk c.step.result (λ end. has end.commands cancel ≡ true → end.level.grid ≡ s.level)) c.self.view_is (stays_cancelled _ _ _ _ _ c.step.ensures.end)

@@ -1,0 +1,83 @@
+-- The set of some objects, and a cell that holds one of them.
+use Rattle.std.proofs.Common.{◌≡◌, ◌+◌, ◌<◌, ℕ, zero, suc, List, [], ◌∷◌, Bool, true, false, not, ◌&&◌, ◌||◌, inl, inr, nat_eq, take, length, get_or, arith, ap, sym, ◌∙◌, refl, eq-eqb}
+use Rattle.std.specs.Prelude.{nat_lt, IsTrue, ◌↔◌}
+use Rattle.std.specs.List.{All, list_any}
+use Rattle.std.proofs.lemmas.Bool.{and_parts, eqb-true, false≢true, lt-ltb, or_cases, or_left, or_right}
+use Rattle.std.proofs.lemmas.List.Folds.{list_any_more}
+use Rattle.pz_sets.specs.Sets.{member, AreApart}
+use Rattle.pz_sets.specs.declared.set.TheConstants.{CAPACITY}
+use Rattle.pz_sheet.specs.Holding.{IsSetFor}
+
+-- ---- the set
+set_bools : (own low any hit : Bool) → (hit ≡ true → own ≡ low) → ((own && hit) || (low && any)) ≡ (low && (any || hit))
+set_bools own low any true same = ap (λ (o : Bool). (o && true) || (low && any)) (same refl) ∙ with_hit low any where
+  with_hit : (low any : Bool) → ((low && true) || (low && any)) ≡ (low && (any || true))
+  with_hit true true = refl
+  with_hit true false = refl
+  with_hit false any = refl
+set_bools own low any false same = without own low any where
+  without : (own low any : Bool) → ((own && false) || (low && any)) ≡ (low && (any || false))
+  without true true true = refl
+  without true true false = refl
+  without true false any = refl
+  without false true true = refl
+  without false true false = refl
+  without false false any = refl
+
+-- one more object
+pub set_more : (objects : List ℕ) (index d other : ℕ) → index < length objects
+    → ((nat_lt (get_or objects index d) CAPACITY && nat_eq other (get_or objects index d)) || (nat_lt other CAPACITY && list_any (nat_eq other) (take index objects))) ≡ (nat_lt other CAPACITY && list_any (nat_eq other) (take (index + 1) objects))
+set_more objects index d other within =
+    let next = get_or objects index d in
+    set_bools (nat_lt next CAPACITY) (nat_lt other CAPACITY) (list_any (nat_eq other) (take index objects)) (nat_eq other next) (λ hit. ap (λ (n : ℕ). nat_lt n CAPACITY) (sym (eqb-true other next hit)))
+    ∙ ap (λ (b : Bool). nat_lt other CAPACITY && b) (sym (list_any_more (nat_eq other) objects index d within))
+
+-- ---- a cell
+any_at : (test : ℕ → Bool) (xs : List ℕ) (k d : ℕ) → k < length xs → test (get_or xs k d) ≡ true → list_any test xs ≡ true
+any_at test [] k d within e = absurd (omega (arith, within))
+any_at test (x ∷ xs) zero d within e = or_left _ _ e
+any_at test (x ∷ xs) (suc k) d within e = or_right _ _ (any_at test xs k d (omega (arith, within)) e)
+
+any_same : (test : ℕ → Bool) (number : ℕ) (xs : List ℕ) → list_any (nat_eq number) xs ≡ true → test number ≡ true → list_any test xs ≡ true
+any_same test number [] e h = e
+any_same test number (x ∷ xs) e h = elim (or_cases (nat_eq number x) (list_any (nat_eq number) xs) e) [
+  | inl here ↦ or_left _ _ (ap test (sym (eqb-true number x here)) ∙ h)
+  | inr rest ↦ or_right _ _ (any_same test number xs rest h)
+]
+
+none_of : (test : ℕ → Bool) (xs : List ℕ) → All (λ x. test x ≡ false) xs → list_any test xs ≡ false
+none_of test [] none = refl
+none_of test (x ∷ xs) none = ap (λ (b : Bool). b || list_any test xs) (none 0 x (omega arith)) ∙ none_of test xs (λ k d within. none (suc k) d (omega (arith, within)))
+
+module _ (objects words set : List ℕ) (is : IsSetFor objects set) (low : (object : ℕ) → member words object ≡ true → object < CAPACITY) where
+  -- a cell that is apart from the set has none of the objects
+  pub each_missing : AreApart words set → All (λ object. member words object ≡ false) objects
+  each_missing apart k d within = by_there (member words (get_or objects k d)) refl where
+    by_there : (b : Bool) → member words (get_or objects k d) ≡ b → member words (get_or objects k d) ≡ false
+    by_there false e = e
+    by_there true e =
+        let object = get_or objects k d in
+        let here : list_any (nat_eq object) objects ≡ true = any_at (nat_eq object) objects k d within (eq-eqb object object refl) in
+        let both : (nat_lt object CAPACITY && list_any (nat_eq object) objects) ≡ true = ap (λ (b : Bool). b && list_any (nat_eq object) objects) (lt-ltb object CAPACITY (low object e)) ∙ here in
+        let f : false ≡ true = sym (apart object e) ∙ is object ∙ both in cc
+
+  -- one that has none of them is apart
+  apart_from : list_any (member words) objects ≡ false → AreApart words set
+  apart_from none number e = by_set (member set number) refl where
+    by_set : (b : Bool) → member set number ≡ b → member set number ≡ false
+    by_set false s = s
+    by_set true s =
+        let both = and_parts (nat_lt number CAPACITY) (list_any (nat_eq number) objects) (sym (is number) ∙ s) in
+        let f : false ≡ true = sym none ∙ any_same (member words) number objects both.1 e in cc
+
+  pub found_by_set : (b : Bool) → (IsTrue b ↔ AreApart words set) → not b ≡ list_any (member words) objects
+  found_by_set true h = sym (none_of (member words) objects (each_missing (h.0 refl)))
+  found_by_set false h = by_any (list_any (member words) objects) refl where
+    by_any : (b : Bool) → list_any (member words) objects ≡ b → true ≡ list_any (member words) objects
+    by_any true e = sym e
+    by_any false e = absurd (false≢true (h.1 (apart_from e)))
+
+-- two tests that agree
+pub any_alike : (test other : ℕ → Bool) (xs : List ℕ) → ((x : ℕ) → test x ≡ other x) → list_any test xs ≡ list_any other xs
+any_alike test other [] same = refl
+any_alike test other (x ∷ xs) same = ap (λ (b : Bool). b || list_any test xs) (same x) ∙ ap (λ (b : Bool). other x || b) (any_alike test other xs same)

@@ -1,0 +1,72 @@
+//! Whether cells hold one of some objects.
+
+ghost use Rattle.std.specs.Prelude.{◌≡◌, ◌<◌, ℕ, ◌&&◌, ◌||◌, not, nat_eq, nat_lt, length};
+ghost use Rattle.std.specs.List.{list_any, list_all};
+ghost use Rattle.pz_sets.specs.Sets.{member};
+ghost use Rattle.pz_sets.specs.declared.set.TheConstants.{CAPACITY};
+ghost use Rattle.pz_sheet.specs.Holding.{IsSetFor};
+ghost use Rattle.pz_sheet.specs.Presence.{cell_of, holds_one, holds_both, holds_if};
+
+use crate::Sheet;
+use pz_sets::set::{CAPACITY, NumberSet};
+use pz_sets::words::is_disjoint;
+
+impl<const N: usize> Sheet<N> {
+    /// Whether some cell holds one of some objects, and one of others.
+    pub fn some_holds(&self, objects: &[usize], others: &[usize]) -> bool
+        ensures { result ≡ list_any (holds_both objects.now others.now) self.now.grid.cells }
+    {
+        let set = set_of(objects);
+        let other_set = set_of(others);
+        for index in 0..self.cell_count() {
+            if self.holds_one(index, objects, &set) && self.holds_one(index, others, &other_set) {
+                return true;
+            }
+        }
+        false
+    }
+
+    /// Whether each cell that holds one of some objects holds one of others.
+    pub fn all_hold(&self, objects: &[usize], others: &[usize]) -> bool
+        ensures { result ≡ list_all (holds_if objects.now others.now) self.now.grid.cells }
+    {
+        let set = set_of(objects);
+        let other_set = set_of(others);
+        for index in 0..self.cell_count() {
+            if self.holds_one(index, objects, &set) && !self.holds_one(index, others, &other_set) {
+                return false;
+            }
+        }
+        true
+    }
+
+    /// Whether the cell of a number holds one of some objects, of which there is a set.
+    fn holds_one(&self, index: usize, objects: &[usize], set: &NumberSet) -> bool
+        requires within { index < length self.now.grid.cells }
+        requires set { IsSetFor objects.now set.now }
+        ensures { result ≡ holds_one objects.now (cell_of self.now.grid index) }
+    {
+        // (the contract alone speaks of the list)
+        let _ = objects;
+        !is_disjoint(set.words(), &self.cells[index].objects)
+    }
+}
+
+/// The set of some objects. Those that no game has are left out.
+pub(crate) fn set_of(objects: &[usize]) -> NumberSet
+    ensures { IsSetFor objects.now result }
+{
+    let mut set = NumberSet::empty();
+    for object in objects {
+        add(&mut set, *object);
+    }
+    set
+}
+
+fn add(set: &mut NumberSet, object: usize)
+    ensures { (other : ℕ) → member set.new other ≡ ((nat_lt object CAPACITY && nat_eq other object) || member set.old other) }
+{
+    if object < CAPACITY {
+        set.insert(object);
+    }
+}
