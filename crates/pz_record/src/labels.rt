@@ -6,8 +6,8 @@ ghost use Rattle.pz_record.specs.Labels.{AreDistinct, text_at};
 ghost use Rattle.pz_record.specs.LevelText.{line_end, text_of_cells};
 
 use crate::labelled_set::LabelledSet;
+use crate::numerals::write_number;
 use indexmap::IndexSet;
-use itoa::Buffer;
 use std::alloc::{AllocError, Global};
 use std::marker::Model;
 
@@ -89,13 +89,13 @@ impl KnownTexts {
     }
 }
 
-/// Writes a number and a comma.
-fn write_number(text: &mut String, number: usize) -> Result<(), AllocError>
-    ensures { OnOk result (string_bytes text.new ≡ string_bytes text.old ++ (decimal number ++ 44 ∷ [])) }
+/// Writes a text that is new, its number and a comma.
+fn write_new(text: &mut String, name: &str, number: usize) -> Result<(), AllocError>
+    ensures { OnOk result (string_bytes text.new ≡ string_bytes text.old ++ (name.now ++ 58 ∷ [] ++ decimal number ++ 44 ∷ [])) }
 {
-    let mut digits = Buffer::new();
-    text.push_str(digits.format(number))?;
-    text.push_str(",")?;
+    text.push_str(name)?;
+    text.push_str(":")?;
+    write_number(text, number)?;
     Ok(())
 }
 
@@ -113,40 +113,41 @@ fn end_line(text: &mut String, width: usize, column: usize) -> Result<usize, All
 }
 
 /// As yet no label has a number.
-fn no_numbers(alloc: Global, count: usize) -> Result<Vec<Option<usize>>, AllocError>
-    ensures { IfOk result (λ numbers. numbers.items ≡ replicate count None) }
+fn clear_numbers(numbers: &mut Vec<Option<usize>>, count: usize) -> Result<(), AllocError>
+    ensures { OnOk result (numbers.new.items ≡ replicate count None) }
 {
-    vec![in alloc; None; count]
+    numbers.clear();
+    numbers.resize(count, None)?;
+    Ok(())
 }
 
-/// The text of cells of these labels.
-pub(crate) fn text_of_labels(
-    alloc: Global,
+/// Writes the text of cells of these labels over what the text was before. The numbers are room for those of the labels.
+pub(crate) fn write_labels(
+    text: &mut String,
+    numbers: &mut Vec<Option<usize>>,
     texts: &KnownTexts,
     cells: &[LabelledSet],
     width: usize,
-) -> Result<String, AllocError>
+) -> Result<(), AllocError>
     requires wide { 0 < width }
     requires within { All (λ cell. cell.label < length texts.now) cells.now }
-    ensures { IfOk result (λ text. string_bytes text ≡ text_of_cells width (map (λ cell. text_at texts.now cell.label) cells.now)) }
+    ensures { OnOk result (string_bytes text.new ≡ text_of_cells width (map (λ cell. text_at texts.now cell.label) cells.now)) }
 {
-    let mut text = String::new(alloc);
-    let mut numbers = no_numbers(alloc, texts.len())?;
+    text.clear();
+    clear_numbers(numbers, texts.len())?;
     let mut count = 0;
     let mut column = 0;
     for cell in cells {
         let label = cell.label;
         match numbers[label] {
-            Some(number) => write_number(&mut text, number)?,
+            Some(number) => write_number(text, number)?,
             None => {
-                text.push_str(texts.text(label))?;
-                text.push_str(":")?;
-                write_number(&mut text, count)?;
+                write_new(text, texts.text(label), count)?;
                 numbers[label] = Some(count);
                 count += 1;
             }
         }
-        column = end_line(&mut text, width, column)?;
+        column = end_line(text, width, column)?;
     }
-    Ok(text)
+    Ok(())
 }

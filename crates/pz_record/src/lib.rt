@@ -10,6 +10,8 @@ mod labelled_set;
 mod labels;
 mod level_names;
 pub mod limits;
+mod numerals;
 pub mod order;
 pub mod recorded;
+mod text_room;
 pub mod text_writer;

@@ -11,8 +11,8 @@ ghost use Rattle.pz_record.specs.Order.{IsAt};
 
 use crate::label_table::LabelTable;
 use crate::labelled_set::LabelledSet;
-use crate::labels::text_of_labels;
 use crate::order::{Order, next_position};
+use crate::text_room::TextRoom;
 use pz_base::text::Text;
 use pz_game::game::Game;
 use pz_grid::Level;
@@ -20,23 +20,17 @@ use pz_sets::set::NumberSet;
 use std::alloc::{AllocError, Global};
 use std::marker::Model;
 
-/// A text, and the width of its level.
-#[derive(Drop)]
-struct LastText {
-    text: Text,
-    width: u32,
-}
-
 /// Writes the texts of the levels of a game, its cells in an order. It remembers what it met: the sets of objects, the cells of the
 /// last level and its text. So a cell that stays as it was is not looked up again, and the text of a level of which no cell changed
-/// is copied.
+/// is copied. The room has that text if `last` has the width of its level.
 #[derive(Drop)]
 pub struct TextWriter<'a> {
     alloc: Global,
     order: Order,
     table: LabelTable<'a>,
     cells: Vec<LabelledSet>,
-    last: Option<LastText>,
+    room: TextRoom,
+    last: Option<u32>,
 }
 
 impl<'a> Model for TextWriter<'a> {
@@ -47,7 +41,7 @@ impl<'a> Model for TextWriter<'a> {
 
     ghost view = { λ t. record { table = t.table; order = t.order; cells = map (λ c. text_at t.table.texts c.label) t.cells.items } };
 
-    ghost invariant = { λ t. All (λ c. IsLabelOf t.table.game.objects t.table.texts c.objects c.label) t.cells.items × IfSome t.last (λ last. IsTextOf (map (λ c. text_at t.table.texts c.label) t.cells.items) last.width last.text) };
+    ghost invariant = { λ t. All (λ c. IsLabelOf t.table.game.objects t.table.texts c.objects c.label) t.cells.items × IfSome t.last (λ width. IsTextOf (map (λ c. text_at t.table.texts c.label) t.cells.items) width t.room) };
 }
 
 impl<'a> TextWriter<'a> {
@@ -59,6 +53,7 @@ impl<'a> TextWriter<'a> {
             order,
             table: LabelTable::new(alloc, game),
             cells: Vec::new(alloc),
+            room: TextRoom::new(alloc),
             last: None,
         }
     }
@@ -160,28 +155,28 @@ impl<'a> TextWriter<'a> {
     fn last_text(&self, width: u32) -> Result<Option<Text>, AllocError>
         ensures { IfOk result (λ answer. IfSome answer (λ text. text ≡ text_of_cells width self.now.cells)) }
     {
-        match &self.last {
-            Some(last) if last.width == width => {
-                let text = Text::of_str(self.alloc, last.text.as_str())?;
+        match self.last {
+            Some(last) if last == width => {
+                let text = Text::of_str(self.alloc, self.room.text())?;
                 Ok(Some(text))
             }
             _ => Ok(None),
         }
     }
 
-    /// The text of the cells that were looked at last, which is kept.
+    /// The text of the cells that were looked at last, which stays in the room: what is handed out is a copy without room to spare, since
+    /// a recording keeps it.
     fn write_anew(&mut self, width: u32) -> Result<Text, AllocError>
         requires { 0 < width }
         ensures text { IfOk result (λ text. text ≡ text_of_cells width self.old.cells) }
         ensures same { self.new ≡ self.old }
     {
+        self.last = None;
         let cells = self.cells.as_slice();
-        let written = text_of_labels(self.alloc, self.table.texts(), cells, width as usize)?;
-        let text = Text::new(written);
-        // the copy has no room to spare, and is what a recording keeps
-        let shown = Text::of_str(self.alloc, text.as_str())?;
-        self.last = Some(LastText { text, width });
-        Ok(shown)
+        self.room.write(self.table.texts(), cells, width as usize)?;
+        self.last = Some(width);
+        let text = Text::of_str(self.alloc, self.room.text())?;
+        Ok(text)
     }
 
     /// The text of a level: for each cell, in this order, the names of its objects, sorted by their bytes, and the next number from

@@ -1,5 +1,5 @@
 -- An instance applied at all its combinations.
-use Rattle.std.proofs.Common.{◌≡◌, ◌<◌, ◌≤◌, List, [], ◌∷◌, ◌++◌, map, fold, length, refl, ap, sym, ◌∙◌, arith, Result, Ok, Err}
+use Rattle.std.proofs.Common.{◌≡◌, ◌<◌, ◌≤◌, List, [], ◌∷◌, ◌++◌, map, fold, length, refl, ap, sym, ◌∙◌, Result, Ok, Err}
 use Rattle.std.specs.Prelude.{Bool, false, if◌then◌else◌}
 use Rattle.std.proofs.lemmas.List.{append-nil}
 use Rattle.pz_game.specs.declared.commands.Commands.{Commands}
@@ -10,12 +10,11 @@ use Rattle.pz_grid.specs.Rewriting.{Rewriting, in_rewrite}
 use Rattle.pz_turn.specs.declared.outcome.StepFault.{StepFault}
 use Rattle.pz_turn.specs.declared.outcome.StepFault.TheVariants.{MatchLimit}
 use Rattle.pz_turn.specs.Combinations.{combinations}
-use Rattle.pz_game.specs.Commands.{no_commands}
 use Rattle.pz_turn.specs.Outcome.{Outcome}
 use Rattle.pz_turn.specs.Instance.{taken, applied_at, given, outcome_of, applied_with, applied}
 use Rattle.pz_turn.proofs.Limits.{within_limit, over_limit}
 
-map-nothing_behind : (all : List (List Place)) (behind : List Place) → behind ≡ [] → map (λ places. places ++ behind) all ≡ all
+pub map-nothing_behind : (all : List (List Place)) (behind : List Place) → behind ≡ [] → map (λ places. places ++ behind) all ≡ all
 map-nothing_behind [] behind none = refl
 map-nothing_behind (places ∷ all) behind none = rw (map-nothing_behind all behind none) (ap (λ (ps : List Place). ps ∷ all) (ap (λ b. places ++ b) none ∙ append-nil places))
 

@@ -6,6 +6,7 @@ pub mod Passes
 pub mod Resting
 pub mod Calm
 pub mod Taking
+pub mod SingleRow
 pub mod Skipping
 pub mod Effectless
 pub mod Unchanged

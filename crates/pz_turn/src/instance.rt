@@ -1,6 +1,6 @@
 //! An instance of a rule, applied at all combinations of the places of its rows.
 
-ghost use Rattle.std.specs.Prelude.{◌≡◌, ◌≢◌, ◌≤◌, ◌<◌, ◌+◌, ◌*◌, ◌++◌, IfOk, IfErr, Ok, Err, true, false, [], length, drop, map, fold, min};
+ghost use Rattle.std.specs.Prelude.{◌≡◌, ◌≢◌, ◌≤◌, ◌<◌, ◌+◌, ◌*◌, ◌++◌, ◌∷◌, IfOk, IfErr, Ok, Err, MatchOption, true, false, [], length, drop, map, fold, min};
 ghost use Rattle.pz_game.specs.declared.direction.Dir.{Dir};
 ghost use Rattle.pz_game.specs.Instance.{IsInstanceOf};
 ghost use Rattle.pz_game.specs.Pattern.{IsRowOf, AreRowsOf};
@@ -23,6 +23,7 @@ use pz_game::pattern::Row;
 use pz_grid::Level;
 use pz_grid::places::{GridFault, Place, places, still_matches};
 use std::alloc::Global;
+use std::slice;
 
 /// The greatest number of combinations of places of an instance.
 pub const COMBINATION_LIMIT: u64 = 1_048_576;
@@ -95,28 +96,28 @@ fn is_left_out(level: &Level, instance: &Instance) -> bool
     false
 }
 
-/// The places of each row, up to the first row without one.
+/// The places of each row. None: a row has none, and no row before it has too many; mostly it is the first row, and then no memory was
+/// asked for.
 fn take_places(
     alloc: Global,
     level: &Level,
     instance: &Instance,
-) -> Result<Vec<Listed<Place>>, StepFault>
+) -> Result<Option<Vec<Listed<Place>>>, StepFault>
     requires of_game { AreRowsOf level.now.grid.layers instance.now.left }
-    ensures taken { IfOk result (λ lists. taken level.now.grid instance.now.scan instance.now.left ≡ Ok lists.items) }
+    ensures taken { IfOk result (λ found. MatchOption found (applied instance.now level.now.grid ≡ Ok (untouched level.now.grid)) (λ lists. taken level.now.grid instance.now.scan instance.now.left ≡ Ok lists.items)) }
     ensures fault { IfErr result (λ fault. fault ≢ Memory → taken level.now.grid instance.now.scan instance.now.left ≡ Err fault) }
 {
     let mut lists = Vec::new(alloc);
     for row in instance.left.items() {
         let found = search(alloc, level, row, instance.scan)?;
-        let is_last = found.items().is_empty();
+        if found.items().is_empty() {
+            return Ok(None);
+        }
         if lists.push(found).is_err() {
             return Err(StepFault::Memory);
         }
-        if is_last {
-            return Ok(lists);
-        }
     }
-    Ok(lists)
+    Ok(Some(lists))
 }
 
 /// How many combinations there are, counted up to one more than the limit.
@@ -197,6 +198,59 @@ fn given(lists: &[Listed<Place>], commands: Commands) -> Commands
     }
 }
 
+/// Applies an instance of any number of rows.
+fn apply_rows(alloc: Global, level: &mut Level, instance: &Instance) -> Result<Given, StepFault>
+    requires of_game { IsInstanceOf level.old.grid.layers instance.now }
+    ensures outcome { GivesOutcome (applied instance.now level.old.grid) level.new.grid result }
+    ensures size { SameSize level.old.grid level.new.grid }
+{
+    let found = take_places(alloc, level, instance)?;
+    let Some(lists) = found else {
+        return Ok(Given::nothing());
+    };
+    if combination_count(&lists) > COMBINATION_LIMIT {
+        return Err(StepFault::MatchLimit);
+    }
+    let mut chosen = room_for(alloc, lists.len())?;
+    let changed = apply_all(level, instance, &lists, &mut chosen, false);
+    let commands = given(&lists, instance.commands);
+    Ok(Given { commands, changed })
+}
+
+/// Applies an instance of one row at places of that row, one after the other.
+fn apply_each(level: &mut Level, instance: &Instance, places: &[Place]) -> bool
+    requires of_game { IsInstanceOf level.old.grid.layers instance.now }
+    ensures applied { in_rewrite level.new.grid result ≡ fold (applied_at instance.now) (in_rewrite level.old.grid false) (map (λ place. place ∷ []) places.now) }
+    ensures size { SameSize level.old.grid level.new.grid }
+{
+    let mut changed = false;
+    for place in places {
+        changed = apply_at(level, instance, slice::from_ref(place), changed);
+    }
+    changed
+}
+
+/// Applies an instance of one row, as nearly all are: each place is a combination, and the limit of places that of combinations.
+fn apply_row(
+    alloc: Global,
+    level: &mut Level,
+    instance: &Instance,
+    row: &Row,
+) -> Result<Given, StepFault>
+    requires of_game { IsInstanceOf level.old.grid.layers instance.now }
+    requires only { instance.now.left ≡ row.now ∷ [] }
+    ensures outcome { GivesOutcome (applied instance.now level.old.grid) level.new.grid result }
+    ensures size { SameSize level.old.grid level.new.grid }
+{
+    let found = search(alloc, level, row, instance.scan)?;
+    if found.items().is_empty() {
+        return Ok(Given::nothing());
+    }
+    let changed = apply_each(level, instance, found.items());
+    let commands = instance.commands;
+    Ok(Given { commands, changed })
+}
+
 /// Applies an instance to a level. MatchLimit: a row before the first one without a place has too many places, or there are more
 /// than `COMBINATION_LIMIT` combinations.
 fn apply(alloc: Global, level: &mut Level, instance: &Instance) -> Result<Given, StepFault>
@@ -207,14 +261,10 @@ fn apply(alloc: Global, level: &mut Level, instance: &Instance) -> Result<Given,
     if is_left_out(level, instance) {
         return Ok(Given::nothing());
     }
-    let lists = take_places(alloc, level, instance)?;
-    if combination_count(&lists) > COMBINATION_LIMIT {
-        return Err(StepFault::MatchLimit);
+    match instance.left.items() {
+        [row] => apply_row(alloc, level, instance, row),
+        _ => apply_rows(alloc, level, instance),
     }
-    let mut chosen = room_for(alloc, lists.len())?;
-    let changed = apply_all(level, instance, &lists, &mut chosen, false);
-    let commands = given(&lists, instance.commands);
-    Ok(Given { commands, changed })
 }
 
 impl Runnable for Instance {

@@ -3,7 +3,7 @@ use Rattle.pz_base.specs.NameSet.{number_in}
 use Rattle.pz_record.specs.Labels.{text_at}
 use Rattle.pz_record.specs.LevelText.{known_of}
 use Rattle.pz_record.proofs.KnownCells.{text_to}
-use Rattle.pz_record.proofs.labels.text_of_labels.Given as goal
+use Rattle.pz_record.proofs.labels.write_labels.Given as goal
 
 abbrev pub invariant-loop-cell : goal.invariant-loop-cell
 invariant-loop-cell l = record {

@@ -7,14 +7,14 @@ use Rattle.pz_record.specs.declared.labelled_set.LabelledSet.{LabelledSet}
 use Rattle.pz_record.specs.Labels.{text_at}
 use Rattle.pz_record.specs.LevelText.{known_of, piece, with_cell}
 use Rattle.pz_record.proofs.KnownCells.{cell_written, cell_known}
-use Rattle.pz_record.proofs.LabelTexts.{none_numbered, in_parts, one_known, known_piece, new_piece, numbers_more}
-use Rattle.pz_record.proofs.labels.text_of_labels.Goals as goal
-use Rattle.pz_record.proofs.labels.text_of_labels.Goals.{in-Some+in_ok-write_number-in-Some, in-None+in_ok-push_str-in-None+in_ok-push_str-in-None-2+in_ok-write_number-in-None}
+use Rattle.pz_record.proofs.LabelTexts.{none_numbered, one_known, known_piece, new_piece, numbers_more}
+use Rattle.pz_record.proofs.labels.write_labels.Goals as goal
+use Rattle.pz_record.proofs.labels.write_labels.Goals.{in-Some+in_ok-write_number-in-Some, in-None+in_ok-write_new-in-None}
 
 pub loop-cell-init : goal.loop-cell-init
 loop-cell-init c = record {
   text = search rules;
-  numbers = c.in_ok-numbers.ensures ∙ ap (λ n. replicate n None) c.len.ensures.count ∙ none_numbered c.args.texts.now;
+  numbers = c.in_ok-clear_numbers.ensures ∙ ap (λ n. replicate n None) c.len.ensures.count ∙ none_numbered c.args.texts.now;
   count = refl;
   few = omega arith;
   column = sym (mod-eq_of_lt c.requires.wide);
@@ -46,15 +46,15 @@ loop-cell-preserved c =
       | in-Some+in_ok-write_number-in-Some w ↦
           let parts = known_piece known cell w.in-Some.number (sym found ∙ w.in-Some.is) in
           (rw (w.text-is, parts.0) w.in_ok-write_number-in-Some.ensures, (rw (w.numbers-is, parts.1) c.loop-cell.invariant.numbers, (rw (w.count-is, parts.1) c.loop-cell.invariant.count, omega (arith, w.count-is, c.loop-cell.invariant.few))))
-      | in-None+in_ok-push_str-in-None+in_ok-push_str-in-None-2+in_ok-write_number-in-None w ↦
+      | in-None+in_ok-write_new-in-None w ↦
           let parts = new_piece known cell (sym found ∙ w.in-None.is) in
           let number : c.loop-cell.count ≡ length known = c.loop-cell.invariant.count in
-          let all : string_bytes c.match-index.text ≡ ((string_bytes c.loop-cell.text ++ cell) ++ 58 ∷ []) ++ (decimal (length known) ++ 44 ∷ []) =
-          ap string_bytes w.text-is ∙ w.in_ok-write_number-in-None.ensures
-          ∙ ap₂ (λ l n. l ++ (decimal n ++ 44 ∷ [])) (w.in_ok-push_str-in-None-2.ensures.bytes ∙ ap (λ l. l ++ 58 ∷ []) (w.in_ok-push_str-in-None.ensures.bytes ∙ ap (λ l. string_bytes c.loop-cell.text ++ l) w.text.ensures)) number in
+          let all : string_bytes c.match-index.text ≡ string_bytes c.loop-cell.text ++ (cell ++ 58 ∷ [] ++ decimal (length known) ++ 44 ∷ []) =
+          ap string_bytes w.text-is ∙ w.in_ok-write_new-in-None.ensures
+          ∙ ap₂ (λ t n. string_bytes c.loop-cell.text ++ (t ++ 58 ∷ [] ++ decimal n ++ 44 ∷ [])) w.text.ensures number in
           let put : c.match-index.numbers.items ≡ slice_set c.loop-cell.numbers.items label (Some c.loop-cell.count) = ap (λ (v : Vec (Option ℕ) Global). v.items) w.numbers-is in
           let counted : c.match-index.count ≡ c.loop-cell.count + 1 = w.count-is in (
-            rw parts.0 (all ∙ in_parts (string_bytes c.loop-cell.text) cell (58 ∷ []) (decimal (length known)) (44 ∷ [])),
+            rw parts.0 all,
             (
               rw parts.1 (put ∙ ap₂ (λ l n. slice_set l label (Some n)) c.loop-cell.invariant.numbers number ∙ numbers_more known texts label c.len.ensures.distinct within (sym found ∙ w.in-None.is)),
               (

@@ -1,0 +1,12 @@
+use Rattle.std.proofs.Common.{◌≡◌, ◌∷◌, [], false, map, fold, drop}
+use Rattle.pz_grid.specs.declared.places.Place.{Place}
+use Rattle.pz_sheet.specs.Grid.{SameSize}
+use Rattle.pz_grid.specs.Rewriting.{in_rewrite}
+use Rattle.pz_turn.specs.Instance.{applied_at}
+use Rattle.pz_turn.proofs.instance.apply_each.Given as goal
+
+abbrev pub invariant-loop-place : goal.invariant-loop-place
+invariant-loop-place l = record {
+  rest : fold (applied_at l.instance) (in_rewrite l.level.grid l.changed) (map (λ (place : Place). place ∷ []) (drop l.place-index l.places)) ≡ fold (applied_at l.instance) (in_rewrite l.fn.level.grid false) (map (λ (place : Place). place ∷ []) l.places);
+  size : SameSize l.fn.level.grid l.level.grid;
+}
