@@ -7,6 +7,7 @@ pub mod Calm
 pub mod Taking
 pub mod Skipping
 pub mod Effectless
+pub mod Segments
 pub mod Unchanged
 pub mod Stops
 pub mod Stepping
