@@ -9,5 +9,6 @@ pub mod Items
 pub mod Level
 pub mod Masks
 pub mod Pattern
+pub mod Segments
 pub mod Size
 pub mod Word

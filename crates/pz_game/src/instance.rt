@@ -4,6 +4,7 @@ ghost use Rattle.std.specs.Prelude.{◌≡◌};
 
 use crate::commands::Commands;
 use crate::direction::Dir;
+use crate::group::Group;
 use crate::pattern::Rows;
 use pz_base::listed::Listed;
 
@@ -16,9 +17,6 @@ pub struct Instance {
     pub right: Rows,
     pub commands: Commands,
 }
-
-/// Instances that are run together to rest.
-pub type Group = Listed<Instance>;
 
 /// Groups that are run together to rest.
 pub type Groups = Listed<Group>;

@@ -6,6 +6,7 @@ pub mod commands;
 pub mod denotation;
 pub mod direction;
 pub mod game;
+pub mod group;
 pub mod headings;
 pub mod instance;
 pub mod level;

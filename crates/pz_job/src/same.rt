@@ -3,6 +3,7 @@
 ghost use Rattle.std.specs.Prelude.{◌≡◌, true};
 
 use pz_base::listed::Listed;
+use pz_game::group::{Group, Segment};
 use pz_game::instance::{Block, Instance, Program};
 use pz_game::pattern::{Item, Pattern, Row};
 
@@ -58,6 +59,18 @@ impl Same for Instance {
             && self.commands == other.commands
             && self.left.same(&other.left)
             && self.right.same(&other.right)
+    }
+}
+
+impl Same for Segment {
+    fn same(&self, other: &Segment) -> bool {
+        same_items(self.instances(), other.instances())
+    }
+}
+
+impl Same for Group {
+    fn same(&self, other: &Group) -> bool {
+        same_items(self.segments(), other.segments())
     }
 }
 

@@ -10,10 +10,12 @@ ghost use Rattle.pz_grammar.specs.Written.{is_whole};
 use crate::expansion::{Expansion, expanded};
 use crate::patterns::Patterns;
 use crate::sides::{Growing, Sides, add_to_side, no_sides};
+use pz_base::listed::Listed;
 use pz_base::listing::joined;
 use pz_base::name::Name;
 use pz_game::game::Game;
-use pz_game::instance::{Block, Group};
+use pz_game::group::Group;
+use pz_game::instance::{Block, Instance};
 use pz_game::rule_line::RuleLine;
 use pz_grammar::grammar::parse;
 use pz_grammar::loops::{LoopWord, loop_word, next_loop};
@@ -27,7 +29,7 @@ use std::alloc::{AllocError, Global};
 #[derive(Drop)]
 pub struct OpenGroup {
     pub is_late: bool,
-    pub instances: Group,
+    pub instances: Listed<Instance>,
 }
 
 /// The blocks that are done, the groups of the loop that is open, and the last group.
@@ -65,16 +67,17 @@ impl Draft {
     }
 }
 
-/// Puts a group in its place: in the loop that is open, else as a block of its own.
+/// Cuts a group into segments, and puts it in its place: in the loop that is open, else as a block of its own.
 #[tactic(auto, unfolding(crate::specs::Drafts::placed))]
 fn place(draft: &mut Draft, group: OpenGroup) -> Result<(), AllocError>
     requires { draft.now.group ≡ None }
     ensures { OnOk result (draft.new ≡ placed draft.old group) }
 {
     let OpenGroup { is_late, instances } = group;
+    let group = Group::new(instances)?;
     match &mut draft.repeated {
-        None => add_to_side(&mut draft.done, is_late, Block::One(instances)),
-        Some(groups) => add_to_side(groups, is_late, instances),
+        None => add_to_side(&mut draft.done, is_late, Block::One(group)),
+        Some(groups) => add_to_side(groups, is_late, group),
     }
 }
 
@@ -170,7 +173,7 @@ fn lateness(draft: &Draft, rule: &Rule) -> bool
 fn with_instances(
     group: Option<OpenGroup>,
     rule: &Rule,
-    more: Group,
+    more: Listed<Instance>,
 ) -> Result<OpenGroup, AllocError>
     ensures { IfOk result (λ out. out ≡ with_instances group rule.now more) }
 {

@@ -14,7 +14,7 @@ use crate::instances::instances_of;
 use crate::patterns::Patterns;
 use pz_base::listed::Listed;
 use pz_game::denotation::Denotation;
-use pz_game::instance::{Group, Instance};
+use pz_game::instance::Instance;
 use pz_grammar::rule::Rule;
 use pz_plan::fault::RuleFault;
 use pz_plan::plan::Plan;
@@ -31,7 +31,7 @@ pub fn pairs_are_limited()
 /// The instances of a rule, and how many pairs all rules up to it have.
 #[derive(Drop)]
 pub struct Expansion {
-    pub instances: Group,
+    pub instances: Listed<Instance>,
     pub pairs: u64,
 }
 

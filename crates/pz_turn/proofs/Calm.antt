@@ -26,10 +26,10 @@ or_assoc =
 abbrev set_of : ℕ → Commands
 set_of n = record { 0 = n }
 
-either_assoc : (a b c : Commands) → either (either a b) c ≡ either a (either b c)
+pub either_assoc : (a b c : Commands) → either (either a b) c ≡ either a (either b c)
 either_assoc a b c = ap set_of (or_assoc a.0 b.0 c.0)
 
-either_comm : (a b : Commands) → either a b ≡ either b a
+pub either_comm : (a b : Commands) → either a b ≡ either b a
 either_comm a b = ap set_of (or_comm a.0 b.0)
 
 either_self : (a : Commands) → either a a ≡ a

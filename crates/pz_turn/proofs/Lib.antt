@@ -9,6 +9,7 @@ pub mod Taking
 pub mod SingleRow
 pub mod Skipping
 pub mod Effectless
+pub mod Segments
 pub mod Unchanged
 pub mod Stops
 pub mod Stepping

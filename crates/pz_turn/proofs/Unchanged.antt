@@ -107,6 +107,11 @@ fold_leaves (instance ∷ group) first o e h = by_run (λ next q. fold_leaves gr
 pub pass_leaves : (group : List Instance) (grid : Grid) → Leaves grid (pass_of applied group grid)
 pass_leaves group grid o e h = (fold_leaves group _ o e h).1
 
+-- the same of a call that runs a pass
+pub pass_given_leaves : (group : List Instance) (grid level : Grid) (result : Result Given StepFault) → GivesOutcome (pass_of applied group grid) level result → IfOk result (λ given. given.changed ≡ false → level ≡ grid)
+pass_given_leaves group grid level (Err fault) gives = tt
+pass_given_leaves group grid level (Ok given) gives = λ none. pass_leaves group grid _ gives none
+
 find_passes : (p : ℕ → Bool) (xs : List ℕ) (n : ℕ) → find p xs ≡ Some n → p n ≡ true
 find_passes p [] n e = let none : Option ℕ = None in let f : none ≡ Some n = e in cc
 find_passes p (x ∷ xs) n e = by_test (find_passes p xs n) (p x) refl e where

@@ -6,13 +6,14 @@ ghost use Rattle.pz_sheet.specs.Grid.{IsLawful, IsOfGame, SameSize};
 ghost use Rattle.pz_turn.specs.Calm.{AreCalmFrom};
 ghost use Rattle.pz_turn.specs.Instance.{applied};
 ghost use Rattle.pz_turn.specs.Outcome.{GivesOutcome, GivesBoth};
-ghost use Rattle.pz_turn.specs.Rest.{pass_of, rest_of, group_runs};
+ghost use Rattle.pz_turn.specs.Rest.{pass_of, rest_of};
 ghost use Rattle.pz_turn.specs.declared.outcome.StepFault.TheVariants.{Memory};
 
+use crate::group::rest_group;
 use crate::outcome::{Given, StepFault};
 use pz_game::commands::Commands;
 use pz_game::game::Game;
-use pz_game::instance::Group;
+use pz_game::group::Group;
 use pz_grid::Level;
 use std::alloc::Global;
 
@@ -117,19 +118,6 @@ pub(crate) fn to_rest<T: Runnable>(
     Err(StepFault::LoopLimit)
 }
 
-/// A group of a loop, run to rest.
-impl Runnable for Group {
-    ghost use Rattle.pz_turn.specs.declared.rest.TheConstants.{PASSES};
-
-    ghost is_of = { IsGroupOf };
-
-    ghost runs = { group_runs PASSES applied };
-
-    fn run(&self, alloc: Global, level: &mut Level) -> Result<Given, StepFault> {
-        to_rest(alloc, level, self.items())
-    }
-}
-
 /// Runs a group to rest: pass after pass over its instances, up to the first that changes nothing. Answers the commands that were
 /// given in any pass, and whether one changed something. LoopLimit: the 200th pass still changed something. MatchLimit: a row or an
 /// instance has too many places or combinations. After a fault the level is lawful and its content unsaid.
@@ -147,7 +135,7 @@ pub fn rest(
 {
     // (the contract alone speaks of the game)
     let _ = game;
-    let given = to_rest(alloc, level, group.items());
+    let given = rest_group(alloc, level, group);
     // (brings the proof the law of levels)
     let _ = level.width();
     match given {

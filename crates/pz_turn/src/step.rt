@@ -10,6 +10,7 @@ ghost use Rattle.pz_turn.specs.Outcome.{GivesOutcome};
 ghost use Rattle.pz_turn.specs.Step.{block_runs, blocks_run, rules_run, given_input, keeps_player, has_stayed, must_cancel, with_cancel, ended, step_of};
 ghost use Rattle.pz_turn.specs.declared.outcome.StepFault.TheVariants.{Memory};
 
+use crate::group::rest_group;
 use crate::outcome::{Given, StepFault};
 use crate::rest::{Runnable, pass, to_rest};
 use bitflags::Flags;
@@ -37,7 +38,7 @@ impl Runnable for Block {
     #[tactic(auto, unfolding(crate::specs::Step::block_runs))]
     fn run(&self, alloc: Global, level: &mut Level) -> Result<Given, StepFault> {
         match self {
-            Block::One(group) => to_rest(alloc, level, group.items()),
+            Block::One(group) => rest_group(alloc, level, group),
             Block::Loop(groups) => to_rest(alloc, level, groups.items()),
         }
     }

@@ -1,4 +1,4 @@
 use Rattle.pz_turn.proofs.rest.rest.Goals as goal
 
-pub to_rest-given-requires : goal.to_rest-given-requires
-to_rest-given-requires c = record { of_game = rw (c.items.ensures, c.requires.level_of.layers) c.requires.group_of }
+pub rest_group-given-requires : goal.rest_group-given-requires
+rest_group-given-requires c = record { of_game = rw c.requires.level_of.layers c.requires.group_of }

@@ -1,0 +1,129 @@
+-- The segments of a group, run one after another, give what its instances give.
+use Rattle.std.proofs.Common.{◌≡◌, ℕ, zero, suc, Result, Ok, Err, List, [], ◌∷◌, ◌++◌, Bool, true, false, cond, ◌||◌, inl, Option, Some, None, fold, refl, ap, sym, ◌∙◌}
+use Rattle.std.specs.List.{All, flat_map, find, range_with_len}
+use Rattle.std.proofs.lemmas.List.Elements.{All-nil, All-cons, All-head, All-tail, All-weaker}
+use Rattle.std.proofs.lemmas.List.Sums.{fold-append}
+use Rattle.pz_game.specs.declared.commands.Commands.{Commands}
+use Rattle.pz_game.specs.declared.instance.Instance.{Instance}
+use Rattle.pz_game.specs.Commands.{no_commands, either}
+use Rattle.pz_game.specs.Segments.{IsIdle, instances_of}
+use Rattle.pz_sheet.specs.Grid.{Grid, IsLawful}
+use Rattle.pz_turn.specs.declared.outcome.StepFault.{StepFault}
+use Rattle.pz_turn.specs.Instance.{applied, HasNoEffect}
+use Rattle.pz_turn.specs.Outcome.{Outcome, untouched, followed_by, joined}
+use Rattle.pz_turn.specs.Rest.{Runs, pass_of, passes, ends, ends_after, is_last, up_to, rest_of}
+use Rattle.pz_turn.proofs.Calm.{either_assoc, either_comm}
+use Rattle.pz_turn.proofs.Effectless.{applied_without_effect}
+use Rattle.pz_turn.proofs.Passes.{fold_stopped}
+
+-- ---- what holds of all instances of a group holds of those of each segment
+all_left : {X : Type 0} (P : X → Type 0) (xs ys : List X) → All P (xs ++ ys) → All P xs
+all_left P [] ys all = All-nil P
+all_left P (x ∷ xs) ys all = All-cons P x xs (All-head P x (xs ++ ys) all) (all_left P xs ys (All-tail P x (xs ++ ys) all))
+
+all_right : {X : Type 0} (P : X → Type 0) (xs ys : List X) → All P (xs ++ ys) → All P ys
+all_right P [] ys all = all
+all_right P (x ∷ xs) ys all = all_right P xs ys (All-tail P x (xs ++ ys) all)
+
+pub all_in_each : {X : Type 0} (P : X → Type 0) (segments : List (List X)) → All P (flat_map (λ (segment : List X). segment) segments) → All (All P) segments
+all_in_each P [] all = All-nil (All P)
+all_in_each {X} P (xs ∷ xss) all =
+    let rest = flat_map (λ (segment : List X). segment) xss in
+    All-cons (All P) xs xss (all_left P xs rest all) (all_in_each P xss (all_right P xs rest all))
+
+-- ---- outcomes one after another
+or_three : (a b c : Bool) → ((a || b) || c) ≡ (a || (b || c))
+or_three true b c = refl
+or_three false b c = refl
+
+or_none : (a : Bool) → (a || false) ≡ a
+or_none true = refl
+or_none false = refl
+
+joined_twice : {L : Type 0} (first second : Outcome L) (third : Result (Outcome L) StepFault)
+    → joined (record { level = second.level; commands = either first.commands second.commands; changed = first.changed || second.changed }) third ≡ joined first (joined second third)
+joined_twice first second (Err fault) = refl
+joined_twice first second (Ok third) =
+    ap (λ (commands : Commands). Ok (record { level = third.level; commands = commands; changed = (first.changed || second.changed) || third.changed })) (either_assoc first.commands second.commands third.commands)
+    ∙ ap (λ (changed : Bool). Ok (record { level = third.level; commands = either first.commands (either second.commands third.commands); changed = changed })) (or_three first.changed second.changed third.changed)
+
+joined_none : {L : Type 0} (o : Outcome L) → joined o (Ok (untouched o.level)) ≡ Ok o
+joined_none o =
+    ap (λ (commands : Commands). Ok (record { level = o.level; commands = commands; changed = o.changed || false })) (either_comm o.commands no_commands)
+    ∙ ap (λ (changed : Bool). Ok (record { level = o.level; commands = o.commands; changed = changed })) (or_none o.changed)
+
+joined_follow : {L : Type 0} (o : Outcome L) (a : Result (Outcome L) StepFault) (run : Runs L) → followed_by (joined o a) run ≡ joined o (followed_by a run)
+joined_follow o (Err fault) run = refl
+joined_follow o (Ok p) run = joined_twice o p (run p.level)
+
+-- ---- a pass over segments is a pass over their instances
+module _ {L I : Type 0} (runs : I → Runs L) where
+  abbrev step : Result (Outcome L) StepFault → I → Result (Outcome L) StepFault
+  step so_far x = followed_by so_far (runs x)
+
+  fold_joined : (o : Outcome L) (a : Result (Outcome L) StepFault) (xs : List I) → fold step (joined o a) xs ≡ joined o (fold step a xs)
+  fold_joined o a [] = refl
+  fold_joined o a (x ∷ xs) = ap (λ (r : Result (Outcome L) StepFault). fold step r xs) (joined_follow o a (runs x)) ∙ fold_joined o (followed_by a (runs x)) xs
+
+  follow_pass : (a : Result (Outcome L) StepFault) (xs : List I) → followed_by a (pass_of runs xs) ≡ fold step a xs
+  follow_pass (Err fault) xs = sym (fold_stopped runs fault xs)
+  follow_pass (Ok o) xs = sym (fold_joined o (Ok (untouched o.level)) xs) ∙ ap (λ (r : Result (Outcome L) StepFault). fold step r xs) (joined_none o)
+
+  fold_segments : (a : Result (Outcome L) StepFault) (segments : List (List I)) → fold (λ so_far segment. followed_by so_far (pass_of runs segment)) a segments ≡ fold step a (flat_map (λ (segment : List I). segment) segments)
+  fold_segments a [] = refl
+  fold_segments a (xs ∷ xss) =
+      let rest = flat_map (λ (segment : List I). segment) xss in
+      fold_segments (followed_by a (pass_of runs xs)) xss
+      ∙ (ap (λ (r : Result (Outcome L) StepFault). fold step r rest) (follow_pass a xs) ∙ sym (fold-append step a xs rest))
+
+  pub pass_by_segments : (segments : List (List I)) (level : L) → pass_of (pass_of runs) segments level ≡ pass_of runs (flat_map (λ (segment : List I). segment) segments) level
+  pass_by_segments segments level = fold_segments (Ok (untouched level)) segments
+
+-- ---- passes that are the same on each level come to rest the same way
+find_same : {X : Type 0} (p q : X → Bool) → ((x : X) → p x ≡ q x) → (xs : List X) → find p xs ≡ find q xs
+find_same p q same [] = refl
+find_same {X} p q same (x ∷ xs) = ap (λ (b : Bool). cond b (Some x) (find p xs)) (same x) ∙ ap (λ (f : Option X). cond (q x) (Some x) f) (find_same p q same xs)
+
+module _ {L : Type 0} (p q : Runs L) (same : (level : L) → p level ≡ q level) where
+  follow_same : (r : Result (Outcome L) StepFault) → followed_by r p ≡ followed_by r q
+  follow_same (Err fault) = refl
+  follow_same (Ok o) = ap (joined o) (same o.level)
+
+  passes_same : (n : ℕ) (level : L) → passes p n level ≡ passes q n level
+  passes_same zero level = refl
+  passes_same (suc n) level = ap (λ (r : Result (Outcome L) StepFault). followed_by r p) (passes_same n level) ∙ follow_same (passes q n level)
+
+  ends_same : (r : Result (Outcome L) StepFault) → ends_after p r ≡ ends_after q r
+  ends_same (Err fault) = refl
+  ends_same (Ok o) = ap ends (same o.level)
+
+  last_same : (level : L) (n : ℕ) → is_last p level n ≡ is_last q level n
+  last_same level n = ap (ends_after p) (passes_same n level) ∙ ends_same (passes q n level)
+
+  up_to_same : (level : L) (last : Option ℕ) → up_to p level last ≡ up_to q level last
+  up_to_same level None = refl
+  up_to_same level (Some n) = passes_same (suc n) level
+
+  pub rest_same : (limit : ℕ) (level : L) → rest_of limit p level ≡ rest_of limit q level
+  unfolding rest_of
+  rest_same limit level =
+      ap (up_to p level) (find_same (is_last p level) (is_last q level) (last_same level) (range_with_len 0 limit))
+      ∙ up_to_same level (find (is_last q level) (range_with_len 0 limit))
+
+pub rest_by_segments : (limit : ℕ) (segments : List (List Instance)) (group : List Instance) (level : Grid) → instances_of segments ≡ group → rest_of limit (pass_of (pass_of applied) segments) level ≡ rest_of limit (pass_of applied group) level
+rest_by_segments limit segments group level is =
+    rest_same (pass_of (pass_of applied) segments) (pass_of applied (instances_of segments)) (pass_by_segments applied segments) limit level
+    ∙ ap (λ (instances : List Instance). rest_of limit (pass_of applied instances) level) is
+
+-- ---- instances that leave a level as it is
+pub left_pass : (grid : Grid) (xs : List Instance) → All (λ (x : Instance). applied x grid ≡ Ok (untouched grid)) xs → pass_of applied xs grid ≡ Ok (untouched grid)
+left_pass grid [] all = refl
+left_pass grid (x ∷ xs) all =
+    ap (λ (r : Result (Outcome Grid) StepFault). fold (λ so_far instance. followed_by so_far (applied instance)) (joined (untouched grid) r) xs) (All-head (λ (y : Instance). applied y grid ≡ Ok (untouched grid)) x xs all)
+    ∙ left_pass grid xs (All-tail (λ (y : Instance). applied y grid ≡ Ok (untouched grid)) x xs all)
+
+idle_applied : (grid : Grid) → IsLawful grid → (x : Instance) → IsIdle x → applied x grid ≡ Ok (untouched grid)
+idle_applied grid lawful x idle = applied_without_effect x grid lawful (record { right = idle.right; commands = idle.commands; row = idle.row; left = idle.left; few = inl idle.gapless })
+
+pub idle_pass : (grid : Grid) (xs : List Instance) → IsLawful grid → All IsIdle xs → pass_of applied xs grid ≡ Ok (untouched grid)
+idle_pass grid xs lawful all = left_pass grid xs (All-weaker IsIdle (λ (x : Instance). applied x grid ≡ Ok (untouched grid)) (idle_applied grid lawful) xs all)

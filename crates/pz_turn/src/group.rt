@@ -1,0 +1,56 @@
+//! Groups of instances, run to rest segment by segment.
+
+ghost use Rattle.std.specs.Prelude.{◌≡◌, IfOk, false};
+ghost use Rattle.pz_game.specs.Instance.{IsGroupOf};
+ghost use Rattle.pz_sheet.specs.Grid.{SameSize};
+ghost use Rattle.pz_turn.specs.Instance.{applied};
+ghost use Rattle.pz_turn.specs.Outcome.{GivesOutcome};
+ghost use Rattle.pz_turn.specs.Rest.{pass_of, rest_of, group_runs};
+ghost use Rattle.pz_turn.specs.declared.rest.TheConstants.{PASSES};
+
+use crate::outcome::{Given, StepFault};
+use crate::rest::{Runnable, pass, to_rest};
+use pz_game::group::{Group, Segment};
+use pz_grid::Level;
+use std::alloc::Global;
+
+/// A segment of a group: its instances, one after another. Where it is told that they are idle, none of them is looked at.
+impl Runnable for Segment {
+    ghost is_of = { IsGroupOf };
+
+    ghost runs = { pass_of applied };
+
+    fn run(&self, alloc: Global, level: &mut Level) -> Result<Given, StepFault> {
+        // (brings the proof the law of levels)
+        let _ = level.width();
+        if self.is_idle() {
+            return Ok(Given::nothing());
+        }
+        pass(alloc, level, self.instances())
+    }
+}
+
+/// Runs a group to rest.
+pub(crate) fn rest_group(
+    alloc: Global,
+    level: &mut Level,
+    group: &Group,
+) -> Result<Given, StepFault>
+    requires of_game { IsGroupOf level.old.grid.layers group.now }
+    ensures outcome { GivesOutcome (rest_of PASSES (pass_of applied group.now) level.old.grid) level.new.grid result }
+    ensures kept { IfOk result (λ given. given.changed ≡ false → level.new.grid ≡ level.old.grid) }
+    ensures size { SameSize level.old.grid level.new.grid }
+{
+    to_rest(alloc, level, group.segments())
+}
+
+/// A group of a loop, run to rest.
+impl Runnable for Group {
+    ghost is_of = { IsGroupOf };
+
+    ghost runs = { group_runs PASSES applied };
+
+    fn run(&self, alloc: Global, level: &mut Level) -> Result<Given, StepFault> {
+        rest_group(alloc, level, self)
+    }
+}
