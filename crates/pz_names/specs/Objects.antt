@@ -11,7 +11,7 @@ use Rattle.pz_base.specs.declared.fault.Code.TheVariants as code
 use Rattle.pz_base.specs.declared.fault.SourceFault.{SourceFault}
 use Rattle.pz_game.specs.Word.{IsWord}
 use Rattle.pz_names.specs.declared.name_line.NameLine.{NameLine}
-use Rattle.pz_names.specs.declared.objects.Block.{Block}
+use Rattle.pz_names.specs.declared.objects.Paragraph.{Paragraph}
 use Rattle.pz_game.specs.declared.limits.TheConstants.{MAX_OBJECTS}
 use Rattle.pz_names.specs.declared.objects.TheConstants.{MAX_NAMES}
 
@@ -52,50 +52,50 @@ is_whole [] = false
 is_whole (colours ∷ lines) = not (is_blank colours) && is_sprite (sprite_rows 5 lines)
 
 -- the lines behind a name line, its colours and its sprite rows
-abbrev pub behind_block : List Line → List Line
-behind_block [] = []
-behind_block (colours ∷ lines) = if is_blank colours then colours ∷ lines else drop (length (sprite_rows 5 lines)) lines
+abbrev pub behind_paragraph : List Line → List Line
+behind_paragraph [] = []
+behind_paragraph (colours ∷ lines) = if is_blank colours then colours ∷ lines else drop (length (sprite_rows 5 lines)) lines
 
-abbrev pub block_of : Line → List Line → Block
-block_of line lines = record { line = record { number = line.number; names = names_of line.text }; is_whole = is_whole lines }
+abbrev pub paragraph_of : Line → List Line → Paragraph
+paragraph_of line lines = record { line = record { number = line.number; names = names_of line.text }; is_whole = is_whole lines }
 
--- The blocks of lines, at most so many: a line that isn't blank is a name line, and begins one. Blank lines may stand
--- between blocks.
-abbrev pub blocks_within : ℕ → List Line → List Block
-blocks_within zero lines = []
-blocks_within (suc most) [] = []
-blocks_within (suc most) (line ∷ lines) =
-    if is_blank line then blocks_within most lines else block_of line lines ∷ blocks_within most (behind_block lines)
+-- The paragraphs of lines, at most so many: a line that isn't blank is a name line, and begins one. Blank lines may stand
+-- between paragraphs.
+abbrev pub paragraphs_within : ℕ → List Line → List Paragraph
+paragraphs_within zero lines = []
+paragraphs_within (suc most) [] = []
+paragraphs_within (suc most) (line ∷ lines) =
+    if is_blank line then paragraphs_within most lines else paragraph_of line lines ∷ paragraphs_within most (behind_paragraph lines)
 
-abbrev pub blocks_of : List Line → List Block
-blocks_of lines = blocks_within (length lines) lines
+abbrev pub paragraphs_of : List Line → List Paragraph
+paragraphs_of lines = paragraphs_within (length lines) lines
 
-abbrev pub name_line_of : Block → NameLine
-name_line_of block = block.line
+abbrev pub name_line_of : Paragraph → NameLine
+name_line_of paragraph = paragraph.line
 
-abbrev pub block_at : Block → ℕ
-block_at block = block.line.number
+abbrev pub paragraph_at : Paragraph → ℕ
+paragraph_at paragraph = paragraph.line.number
 
 -- one of the names is among those above, or stands before itself
 abbrev pub has_repeat : List (List ℕ) → List (List ℕ) → Bool
 has_repeat above [] = false
 has_repeat above (name ∷ names) = is_name_of above name || has_repeat (above ++ name ∷ []) names
 
--- what is wrong with a block below so many others, which have these names: its form, a name that is there already, or that
+-- what is wrong with a paragraph below so many others, which have these names: its form, a name that is there already, or that
 -- there are too many objects or names
-abbrev pub misnamed : List (List ℕ) → ℕ → Block → Option Code
-misnamed above count block =
-    if not block.is_whole then Some code.BadObject
-    else (if has_repeat above block.line.names then Some code.Duplicate
-    else (if nat_le MAX_OBJECTS count || nat_lt MAX_NAMES (length (above ++ block.line.names)) then Some code.TooLarge
+abbrev pub misnamed : List (List ℕ) → ℕ → Paragraph → Option Code
+misnamed above count paragraph =
+    if not paragraph.is_whole then Some code.BadObject
+    else (if has_repeat above paragraph.line.names then Some code.Duplicate
+    else (if nat_le MAX_OBJECTS count || nat_lt MAX_NAMES (length (above ++ paragraph.line.names)) then Some code.TooLarge
     else None))
 
-abbrev pub misnames : List Block → Block → Option Code
-misnames before block = misnamed (object_names (map name_line_of before)) (length before) block
+abbrev pub misnames : List Paragraph → Paragraph → Option Code
+misnames before paragraph = misnamed (object_names (map name_line_of before)) (length before) paragraph
 
 -- the name line of each object, or the first fault of OBJECTS
 abbrev pub objects_of : List Line → Result (List NameLine) SourceFault
-objects_of lines = unless (first_fault block_at misnames [] (blocks_of lines)) (Ok (map name_line_of (blocks_of lines)))
+objects_of lines = unless (first_fault paragraph_at misnames [] (paragraphs_of lines)) (Ok (map name_line_of (paragraphs_of lines)))
 
 -- a line of names has one, and all are words
 abbrev pub IsNamed : NameLine → Type 0

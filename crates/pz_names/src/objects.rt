@@ -3,7 +3,7 @@
 ghost use Rattle.std.specs.Prelude.{◌≡◌, ◌≢◌, ◌≤◌, ◌++◌, ◌∷◌, [], ℕ, suc, length, map, option_to_list, IfOk, IfErr, IfSome, OnOk, Ok, Err, Some, None, false, All};
 ghost use Rattle.pz_base.specs.Fault.{first_fault};
 ghost use Rattle.pz_base.specs.declared.fault.Code.TheVariants as code;
-ghost use Rattle.pz_names.specs.Objects.{object_names, is_blank, are_pixels, is_sprite_row, sprite_rows, are_wide, is_sprite, is_whole, behind_block, block_of, blocks_within, blocks_of, name_line_of, has_repeat, block_at, misnamed, misnames, objects_of, IsNamed};
+ghost use Rattle.pz_names.specs.Objects.{object_names, is_blank, are_pixels, is_sprite_row, sprite_rows, are_wide, is_sprite, is_whole, behind_paragraph, paragraph_of, paragraphs_within, paragraphs_of, name_line_of, has_repeat, paragraph_at, misnamed, misnames, objects_of, IsNamed};
 
 use crate::name_line::NameLine;
 use pz_base::fault::{Code, SourceFault};
@@ -23,9 +23,9 @@ pub fn names_are_limited()
     ensures { MAX_NAMES ≡ 1024 }
 {}
 
-/// An object as its lines give it: its name line, and whether its colours and its sprite are as they should be.
+/// What the lines of an object give: its name line, and whether its colours and its sprite are as they should be.
 #[derive(Drop)]
-pub struct Block {
+pub struct Paragraph {
     pub line: NameLine,
     pub is_whole: bool,
 }
@@ -99,8 +99,8 @@ fn is_whole(lines: &[Line]) -> bool
 }
 
 /// The lines behind a name line, its colours and its sprite rows.
-fn behind_block(lines: &[Line]) -> &[Line]
-    ensures { result.now ≡ behind_block lines.now }
+fn behind_paragraph(lines: &[Line]) -> &[Line]
+    ensures { result.now ≡ behind_paragraph lines.now }
 {
     match lines.split_first() {
         Some((colours, rest)) if !is_blank(colours) => &rest[sprite_rows(rest).len()..],
@@ -108,31 +108,31 @@ fn behind_block(lines: &[Line]) -> &[Line]
     }
 }
 
-/// Puts the block that a line begins behind those that are found, if the line is not blank. Gives the lines behind.
-fn read_block<'a>(
+/// Puts the paragraph that a line begins behind those that are found, if the line is not blank. Gives the lines behind.
+fn read_paragraph<'a>(
     alloc: Global,
-    found: &mut Vec<Block>,
+    found: &mut Vec<Paragraph>,
     line: &Line,
     others: &'a [Line],
 ) -> Result<&'a [Line], AllocError>
-    ensures { IfOk result (λ after. (n : ℕ) → found.new.items ++ blocks_within n after.now ≡ found.old.items ++ blocks_within (suc n) (line.now ∷ others.entry.now)) }
+    ensures { IfOk result (λ after. (n : ℕ) → found.new.items ++ paragraphs_within n after.now ≡ found.old.items ++ paragraphs_within (suc n) (line.now ∷ others.entry.now)) }
 {
     if is_blank(line) {
         return Ok(others);
     }
     let names = names_of(alloc, line.text.items())?;
-    found.push(Block {
+    found.push(Paragraph {
         line: NameLine {
             number: line.number,
             names,
         },
         is_whole: is_whole(others),
     })?;
-    Ok(behind_block(others))
+    Ok(behind_paragraph(others))
 }
 
-fn blocks_of(alloc: Global, lines: &[Line]) -> Result<Vec<Block>, AllocError>
-    ensures { IfOk result (λ found. found.items ≡ blocks_of lines.now) }
+fn paragraphs_of(alloc: Global, lines: &[Line]) -> Result<Vec<Paragraph>, AllocError>
+    ensures { IfOk result (λ found. found.items ≡ paragraphs_of lines.now) }
 {
     let mut found = Vec::new(alloc);
     let mut rest = lines;
@@ -140,7 +140,7 @@ fn blocks_of(alloc: Global, lines: &[Line]) -> Result<Vec<Block>, AllocError>
         let Some((line, others)) = rest.split_first() else {
             break;
         };
-        rest = read_block(alloc, &mut found, line, others)?;
+        rest = read_paragraph(alloc, &mut found, line, others)?;
     }
     Ok(found)
 }
@@ -159,21 +159,21 @@ fn note_names(alloc: Global, above: &mut NameSet, names: &[Name]) -> Result<bool
     Ok(false)
 }
 
-/// What is wrong with a block below so many others, whose names are given; where nothing is, its names are put behind them.
+/// What is wrong with a paragraph below so many others, whose names are given; where nothing is, its names are put behind them.
 fn misnamed(
     alloc: Global,
     above: &mut NameSet,
     count: usize,
-    block: &Block,
+    paragraph: &Paragraph,
 ) -> Result<Option<Code>, AllocError>
-    ensures code { IfOk result (λ r. r ≡ misnamed above.old count block.now) }
-    ensures noted { IfOk result (λ r. (r ≡ None) → above.new ≡ above.old ++ block.now.line.names) }
+    ensures code { IfOk result (λ r. r ≡ misnamed above.old count paragraph.now) }
+    ensures noted { IfOk result (λ r. (r ≡ None) → above.new ≡ above.old ++ paragraph.now.line.names) }
     ensures other { IfOk result (λ r. IfSome r (λ c. c ≢ code.Memory)) }
 {
-    if !block.is_whole {
+    if !paragraph.is_whole {
         return Ok(Some(Code::BadObject));
     }
-    if note_names(alloc, above, block.line.names.items())? {
+    if note_names(alloc, above, paragraph.line.names.items())? {
         return Ok(Some(Code::Duplicate));
     }
     if count >= MAX_OBJECTS || above.len() > MAX_NAMES {
@@ -182,65 +182,69 @@ fn misnamed(
     Ok(None)
 }
 
-/// Puts the names of a block below so many others behind those that are there, or says what is wrong with it.
-fn note_block(
+/// Puts the names of a paragraph below so many others behind those that are there, or says what is wrong with it.
+fn note_paragraph(
     alloc: Global,
     above: &mut NameSet,
     count: usize,
-    block: &Block,
+    paragraph: &Paragraph,
 ) -> Result<(), SourceFault>
-    ensures refused { IfErr result (λ fault. fault.code ≢ code.Memory → misnamed above.old count block.now ≡ Some fault.code) }
-    ensures there { IfErr result (λ fault. fault.code ≢ code.Memory → fault.line ≡ block_at block.now) }
+    ensures refused { IfErr result (λ fault. fault.code ≢ code.Memory → misnamed above.old count paragraph.now ≡ Some fault.code) }
+    ensures there { IfErr result (λ fault. fault.code ≢ code.Memory → fault.line ≡ paragraph_at paragraph.now) }
     ensures whole { IfErr result (λ fault. fault.code ≡ code.Memory → fault.line ≡ 0) }
-    ensures sound { OnOk result (misnamed above.old count block.now ≡ None) }
-    ensures noted { OnOk result (above.new ≡ above.old ++ block.now.line.names) }
+    ensures sound { OnOk result (misnamed above.old count paragraph.now ≡ None) }
+    ensures noted { OnOk result (above.new ≡ above.old ++ paragraph.now.line.names) }
 {
-    if let Some(code) = misnamed(alloc, above, count, block)? {
+    if let Some(code) = misnamed(alloc, above, count, paragraph)? {
         return Err(SourceFault {
             code,
-            line: block.line.number,
+            line: paragraph.line.number,
         });
     }
     Ok(())
 }
 
-/// Notes the names of the blocks, where none is there yet, or says the first fault that a block has.
-fn note_blocks(alloc: Global, names: &mut NameSet, blocks: &[Block]) -> Result<(), SourceFault>
+/// Notes the names of the paragraphs, where none is there yet, or says the first fault that a paragraph has.
+fn note_paragraphs(
+    alloc: Global,
+    names: &mut NameSet,
+    paragraphs: &[Paragraph],
+) -> Result<(), SourceFault>
     requires { names.old ≡ [] }
-    ensures sound { OnOk result (first_fault block_at misnames [] blocks.now ≡ None) }
-    ensures names { OnOk result (names.new ≡ object_names (map name_line_of blocks.now)) }
-    ensures refused { IfErr result (λ fault. fault.code ≢ code.Memory → first_fault block_at misnames [] blocks.now ≡ Some fault) }
+    ensures sound { OnOk result (first_fault paragraph_at misnames [] paragraphs.now ≡ None) }
+    ensures names { OnOk result (names.new ≡ object_names (map name_line_of paragraphs.now)) }
+    ensures refused { IfErr result (λ fault. fault.code ≢ code.Memory → first_fault paragraph_at misnames [] paragraphs.now ≡ Some fault) }
     ensures whole { IfErr result (λ fault. fault.code ≡ code.Memory → fault.line ≡ 0) }
 {
-    for (count, block) in blocks.iter().enumerate() {
-        note_block(alloc, names, count, block)?;
+    for (count, paragraph) in paragraphs.iter().enumerate() {
+        note_paragraph(alloc, names, count, paragraph)?;
     }
     Ok(())
 }
 
-/// The names of the blocks, or the first fault that a block has.
-fn names_of_blocks(alloc: Global, blocks: &[Block]) -> Result<NameSet, SourceFault>
-    ensures sound { IfOk result (λ _. first_fault block_at misnames [] blocks.now ≡ None) }
-    ensures names { IfOk result (λ names. names ≡ object_names (map name_line_of blocks.now)) }
-    ensures refused { IfErr result (λ fault. fault.code ≢ code.Memory → first_fault block_at misnames [] blocks.now ≡ Some fault) }
+/// The names of the paragraphs, or the first fault that a paragraph has.
+fn names_of_paragraphs(alloc: Global, paragraphs: &[Paragraph]) -> Result<NameSet, SourceFault>
+    ensures sound { IfOk result (λ _. first_fault paragraph_at misnames [] paragraphs.now ≡ None) }
+    ensures names { IfOk result (λ names. names ≡ object_names (map name_line_of paragraphs.now)) }
+    ensures refused { IfErr result (λ fault. fault.code ≢ code.Memory → first_fault paragraph_at misnames [] paragraphs.now ≡ Some fault) }
     ensures whole { IfErr result (λ fault. fault.code ≡ code.Memory → fault.line ≡ 0) }
 {
     let mut names = NameSet::new(alloc);
-    note_blocks(alloc, &mut names, blocks)?;
+    note_paragraphs(alloc, &mut names, paragraphs)?;
     Ok(names)
 }
 
-fn name_line_of(block: Block) -> NameLine
-    ensures { result ≡ name_line_of block }
+fn name_line_of(paragraph: Paragraph) -> NameLine
+    ensures { result ≡ name_line_of paragraph }
 {
-    let Block { line, is_whole: _ } = block;
+    let Paragraph { line, is_whole: _ } = paragraph;
     line
 }
 
-fn name_lines(alloc: Global, blocks: Vec<Block>) -> Result<Vec<NameLine>, AllocError>
-    ensures { IfOk result (λ objects. objects.items ≡ map name_line_of blocks.items) }
+fn name_lines(alloc: Global, paragraphs: Vec<Paragraph>) -> Result<Vec<NameLine>, AllocError>
+    ensures { IfOk result (λ objects. objects.items ≡ map name_line_of paragraphs.items) }
 {
-    blocks.into_iter().map(name_line_of).collect(alloc)
+    paragraphs.into_iter().map(name_line_of).collect(alloc)
 }
 
 /// The name line of each object of OBJECTS, and all its names, or its first fault: BadObject, Duplicate or TooLarge, at the
@@ -253,8 +257,8 @@ pub fn read_objects(alloc: Global, lines: &[Line]) -> Result<(Vec<NameLine>, Nam
     ensures refused { IfErr result (λ fault. fault.code ≢ code.Memory → objects_of lines.now ≡ Err fault) }
     ensures whole { IfErr result (λ fault. fault.code ≡ code.Memory → fault.line ≡ 0) }
 {
-    let blocks = blocks_of(alloc, lines)?;
-    let names = names_of_blocks(alloc, blocks.as_slice())?;
-    let objects = name_lines(alloc, blocks)?;
+    let paragraphs = paragraphs_of(alloc, lines)?;
+    let names = names_of_paragraphs(alloc, paragraphs.as_slice())?;
+    let objects = name_lines(alloc, paragraphs)?;
     Ok((objects, names))
 }

@@ -10,49 +10,49 @@ use Rattle.pz_claims.specs.Rule.{times, once_below}
 use Rattle.pz_session.specs.declared.item.Item.{Item}
 use Rattle.pz_replay.specs.declared.lane.End.TheVariants.{Finished}
 use Rattle.pz_replay.specs.declared.lane.Message.TheVariants.{Last}
-use Rattle.pz_replay.specs.Pieces.{items_at, pieces, pieces_of, sent_for}
+use Rattle.pz_replay.specs.Sent.{items_at, messages_of, messages_for, sent_for}
 use Rattle.pz_replay.specs.Recorded.{of_session, Gathered}
 use Rattle.pz_replay.proofs.Gathering.{of_append}
 
-of_own : (k : ℕ) (xs : List Item) → of_session k (pieces k xs) ≡ xs
+of_own : (k : ℕ) (xs : List Item) → of_session k (messages_of k xs) ≡ xs
 of_own k [] = refl
 of_own k (x ∷ xs) = rw (eq-eqb k k refl) (ap (λ (l : List Item). x ∷ l) (of_own k xs))
 
-of_others : (k c : ℕ) (xs : List Item) → c ≢ k → of_session k (pieces c xs) ≡ []
+of_others : (k c : ℕ) (xs : List Item) → c ≢ k → of_session k (messages_of c xs) ≡ []
 of_others k c [] ne = refl
 of_others k c (x ∷ xs) ne = rw (ne_eqb c k ne) (of_others k c xs ne)
 
 counts : (k c : ℕ) (ks : List ℕ) → times k (c ∷ ks) ≡ cond (c == k) 1 0 + times k ks
 counts k c ks = sum_by-cons (λ y. cond (y == k) 1 0) c ks
 
-of_none : (sessions : List (List Item)) (k : ℕ) (ks : List ℕ) → times k ks ≡ 0 → of_session k (pieces_of sessions ks) ≡ []
+of_none : (sessions : List (List Item)) (k : ℕ) (ks : List ℕ) → times k ks ≡ 0 → of_session k (messages_for sessions ks) ≡ []
 of_none sessions k [] e = refl
 of_none sessions k (c ∷ ks) e =
     dite (ℕ_discrete c k)
     (λ same. absurd (let n = counts k c ks in let one : 1 ≤ cond (c == k) 1 0 = rw (eq-eqb c k same) (omega arith) in omega arith))
     (λ ne.
     let n = counts k c ks in
-    let more : of_session k (pieces_of sessions ks) ≡ [] = of_none sessions k ks (omega arith) in
-    of_append k (pieces c (items_at sessions c)) (pieces_of sessions ks) ∙ ap (λ (l : List Item). l ++ of_session k (pieces_of sessions ks)) (of_others k c (items_at sessions c) ne) ∙ more)
+    let more : of_session k (messages_for sessions ks) ≡ [] = of_none sessions k ks (omega arith) in
+    of_append k (messages_of c (items_at sessions c)) (messages_for sessions ks) ∙ ap (λ (l : List Item). l ++ of_session k (messages_for sessions ks)) (of_others k c (items_at sessions c) ne) ∙ more)
 
-of_one : (sessions : List (List Item)) (k : ℕ) (ks : List ℕ) → times k ks ≡ 1 → of_session k (pieces_of sessions ks) ≡ items_at sessions k
+of_one : (sessions : List (List Item)) (k : ℕ) (ks : List ℕ) → times k ks ≡ 1 → of_session k (messages_for sessions ks) ≡ items_at sessions k
 of_one sessions k [] e = absurd (omega arith)
 of_one sessions k (c ∷ ks) e =
     dite (ℕ_discrete c k)
     (λ same.
     let n = counts k c ks in
     let one : 1 ≤ cond (c == k) 1 0 = rw (eq-eqb c k same) (omega arith) in
-    let more : of_session k (pieces_of sessions ks) ≡ [] = of_none sessions k ks (omega arith) in
-    of_append k (pieces c (items_at sessions c)) (pieces_of sessions ks) ∙ ap (λ (l : List Item). of_session k (pieces c (items_at sessions c)) ++ l) more ∙ append-nil (of_session k (pieces c (items_at sessions c)))
-    ∙ subst (λ (m : ℕ). of_session k (pieces m (items_at sessions m)) ≡ items_at sessions k) (sym same) (of_own k (items_at sessions k)))
+    let more : of_session k (messages_for sessions ks) ≡ [] = of_none sessions k ks (omega arith) in
+    of_append k (messages_of c (items_at sessions c)) (messages_for sessions ks) ∙ ap (λ (l : List Item). of_session k (messages_of c (items_at sessions c)) ++ l) more ∙ append-nil (of_session k (messages_of c (items_at sessions c)))
+    ∙ subst (λ (m : ℕ). of_session k (messages_of m (items_at sessions m)) ≡ items_at sessions k) (sym same) (of_own k (items_at sessions k)))
     (λ ne.
     let n = counts k c ks in
     let zero_here : cond (c == k) 1 0 < 1 = rw (ne_eqb c k ne) (omega arith) in
-    let more : of_session k (pieces_of sessions ks) ≡ items_at sessions k = of_one sessions k ks (omega arith) in
-    of_append k (pieces c (items_at sessions c)) (pieces_of sessions ks) ∙ ap (λ (l : List Item). l ++ of_session k (pieces_of sessions ks)) (of_others k c (items_at sessions c) ne) ∙ more)
+    let more : of_session k (messages_for sessions ks) ≡ items_at sessions k = of_one sessions k ks (omega arith) in
+    of_append k (messages_of c (items_at sessions c)) (messages_for sessions ks) ∙ ap (λ (l : List Item). l ++ of_session k (messages_for sessions ks)) (of_others k c (items_at sessions c) ne) ∙ more)
 
-of_sent : (sessions : List (List Item)) (k : ℕ) (ks : List ℕ) → of_session k (sent_for sessions ks) ≡ of_session k (pieces_of sessions ks)
-of_sent sessions k ks = of_append k (pieces_of sessions ks) (Last Finished ∷ []) ∙ append-nil (of_session k (pieces_of sessions ks))
+of_sent : (sessions : List (List Item)) (k : ℕ) (ks : List ℕ) → of_session k (sent_for sessions ks) ≡ of_session k (messages_for sessions ks)
+of_sent sessions k ks = of_append k (messages_for sessions ks) (Last Finished ∷ []) ∙ append-nil (of_session k (messages_for sessions ks))
 
 each_none : (k : ℕ) (lists : List (List ℕ)) → sum_by (times k) lists ≡ 0 → (j : ℕ) → times k (get_or lists j []) ≡ 0
 each_none k [] e j = refl
@@ -91,7 +91,7 @@ once_yes : (x n : ℕ) → x < n → once_below x n ≡ 1
 once_yes x n h = grind (arith, nat_tests)
 
 -- what the lane j has of the session k
-lane_at : (sessions : List (List Item)) (k : ℕ) (lists : List (List ℕ)) (j : ℕ) → of_session k (get_or (map (sent_for sessions) lists) j []) ≡ of_session k (pieces_of sessions (get_or lists j []))
+lane_at : (sessions : List (List Item)) (k : ℕ) (lists : List (List ℕ)) (j : ℕ) → of_session k (get_or (map (sent_for sessions) lists) j []) ≡ of_session k (messages_for sessions (get_or lists j []))
 lane_at sessions k [] j = refl
 lane_at sessions k (ns ∷ lists) zero = of_sent sessions k ns
 lane_at sessions k (ns ∷ lists) (suc j) = lane_at sessions k lists j

@@ -6,22 +6,22 @@ use native.Mathlib.Decide.{ℕ_discrete}
 use mathlib.Core.Logic.{dite}
 use Rattle.pz_session.specs.declared.item.Item.{Item}
 use Rattle.pz_replay.specs.declared.lane.Message.{Message}
-use Rattle.pz_replay.specs.declared.lane.Message.TheVariants.{Piece, Last}
+use Rattle.pz_replay.specs.declared.lane.Message.TheVariants as messages
 use Rattle.pz_replay.specs.Recorded.{of_session, kept, Gathered}
 
 pub of_append : (k : ℕ) (ms ns : List Message) → of_session k (ms ++ ns) ≡ of_session k ms ++ of_session k ns
 of_append k [] ns = refl
-of_append k (Piece j x ∷ ms) ns = by_test (j == k) refl (of_append k ms ns)
+of_append k (messages.Item j x ∷ ms) ns = by_test (j == k) refl (of_append k ms ns)
   where
-    by_test : (b : Bool) → (j == k) ≡ b → of_session k (ms ++ ns) ≡ of_session k ms ++ of_session k ns → of_session k (Piece j x ∷ (ms ++ ns)) ≡ of_session k (Piece j x ∷ ms) ++ of_session k ns
+    by_test : (b : Bool) → (j == k) ≡ b → of_session k (ms ++ ns) ≡ of_session k ms ++ of_session k ns → of_session k (messages.Item j x ∷ (ms ++ ns)) ≡ of_session k (messages.Item j x ∷ ms) ++ of_session k ns
     by_test true e more = rw e (ap (λ (l : List Item). x ∷ l) more)
     by_test false e more = rw e more
-of_append k (Last e ∷ ms) ns = of_append k ms ns
+of_append k (messages.Last e ∷ ms) ns = of_append k ms ns
 
-of_same : (k : ℕ) (x : Item) → of_session k (Piece k x ∷ []) ≡ x ∷ []
+of_same : (k : ℕ) (x : Item) → of_session k (messages.Item k x ∷ []) ≡ x ∷ []
 of_same k x = rw (eq-eqb k k refl) refl
 
-of_other : (k j : ℕ) (x : Item) → j ≢ k → of_session k (Piece j x ∷ []) ≡ []
+of_other : (k j : ℕ) (x : Item) → j ≢ k → of_session k (messages.Item j x ∷ []) ≡ []
 of_other k j x ne = rw (ne_eqb j k ne) refl
 
 front_none : (xs ys : List Item) → xs ++ ys ≡ [] → xs ≡ []
@@ -33,15 +33,15 @@ back_none [] ys e = e
 back_none (x ∷ xs) ys e = absurd (cc)
 
 pub length_kept : (sessions : List (List Item)) (m : Message) → length (kept sessions m) ≡ length sessions
-length_kept sessions (Piece k x) = length-set sessions k (get_or sessions k [] ++ x ∷ [])
-length_kept sessions (Last e) = refl
+length_kept sessions (messages.Item k x) = length-set sessions k (get_or sessions k [] ++ x ∷ [])
+length_kept sessions (messages.Last e) = refl
 
 -- the session k grows by the item, if the message has one of its own
 kept_at : (sessions : List (List Item)) (m : Message) (k : ℕ) → k < length sessions → get_or (kept sessions m) k [] ≡ get_or sessions k [] ++ of_session k (m ∷ [])
-kept_at sessions (Last e) k h = sym (append-nil (get_or sessions k []))
-kept_at sessions (Piece c x) k h =
+kept_at sessions (messages.Last e) k h = sym (append-nil (get_or sessions k []))
+kept_at sessions (messages.Item c x) k h =
     dite (ℕ_discrete c k)
-    (λ (e : c ≡ k). subst (λ (n : ℕ). get_or (set sessions n (get_or sessions n [] ++ x ∷ [])) k [] ≡ get_or sessions k [] ++ of_session k (Piece n x ∷ [])) (sym e)
+    (λ (e : c ≡ k). subst (λ (n : ℕ). get_or (set sessions n (get_or sessions n [] ++ x ∷ [])) k [] ≡ get_or sessions k [] ++ of_session k (messages.Item n x ∷ [])) (sym e)
     (get_or-set_same sessions k (get_or sessions k [] ++ x ∷ []) [] h ∙ ap (λ (l : List Item). get_or sessions k [] ++ l) (sym (of_same k x))))
     (λ ne. get_or-set_other sessions c k (get_or sessions c [] ++ x ∷ []) [] (λ e. ne (sym e)) ∙ sym (append-nil (get_or sessions k [])) ∙ ap (λ (l : List Item). get_or sessions k [] ++ l) (sym (of_other k c x ne)))
 

@@ -1,5 +1,5 @@
 pub mod Completing
-pub mod Crewing
+pub mod Joining
 pub mod Finishing
 pub mod Gathering
 pub mod Named

@@ -12,7 +12,7 @@ use Rattle.pz_session.specs.declared.item.Item.{Item}
 use Rattle.pz_session.specs.Case.{items_of}
 use Rattle.pz_session.specs.declared.recording.Record.{Record}
 use Rattle.pz_session.specs.Recording.{shown_by}
-use Rattle.pz_replay.specs.Pieces.{sessions_of}
+use Rattle.pz_replay.specs.Sent.{sessions_of}
 
 -- what the iterator of a vector has given is a front of its items
 pub taken_front : {X A : Type 0} (s : IntoIter X A) (xs : List X) (t : IntoIter X A) → Yields into_iter_steps s xs t → into_iter_items s ≡ xs ++ into_iter_items t

@@ -1,4 +1,4 @@
--- A visit of one desk keeps what holds of all.
+-- A visit of one inbox keeps what holds of all.
 use Rattle.std.proofs.Common.{◌≡◌, ℕ, ◌+◌, ◌<◌, List, [], ◌∷◌, ◌++◌, map, length, get_or, set, Some, None, Option, IfSome, refl, sym, ap, ◌∙◌, subst, ⊎_elim, arith}
 use Rattle.std.proofs.lemmas.List.{length-map, map-set, get_or-map, set-get_or, get_or-set_same, get_or-set_other}
 use native.Mathlib.Decide.{ℕ_discrete}
@@ -7,18 +7,18 @@ use Rattle.std.proofs.lemmas.List.Elements.{All-set}
 use Rattle.pz_session.specs.declared.item.Item.{Item}
 use Rattle.pz_replay.specs.declared.lane.End.{End}
 use Rattle.pz_replay.specs.declared.lane.Message.{Message}
-use Rattle.pz_replay.specs.declared.lane.Message.TheVariants.{Piece, Last}
+use Rattle.pz_replay.specs.declared.lane.Message.TheVariants as messages
 use Rattle.pz_replay.specs.Recorded.{Gathered, taken_of, lane_of, end_after, IsHonest, HasEnded, HasKept, IsVisited, IsRecorded, IsAsLong, GoesOn}
-use Rattle.pz_replay.specs.declared.recorder.Desk.{Desk}
+use Rattle.pz_replay.specs.declared.recorder.Inbox.{Inbox}
 use Rattle.pz_replay.proofs.Gathering.{gathers, length_kept}
 
-end_of : (t : List Message) (m : Message) → IfSome (end_after m) (λ e. (front : List Message) × (t ++ m ∷ [] ≡ front ++ Last e ∷ []))
-end_of t (Piece k x) = tt
-end_of t (Last e) = (t, refl)
+end_of : (t : List Message) (m : Message) → IfSome (end_after m) (λ e. (front : List Message) × (t ++ m ∷ [] ≡ front ++ messages.Last e ∷ []))
+end_of t (messages.Item k x) = tt
+end_of t (messages.Last e) = (t, refl)
 
-honest_on : (a b : Desk) (r s : Option (List (List Item))) → IsVisited a b r s → IsHonest a → IsHonest b
+honest_on : (a b : Inbox) (r s : Option (List (List Item))) → IsVisited a b r s → IsHonest a → IsHonest b
 honest_on a b r s v old =
-    let P : List Message × Option End → Type 0 = λ (p : List Message × Option End). IfSome p.1 (λ e. (front : List Message) × (p.0 ≡ front ++ Last e ∷ [])) in
+    let P : List Message × Option End → Type 0 = λ (p : List Message × Option End). IfSome p.1 (λ e. (front : List Message) × (p.0 ≡ front ++ messages.Last e ∷ [])) in
     ⊎_elim
     (λ (same : (taken_of b ≡ taken_of a) × (b.end ≡ a.end) × (s ≡ r)). subst P (λ i. (sym same.0 i, sym same.1 i)) old)
     (λ (took : (m : Message) × (taken_of b ≡ taken_of a ++ m ∷ []) × (b.end ≡ end_after m) × HasKept m r s). subst P (λ i. (sym took.1 i, sym took.2 i)) (end_of (taken_of a) took.0))
@@ -45,31 +45,31 @@ long_then o None (Some t) f g = absurd (cc)
 long_then None (Some q) (Some t) f g = absurd (cc)
 long_then (Some p) (Some q) (Some t) f g = (g.0 ∙ f.0, refl)
 
-pub visits : (first desks : List Desk) (i : ℕ) (d a b : Desk) (o r s : Option (List (List Item))) → i < length desks → a ≡ get_or desks i d → lane_of b ≡ lane_of a → IsVisited a b r s → IsRecorded desks r → GoesOn first desks o r
-    → IsRecorded (set desks i b) s × GoesOn first (set desks i b) o s
-visits first desks i d a b o r s here at lane v old went =
-    let lanes : List (List Message) = map taken_of desks in
-    let was : get_or lanes i [] ≡ taken_of a = get_or-map taken_of desks i d [] here ∙ ap taken_of (sym at) in
-    let inside : i < length lanes = subst (λ (n : ℕ). i < n) (sym (length-map desks taken_of)) here in
-    let same_lanes : map lane_of (set desks i b) ≡ map lane_of desks =
-    map-set lane_of desks i b ∙ ap (set (map lane_of desks) i) (lane ∙ ap lane_of at ∙ sym (get_or-map lane_of desks i d (lane_of d) here)) ∙ set-get_or (map lane_of desks) i (lane_of d) in
-    let one_more : (ts : List Message) → taken_of b ≡ ts → map taken_of (set desks i b) ≡ set lanes i ts = λ ts e. map-set taken_of desks i b ∙ ap (set lanes i) e in
+pub visits : (first inboxes : List Inbox) (i : ℕ) (d a b : Inbox) (o r s : Option (List (List Item))) → i < length inboxes → a ≡ get_or inboxes i d → lane_of b ≡ lane_of a → IsVisited a b r s → IsRecorded inboxes r → GoesOn first inboxes o r
+    → IsRecorded (set inboxes i b) s × GoesOn first (set inboxes i b) o s
+visits first inboxes i d a b o r s here at lane v old went =
+    let lanes : List (List Message) = map taken_of inboxes in
+    let was : get_or lanes i [] ≡ taken_of a = get_or-map taken_of inboxes i d [] here ∙ ap taken_of (sym at) in
+    let inside : i < length lanes = subst (λ (n : ℕ). i < n) (sym (length-map inboxes taken_of)) here in
+    let same_lanes : map lane_of (set inboxes i b) ≡ map lane_of inboxes =
+    map-set lane_of inboxes i b ∙ ap (set (map lane_of inboxes) i) (lane ∙ ap lane_of at ∙ sym (get_or-map lane_of inboxes i d (lane_of d) here)) ∙ set-get_or (map lane_of inboxes) i (lane_of d) in
+    let one_more : (ts : List Message) → taken_of b ≡ ts → map taken_of (set inboxes i b) ≡ set lanes i ts = λ ts e. map-set taken_of inboxes i b ∙ ap (set lanes i) e in
     let mine : IsHonest b = honest_on a b r s v (subst IsHonest (sym at) (old.honest i d here)) in
     ⊎_elim
     (λ (same : (taken_of b ≡ taken_of a) × (b.end ≡ a.end) × (s ≡ r)).
-    let still : map taken_of (set desks i b) ≡ lanes = one_more (get_or lanes i []) (same.0 ∙ sym was) ∙ set-get_or lanes i [] in (
-      record { gathered = subst (λ (p : List (List Message) × Option (List (List Item))). IfSome p.1 (Gathered p.0)) (λ j. (sym still j, sym same.2 j)) old.gathered; honest = All-set IsHonest desks i b mine old.honest },
+    let still : map taken_of (set inboxes i b) ≡ lanes = one_more (get_or lanes i []) (same.0 ∙ sym was) ∙ set-get_or lanes i [] in (
+      record { gathered = subst (λ (p : List (List Message) × Option (List (List Item))). IfSome p.1 (Gathered p.0)) (λ j. (sym still j, sym same.2 j)) old.gathered; honest = All-set IsHonest inboxes i b mine old.honest },
       record { same = same_lanes ∙ went.same; long = long_then o r s went.long (long_same r s same.2) },
     ))
     (λ (took : (m : Message) × (taken_of b ≡ taken_of a ++ m ∷ []) × (b.end ≡ end_after m) × HasKept m r s).
-    let grown : map taken_of (set desks i b) ≡ set lanes i (get_or lanes i [] ++ took.0 ∷ []) = one_more (get_or lanes i [] ++ took.0 ∷ []) (took.1 ∙ ap (λ (ts : List Message). ts ++ took.0 ∷ []) (sym was)) in (
-      record { gathered = subst (λ (ts : List (List Message)). IfSome s (Gathered ts)) (sym grown) (gathers_on lanes i took.0 inside r s old.gathered took.3); honest = All-set IsHonest desks i b mine old.honest },
+    let grown : map taken_of (set inboxes i b) ≡ set lanes i (get_or lanes i [] ++ took.0 ∷ []) = one_more (get_or lanes i [] ++ took.0 ∷ []) (took.1 ∙ ap (λ (ts : List Message). ts ++ took.0 ∷ []) (sym was)) in (
+      record { gathered = subst (λ (ts : List (List Message)). IfSome s (Gathered ts)) (sym grown) (gathers_on lanes i took.0 inside r s old.gathered took.3); honest = All-set IsHonest inboxes i b mine old.honest },
       record { same = same_lanes ∙ went.same; long = long_then o r s went.long (long_on took.0 r s took.3) },
     ))
     v
 
-pub more_ended : (desks : List Desk) (i : ℕ) (b : Desk) → i < length desks → HasEnded b → ((j : ℕ) (d : Desk) → j < i → HasEnded (get_or desks j d)) → (j : ℕ) (d : Desk) → j < i + 1 → HasEnded (get_or (set desks i b) j d)
-more_ended desks i b here mine others j d h =
+pub more_ended : (inboxes : List Inbox) (i : ℕ) (b : Inbox) → i < length inboxes → HasEnded b → ((j : ℕ) (d : Inbox) → j < i → HasEnded (get_or inboxes j d)) → (j : ℕ) (d : Inbox) → j < i + 1 → HasEnded (get_or (set inboxes i b) j d)
+more_ended inboxes i b here mine others j d h =
     dite (ℕ_discrete j i)
-    (λ e. subst HasEnded (sym (ap (λ (k : ℕ). get_or (set desks i b) k d) e ∙ get_or-set_same desks i b d here)) mine)
-    (λ ne. subst HasEnded (sym (get_or-set_other desks i j b d ne)) (others j d (omega arith)))
+    (λ e. subst HasEnded (sym (ap (λ (k : ℕ). get_or (set inboxes i b) k d) e ∙ get_or-set_same inboxes i b d here)) mine)
+    (λ ne. subst HasEnded (sym (get_or-set_other inboxes i j b d ne)) (others j d (omega arith)))

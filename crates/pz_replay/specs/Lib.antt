@@ -1,6 +1,6 @@
-pub mod Crew
+pub mod Workers
 pub mod Faults
 pub mod Lane
-pub mod Pieces
+pub mod Sent
 pub mod Recorded
 pub mod Worked

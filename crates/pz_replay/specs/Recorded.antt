@@ -4,21 +4,21 @@ use Rattle.pz_session.specs.declared.item.Item.{Item}
 use Rattle.pz_replay.specs.Lane.{LaneId}
 use Rattle.pz_replay.specs.declared.lane.End.{End}
 use Rattle.pz_replay.specs.declared.lane.Message.{Message}
-use Rattle.pz_replay.specs.declared.lane.Message.TheVariants.{Piece, Last}
-use Rattle.pz_replay.specs.declared.recorder.Desk.{Desk}
+use Rattle.pz_replay.specs.declared.lane.Message.TheVariants as messages
+use Rattle.pz_replay.specs.declared.recorder.Inbox.{Inbox}
 
 -- the items of one session among messages
 abbrev pub of_session : ℕ → List Message → List Item
 of_session number [] = []
-of_session number (Piece session item ∷ later) = if session == number then item ∷ of_session number later else of_session number later
-of_session number (Last end ∷ later) = of_session number later
+of_session number (messages.Item session item ∷ later) = if session == number then item ∷ of_session number later else of_session number later
+of_session number (messages.Last end ∷ later) = of_session number later
 
 -- the items of each session after one message more
 abbrev pub kept : List (List Item) → Message → List (List Item)
-kept sessions (Piece session item) = slice_set sessions session (slice_index_or sessions session [] ++ item ∷ [])
-kept sessions (Last end) = sessions
+kept sessions (messages.Item session item) = slice_set sessions session (slice_index_or sessions session [] ++ item ∷ [])
+kept sessions (messages.Last end) = sessions
 
--- a session of which one lane alone has pieces has the items of that lane: `lanes` has what was taken from each
+-- a session of which one lane alone has items has the items of that lane: `lanes` has what was taken from each
 abbrev pub Gathered : List (List Message) → List (List Item) → Type 0
 Gathered lanes sessions =
     (number lane : ℕ) → number < length sessions → ((other : ℕ) → other ≢ lane → of_session number (slice_index_or lanes other []) ≡ [])
@@ -26,42 +26,42 @@ Gathered lanes sessions =
 
 -- the end that is known after a message
 abbrev pub end_after : Message → Option End
-end_after (Piece session item) = None
-end_after (Last end) = Some end
+end_after (messages.Item session item) = None
+end_after (messages.Last end) = Some end
 
-abbrev pub taken_of : Desk → List Message
-taken_of desk = desk.taker.taken
+abbrev pub taken_of : Inbox → List Message
+taken_of inbox = inbox.taker.taken
 
-abbrev pub lane_of : Desk → LaneId
-lane_of desk = desk.taker.lane
+abbrev pub lane_of : Inbox → LaneId
+lane_of inbox = inbox.taker.lane
 
-abbrev pub HasEnded : Desk → Type 0
-HasEnded desk = IsSome desk.end
+abbrev pub HasEnded : Inbox → Type 0
+HasEnded inbox = IsSome inbox.end
 
 -- where an end is known, it was the last message
-abbrev pub IsHonest : Desk → Type 0
-IsHonest desk = IfSome desk.end (λ end. (front : List Message) × (taken_of desk ≡ front ++ Last end ∷ []))
+abbrev pub IsHonest : Inbox → Type 0
+IsHonest inbox = IfSome inbox.end (λ end. (front : List Message) × (taken_of inbox ≡ front ++ messages.Last end ∷ []))
 
 -- sessions that are still kept have grown by the message
 abbrev pub HasKept : Message → Option (List (List Item)) → Option (List (List Item)) → Type 0
 HasKept message before after = IfSome after (λ now. IfSome before (λ was. now ≡ kept was message) × IsSome before)
 
 -- a visit took nothing, or one message
-abbrev pub IsVisited : Desk → Desk → Option (List (List Item)) → Option (List (List Item)) → Type 0
+abbrev pub IsVisited : Inbox → Inbox → Option (List (List Item)) → Option (List (List Item)) → Type 0
 IsVisited old new before after =
     ((taken_of new ≡ taken_of old) × (new.end ≡ old.end) × (after ≡ before))
     ⊎ ((message : Message) × (taken_of new ≡ taken_of old ++ message ∷ []) × (new.end ≡ end_after message) × HasKept message before after)
 
--- the sessions have what was taken at the desks
-pub record IsRecorded (desks : List Desk) (sessions : Option (List (List Item))) : Type 0 where
-  pub gathered : IfSome sessions (Gathered (map taken_of desks))
-  pub honest : All IsHonest desks
+-- the sessions have what was taken at the inboxes
+pub record IsRecorded (inboxes : List Inbox) (sessions : Option (List (List Item))) : Type 0 where
+  pub gathered : IfSome sessions (Gathered (map taken_of inboxes))
+  pub honest : All IsHonest inboxes
 
 -- sessions that are still kept are as many as before
 abbrev pub IsAsLong : Option (List (List Item)) → Option (List (List Item)) → Type 0
 IsAsLong before after = IfSome after (λ now. IfSome before (λ was. length now ≡ length was) × IsSome before)
 
 -- the same lanes, and as many sessions
-pub record GoesOn (old new : List Desk) (before after : Option (List (List Item))) : Type 0 where
+pub record GoesOn (old new : List Inbox) (before after : Option (List (List Item))) : Type 0 where
   pub same : map lane_of new ≡ map lane_of old
   pub long : IsAsLong before after

@@ -3,7 +3,7 @@ use Rattle.std.specs.Prelude.{◌≡◌, ◌≢◌, ◌<◌, ℕ, List, [], ◌�
 use Rattle.pz_claims.specs.Holders.{Numbers}
 use Rattle.pz_session.specs.declared.item.Item.{Item}
 use Rattle.pz_replay.specs.Lane.{LaneId}
-use Rattle.pz_replay.specs.Pieces.{pieces_of, sent_for}
+use Rattle.pz_replay.specs.Sent.{messages_for, sent_for}
 use Rattle.pz_replay.specs.declared.lane.End.{End}
 use Rattle.pz_replay.specs.declared.lane.End.TheVariants.{Finished}
 use Rattle.pz_replay.specs.declared.lane.Message.{Message}
@@ -15,7 +15,7 @@ pub record IsBroken (n : ℕ) (sessions : List (List Item)) (end : End) (sent : 
   pub numbers : List ℕ
   pub below : All (λ number. number < n) numbers
   pub count : ℕ
-  pub sends : sent ≡ take count (pieces_of sessions numbers) ++ Last end ∷ []
+  pub sends : sent ≡ take count (messages_for sessions numbers) ++ Last end ∷ []
 
 -- the token is of the lane, and the seat has ended exactly if the worker ended Finished;
 -- then it sent the items of the numbers that its seat holds, in the order claimed, and the last message; else it broke off

@@ -23,7 +23,7 @@ pub enum End {
 #[derive(Drop)]
 pub enum Message {
     /// The next item of the session of this number.
-    Piece(usize, Item),
+    Item(usize, Item),
     /// The last message of a lane.
     Last(End),
 }

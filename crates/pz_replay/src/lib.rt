@@ -1,7 +1,6 @@
 //! The replay of a job by several workers: its recording has what every session showed, in the order of the sessions.
 #![tactic(auto)]
 
-mod crew;
 pub mod fault;
 pub mod gate;
 pub mod lane;
@@ -9,3 +8,4 @@ mod recorder;
 pub mod replaying;
 mod waiting;
 pub mod work;
+mod workers;

@@ -2,7 +2,7 @@
 
 ghost use Rattle.std.specs.Prelude.{◌≡◌, [], map, replicate, All, IfOk, IsTrue, OnOk};
 ghost use Rattle.pz_replay.specs.Recorded.{GoesOn, HasEnded, IsRecorded, IsVisited, kept};
-ghost use Rattle.pz_replay.specs.declared.lane.Message.TheVariants.{Piece};
+ghost use Rattle.pz_replay.specs.declared.lane.Message.TheVariants as messages;
 
 use crate::lane::{End, Message, Taker};
 use crate::waiting::pause;
@@ -48,7 +48,7 @@ impl Sessions {
 
     /// Appends an item to its session.
     fn keep(&mut self, session: usize, item: Item) -> Result<(), AllocError>
-        ensures { OnOk result (self.new ≡ kept self.old (Piece session item)) }
+        ensures { OnOk result (self.new ≡ kept self.old (messages.Item session item)) }
     {
         let Some(items) = self.items.get_mut(session) else {
             return Ok(());
@@ -60,33 +60,33 @@ impl Sessions {
 
 /// A lane at the recorder; how it ended, once its last message was taken; and whether nothing was there when it was visited last.
 #[derive(Drop)]
-pub(crate) struct Desk {
+pub(crate) struct Inbox {
     pub(crate) taker: Taker,
     pub(crate) end: Option<End>,
     pub(crate) is_quiet: bool,
 }
 
 /// Takes one message, if there is one and the lane has not ended, and says whether it has. Without memory for an item there are no sessions any more.
-fn visit(desk: &mut Desk, sessions: &mut Option<Sessions>) -> bool
-    ensures lane { desk.new.taker.lane ≡ desk.old.taker.lane }
-    ensures visited { IsVisited desk.old desk.new sessions.old sessions.new }
-    ensures ended { IsTrue result → HasEnded desk.new }
+fn visit(inbox: &mut Inbox, sessions: &mut Option<Sessions>) -> bool
+    ensures lane { inbox.new.taker.lane ≡ inbox.old.taker.lane }
+    ensures visited { IsVisited inbox.old inbox.new sessions.old sessions.new }
+    ensures ended { IsTrue result → HasEnded inbox.new }
 {
-    if desk.end.is_some() {
+    if inbox.end.is_some() {
         return true;
     }
-    match desk.taker.try_take() {
+    match inbox.taker.try_take() {
         None => {
-            desk.is_quiet = true;
+            inbox.is_quiet = true;
             false
         }
         Some(Message::Last(end)) => {
-            desk.end = Some(end);
-            desk.is_quiet = true;
+            inbox.end = Some(end);
+            inbox.is_quiet = true;
             true
         }
-        Some(Message::Piece(session, item)) => {
-            desk.is_quiet = false;
+        Some(Message::Item(session, item)) => {
+            inbox.is_quiet = false;
             if let Some(so_far) = sessions {
                 if so_far.keep(session, item).is_err() {
                     *sessions = None;
@@ -97,38 +97,38 @@ fn visit(desk: &mut Desk, sessions: &mut Option<Sessions>) -> bool
     }
 }
 
-/// Visits each desk, and says whether all lanes have ended.
-fn round(desks: &mut [Desk], sessions: &mut Option<Sessions>) -> bool
-    requires { IsRecorded desks.old sessions.old }
-    ensures recorded { IsRecorded desks.new sessions.new }
-    ensures goes { GoesOn desks.old desks.new sessions.old sessions.new }
-    ensures ended { IsTrue result → All HasEnded desks.new }
+/// Visits each inbox, and says whether all lanes have ended.
+fn round(inboxes: &mut [Inbox], sessions: &mut Option<Sessions>) -> bool
+    requires { IsRecorded inboxes.old sessions.old }
+    ensures recorded { IsRecorded inboxes.new sessions.new }
+    ensures goes { GoesOn inboxes.old inboxes.new sessions.old sessions.new }
+    ensures ended { IsTrue result → All HasEnded inboxes.new }
 {
     let mut all = true;
-    for number in 0..desks.len() {
-        let ended = visit(&mut desks[number], sessions);
+    for number in 0..inboxes.len() {
+        let ended = visit(&mut inboxes[number], sessions);
         all = all && ended;
     }
     all
 }
 
 /// Whether no lane had a message in the last round.
-fn are_quiet(desks: &[Desk]) -> bool {
-    desks.iter().all(|desk| desk.is_quiet)
+fn are_quiet(inboxes: &[Inbox]) -> bool {
+    inboxes.iter().all(|inbox| inbox.is_quiet)
 }
 
 /// Takes from every lane in turn until each has ended, with a pause after each round in which no lane had a message, also when there was no memory for an item: else a worker would wait for room on its lane.
-pub(crate) fn record<R: Wait>(rt: &R, desks: &mut [Desk], sessions: &mut Option<Sessions>)
-    requires { IsRecorded desks.old sessions.old }
-    ensures recorded { IsRecorded desks.new sessions.new }
-    ensures goes { GoesOn desks.old desks.new sessions.old sessions.new }
-    ensures ended { All HasEnded desks.new }
+pub(crate) fn record<R: Wait>(rt: &R, inboxes: &mut [Inbox], sessions: &mut Option<Sessions>)
+    requires { IsRecorded inboxes.old sessions.old }
+    ensures recorded { IsRecorded inboxes.new sessions.new }
+    ensures goes { GoesOn inboxes.old inboxes.new sessions.old sessions.new }
+    ensures ended { All HasEnded inboxes.new }
 {
     for _ in rt.forever() {
-        if round(desks, sessions) {
+        if round(inboxes, sessions) {
             return;
         }
-        if are_quiet(desks) {
+        if are_quiet(inboxes) {
             pause(rt);
         }
     }

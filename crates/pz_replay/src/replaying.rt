@@ -1,14 +1,14 @@
 //! The replay of a job, by several workers.
 
 ghost use Rattle.std.specs.Prelude.{◌≡◌, ◌≢◌, ◌↔◌, ◌⊎◌, ◌<◌, ◌≤◌, [], length, replicate, Err, IfOk};
-ghost use Rattle.pz_replay.specs.Crew.{IsAll};
-ghost use Rattle.pz_replay.specs.Pieces.{sessions_of};
+ghost use Rattle.pz_replay.specs.Workers.{IsAll};
+ghost use Rattle.pz_replay.specs.Sent.{sessions_of};
 ghost use Rattle.pz_session.specs.Recording.{recording};
 
-use crate::crew::{Shared, all_started};
 use crate::fault::ReplayFault;
 use crate::gate::Gate;
 use crate::recorder::Sessions;
+use crate::workers::{Shared, all_started};
 use pz_base::listed::Listed;
 use pz_base::text::Text;
 use pz_claims::{Claims, Maker};

@@ -2,7 +2,7 @@
 
 ghost use Rattle.std.specs.Prelude.{◌≡◌, ◌≢◌, ◌++◌, ◌∷◌, [], All, IfErr, IfSome, OnOk, ℕ, length, take};
 ghost use Rattle.pz_session.specs.Case.{items_of};
-ghost use Rattle.pz_replay.specs.Pieces.{pieces, sessions_of};
+ghost use Rattle.pz_replay.specs.Sent.{messages_of, sessions_of};
 ghost use Rattle.pz_replay.specs.Worked.{IsWorked};
 ghost use Rattle.pz_replay.specs.declared.lane.End.TheVariants.{Finished, GateClosed};
 ghost use Rattle.pz_replay.specs.declared.lane.Message.TheVariants.{Last};
@@ -49,8 +49,8 @@ fn play<R: Wait, G: Gate>(
     case: &Case,
     gate: &G,
 ) -> Result<(), End>
-    ensures whole { OnOk result (sender.new ≡ record sender.old { sent = sender.old.sent ++ pieces session (items_of case.now) }) }
-    ensures part { IfErr result (λ _. (count : ℕ) × (sender.new ≡ record sender.old { sent = sender.old.sent ++ take count (pieces session (items_of case.now)) })) }
+    ensures whole { OnOk result (sender.new ≡ record sender.old { sent = sender.old.sent ++ messages_of session (items_of case.now) }) }
+    ensures part { IfErr result (λ _. (count : ℕ) × (sender.new ≡ record sender.old { sent = sender.old.sent ++ take count (messages_of session (items_of case.now)) })) }
     ensures broken { IfErr result (λ end. end ≢ Finished) }
     ensures opened { G.lets_all_pass gate.now → IfErr result (λ end. end ≢ GateClosed) }
 {
@@ -64,7 +64,7 @@ fn play<R: Wait, G: Gate>(
                 if !gate.pass(session, number) {
                     return Err(End::GateClosed);
                 }
-                send(rt, sender, Message::Piece(session, item));
+                send(rt, sender, Message::Item(session, item));
                 number = number.wrapping_add(1);
             }
             Ok(None) => return Ok(()),

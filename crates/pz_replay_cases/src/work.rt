@@ -28,7 +28,7 @@ enum Taken {
 
 fn take_next(taker: &mut Taker) -> Taken {
     match taker.try_take() {
-        Some(Message::Piece(session, _)) => Taken::ItemOf(session),
+        Some(Message::Item(session, _)) => Taken::ItemOf(session),
         Some(Message::Last(end)) => Taken::LastOf(end),
         None => Taken::Nothing,
     }

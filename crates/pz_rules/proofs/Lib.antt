@@ -1,6 +1,6 @@
 mod CountingLemmas
 mod EqualLemmas
-mod MarkLemmas
+mod HashLemmas
 mod KeptLemmas
 mod Expanding
 mod Mapped

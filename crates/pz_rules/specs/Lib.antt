@@ -1,7 +1,7 @@
 pub mod Counting
 pub mod Turning
 pub mod Equal
-pub mod Marks
+pub mod Hashes
 pub mod Kept
 pub mod Exclusion
 pub mod Instances

@@ -25,6 +25,14 @@ pub enum Pick {
     Toward(Dir),
 }
 
+/// A plan in one of its directions, and the layer of each object.
+#[derive(Drop)]
+struct DirectedPlan<'a> {
+    layers: &'a [usize],
+    plan: &'a Plan,
+    direction: Dir,
+}
+
 /// The members of the name of this number.
 fn members_at(table: &[Denotation], property: usize) -> &[usize]
     ensures { result.now ≡ members_at table.now property }
@@ -234,15 +242,14 @@ fn scan_of(plan: &Plan, direction: Dir) -> Dir
 #[tactic(auto, unfolding(crate::specs::Instances::instance_of))]
 fn instance_of(
     patterns: &mut Patterns,
-    layers: &[usize],
-    plan: &Plan,
-    direction: Dir,
+    directed: &DirectedPlan,
     picks: &[Pick],
 ) -> Result<Instance, AllocError>
-    requires left { AreShaped plan.now.left }
-    requires right { AreShaped plan.now.right }
-    ensures { IfOk result (λ instance. instance ≡ instance_of layers.now plan.now direction picks.now) }
+    requires left { AreShaped directed.now.plan.now.left }
+    requires right { AreShaped directed.now.plan.now.right }
+    ensures { IfOk result (λ instance. instance ≡ instance_of directed.now.layers.now directed.now.plan.now directed.now.direction picks.now) }
 {
+    let (layers, plan, direction) = (directed.layers, directed.plan, directed.direction);
     let left = rows_of(patterns, layers, direction, picks, plan.left.items())?;
     let right = rows_of(patterns, layers, direction, picks, plan.right.items())?;
     Ok(Instance {
@@ -265,17 +272,15 @@ fn is_possible(instance: &Instance) -> bool
 #[tactic(auto, unfolding(crate::specs::Instances::considered))]
 fn consider(
     patterns: &mut Patterns,
-    layers: &[usize],
-    plan: &Plan,
-    direction: Dir,
+    directed: &DirectedPlan,
     picks: &[Pick],
     kept: &mut Kept,
 ) -> Result<(), AllocError>
-    requires left { AreShaped plan.now.left }
-    requires right { AreShaped plan.now.right }
-    ensures { OnOk result (kept.new ≡ considered layers.now plan.now direction kept.old picks.now) }
+    requires left { AreShaped directed.now.plan.now.left }
+    requires right { AreShaped directed.now.plan.now.right }
+    ensures { OnOk result (kept.new ≡ considered directed.now.layers.now directed.now.plan.now directed.now.direction kept.old picks.now) }
 {
-    let instance = instance_of(patterns, layers, plan, direction, picks)?;
+    let instance = instance_of(patterns, directed, picks)?;
     if is_possible(&instance) {
         kept.add(instance)?;
     }
@@ -285,26 +290,24 @@ fn consider(
 /// Considers every list of picks that begins with these.
 fn consider_all(
     patterns: &mut Patterns,
-    layers: &[usize],
-    plan: &Plan,
-    direction: Dir,
+    directed: &DirectedPlan,
     options: &[Listed<Pick>],
     picks: &mut Vec<Pick>,
     kept: &mut Kept,
 ) -> Result<(), AllocError>
-    requires left { AreShaped plan.now.left }
-    requires right { AreShaped plan.now.right }
+    requires left { AreShaped directed.now.plan.now.left }
+    requires right { AreShaped directed.now.plan.now.right }
     ensures kept { OnOk result
-        (kept.new ≡ fold (considered layers.now plan.now direction) kept.old
+        (kept.new ≡ fold (considered directed.now.layers.now directed.now.plan.now directed.now.direction) kept.old
         (map (λ rest. picks.old.items ++ rest) (product options.now))) }
     ensures picks { OnOk result (picks.new.items ≡ picks.old.items) }
 {
     let Some((first, others)) = options.split_first() else {
-        return consider(patterns, layers, plan, direction, picks, kept);
+        return consider(patterns, directed, picks, kept);
     };
     'options: for pick in first.items() {
         picks.push(*pick)?;
-        consider_all(patterns, layers, plan, direction, others, picks, kept)?;
+        consider_all(patterns, directed, others, picks, kept)?;
         let _ = picks.pop();
     }
     Ok(())
@@ -342,10 +345,13 @@ pub fn instances_of(
     let mut kept = Kept::new(alloc)?;
     for direction in plan.directions.items() {
         let options = all_options(alloc, table, *direction, plan.choices.items())?;
+        let directed = DirectedPlan {
+            layers,
+            plan,
+            direction: *direction,
+        };
         let mut picks = Vec::new(alloc);
-        consider_all(
-            patterns, layers, plan, *direction, &options, &mut picks, &mut kept,
-        )?;
+        consider_all(patterns, &directed, &options, &mut picks, &mut kept)?;
     }
     Ok(kept.into_instances())
 }

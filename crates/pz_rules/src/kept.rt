@@ -4,11 +4,11 @@ ghost use Rattle.std.specs.Prelude.{◌≡◌, ◌∷◌, ◌++◌, [], length, 
 ghost use Rattle.std.specs.List.{list_any};
 ghost use Rattle.pz_rules.specs.Equal.{same_instance};
 ghost use Rattle.pz_base.specs.Lists.{added};
-ghost use Rattle.pz_rules.specs.Marks.{mark_of};
+ghost use Rattle.pz_rules.specs.Hashes.{hash_of};
 ghost use Rattle.pz_rules.specs.Kept.{stands_at, bucket_of};
 
 use crate::equal::same_instance;
-use crate::marks::mark_of;
+use crate::hashes::hash_of;
 use pz_game::instance::Instance;
 use std::alloc::{AllocError, Global};
 use std::marker::Model;
@@ -16,26 +16,26 @@ use std::marker::Model;
 /// How many buckets there are: an instance is looked up among those of one bucket only.
 const BUCKETS: u64 = 256;
 
-/// Where a kept instance stands, beside its mark.
+/// Where a kept instance stands, beside its hash.
 #[derive(Clone, Copy)]
-pub struct Place {
-    pub mark: u64,
+pub struct Slot {
+    pub hash: u64,
     pub index: usize,
 }
 
-/// The places of the kept instances whose marks leave one remainder.
+/// The slots of the kept instances whose hashes leave one remainder.
 #[derive(Drop)]
 struct Bucket {
-    places: Vec<Place>,
+    slots: Vec<Slot>,
 }
 
 impl Model for Bucket {
     ghost use Rattle.std.specs.Prelude.{List};
-    ghost use Rattle.pz_rules.specs.declared.kept.Place.{Place};
+    ghost use Rattle.pz_rules.specs.declared.kept.Slot.{Slot};
 
-    ghost Value = { List Place };
+    ghost Value = { List Slot };
 
-    ghost view = { λ b. b.places.items };
+    ghost view = { λ b. b.slots.items };
 }
 
 impl Bucket {
@@ -43,21 +43,21 @@ impl Bucket {
         ensures { result ≡ [] }
     {
         Bucket {
-            places: Vec::new(alloc),
+            slots: Vec::new(alloc),
         }
     }
 
-    fn places(&self) -> &[Place]
+    fn slots(&self) -> &[Slot]
         ensures { result.now ≡ self.now }
     {
-        self.places.as_slice()
+        self.slots.as_slice()
     }
 
-    fn push(&mut self, place: Place) -> Result<(), AllocError>
-        ensures pushed { OnOk result (self.new ≡ self.old ++ place ∷ []) }
+    fn push(&mut self, slot: Slot) -> Result<(), AllocError>
+        ensures pushed { OnOk result (self.new ≡ self.old ++ slot ∷ []) }
         ensures unchanged { OnErr result (self.new ≡ self.old) }
     {
-        self.places.push(place)?;
+        self.slots.push(slot)?;
         Ok(())
     }
 }
@@ -81,23 +81,23 @@ impl Model for Kept {
     ghost invariant = { λ k. AreFiled k.instances.items k.buckets.items };
 }
 
-/// Whether an instance equal to this one, which has this mark, stands at a place.
-fn stands_at(instances: &[Instance], mark: u64, instance: &Instance, place: &Place) -> bool
-    ensures { result ≡ stands_at instances.now mark instance.now place.now }
+/// Whether an instance equal to this one, which has this hash, stands at a slot.
+fn stands_at(instances: &[Instance], hash: u64, instance: &Instance, slot: &Slot) -> bool
+    ensures { result ≡ stands_at instances.now hash instance.now slot.now }
 {
-    place.mark == mark
-        && match instances.get(place.index) {
+    slot.hash == hash
+        && match instances.get(slot.index) {
             Some(other) => same_instance(other, instance),
             None => false,
         }
 }
 
-fn stands_among(places: &[Place], instances: &[Instance], mark: u64, instance: &Instance) -> bool
-    ensures { result ≡ list_any (stands_at instances.now mark instance.now) places.now }
+fn stands_among(slots: &[Slot], instances: &[Instance], hash: u64, instance: &Instance) -> bool
+    ensures { result ≡ list_any (stands_at instances.now hash instance.now) slots.now }
 {
-    places
+    slots
         .iter()
-        .any(|place| stands_at(instances, mark, instance, place))
+        .any(|slot| stands_at(instances, hash, instance, slot))
 }
 
 fn empty_buckets(alloc: Global) -> Result<Vec<Bucket>, AllocError>
@@ -128,25 +128,25 @@ impl Kept {
         instances
     }
 
-    /// Whether an instance equal to this one, which has this mark, is kept.
-    fn holds(&self, mark: u64, instance: &Instance) -> bool
-        requires { mark ≡ mark_of instance.now }
+    /// Whether an instance equal to this one, which has this hash, is kept.
+    fn holds(&self, hash: u64, instance: &Instance) -> bool
+        requires { hash ≡ hash_of instance.now }
         ensures { result ≡ list_any (λ other. same_instance other instance.now) self.now }
     {
-        let bucket = &self.buckets[(mark % BUCKETS) as usize];
-        stands_among(bucket.places(), &self.instances, mark, instance)
+        let bucket = &self.buckets[(hash % BUCKETS) as usize];
+        stands_among(bucket.slots(), &self.instances, hash, instance)
     }
 
     /// Adds an instance, unless one is there already that equals it.
     pub fn add(&mut self, instance: Instance) -> Result<(), AllocError>
         ensures { OnOk result (self.new ≡ added same_instance self.old instance) }
     {
-        let mark = mark_of(&instance);
-        if self.holds(mark, &instance) {
+        let hash = hash_of(&instance);
+        if self.holds(hash, &instance) {
             return Ok(());
         }
         let index = self.instances.len();
-        self.buckets[(mark % BUCKETS) as usize].push(Place { mark, index })?;
+        self.buckets[(hash % BUCKETS) as usize].push(Slot { hash, index })?;
         self.instances.push(instance)?;
         Ok(())
     }

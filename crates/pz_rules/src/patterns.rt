@@ -2,22 +2,22 @@
 
 ghost use Rattle.std.specs.Prelude.{◌≡◌, ◌↔◌, true, IfOk, IfSome};
 
-use crate::marks::{item_mark, spread};
+use crate::hashes::{item_hash, spread};
 use pz_game::pattern::{Item, Pattern};
 use std::alloc::{AllocError, Global};
 
-/// How many buckets there are: a pattern is looked for in one of them only.
-const BUCKETS: u64 = 1_024;
+/// How many drawers there are: a pattern is looked for in one of them only.
+const DRAWERS: u64 = 1_024;
 
-/// How many patterns a bucket keeps. What else falls into it is made each time.
+/// How many patterns a drawer keeps. What else falls into it is made each time.
 const ROOM: usize = 8;
 
-/// The number of the bucket in which a pattern of these items is looked for.
-fn bucket_number(items: &[Item]) -> usize {
-    let mark = items
+/// The number of the drawer in which a pattern of these items is looked for.
+fn drawer_number(items: &[Item]) -> usize {
+    let hash = items
         .iter()
-        .fold(0, |mark, item| spread(mark ^ item_mark(item)));
-    (mark % BUCKETS) as usize
+        .fold(0, |hash, item| spread(hash ^ item_hash(item)));
+    (hash % DRAWERS) as usize
 }
 
 /// Whether a pattern has these items, in this order.
@@ -29,13 +29,13 @@ fn has_items(pattern: &Pattern, items: &[Item]) -> bool
 
 /// The first patterns whose items give one number.
 #[derive(Drop)]
-struct Bucket {
+struct Drawer {
     patterns: Vec<Pattern>,
 }
 
-impl Bucket {
-    fn new(alloc: Global) -> Bucket {
-        Bucket {
+impl Drawer {
+    fn new(alloc: Global) -> Drawer {
+        Drawer {
             patterns: Vec::new(alloc),
         }
     }
@@ -65,16 +65,16 @@ impl Bucket {
 #[derive(Drop)]
 pub struct Patterns {
     alloc: Global,
-    buckets: Vec<Bucket>,
+    drawers: Vec<Drawer>,
 }
 
 impl Patterns {
     pub fn new(alloc: Global) -> Result<Patterns, AllocError> {
-        let mut buckets = Vec::with_capacity(alloc, BUCKETS as usize)?;
-        for _number in 0..BUCKETS {
-            buckets.push(Bucket::new(alloc))?;
+        let mut drawers = Vec::with_capacity(alloc, DRAWERS as usize)?;
+        for _number in 0..DRAWERS {
+            drawers.push(Drawer::new(alloc))?;
         }
-        Ok(Patterns { alloc, buckets })
+        Ok(Patterns { alloc, drawers })
     }
 
     /// Where the patterns and what is made of them are stored.
@@ -86,14 +86,14 @@ impl Patterns {
     pub fn pattern_of(&mut self, items: Vec<Item>) -> Result<Pattern, AllocError>
         ensures { IfOk result (λ pattern. pattern ≡ items.items) }
     {
-        let Some(bucket) = self.buckets.get_mut(bucket_number(&items)) else {
+        let Some(drawer) = self.drawers.get_mut(drawer_number(&items)) else {
             return Pattern::new(self.alloc, items);
         };
-        if let Some(pattern) = bucket.find(&items) {
+        if let Some(pattern) = drawer.find(&items) {
             return pattern.share();
         }
         let pattern = Pattern::new(self.alloc, items)?;
-        bucket.keep(&pattern)?;
+        drawer.keep(&pattern)?;
         Ok(pattern)
     }
 }

@@ -1,6 +1,6 @@
 //! What runs before the movement, and what runs after it.
 
-ghost use Rattle.std.specs.Prelude.{◌≡◌, ◌++◌, ◌∷◌, [], IfOk, OnOk};
+ghost use Rattle.std.specs.Prelude.{◌≡◌, ◌++◌, ◌∷◌, [], OnOk};
 ghost use Rattle.pz_rules.specs.Sides.{side_added};
 
 use pz_base::listed::Listed;
@@ -74,16 +74,4 @@ pub fn add_to_side<T: Drop>(sides: &mut Sides<T>, is_late: bool, value: T) -> Re
     } else {
         sides.early.push(value)
     }
-}
-
-/// The sides with one more on one of them.
-pub fn side_added<T: Drop>(
-    mut sides: Sides<T>,
-    is_late: bool,
-    value: T,
-) -> Result<Sides<T>, AllocError>
-    ensures { IfOk result (λ out. out ≡ side_added sides is_late value) }
-{
-    add_to_side(&mut sides, is_late, value)?;
-    Ok(sides)
 }

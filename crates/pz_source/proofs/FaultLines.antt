@@ -28,7 +28,7 @@ use Rattle.pz_game.specs.Level.{is_playable}
 use Rattle.pz_source.specs.Levels.{is_message, closed, entries_of, glyph_of, glyphs_of, filled, row_of, rows_of, is_too_large, entry_of, read_entries, levels_of}
 use Rattle.pz_names.specs.Meaning.{meanings_of}
 use Rattle.pz_source.specs.Missing.{names_single, fault_of_needs}
-use Rattle.pz_names.specs.Objects.{object_names, is_blank, sprite_rows, block_of, behind_block, blocks_within, blocks_of, name_line_of, block_at, misnames, objects_of}
+use Rattle.pz_names.specs.Objects.{object_names, is_blank, sprite_rows, paragraph_of, behind_paragraph, paragraphs_within, paragraphs_of, name_line_of, paragraph_at, misnames, objects_of}
 use Rattle.pz_source.specs.Profile.{leaves_profile, outside_profile, options_of}
 use Rattle.pz_source.specs.Reading.{line_count, first_names, game_over, game_of_objects, game_of_lines, source_of}
 use Rattle.pz_source.specs.Rules.{rule_lines}
@@ -48,38 +48,38 @@ use Rattle.pz_source.proofs.LineLemmas.{IsWithin, Names, All-filter_map, lines_i
 module _ (n : ℕ) where
   -- OBJECTS
 
-  behind_block-within : (lines : List Line) → All (IsWithin n) lines → All (IsWithin n) (behind_block lines)
-  behind_block-within [] all = All-nil (IsWithin n)
-  behind_block-within (colours ∷ lines) all = by (is_blank colours)
+  behind_paragraph-within : (lines : List Line) → All (IsWithin n) lines → All (IsWithin n) (behind_paragraph lines)
+  behind_paragraph-within [] all = All-nil (IsWithin n)
+  behind_paragraph-within (colours ∷ lines) all = by (is_blank colours)
     where
       by : (b : Bool) → All (IsWithin n) (if b then colours ∷ lines else drop (length (sprite_rows 5 lines)) lines)
       by true = all
       by false = All-drop (IsWithin n) (length (sprite_rows 5 lines)) lines (All-tail (IsWithin n) colours lines all)
 
-  blocks-within : (most : ℕ) (lines : List Line) → All (IsWithin n) lines → All (λ block. block_at block ≤ n) (blocks_within most lines)
-  blocks-within zero lines all = All-nil (λ block. block_at block ≤ n)
-  blocks-within (suc most) [] all = All-nil (λ block. block_at block ≤ n)
-  blocks-within (suc most) (line ∷ lines) all =
-      by (is_blank line) (blocks-within most lines (All-tail (IsWithin n) line lines all))
-      (blocks-within most (behind_block lines) (behind_block-within lines (All-tail (IsWithin n) line lines all)))
+  paragraphs-within : (most : ℕ) (lines : List Line) → All (IsWithin n) lines → All (λ paragraph. paragraph_at paragraph ≤ n) (paragraphs_within most lines)
+  paragraphs-within zero lines all = All-nil (λ paragraph. paragraph_at paragraph ≤ n)
+  paragraphs-within (suc most) [] all = All-nil (λ paragraph. paragraph_at paragraph ≤ n)
+  paragraphs-within (suc most) (line ∷ lines) all =
+      by (is_blank line) (paragraphs-within most lines (All-tail (IsWithin n) line lines all))
+      (paragraphs-within most (behind_paragraph lines) (behind_paragraph-within lines (All-tail (IsWithin n) line lines all)))
     where
-      by : (b : Bool) → All (λ block. block_at block ≤ n) (blocks_within most lines) → All (λ block. block_at block ≤ n) (blocks_within most (behind_block lines))
-          → All (λ block. block_at block ≤ n) (if b then blocks_within most lines else block_of line lines ∷ blocks_within most (behind_block lines))
+      by : (b : Bool) → All (λ paragraph. paragraph_at paragraph ≤ n) (paragraphs_within most lines) → All (λ paragraph. paragraph_at paragraph ≤ n) (paragraphs_within most (behind_paragraph lines))
+          → All (λ paragraph. paragraph_at paragraph ≤ n) (if b then paragraphs_within most lines else paragraph_of line lines ∷ paragraphs_within most (behind_paragraph lines))
       by true skipped behind = skipped
-      by false skipped behind = All-cons (λ block. block_at block ≤ n) (block_of line lines) (blocks_within most (behind_block lines)) (All-head (IsWithin n) line lines all) behind
+      by false skipped behind = All-cons (λ paragraph. paragraph_at paragraph ≤ n) (paragraph_of line lines) (paragraphs_within most (behind_paragraph lines)) (All-head (IsWithin n) line lines all) behind
 
   objects-fault : (lines : List Line) → All (IsWithin n) lines → IfErr (objects_of lines) (Names n)
   objects-fault lines all =
-      unless-within n (first_fault block_at misnames [] (blocks_of lines)) (Ok (map-of lines))
-      (first_fault-within n block_at misnames [] (blocks_of lines) (blocks-within (length lines) lines all)) tt
+      unless-within n (first_fault paragraph_at misnames [] (paragraphs_of lines)) (Ok (map-of lines))
+      (first_fault-within n paragraph_at misnames [] (paragraphs_of lines) (paragraphs-within (length lines) lines all)) tt
     where
       map-of : List Line → List NameLine
-      map-of ls = map name_line_of (blocks_of ls)
+      map-of ls = map name_line_of (paragraphs_of ls)
 
   objects-within : (lines : List Line) → All (IsWithin n) lines → IfOk (objects_of lines) (All (λ line. name_line_at line ≤ n))
   objects-within lines all =
-      unless-ok (All (λ line. name_line_at line ≤ n)) (first_fault block_at misnames [] (blocks_of lines)) (Ok (map name_line_of (blocks_of lines)))
-      (All-map (λ line. name_line_at line ≤ n) name_line_of (blocks_of lines) (blocks-within (length lines) lines all))
+      unless-ok (All (λ line. name_line_at line ≤ n)) (first_fault paragraph_at misnames [] (paragraphs_of lines)) (Ok (map name_line_of (paragraphs_of lines)))
+      (All-map (λ line. name_line_at line ≤ n) name_line_of (paragraphs_of lines) (paragraphs-within (length lines) lines all))
 
   -- LEGEND
 

@@ -12,7 +12,7 @@ use pz_base::name::Name;
 use pz_game::rule_line::RuleLine;
 use pz_names::objects::is_blank;
 use pz_text::characters::trimmed;
-use pz_text::comment::Place;
+use pz_text::comment::Cursor;
 use pz_text::line::{Line, Section};
 use std::alloc::{AllocError, Global};
 
@@ -42,16 +42,16 @@ fn push_closed(alloc: Global, words: &mut Vec<Name>, word: &[char]) -> Result<()
 fn push_ended(
     alloc: Global,
     words: &mut Vec<Name>,
-    place: &Place,
+    cursor: &Cursor,
     c: char,
 ) -> Result<(), AllocError>
-    ensures { OnOk result (words.new.items ≡ words.old.items ++ map name_of (ended place.now.word.items c)) }
+    ensures { OnOk result (words.new.items ≡ words.old.items ++ map name_of (ended cursor.now.word.items c)) }
 {
-    let word = place.word.as_slice();
+    let word = cursor.word.as_slice();
     if c.is_whitespace() {
         return push_closed(alloc, words, word);
     }
-    if place.ends_arrow(c) {
+    if cursor.ends_arrow(c) {
         push_closed(alloc, words, &word[..word.len() - 1])?;
         return push_word(alloc, words, &['-', '>']);
     }
@@ -77,35 +77,40 @@ fn push_message(
 }
 
 /// Goes behind a character, and puts the words that it ends behind the others.
-fn pass(alloc: Global, words: &mut Vec<Name>, place: &mut Place, c: char) -> Result<(), AllocError>
-    ensures words { OnOk result (words.new.items ≡ words.old.items ++ map name_of (if ends_word Rules place.old.is_first place.old.word.items c then ended place.old.word.items c else [])) }
-    ensures word { OnOk result (place.new.word.items ≡ word_after Rules place.old.is_first place.old.word.items c) }
-    ensures first { OnOk result (place.new.is_first ≡ is_first_after Rules place.old.is_first place.old.word.items c) }
+fn pass(
+    alloc: Global,
+    words: &mut Vec<Name>,
+    cursor: &mut Cursor,
+    c: char,
+) -> Result<(), AllocError>
+    ensures words { OnOk result (words.new.items ≡ words.old.items ++ map name_of (if ends_word Rules cursor.old.is_first cursor.old.word.items c then ended cursor.old.word.items c else [])) }
+    ensures word { OnOk result (cursor.new.word.items ≡ word_after Rules cursor.old.is_first cursor.old.word.items c) }
+    ensures first { OnOk result (cursor.new.is_first ≡ is_first_after Rules cursor.old.is_first cursor.old.word.items c) }
 {
-    if place.ends_word(Section::Rules, c) {
-        push_ended(alloc, words, place, c)?;
+    if cursor.ends_word(Section::Rules, c) {
+        push_ended(alloc, words, cursor, c)?;
     }
-    place.pass(Section::Rules, c)
+    cursor.pass(Section::Rules, c)
 }
 
 /// Puts the words of a rule line, from a character on, behind the others.
 fn push_words(
     alloc: Global,
     words: &mut Vec<Name>,
-    place: &mut Place,
+    cursor: &mut Cursor,
     text: &[char],
 ) -> Result<(), AllocError>
-    ensures { OnOk result (words.new.items ≡ words.old.items ++ map name_of (words_from place.old.is_first place.old.word.items text.now)) }
+    ensures { OnOk result (words.new.items ≡ words.old.items ++ map name_of (words_from cursor.old.is_first cursor.old.word.items text.now)) }
 {
     let mut rest = text;
     while let Some((c, others)) = rest.split_first() {
-        if place.ends_message(*c) {
-            return push_message(alloc, words, place.word.as_slice(), rest);
+        if cursor.ends_message(*c) {
+            return push_message(alloc, words, cursor.word.as_slice(), rest);
         }
-        pass(alloc, words, place, *c)?;
+        pass(alloc, words, cursor, *c)?;
         rest = others;
     }
-    push_closed(alloc, words, place.word.as_slice())
+    push_closed(alloc, words, cursor.word.as_slice())
 }
 
 /// The words of a rule line, folded.
@@ -113,8 +118,8 @@ pub fn rule_words(alloc: Global, text: &[char]) -> Result<Listed<Name>, AllocErr
     ensures { IfOk result (λ words. words ≡ rule_words text.now) }
 {
     let mut words = Vec::new(alloc);
-    let mut place = Place::new(alloc);
-    push_words(alloc, &mut words, &mut place, text)?;
+    let mut cursor = Cursor::new(alloc);
+    push_words(alloc, &mut words, &mut cursor, text)?;
     Ok(Listed::new(words))
 }
 

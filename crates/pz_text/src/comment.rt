@@ -16,18 +16,18 @@ pub fn is_bracket(c: char) -> bool
 
 /// Where a reader of a line stands: behind the characters of a word, none between words, which is the first on its line or not.
 #[derive(Drop, Debug)]
-pub struct Place {
+pub struct Cursor {
     pub is_first: bool,
     pub word: Vec<char>,
 }
 
-impl Place {
+impl Cursor {
     /// At the beginning of a line.
-    pub fn new(alloc: Global) -> Place
+    pub fn new(alloc: Global) -> Cursor
         ensures first { result.is_first ≡ true }
         ensures no_word { result.word.items ≡ [] }
     {
-        Place {
+        Cursor {
             is_first: true,
             word: Vec::new(alloc),
         }
@@ -121,7 +121,7 @@ pub fn outside(
     ensures bound { IfOk result (λ r. r.1 ≤ opened + length line.now) }
 {
     let mut text = Vec::new(alloc);
-    let mut place = Place::new(alloc);
+    let mut cursor = Cursor::new(alloc);
     let mut depth = opened;
     let mut rest = line;
     while let Some((c, others)) = rest.split_first() {
@@ -129,12 +129,12 @@ pub fn outside(
             depth = depth_past(depth, *c);
         } else if *c == '(' {
             depth = 1;
-        } else if place.is_plain_from(section, *c) {
+        } else if cursor.is_plain_from(section, *c) {
             text.extend_from_slice(rest)?;
             break;
         } else {
             text.push(*c)?;
-            place.pass(section, *c)?;
+            cursor.pass(section, *c)?;
         }
         rest = others;
     }

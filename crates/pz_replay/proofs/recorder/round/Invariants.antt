@@ -1,11 +1,11 @@
 use Rattle.std.proofs.Common.{◌≡◌, ℕ, ◌<◌, true, get_or}
 use Rattle.pz_replay.specs.Recorded.{IsRecorded, GoesOn, HasEnded}
-use Rattle.pz_replay.specs.declared.recorder.Desk.{Desk}
+use Rattle.pz_replay.specs.declared.recorder.Inbox.{Inbox}
 use Rattle.pz_replay.proofs.recorder.round.Given as goal
 
 abbrev pub invariant-loop-number : goal.invariant-loop-number
 invariant-loop-number l = record {
-  recorded : IsRecorded l.desks l.sessions;
-  goes : GoesOn l.initial.desks l.desks l.initial.sessions l.sessions;
-  ended : l.all ≡ true → (j : ℕ) (d : Desk) → j < l.number → HasEnded (get_or l.desks j d);
+  recorded : IsRecorded l.inboxes l.sessions;
+  goes : GoesOn l.initial.inboxes l.inboxes l.initial.sessions l.sessions;
+  ended : l.all ≡ true → (j : ℕ) (d : Inbox) → j < l.number → HasEnded (get_or l.inboxes j d);
 }

@@ -1,5 +1,5 @@
 use Rattle.std.proofs.Common.{◌≡◌, ◌<◌, All}
-use Rattle.pz_replay.specs.Pieces.{pieces_of, sessions_of}
+use Rattle.pz_replay.specs.Sent.{messages_for, sessions_of}
 use Rattle.pz_replay.proofs.work.work.Given as goal
 
 abbrev pub invariant-loop : goal.invariant-loop
@@ -7,5 +7,5 @@ invariant-loop g l = record {
   table : l.seat.of ≡ l.claims;
   below : All (λ number. number < l.claims.total) l.seat.numbers;
   lane : l.sender.lane ≡ l.initial.sender.lane;
-  sent : l.sender.sent ≡ pieces_of (sessions_of l.job) l.seat.numbers;
+  sent : l.sender.sent ≡ messages_for (sessions_of l.job) l.seat.numbers;
 }

@@ -5,5 +5,5 @@ use Rattle.pz_source.proofs.rules.push_words.Goals as goal
 
 pub push_message-requires : goal.push_message-requires
 push_message-requires c =
-    let ends : ends_message c.loop-c.place.word.items c.in-Some.c.now ≡ true = sym c.ends_message.ensures ∙ c.if-ends_message.true in
-    omega (arith, ap length c.as_slice.ensures.value, ends_message-long c.loop-c.place.word.items c.in-Some.c.now ends)
+    let ends : ends_message c.loop-c.cursor.word.items c.in-Some.c.now ≡ true = sym c.ends_message.ensures ∙ c.if-ends_message.true in
+    omega (arith, ap length c.as_slice.ensures.value, ends_message-long c.loop-c.cursor.word.items c.in-Some.c.now ends)

@@ -5,8 +5,8 @@ use Rattle.pz_source.proofs.rules.push_words.Given as goal
 
 abbrev pub invariant-loop-c : goal.invariant-loop-c
 invariant-loop-c l =
-    l.words.items ++ map name_of (words_from l.place.is_first l.place.word.items l.rest)
-    ≡ l.initial.words.items ++ map name_of (words_from l.initial.place.is_first l.initial.place.word.items l.text)
+    l.words.items ++ map name_of (words_from l.cursor.is_first l.cursor.word.items l.rest)
+    ≡ l.initial.words.items ++ map name_of (words_from l.initial.cursor.is_first l.initial.cursor.word.items l.text)
 
 abbrev pub decreases-loop-c : goal.decreases-loop-c
 decreases-loop-c l = length l.rest

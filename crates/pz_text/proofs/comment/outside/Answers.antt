@@ -8,8 +8,8 @@ loop-c-preserved c =
     let x = c.in-Some.c.now in
     let cs = c.in-Some.others.now in
     let s = c.args.section in
-    let first = c.loop-c.place.is_first in
-    let word = c.loop-c.place.word.items in
+    let first = c.loop-c.cursor.is_first in
+    let word = c.loop-c.cursor.word.items in
     let parts = c.in-Some.ensures.cases in
     let none : c.loop-c.depth ≡ 0 = omega arith in
     let other : (x == 40) ≡ false = search rules in

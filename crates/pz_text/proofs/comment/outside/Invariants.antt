@@ -4,8 +4,8 @@ use Rattle.pz_text.proofs.comment.outside.Given as goal
 
 abbrev pub invariant-loop-c : goal.invariant-loop-c
 invariant-loop-c l = record {
-  left : l.text.items ++ outside l.section l.place.is_first l.place.word.items l.depth l.rest ≡ outside l.section true [] l.opened l.line;
-  deep : depth_after l.section l.place.is_first l.place.word.items l.depth l.rest ≡ depth_after l.section true [] l.opened l.line;
+  left : l.text.items ++ outside l.section l.cursor.is_first l.cursor.word.items l.depth l.rest ≡ outside l.section true [] l.opened l.line;
+  deep : depth_after l.section l.cursor.is_first l.cursor.word.items l.depth l.rest ≡ depth_after l.section true [] l.opened l.line;
   bound : l.depth + length l.rest ≤ l.opened + length l.line;
 }
 

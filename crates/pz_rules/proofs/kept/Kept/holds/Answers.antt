@@ -7,6 +7,6 @@ use Rattle.pz_rules.proofs.kept.Kept.holds.Goals as goal
 pub returns : goal.returns
 returns c =
     let found : c.stands_among.result ≡ list_any (λ other. same_instance other c.args.instance.now) c.self.inside.instances.items =
-    c.stands_among.ensures ∙ held-looked_up c.self.inside.instances.items c.deref.result.now c.self.inside.buckets.items c.args.mark c.args.instance.now c.places.result.now c.index-bucket.result.now
-    c.self.invariant c.requires c.deref.ensures.value c.places.ensures c.index-bucket.ensures in
+    c.stands_among.ensures ∙ held-looked_up c.self.inside.instances.items c.deref.result.now c.self.inside.buckets.items c.args.hash c.args.instance.now c.slots.result.now c.index-bucket.result.now
+    c.self.invariant c.requires c.deref.ensures.value c.slots.ensures c.index-bucket.ensures in
     cc

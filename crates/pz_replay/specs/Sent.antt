@@ -5,7 +5,7 @@ use Rattle.pz_session.specs.declared.item.Item.{Item}
 use Rattle.pz_session.specs.Case.{items_of}
 use Rattle.pz_replay.specs.declared.lane.End.TheVariants.{Finished}
 use Rattle.pz_replay.specs.declared.lane.Message.{Message}
-use Rattle.pz_replay.specs.declared.lane.Message.TheVariants.{Piece, Last}
+use Rattle.pz_replay.specs.declared.lane.Message.TheVariants as messages
 
 -- the items of each session of a job
 abbrev pub sessions_of : List Case → List (List Item)
@@ -16,14 +16,14 @@ abbrev pub items_at : List (List Item) → ℕ → List Item
 items_at sessions number = slice_index_or sessions number []
 
 -- the messages that one session makes
-abbrev pub pieces : ℕ → List Item → List Message
-pieces number items = map (Piece number) items
+abbrev pub messages_of : ℕ → List Item → List Message
+messages_of number items = map (messages.Item number) items
 
 -- the messages of the sessions of these numbers, one session after the other
-abbrev pub pieces_of : List (List Item) → List ℕ → List Message
-pieces_of sessions [] = []
-pieces_of sessions (number ∷ later) = pieces number (items_at sessions number) ++ pieces_of sessions later
+abbrev pub messages_for : List (List Item) → List ℕ → List Message
+messages_for sessions [] = []
+messages_for sessions (number ∷ later) = messages_of number (items_at sessions number) ++ messages_for sessions later
 
 -- all that a worker sends that ends Finished, where it claimed these numbers
 abbrev pub sent_for : List (List Item) → List ℕ → List Message
-sent_for sessions numbers = pieces_of sessions numbers ++ Last Finished ∷ []
+sent_for sessions numbers = messages_for sessions numbers ++ messages.Last Finished ∷ []

@@ -1,4 +1,4 @@
--- Equal instances have the same mark.
+-- Equal instances have the same hash.
 use Rattle.std.proofs.Common.{◌≡◌, ℕ, true, false, not, ◌&&◌, ◌||◌, ◌==◌, List, [], ◌∷◌, length, filter, fold, refl, ap, sym, ◌∙◌, subst, ⊎_elim}
 use Rattle.std.proofs.lemmas.Bool.{and_parts, and_from, or_cases, or_parts, cases_Bool, not_from_true, not_from_false, cond-true, cond-false, false≢true, false_from_ne_true, eqb-true}
 use Rattle.std.proofs.lemmas.Nat.{xor_comm}
@@ -7,7 +7,7 @@ use Rattle.std.specs.List.{list_any, list_all, zip}
 use Rattle.pz_game.specs.declared.pattern.Item.{Item}
 use Rattle.pz_game.specs.declared.instance.Instance.{Instance}
 use Rattle.pz_rules.specs.Equal.{same_item, has_item, within_cell, same_cell, cells_agree, same_row, rows_agree, same_rows, same_instance}
-use Rattle.pz_rules.specs.Marks.{direction_number, item_mark, cell_mark, with_cell, with_row, with_rows, mark_of, spread_once}
+use Rattle.pz_rules.specs.Hashes.{direction_number, item_hash, cell_hash, with_cell, with_row, with_rows, hash_of, spread_once}
 use Rattle.pz_game.specs.Pattern.{RuleRow}
 use Rattle.pz_game.specs.Direction.{same_dir}
 use Rattle.pz_plan.proofs.Directions.{same_dir_is}
@@ -49,11 +49,11 @@ has_item-without x y (z ∷ zs) n =
     (λ e. ap (λ l. has_item l y) (without-kept x z zs e) ∙ ap (λ b. same_item z y || b) more)
     (cases_Bool (same_item z x))
 
--- the mark of a cell is that of one item and that of the others
-cell_mark-taken : (x : Item) (ys : List Item) → has_item ys x ≡ true → cell_mark ys ≡ bit_xor (item_mark x) (cell_mark (without x ys))
+-- the hash of a cell is that of one item and that of the others
+cell_hash-taken : (x : Item) (ys : List Item) → has_item ys x ≡ true → cell_hash ys ≡ bit_xor (item_hash x) (cell_hash (without x ys))
 unfolding has_item
-cell_mark-taken x [] h = absurd (false≢true h)
-cell_mark-taken x (y ∷ ys) h =
+cell_hash-taken x [] h = absurd (false≢true h)
+cell_hash-taken x (y ∷ ys) h =
     let others = without x ys in
     ⊎_elim
     (λ e.
@@ -61,12 +61,12 @@ cell_mark-taken x (y ∷ ys) h =
     let dropped = without-dropped x y ys e in
     ⊎_elim
     (λ again.
-    cond-true (has_item ys y) (cell_mark ys) (bit_xor (item_mark y) (cell_mark ys)) (subst (λ w. has_item ys w ≡ true) (sym is) again)
-    ∙ cell_mark-taken x ys again ∙ ap (λ l. bit_xor (item_mark x) (cell_mark l)) (sym dropped))
+    cond-true (has_item ys y) (cell_hash ys) (bit_xor (item_hash y) (cell_hash ys)) (subst (λ w. has_item ys w ≡ true) (sym is) again)
+    ∙ cell_hash-taken x ys again ∙ ap (λ l. bit_xor (item_hash x) (cell_hash l)) (sym dropped))
     (λ never.
-    cond-false (has_item ys y) (cell_mark ys) (bit_xor (item_mark y) (cell_mark ys)) (subst (λ w. has_item ys w ≡ false) (sym is) never)
-    ∙ ap (λ w. bit_xor (item_mark w) (cell_mark ys)) is
-    ∙ ap (λ l. bit_xor (item_mark x) (cell_mark l)) (sym (dropped ∙ without-none x ys never)))
+    cond-false (has_item ys y) (cell_hash ys) (bit_xor (item_hash y) (cell_hash ys)) (subst (λ w. has_item ys w ≡ false) (sym is) never)
+    ∙ ap (λ w. bit_xor (item_hash w) (cell_hash ys)) is
+    ∙ ap (λ l. bit_xor (item_hash x) (cell_hash l)) (sym (dropped ∙ without-none x ys never)))
     (cases_Bool (has_item ys x)))
     (λ e.
     let later : has_item ys x ≡ true = sym (ap (λ b. b || has_item ys x) e) ∙ h in
@@ -74,12 +74,12 @@ cell_mark-taken x (y ∷ ys) h =
     let alike : has_item others y ≡ has_item ys y = has_item-without x y ys e in
     ⊎_elim
     (λ again.
-    cond-true (has_item ys y) (cell_mark ys) (bit_xor (item_mark y) (cell_mark ys)) again ∙ cell_mark-taken x ys later
-    ∙ ap (bit_xor (item_mark x)) (sym (ap cell_mark kept ∙ cond-true (has_item others y) (cell_mark others) (bit_xor (item_mark y) (cell_mark others)) (alike ∙ again))))
+    cond-true (has_item ys y) (cell_hash ys) (bit_xor (item_hash y) (cell_hash ys)) again ∙ cell_hash-taken x ys later
+    ∙ ap (bit_xor (item_hash x)) (sym (ap cell_hash kept ∙ cond-true (has_item others y) (cell_hash others) (bit_xor (item_hash y) (cell_hash others)) (alike ∙ again))))
     (λ never.
-    cond-false (has_item ys y) (cell_mark ys) (bit_xor (item_mark y) (cell_mark ys)) never ∙ ap (bit_xor (item_mark y)) (cell_mark-taken x ys later)
-    ∙ xor_swap (item_mark y) (item_mark x) (cell_mark others)
-    ∙ ap (bit_xor (item_mark x)) (sym (ap cell_mark kept ∙ cond-false (has_item others y) (cell_mark others) (bit_xor (item_mark y) (cell_mark others)) (alike ∙ never))))
+    cond-false (has_item ys y) (cell_hash ys) (bit_xor (item_hash y) (cell_hash ys)) never ∙ ap (bit_xor (item_hash y)) (cell_hash-taken x ys later)
+    ∙ xor_swap (item_hash y) (item_hash x) (cell_hash others)
+    ∙ ap (bit_xor (item_hash x)) (sym (ap cell_hash kept ∙ cond-false (has_item others y) (cell_hash others) (bit_xor (item_hash y) (cell_hash others)) (alike ∙ never))))
     (cases_Bool (has_item ys y)))
     (cases_Bool (same_item y x))
 
@@ -116,59 +116,59 @@ without-within_cell x xs (y ∷ ys) h =
     ap (λ l. within_cell l xs) (without-kept x y ys e) ∙ and_from (has_item xs y) (within_cell (without x ys) xs) there more)
     (cases_Bool (same_item y x))
 
-cell_mark-within : (a b : List Item) → within_cell a b ≡ true → within_cell b a ≡ true → cell_mark a ≡ cell_mark b
+cell_hash-within : (a b : List Item) → within_cell a b ≡ true → within_cell b a ≡ true → cell_hash a ≡ cell_hash b
 unfolding within_cell has_item
-cell_mark-within [] [] p q = refl
-cell_mark-within [] (y ∷ ys) p q = absurd (false≢true q)
-cell_mark-within (x ∷ xs) b p q =
+cell_hash-within [] [] p q = refl
+cell_hash-within [] (y ∷ ys) p q = absurd (false≢true q)
+cell_hash-within (x ∷ xs) b p q =
     let r = and_parts (has_item b x) (within_cell xs b) p in
     ⊎_elim
     (λ again.
-    cond-true (has_item xs x) (cell_mark xs) (bit_xor (item_mark x) (cell_mark xs)) again
-    ∙ cell_mark-within xs b r.1 (within_cell-shorter x xs b again q))
+    cond-true (has_item xs x) (cell_hash xs) (bit_xor (item_hash x) (cell_hash xs)) again
+    ∙ cell_hash-within xs b r.1 (within_cell-shorter x xs b again q))
     (λ never.
-    cond-false (has_item xs x) (cell_mark xs) (bit_xor (item_mark x) (cell_mark xs)) never
-    ∙ ap (bit_xor (item_mark x)) (cell_mark-within xs (without x b) (within_cell-without x xs b never r.1) (without-within_cell x xs b q))
-    ∙ sym (cell_mark-taken x b r.0))
+    cond-false (has_item xs x) (cell_hash xs) (bit_xor (item_hash x) (cell_hash xs)) never
+    ∙ ap (bit_xor (item_hash x)) (cell_hash-within xs (without x b) (within_cell-without x xs b never r.1) (without-within_cell x xs b q))
+    ∙ sym (cell_hash-taken x b r.0))
     (cases_Bool (has_item xs x))
 
-cell_mark-same : (a b : List Item) → same_cell a b ≡ true → cell_mark a ≡ cell_mark b
+cell_hash-same : (a b : List Item) → same_cell a b ≡ true → cell_hash a ≡ cell_hash b
 unfolding same_cell
-cell_mark-same a b h = let r = and_parts (within_cell a b) (within_cell b a) h in cell_mark-within a b r.0 r.1
+cell_hash-same a b h = let r = and_parts (within_cell a b) (within_cell b a) h in cell_hash-within a b r.0 r.1
 
-with_cells-same : (mark : ℕ) (a b : List (List Item)) → length a ≡ length b → cells_agree a b ≡ true → fold with_cell mark a ≡ fold with_cell mark b
+with_cells-same : (hash : ℕ) (a b : List (List Item)) → length a ≡ length b → cells_agree a b ≡ true → fold with_cell hash a ≡ fold with_cell hash b
 unfolding cells_agree with_cell
-with_cells-same mark [] [] n h = refl
-with_cells-same mark [] (y ∷ ys) n h = cc
-with_cells-same mark (x ∷ xs) [] n h = cc
-with_cells-same mark (x ∷ xs) (y ∷ ys) n h =
+with_cells-same hash [] [] n h = refl
+with_cells-same hash [] (y ∷ ys) n h = cc
+with_cells-same hash (x ∷ xs) [] n h = cc
+with_cells-same hash (x ∷ xs) (y ∷ ys) n h =
     let r = and_parts (same_cell x y) (list_all (λ e. same_cell e.0 e.1) (zip xs ys)) h in
-    ap (λ c. fold with_cell (spread_once (bit_xor mark c)) xs) (cell_mark-same x y r.0) ∙ with_cells-same (with_cell mark y) xs ys (cc) r.1
+    ap (λ c. fold with_cell (spread_once (bit_xor hash c)) xs) (cell_hash-same x y r.0) ∙ with_cells-same (with_cell hash y) xs ys (cc) r.1
 
-with_row-same : (mark : ℕ) (a b : RuleRow) → same_row a b ≡ true → with_row mark a ≡ with_row mark b
+with_row-same : (hash : ℕ) (a b : RuleRow) → same_row a b ≡ true → with_row hash a ≡ with_row hash b
 unfolding same_row with_row
-with_row-same mark a b h =
+with_row-same hash a b h =
     let r = and_parts (length a.cells == length b.cells) (cells_agree a.cells b.cells) h in
-    with_cells-same mark a.cells b.cells (eqb-true (length a.cells) (length b.cells) r.0) r.1
+    with_cells-same hash a.cells b.cells (eqb-true (length a.cells) (length b.cells) r.0) r.1
 
-rows_agree-marks : (mark : ℕ) (a b : List RuleRow) → length a ≡ length b → rows_agree a b ≡ true → fold with_row mark a ≡ fold with_row mark b
+rows_agree-hashes : (hash : ℕ) (a b : List RuleRow) → length a ≡ length b → rows_agree a b ≡ true → fold with_row hash a ≡ fold with_row hash b
 unfolding rows_agree
-rows_agree-marks mark [] [] n h = refl
-rows_agree-marks mark [] (y ∷ ys) n h = cc
-rows_agree-marks mark (x ∷ xs) [] n h = cc
-rows_agree-marks mark (x ∷ xs) (y ∷ ys) n h =
+rows_agree-hashes hash [] [] n h = refl
+rows_agree-hashes hash [] (y ∷ ys) n h = cc
+rows_agree-hashes hash (x ∷ xs) [] n h = cc
+rows_agree-hashes hash (x ∷ xs) (y ∷ ys) n h =
     let r = and_parts (same_row x y) (list_all (λ e. same_row e.0 e.1) (zip xs ys)) h in
-    ap (λ m. fold with_row m xs) (with_row-same mark x y r.0) ∙ rows_agree-marks (with_row mark y) xs ys (cc) r.1
+    ap (λ m. fold with_row m xs) (with_row-same hash x y r.0) ∙ rows_agree-hashes (with_row hash y) xs ys (cc) r.1
 
-with_rows-same : (mark : ℕ) (a b : List RuleRow) → same_rows a b ≡ true → with_rows mark a ≡ with_rows mark b
+with_rows-same : (hash : ℕ) (a b : List RuleRow) → same_rows a b ≡ true → with_rows hash a ≡ with_rows hash b
 unfolding same_rows with_rows
-with_rows-same mark a b h =
+with_rows-same hash a b h =
     let r = and_parts (length a == length b) (rows_agree a b) h in
-    rows_agree-marks mark a b (eqb-true (length a) (length b) r.0) r.1
+    rows_agree-hashes hash a b (eqb-true (length a) (length b) r.0) r.1
 
-pub mark_of-same : (a b : Instance) → same_instance a b ≡ true → mark_of a ≡ mark_of b
-unfolding same_instance mark_of
-mark_of-same a b h =
+pub hash_of-same : (a b : Instance) → same_instance a b ≡ true → hash_of a ≡ hash_of b
+unfolding same_instance hash_of
+hash_of-same a b h =
     let r = and_parts (same_dir a.scan b.scan) (same_rows a.left b.left && same_rows a.right b.right) h in
     let s = and_parts (same_rows a.left b.left) (same_rows a.right b.right) r.1 in
     ap (λ d. with_rows (with_rows (direction_number d) a.left) a.right) (same_dir_is a.scan b.scan r.0)

@@ -1,18 +1,18 @@
-//! The crew: workers, each with a lane to the recorder, in one scope of threads.
+//! The workers, each with a lane to the recorder, in one scope of threads.
 
 ghost use Rattle.std.specs.Prelude.{◌≡◌, ◌≢◌, ◌+◌, ◌≤◌, [], map, length, replicate, All, IfOk, IfErr, IfSome, IfNone, IsSome, ◌⊎◌, None, Err, IsOk};
 ghost use Rattle.pz_claims.specs.declared.limits.TheConstants.{MOST_SEATS};
 ghost use Rattle.pz_replay.specs.declared.lane.End.TheVariants.{GateClosed as gate_closed};
-ghost use Rattle.pz_replay.specs.Crew.{IsAll, IsDone, IsOpened, IsSettled};
+ghost use Rattle.pz_replay.specs.Workers.{IsAll, IsDone, IsOpened, IsSettled};
 ghost use Rattle.pz_replay.specs.Faults.{fault_in, fault_of, first_fault};
-ghost use Rattle.pz_replay.specs.Pieces.{sent_for, sessions_of};
+ghost use Rattle.pz_replay.specs.Sent.{sent_for, sessions_of};
 ghost use Rattle.pz_replay.specs.Recorded.{Gathered, HasEnded, IsHonest, IsRecorded, lane_of, taken_of};
 ghost use Rattle.pz_replay.specs.Worked.{IsWorked};
 
 use crate::fault::ReplayFault;
 use crate::gate::Gate;
 use crate::lane::{End, Sender, SentAll, lane};
-use crate::recorder::{Desk, Sessions, record};
+use crate::recorder::{Inbox, Sessions, record};
 use crate::work::{Worked, work};
 use pz_claims::{Claims, Ended, Maker, Seat};
 use pz_session::job::Job;
@@ -79,31 +79,31 @@ fn start<'s, 'e, R: Threads + Wait + Sync, G: Gate + Sync>(
 fn gather<R: Wait>(
     rt: &R,
     maker: Maker,
-    desks: &mut Vec<Desk>,
+    inboxes: &mut Vec<Inbox>,
     sessions: Option<Sessions>,
 ) -> Result<(Maker, Sessions), ReplayFault>
-    requires { IsRecorded desks.old.items sessions }
-    ensures lanes { map lane_of desks.new.items ≡ map lane_of desks.old.items }
-    ensures ended { All IsHonest desks.new.items × All HasEnded desks.new.items }
-    ensures done { IfOk result (λ made. (made.0 ≡ maker) × Gathered (map taken_of desks.new.items) made.1 × IfSome sessions (λ s. length made.1 ≡ length s) × IsSome sessions) }
+    requires { IsRecorded inboxes.old.items sessions }
+    ensures lanes { map lane_of inboxes.new.items ≡ map lane_of inboxes.old.items }
+    ensures ended { All IsHonest inboxes.new.items × All HasEnded inboxes.new.items }
+    ensures done { IfOk result (λ made. (made.0 ≡ maker) × Gathered (map taken_of inboxes.new.items) made.1 × IfSome sessions (λ s. length made.1 ≡ length s) × IsSome sessions) }
     ensures fault { IfErr result (λ fault. fault ≡ ReplayFault.Memory) }
 {
     let mut sessions = sessions;
-    record(rt, desks.as_mut_slice(), &mut sessions);
+    record(rt, inboxes.as_mut_slice(), &mut sessions);
     match sessions {
         Some(sessions) => Ok((maker, sessions)),
         None => Err(ReplayFault::Memory),
     }
 }
 
-/// What was taken at the desk is all that was sent on its lane.
-fn confirm(mut desk: Desk, mut sent: SentAll, job: &Job, ended: &Ended)
-    requires lane { sent.lane ≡ desk.taker.lane }
-    requires desk { IsHonest desk × HasEnded desk }
+/// What was taken at the inbox is all that was sent on its lane.
+fn confirm(mut inbox: Inbox, mut sent: SentAll, job: &Job, ended: &Ended)
+    requires lane { sent.lane ≡ inbox.taker.lane }
+    requires inbox { IsHonest inbox × HasEnded inbox }
     requires sent { sent.sent ≡ sent_for (sessions_of job.now) ended.now.numbers }
-    ensures { taken_of desk ≡ sent_for (sessions_of job.now) ended.now.numbers }
+    ensures { taken_of inbox ≡ sent_for (sessions_of job.now) ended.now.numbers }
 {
-    desk.taker.left(&mut sent);
+    inbox.taker.left(&mut sent);
 }
 
 /// The first of the fault below and that of the worker, where there is one.
@@ -125,18 +125,18 @@ fn first_fault(
     }
 }
 
-/// Puts what one worker handed back to what the crew below it made. Of two faults the first goes on up.
+/// Puts what one worker handed back to what the workers below it made. Of two faults the first goes on up.
 fn settle(
     claims: &Claims,
     job: &Job,
     below: Result<(Maker, Sessions), ReplayFault>,
     worked: Worked,
-    desk: Desk,
+    inbox: Inbox,
 ) -> Result<(Maker, Sessions), ReplayFault>
     requires maker { IfOk below (λ made. made.0.of ≡ claims.now) }
-    requires worked { IsWorked claims.now (sessions_of job.now) desk.taker.lane worked }
-    requires desk { IsHonest desk × HasEnded desk }
-    ensures settled { IfOk result (λ made. IfOk below (λ before. IsSettled (sessions_of job.now) desk before.0 before.1 made.0 made.1)) }
+    requires worked { IsWorked claims.now (sessions_of job.now) inbox.taker.lane worked }
+    requires inbox { IsHonest inbox × HasEnded inbox }
+    ensures settled { IfOk result (λ made. IfOk below (λ before. IsSettled (sessions_of job.now) inbox before.0 before.1 made.0 made.1)) }
     ensures below { IfOk result (λ _. IsOk below) }
     ensures first { fault_in result ≡ first_fault (fault_in below) (fault_of worked) }
     ensures workers { result ≡ Err ReplayFault.Workers → below ≡ Err ReplayFault.Workers }
@@ -146,7 +146,7 @@ fn settle(
     if let Some(fault) = first_fault(&below, &worked) {
         drop(below);
         drop(worked);
-        drop(desk);
+        drop(inbox);
         return Err(fault);
     }
     let Ok((maker, sessions)) = below else {
@@ -163,20 +163,20 @@ fn settle(
     let Some(sent) = sent else {
         unreachable!();
     };
-    confirm(desk, sent, job, &ended);
+    confirm(inbox, sent, job, &ended);
     let maker = claims.join(maker, ended);
     Ok((maker, sessions))
 }
 
-/// Opens a lane, with a desk at its other end. Without memory the desks are as they were.
-fn open_lane(alloc: Global, capacity: usize, desks: &mut Vec<Desk>) -> Option<Sender>
+/// Opens a lane, with an inbox at its other end. Without memory the inboxes are as they were.
+fn open_lane(alloc: Global, capacity: usize, inboxes: &mut Vec<Inbox>) -> Option<Sender>
     requires { 1 ≤ capacity }
-    ensures some { IfSome result (λ sender. (sender.sent ≡ []) × IsOpened desks.old.items desks.new.items sender.lane) }
-    ensures none { IfNone result (desks.new.items ≡ desks.old.items) }
+    ensures some { IfSome result (λ sender. (sender.sent ≡ []) × IsOpened inboxes.old.items inboxes.new.items sender.lane) }
+    ensures none { IfNone result (inboxes.new.items ≡ inboxes.old.items) }
 {
     let (sender, taker) = lane(alloc, capacity).ok()?;
-    desks
-        .push(Desk {
+    inboxes
+        .push(Inbox {
             taker,
             end: None,
             is_quiet: false,
@@ -187,44 +187,44 @@ fn open_lane(alloc: Global, capacity: usize, desks: &mut Vec<Desk>) -> Option<Se
 
 /// Starts the workers that are left, and records what all of them send. Each call starts one worker, and joins it. A worker that can't be
 /// started is not waited for: those that run are, and the answer is `Memory`.
-fn crew<'s, 'e, R: Threads + Wait + Sync, G: Gate + Sync>(
+fn run_workers<'s, 'e, R: Threads + Wait + Sync, G: Gate + Sync>(
     scope: &'s Scope<'s, &'e ()>,
     shared: &Shared<'e, R, G>,
     maker: Maker,
     left: usize,
-    desks: &mut Vec<Desk>,
+    inboxes: &mut Vec<Inbox>,
     sessions: Option<Sessions>,
 ) -> Result<(Maker, Sessions), ReplayFault>
     requires capacity { 1 ≤ shared.now.capacity }
     requires maker { (maker.of ≡ shared.now.claims.now) × (maker.made + left ≤ MOST_SEATS) }
     requires job { shared.now.claims.now.total ≡ length shared.now.job.now }
-    requires recorded { IsRecorded desks.old.items sessions × IfSome sessions (λ s. length s ≡ length shared.now.job.now) }
-    ensures lanes { map lane_of desks.new.items ≡ map lane_of desks.old.items }
-    ensures ended { All IsHonest desks.new.items × All HasEnded desks.new.items }
-    ensures whole { IfOk result (λ made. IsDone (sessions_of shared.now.job.now) maker left desks.new.items made.0 made.1) }
+    requires recorded { IsRecorded inboxes.old.items sessions × IfSome sessions (λ s. length s ≡ length shared.now.job.now) }
+    ensures lanes { map lane_of inboxes.new.items ≡ map lane_of inboxes.old.items }
+    ensures ended { All IsHonest inboxes.new.items × All HasEnded inboxes.new.items }
+    ensures whole { IfOk result (λ made. IsDone (sessions_of shared.now.job.now) maker left inboxes.new.items made.0 made.1) }
     ensures workers { result ≢ Err ReplayFault.Workers }
     ensures opened { G.lets_all_pass shared.now.gate.now → result ≢ Err ReplayFault.GateClosed }
 {
     let rt = shared.rt;
     if left == 0 {
-        return gather(rt, maker, desks, sessions);
+        return gather(rt, maker, inboxes, sessions);
     }
-    let Some(sender) = open_lane(shared.alloc, shared.capacity, desks) else {
-        drop(gather(rt, maker, desks, sessions));
+    let Some(sender) = open_lane(shared.alloc, shared.capacity, inboxes) else {
+        drop(gather(rt, maker, inboxes, sessions));
         return Err(ReplayFault::Memory);
     };
     let (maker, seat) = shared.claims.split(maker);
     let Some(worker) = start(scope, shared, seat, sender) else {
-        drop(desks.pop());
-        drop(gather(rt, maker, desks, sessions));
+        drop(inboxes.pop());
+        drop(gather(rt, maker, inboxes, sessions));
         return Err(ReplayFault::Memory);
     };
-    let below = crew(scope, shared, maker, left - 1, desks, sessions);
+    let below = run_workers(scope, shared, maker, left - 1, inboxes, sessions);
     let worked = worker.join(rt);
-    let Some(desk) = desks.pop() else {
+    let Some(inbox) = inboxes.pop() else {
         unreachable!()
     };
-    settle(shared.claims, shared.job, below, worked, desk)
+    settle(shared.claims, shared.job, below, worked, inbox)
 }
 
 /// Plays a job with so many workers: the maker that has joined them all, and the items of each session.
@@ -244,6 +244,6 @@ pub(crate) fn all_started<'s, 'e, R: Threads + Wait + Sync, G: Gate + Sync>(
     ensures all { IfOk result (λ made. IsAll (sessions_of shared.now.job.now) shared.now.claims.now workers made.0 made.1) }
     ensures opened { G.lets_all_pass shared.now.gate.now → result ≢ Err ReplayFault.GateClosed }
 {
-    let mut desks = Vec::new(shared.alloc);
-    crew(scope, shared, maker, workers, &mut desks, Some(blank))
+    let mut inboxes = Vec::new(shared.alloc);
+    run_workers(scope, shared, maker, workers, &mut inboxes, Some(blank))
 }

@@ -1,9 +1,9 @@
--- Marks of instances: numbers that equal instances share, and few unequal ones do.
+-- Hashes of instances: numbers that equal instances share, and few unequal ones do.
 use Rattle.std.specs.Prelude.{ℕ, ◌+◌, ◌*◌, ◌/◌, ◌%◌, ◌^◌, List, [], ◌∷◌, fold, if◌then◌else◌}
 use Rattle.std.specs.Int.RustNames.{bit_xor}
 use Rattle.pz_game.specs.declared.direction.Dir.{Dir}
 use Rattle.pz_game.specs.declared.direction.Dir.TheVariants.{Up, Down, Left, Right, Action}
-use Rattle.pz_rules.specs.declared.marks.TheConstants.{SPREADER}
+use Rattle.pz_rules.specs.declared.hashes.TheConstants.{SPREADER}
 use Rattle.pz_game.specs.declared.pattern.Word.{Word}
 use Rattle.pz_game.specs.declared.pattern.Word.TheVariants.{Present, Still, Toward, Absent}
 use Rattle.pz_game.specs.declared.pattern.Item.{Item}
@@ -31,22 +31,22 @@ spread_once number = number * SPREADER % 2 ^ 64
 abbrev pub spread : ℕ → ℕ
 spread number = spread_once (bit_xor (spread_once number) (spread_once number / 2 ^ 32))
 
-unfoldable pub item_mark : Item → ℕ
-item_mark item = spread ((item.object * 8 % 2 ^ 64 + word_number item.word) % 2 ^ 64)
+unfoldable pub item_hash : Item → ℕ
+item_hash item = spread ((item.object * 8 % 2 ^ 64 + word_number item.word) % 2 ^ 64)
 
 -- of an item that stands in a cell more than once, one counts
-abbrev pub cell_mark : List Item → ℕ
-cell_mark [] = 0
-cell_mark (x ∷ xs) = if has_item xs x then cell_mark xs else bit_xor (item_mark x) (cell_mark xs)
+abbrev pub cell_hash : List Item → ℕ
+cell_hash [] = 0
+cell_hash (x ∷ xs) = if has_item xs x then cell_hash xs else bit_xor (item_hash x) (cell_hash xs)
 
 unfoldable pub with_cell : ℕ → List Item → ℕ
-with_cell mark cell = spread_once (bit_xor mark (cell_mark cell))
+with_cell hash cell = spread_once (bit_xor hash (cell_hash cell))
 
 unfoldable pub with_row : ℕ → RuleRow → ℕ
-with_row mark row = fold with_cell mark row.cells
+with_row hash row = fold with_cell hash row.cells
 
 unfoldable pub with_rows : ℕ → List RuleRow → ℕ
-with_rows mark rows = fold with_row mark rows
+with_rows hash rows = fold with_row hash rows
 
-unfoldable pub mark_of : Instance → ℕ
-mark_of instance = with_rows (with_rows (direction_number instance.scan) instance.left) instance.right
+unfoldable pub hash_of : Instance → ℕ
+hash_of instance = with_rows (with_rows (direction_number instance.scan) instance.left) instance.right

@@ -1,6 +1,6 @@
 use Rattle.std.proofs.Common.{◌≡◌, true, refl, sym, ◌∙◌}
 use Rattle.pz_names.specs.Objects.{is_blank}
-use Rattle.pz_names.proofs.objects.read_block.Goals as goal
+use Rattle.pz_names.proofs.objects.read_paragraph.Goals as goal
 
 pub returns-then-is_blank : goal.returns-then-is_blank
 returns-then-is_blank c =

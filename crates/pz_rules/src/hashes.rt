@@ -1,7 +1,7 @@
-//! Marks of instances: equal instances have the same mark, and few unequal ones do.
+//! Hashes of instances: equal instances have the same hash, and few unequal ones do.
 
 ghost use Rattle.std.specs.Prelude.{◌≡◌, fold};
-ghost use Rattle.pz_rules.specs.Marks.{direction_number, word_number, spread, item_mark, cell_mark, with_cell, with_row, with_rows, mark_of};
+ghost use Rattle.pz_rules.specs.Hashes.{direction_number, word_number, spread, item_hash, cell_hash, with_cell, with_row, with_rows, hash_of};
 
 use crate::equal::has_item;
 use pz_game::direction::Dir;
@@ -43,9 +43,9 @@ pub(crate) fn spread(number: u64) -> u64
     (once ^ (once >> 32)).wrapping_mul(SPREADER)
 }
 
-#[tactic(auto, unfolding(crate::specs::Marks::item_mark))]
-pub(crate) fn item_mark(item: &Item) -> u64
-    ensures { result ≡ item_mark item.now }
+#[tactic(auto, unfolding(crate::specs::Hashes::item_hash))]
+pub(crate) fn item_hash(item: &Item) -> u64
+    ensures { result ≡ item_hash item.now }
 {
     spread(
         (item.object as u64)
@@ -54,49 +54,49 @@ pub(crate) fn item_mark(item: &Item) -> u64
     )
 }
 
-/// The mark of a cell: it doesn't tell the order of the items, nor how often one stands there.
-fn cell_mark(items: &[Item]) -> u64
-    ensures { result ≡ cell_mark items.now }
+/// The hash of a cell: it doesn't tell the order of the items, nor how often one stands there.
+fn cell_hash(items: &[Item]) -> u64
+    ensures { result ≡ cell_hash items.now }
 {
-    let mut mark = 0;
+    let mut hash = 0;
     let mut rest = items;
     while let Some((item, others)) = rest.split_first() {
         if !has_item(others, item) {
-            mark ^= item_mark(item);
+            hash ^= item_hash(item);
         }
         rest = others;
     }
-    mark
+    hash
 }
 
-/// The mark of some cells, and of one more behind them.
-#[tactic(auto, unfolding(crate::specs::Marks::with_cell))]
-fn with_cell(mark: u64, cell: &Pattern) -> u64
-    ensures { result ≡ with_cell mark cell.now }
+/// The hash of some cells, and of one more behind them.
+#[tactic(auto, unfolding(crate::specs::Hashes::with_cell))]
+fn with_cell(hash: u64, cell: &Pattern) -> u64
+    ensures { result ≡ with_cell hash cell.now }
 {
-    (mark ^ cell_mark(cell.items())).wrapping_mul(SPREADER)
+    (hash ^ cell_hash(cell.items())).wrapping_mul(SPREADER)
 }
 
-#[tactic(auto, unfolding(crate::specs::Marks::with_row))]
-fn with_row(mark: u64, row: &Row) -> u64
-    ensures { result ≡ with_row mark row.now }
+#[tactic(auto, unfolding(crate::specs::Hashes::with_row))]
+fn with_row(hash: u64, row: &Row) -> u64
+    ensures { result ≡ with_row hash row.now }
 {
     row.cells()
         .iter()
-        .fold(mark, |mark, cell| with_cell(mark, cell))
+        .fold(hash, |hash, cell| with_cell(hash, cell))
 }
 
-#[tactic(auto, unfolding(crate::specs::Marks::with_rows))]
-fn with_rows(mark: u64, rows: &[Row]) -> u64
-    ensures { result ≡ with_rows mark rows.now }
+#[tactic(auto, unfolding(crate::specs::Hashes::with_rows))]
+fn with_rows(hash: u64, rows: &[Row]) -> u64
+    ensures { result ≡ with_rows hash rows.now }
 {
-    rows.iter().fold(mark, |mark, row| with_row(mark, row))
+    rows.iter().fold(hash, |hash, row| with_row(hash, row))
 }
 
-/// The mark of an instance.
-#[tactic(auto, unfolding(crate::specs::Marks::mark_of))]
-pub fn mark_of(instance: &Instance) -> u64
-    ensures { result ≡ mark_of instance.now }
+/// The hash of an instance.
+#[tactic(auto, unfolding(crate::specs::Hashes::hash_of))]
+pub fn hash_of(instance: &Instance) -> u64
+    ensures { result ≡ hash_of instance.now }
 {
     let left = with_rows(direction_number(instance.scan), instance.left.items());
     with_rows(left, instance.right.items())
