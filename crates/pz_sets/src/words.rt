@@ -49,6 +49,18 @@ pub fn has_subset(words: &[u128], wanted: &[u128]) -> bool
     true
 }
 
+/// Whether the sets have no number in common.
+pub fn is_disjoint(words: &[u128], unwanted: &[u128]) -> bool
+    ensures { IsTrue result ↔ AreApart unwanted.now words.now }
+{
+    for index in 0..unwanted.len() {
+        if !word::is_apart(word_at(words, index), unwanted[index]) {
+            return false;
+        }
+    }
+    true
+}
+
 /// Whether the set has no number.
 pub fn is_empty(words: &[u128]) -> bool
     ensures { IsTrue result ↔ ((number : ℕ) → member words.now number ≡ false) }
