@@ -49,6 +49,13 @@ pub fn covers(word: u128, wanted: u128) -> bool
     word & wanted == wanted
 }
 
+/// Whether a word has no bit of another.
+pub fn is_apart(word: u128, unwanted: u128) -> bool
+    ensures { IsTrue result ↔ ((bit : ℕ) → bit < 128 → in_word unwanted bit ≡ true → in_word word bit ≡ false) }
+{
+    word & unwanted == 0
+}
+
 /// Whether a word has no bit.
 pub fn is_empty(word: u128) -> bool
     ensures { IsTrue result ↔ ((bit : ℕ) → bit < 128 → in_word word bit ≡ false) }

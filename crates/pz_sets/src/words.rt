@@ -49,6 +49,18 @@ pub fn has_subset(words: &[u128], wanted: &[u128]) -> bool
     true
 }
 
+/// Whether the sets have no number in common.
+pub fn is_disjoint(words: &[u128], unwanted: &[u128]) -> bool
+    ensures { IsTrue result ↔ AreApart unwanted.now words.now }
+{
+    for index in 0..unwanted.len() {
+        if !word::is_apart(word_at(words, index), unwanted[index]) {
+            return false;
+        }
+    }
+    true
+}
+
 /// Whether a set has each number of a second and none of a third, which have no number beyond the words of the first.
 pub fn meets(words: &[u128], wanted: &[u128], unwanted: &[u128]) -> bool
     requires wanted { (number : ℕ) → member wanted.now number ≡ true → number / 128 < length words.now }
