@@ -81,6 +81,22 @@ covers_from_and word wanted e i set = implied (in_word word i) (in_word wanted i
 pub and_from_covers : (word wanted : ℕ) → ((i : ℕ) → in_word wanted i ≡ true → in_word word i ≡ true) → bit_and word wanted ≡ wanted
 and_from_covers word wanted h = same_from_in_word (bit_and word wanted) wanted (λ i. in_word-and word wanted i ∙ implies (in_word word i) (in_word wanted i) (h i))
 
+excluded : (x y z : Bool) → z ≡ (x && y) → z ≡ false → y ≡ true → x ≡ false
+excluded true y z e f g = cc
+excluded false y z e f g = refl
+
+excludes : (x y : Bool) → (y ≡ true → x ≡ false) → (x && y) ≡ false
+excludes true true h = h refl
+excludes true false h = refl
+excludes false y h = refl
+
+-- the test `word & unwanted == 0`
+pub apart_from_and : (word unwanted : ℕ) → bit_and word unwanted ≡ 0 → (i : ℕ) → in_word unwanted i ≡ true → in_word word i ≡ false
+apart_from_and word unwanted e i set = excluded (in_word word i) (in_word unwanted i) (in_word (bit_and word unwanted) i) (in_word-and word unwanted i) (ap (λ (n : ℕ). in_word n i) e ∙ in_word-zero i) set
+
+pub and_from_apart : (word unwanted : ℕ) → ((i : ℕ) → in_word unwanted i ≡ true → in_word word i ≡ false) → bit_and word unwanted ≡ 0
+and_from_apart word unwanted h = same_from_in_word (bit_and word unwanted) 0 (λ i. in_word-and word unwanted i ∙ excludes (in_word word i) (in_word unwanted i) (h i) ∙ sym (in_word-zero i))
+
 -- what picks of each bit the one of two that must be 0
 abbrev pub unmet : Bool → Bool → Bool → Bool
 unmet x wanted unwanted = cond wanted (not (x && cond wanted (not unwanted) unwanted)) (x && cond wanted (not unwanted) unwanted)

@@ -1,4 +1,5 @@
 pub mod SheetLemmas
+pub mod RunLemmas
 pub mod MapLemmas
 pub mod PushLemmas
 pub mod LoadLemmas

@@ -3,7 +3,7 @@ use Rattle.std.proofs.lemmas.Result.{err_from_is_err_and}
 use Rattle.pz_game.specs.declared.pattern.Item.{Item}
 use Rattle.pz_grid.specs.declared.places.TheConstants.{MATCH_LIMIT}
 use Rattle.pz_grid.specs.declared.places.Place.{Place}
-use Rattle.std.proofs.Common.{ℕ, ◌+◌, true, take}
+use Rattle.std.proofs.Common.{◌+◌, true, take}
 use Rattle.std.specs.List.{list_all, enumerate_from}
 use Rattle.pz_grid.specs.Places.{row_holds, cell_holds, holds_behind, place_in, head_of, line_length}
 use Rattle.pz_grid.proofs.HeadLemmas.{begun_with_gap}
