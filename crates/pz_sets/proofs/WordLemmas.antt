@@ -117,22 +117,6 @@ bit_met true false false p q = refl
 bit_met false true unwanted p q = sym (p refl)
 bit_met false false unwanted p q = refl
 
-excluded : (x y z : Bool) → z ≡ (x && y) → z ≡ false → y ≡ true → x ≡ false
-excluded true y z e f g = cc
-excluded false y z e f g = refl
-
-excludes : (x y : Bool) → (y ≡ true → x ≡ false) → (x && y) ≡ false
-excludes true true h = h refl
-excludes true false h = refl
-excludes false y h = refl
-
--- the test `word & unwanted == 0`
-pub apart_from_and : (word unwanted : ℕ) → bit_and word unwanted ≡ 0 → (i : ℕ) → in_word unwanted i ≡ true → in_word word i ≡ false
-apart_from_and word unwanted e i set = excluded (in_word word i) (in_word unwanted i) (in_word (bit_and word unwanted) i) (in_word-and word unwanted i) (ap (λ (n : ℕ). in_word n i) e ∙ in_word-zero i) set
-
-pub and_from_apart : (word unwanted : ℕ) → ((i : ℕ) → in_word unwanted i ≡ true → in_word word i ≡ false) → bit_and word unwanted ≡ 0
-and_from_apart word unwanted h = same_from_in_word (bit_and word unwanted) 0 (λ i. in_word-and word unwanted i ∙ excludes (in_word word i) (in_word unwanted i) (h i) ∙ sym (in_word-zero i))
-
 -- ---- a word from a place on
 pub high_inside : (start bit : ℕ) → start ≤ bit → bit < 128 → in_word (2 ^ 128 - 2 ^ start) bit ≡ true
 high_inside start bit h low = in_word-from _ bit 1 (bit_at_mask_inside start 128 bit h low)

@@ -6,7 +6,6 @@ pub mod LoadLemmas
 pub mod SameLemmas
 pub mod HeadingLemmas
 pub mod ChangeLemmas
-pub mod RunLemmas
 pub mod LineLemmas
 pub mod StillLemmas
 pub mod HoldingLemmas
