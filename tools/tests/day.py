@@ -1,11 +1,9 @@
 """Sessions files with their lines, for the tests of the tools that show, explain and accept: the example, played by hand, and cases."""
 import json
 import os
-import tempfile
-import unittest
 from pathlib import Path
 
-from tool import CASES, TOP
+from tool import CASES, TOP, InARoom
 
 EXAMPLE = TOP / "examples/block-pushing.json"
 PROGRAM = Path(os.environ.get("SAXTEGUN_PROGRAM") or TOP / "crates/pz_replayer/out/pz_replayer")
@@ -100,13 +98,11 @@ def cases_in_rows(is_named_by_case=False):
     return json.dumps(entries), "".join(f"{line}\n" for line in lines)
 
 
-class OnSessions(unittest.TestCase):
-    """Tests a tool in a room of its own, where the example lies with its lines."""
+class OnSessions(InARoom):
+    """Tests a tool where the example lies with its lines."""
 
     def setUp(self):
-        room = tempfile.TemporaryDirectory()
-        self.addCleanup(room.cleanup)
-        self.room = Path(room.name)
+        super().setUp()
         self.lines = self.write("example.lines", lines_of_example(EXAMPLE.read_text(encoding="utf-8")))
 
     def write(self, name, text):

@@ -9,6 +9,7 @@ NAMES_WHAT_IS_NOT_THERE = "Changes a text that is not there.\nfile: src/lib.rt\n
 
 class Attack(OnSmallCrates):
     def setUp(self):
+        super().setUp()
         self.found("attack", "small:\n")
 
     def test_an_edit_that_can_not_be_made_is_not_refused(self):

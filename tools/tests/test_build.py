@@ -6,6 +6,7 @@ from tool import CRATE, OnSmallCrates, run
 
 class Build(OnSmallCrates):
     def setUp(self):
+        super().setUp()
         self.found("build", "low:\nlower:\nhigh: low lower\n")
 
     def test_what_is_proved_is_built_and_what_is_not_is_told(self):

@@ -2,11 +2,9 @@
 import os
 import re
 import sys
-import tempfile
 import unittest
-from pathlib import Path
 
-from tool import TOP, run
+from tool import TOP, InARoom, run
 
 COPIES = 'cat "$1"\n'
 # Takes 64 MiB and half a second of the processor.
@@ -18,11 +16,9 @@ sys.stdout.write(open(sys.argv[1]).read())
 """
 
 
-class Compare(unittest.TestCase):
+class Compare(InARoom):
     def setUp(self):
-        room = tempfile.TemporaryDirectory()
-        self.addCleanup(room.cleanup)
-        self.room = Path(room.name)
+        super().setUp()
         self.file = self.room / "sessions.json"
         self.file.write_text("[]\n", encoding="utf-8")
 

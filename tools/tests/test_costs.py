@@ -7,6 +7,7 @@ from tool import OnSmallCrates, run
 
 class Costs(OnSmallCrates):
     def setUp(self):
+        super().setUp()
         self.found("costs", "small:\n")
 
     def check(self, *modules):

@@ -5,11 +5,9 @@ are the lines of the part's sessions, numbered from 0.
 """
 import json
 import re
-import tempfile
 import unittest
-from pathlib import Path
 
-from tool import CASES, run
+from tool import CASES, InARoom, run
 
 SESSION = re.compile(r'"session":(\d+)}$')
 SUITES = ("nine-sessions-with-workers-1", "the-second-of-three-sessions-has-a-refused-source")
@@ -25,11 +23,9 @@ def part_lines(whole, first, behind):
     return "".join(lines)
 
 
-class Suite(unittest.TestCase):
+class Suite(InARoom):
     def setUp(self):
-        room = tempfile.TemporaryDirectory()
-        self.addCleanup(room.cleanup)
-        self.room = Path(room.name)
+        super().setUp()
         self.parts = self.room / "parts"
 
     def split(self, count, text):

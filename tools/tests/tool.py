@@ -39,14 +39,20 @@ pub fn same(number: u32) -> u32
 """
 
 
-class OnSmallCrates(unittest.TestCase):
-    """Tests a tool on a repository of small crates, which is there for one test."""
+class InARoom(unittest.TestCase):
+    """Tests a tool in a room of its own, a folder that is there for one test."""
 
-    def found(self, name, crates):
-        """Writes the repository: its crates.txt, each crate that it names, and the tool with what it imports."""
+    def setUp(self):
         room = tempfile.TemporaryDirectory()
         self.addCleanup(room.cleanup)
         self.room = Path(room.name)
+
+
+class OnSmallCrates(InARoom):
+    """Tests a tool on a repository of small crates."""
+
+    def found(self, name, crates):
+        """Writes the repository: its crates.txt, each crate that it names, and the tool with what it imports."""
         self.write("crates.txt", crates)
         self.write("HANDLES", "Handles allowed: none.\n")
         for line in crates.splitlines():
