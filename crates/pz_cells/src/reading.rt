@@ -1,6 +1,6 @@
 //! What stands in a cell.
 
-ghost use Rattle.std.specs.Prelude.{◌≡◌, ℕ, ◌<◌, ◌≤◌, ◌↔◌, IsTrue, All, true, false, length, slice_index, MatchOption};
+ghost use Rattle.std.specs.Prelude.{◌≡◌, ℕ, ◌<◌, ◌≤◌, ◌↔◌, IsTrue, All, true, false, length, slice_index, None, MatchOption};
 ghost use Rattle.pz_game.specs.declared.limits.TheConstants.{MAX_LAYERS, MAX_OBJECTS};
 ghost use Rattle.pz_sets.specs.Sets.{member, AreSame};
 ghost use Rattle.pz_game.specs.Headings.{heading_in};
@@ -8,6 +8,7 @@ ghost use Rattle.pz_cells.specs.Shown.{AreLawful};
 
 use crate::cell::Cell;
 use crate::piece::Piece;
+use pz_game::direction::Dir;
 use pz_game::headings;
 use pz_sets::set::NumberSet;
 use pz_sets::words;
@@ -46,6 +47,21 @@ impl<const N: usize> Cell<N> {
         ensures { result ≡ true → (number : ℕ) → member self.now.movement number ≡ false }
     {
         words::is_empty(&self.movement)
+    }
+
+    /// Whether what stands on a layer heads nowhere.
+    pub fn is_layer_still(&self, layer: usize) -> bool
+        requires short { N ≤ 4 }
+        requires low { layer < MAX_LAYERS }
+        ensures { result ≡ true → heading_in self.now.movement layer ≡ None }
+    {
+        // (brings the proof how many words there are)
+        let _ = self.word_count();
+        let start = headings::flag(layer, Dir::Up);
+        match words::next(&self.movement, start) {
+            None => true,
+            Some(found) => found >= start + 5,
+        }
     }
 
     /// The object's piece, if it stands in the cell. The layers are those of the game's objects.

@@ -1,25 +1,12 @@
 -- Lemmas on loading a level.
-use Rattle.std.proofs.Common.{◌≡◌, inl, inr, ℕ, zero, suc, ◌+◌, ◌-◌, ◌<◌, List, [], ◌∷◌, ◌++◌, Option, Some, None, true, false, length, get_or, map, replicate, arith, ap, sym, ◌∙◌, refl, subst}
-use Rattle.std.specs.Prelude.{All, fold, unwrap_or}
+use Rattle.std.proofs.Common.{◌≡◌, inl, inr, ℕ, zero, suc, ◌+◌, ◌-◌, ◌<◌, List, [], ◌∷◌, ◌++◌, Option, Some, None, true, false, length, map, arith, ap, sym, ◌∙◌, refl}
 use Rattle.std.specs.List.{range_with_len}
 use Rattle.std.proofs.lemmas.Bool.{cases_lt}
-use Rattle.std.proofs.lemmas.List.{length-map, length-replicate, get_or-map, get_or-replicate, get_or_past}
-use Rattle.std.proofs.lemmas.List.Elements.{All-get_or, All-from_get_or}
-use Rattle.std.specs.Option.{option_map_or}
-use Rattle.std.proofs.lemmas.Option.{slice_get_cases}
-use Rattle.pz_game.specs.declared.denotation.Denotation.{Denotation}
+use Rattle.std.proofs.lemmas.List.{get_or_past}
 use Rattle.pz_game.specs.declared.level.LevelEntry.TheVariants.{Message}
 use Rattle.pz_game.specs.Level.{is_playable}
-use Rattle.pz_game.specs.Drawing.{Drawing, IsDrawing}
-use Rattle.pz_game.specs.Game.{IsGame, glyph_objects}
 use Rattle.pz_game.specs.declared.game.GameParts.{GameParts}
-use Rattle.pz_game.specs.Denotation.{IsDenoted}
-use Rattle.pz_cells.specs.declared.piece.Piece.{Piece}
-use Rattle.pz_cells.specs.Cell.{IsCell, IsOnLayer, still_piece, empty_cell}
-use Rattle.pz_sheet.specs.Grid.{Grid, IsLawful}
 use Rattle.pz_grid.specs.Loading.{first_of, entry_at}
-use Rattle.pz_sheet.specs.Loading.{with_object, glyph_cell, drawn, filled_cell, filled}
-use Rattle.pz_grid.proofs.LawfulLemmas.{lawful-map, is_cell-set}
 
 first_split : {X : Type 0} (f : ℕ → Option X) (a n : ℕ) (r : Option X) → first_of (map f (range_with_len a n)) ≡ None → (more : List ℕ) → first_of (map f (range_with_len a n ++ more)) ≡ first_of (map f more)
 first_split f a zero r e more = refl

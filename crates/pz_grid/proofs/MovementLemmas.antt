@@ -1,11 +1,9 @@
 -- The movement is folded over spots, and keeps the size of a level.
-use Rattle.std.proofs.Common.{◌≡◌, ℕ, ◌+◌, ◌<◌, List, [], ◌∷◌, ◌++◌, Option, Some, None, length, get_or, set, map, take, drop, arith, ap, ◌∙◌, refl}
+use Rattle.std.proofs.Common.{◌≡◌, ℕ, ◌+◌, List, [], ◌∷◌, Option, Some, None, map, arith, ap, ◌∙◌, refl}
 use Rattle.std.specs.Prelude.{fold}
 use Rattle.std.specs.List.{range_with_len}
 use Rattle.std.proofs.lemmas.List.FromFn.{map-range_with_len_more}
 use Rattle.std.proofs.lemmas.List.Sums.{fold-append}
-use Rattle.std.proofs.lemmas.List.{length-append, length-map, length-take, length-drop, get_or_default}
-use Rattle.std.proofs.lemmas.List.Edits.{map_over_more}
 use Rattle.pz_cells.specs.declared.piece.Piece.{Piece}
 use Rattle.pz_sheet.specs.Grid.{Grid, SameSize, place_at}
 use Rattle.pz_grid.specs.Movement.{Pass, Spot, move_at, move_place, moved_to, heading_goal}

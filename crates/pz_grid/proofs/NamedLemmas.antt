@@ -1,15 +1,12 @@
 -- The objects that a row names, as one set.
-use Rattle.std.proofs.Common.{◌≡◌, ℕ, List, [], ◌∷◌, Bool, true, false, not, ◌||◌, ap, sym, ◌∙◌, refl, get_or, arith, eq-eqb, inl, inr}
-use Rattle.std.specs.Prelude.{◌↔◌, IsTrue, All}
+use Rattle.std.proofs.Common.{◌≡◌, ℕ, List, [], ◌∷◌, Bool, true, false, not, ◌||◌, ap, sym, ◌∙◌, refl, eq-eqb, inl, inr}
+use Rattle.std.specs.Prelude.{◌↔◌, IsTrue}
 use Rattle.std.specs.List.{list_all, list_any}
 use Rattle.std.proofs.lemmas.Bool.{eqb-true, and_parts, or_cases, or_left, or_right, and_from}
 use Rattle.pz_sets.specs.Sets.{member, IsWithin}
 use Rattle.pz_game.specs.declared.pattern.Item.{Item}
 use Rattle.pz_game.specs.Items.{names, names_object}
-use Rattle.pz_game.specs.Masks.{IsLow}
-use Rattle.pz_game.specs.Pattern.{RuleRow, IsRowOf, AreNamed}
-use Rattle.pz_cells.proofs.HoldLemmas.{low_of_game}
-use Rattle.pz_sheet.specs.Grid.{Grid, IsLawful}
+use Rattle.pz_game.specs.Pattern.{AreNamed}
 use Rattle.pz_grid.specs.Admitted.{marks_item, marks_cell}
 
 -- every object that is named is in a set, or one isn't

@@ -1,23 +1,15 @@
 -- Rewritten cells are cells of the game.
-use Rattle.std.proofs.Common.{◌≡◌, inl, inr, ℕ, zero, suc, ◌+◌, ◌*◌, ◌<◌, ◌≤◌, List, [], ◌∷◌, Option, Some, None, Bool, true, false, not, cond, ◌&&◌, ◌||◌, length, get_or, set, map, arith, ap, sym, ◌∙◌, refl, subst}
-use Rattle.std.specs.Prelude.{IfSome, All}
-use Rattle.std.specs.List.{range_with_len}
+use Rattle.std.proofs.Common.{◌≡◌, inl, inr, ℕ, suc, ◌<◌, ◌≤◌, List, [], ◌∷◌, Option, Some, None, Bool, true, false, cond, ◌&&◌, ◌||◌, length, get_or, arith, sym, ◌∙◌, refl, subst}
+use Rattle.std.specs.Prelude.{IfSome}
 use Rattle.std.proofs.lemmas.Bool.{cases_lt, eqb-true}
-use Rattle.std.proofs.lemmas.List.{length-set, get_or_past, get_or-set_other}
-use Rattle.std.proofs.lemmas.List.FromFn.{fill_by_all, get_or-map-range_with_len, length-map-range_with_len}
-use Rattle.std.proofs.lemmas.List.Edits.{fill_by_more}
-use Rattle.std.proofs.lemmas.List.Elements.{All-set, All-get_or}
-use Rattle.pz_game.specs.declared.limits.TheConstants.{MAX_OBJECTS}
+use Rattle.std.proofs.lemmas.List.{get_or_past}
+use Rattle.std.proofs.lemmas.List.FromFn.{get_or-map-range_with_len, length-map-range_with_len}
 use Rattle.pz_game.specs.declared.pattern.Item.{Item}
 use Rattle.pz_game.specs.Pattern.{AreOf}
 use Rattle.pz_cells.specs.declared.piece.Piece.{Piece}
 use Rattle.pz_cells.specs.Cell.{IsCell, IsOnLayer}
-use Rattle.pz_sheet.specs.Grid.{Grid, IsLawful, cell_at}
 use Rattle.pz_game.specs.Items.{names, places_on, placed_on, tells_of, names_object, forbids_object}
 use Rattle.pz_cells.specs.Rewriting.{kept, replaced, rewritten_place, rewritten_cell}
-use Rattle.pz_sheet.specs.Rewriting.{with_rewritten}
-use Rattle.pz_cells.specs.Sameness.{same_place, same_cell}
-use Rattle.pz_grid.proofs.SameLemmas.{same_cell_self}
 
 both_true : (a b : Bool) → (a && b) ≡ true → b ≡ true
 both_true true b e = e

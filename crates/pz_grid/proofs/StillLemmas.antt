@@ -15,7 +15,7 @@ still_at [] layer = refl
 still_at (place ∷ cell) zero = refl
 still_at (place ∷ cell) (suc layer) = still_at cell layer
 
-stays : (pass : Pass) (at : Spot) (place : Option Piece) → place ≡ still_place place → move_place pass at place ≡ pass
+pub stays : (pass : Pass) (at : Spot) (place : Option Piece) → place ≡ still_place place → move_place pass at place ≡ pass
 stays pass at None is = refl
 stays pass at (Some piece) is =
     let same : piece ≡ still_piece piece.object = cc in

@@ -425,6 +425,20 @@ impl BareLevel {
         }
     }
 
+    /// Whether what stands on a layer of a position of the map heads nowhere.
+    pub(crate) fn is_layer_still(&self, x: u32, y: u32, layer: usize) -> bool
+        requires x_in { x < self.now.grid.width }
+        requires y_in { y < self.now.grid.height }
+        requires layer_in { layer < self.now.grid.depth }
+        ensures { result ≡ true → place_at self.now.grid x y layer ≡ still_place (place_at self.now.grid x y layer) }
+    {
+        match &self.sheet {
+            Sized::Small(sheet) => sheet.is_layer_still(x, y, layer),
+            Sized::Middle(sheet) => sheet.is_layer_still(x, y, layer),
+            Sized::Large(sheet) => sheet.is_layer_still(x, y, layer),
+        }
+    }
+
     /// Whether no heading is noted for a column of the map: where that is true, nothing in it heads anywhere.
     pub(crate) fn is_column_still(&self, x: u32) -> bool
         requires { x < self.now.grid.width }

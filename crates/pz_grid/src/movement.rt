@@ -107,6 +107,16 @@ impl Level {
         self.bare.is_still(x, y)
     }
 
+    /// Whether what stands on a layer of a position of the map heads nowhere.
+    fn is_layer_still(&self, x: u32, y: u32, layer: usize) -> bool
+        requires x_in { x < self.now.grid.width }
+        requires y_in { y < self.now.grid.height }
+        requires layer_in { layer < self.now.grid.depth }
+        ensures { result ≡ true → place_at self.now.grid x y layer ≡ still_place (place_at self.now.grid x y layer) }
+    {
+        self.bare.is_layer_still(x, y, layer)
+    }
+
     /// Whether no heading is noted for a column of the map: where that is true, nothing in it heads anywhere.
     fn is_column_still(&self, x: u32) -> bool
         requires { x < self.now.grid.width }
@@ -150,6 +160,9 @@ impl Level {
         ensures size { SameSize self.old.grid self.new.grid }
         ensures marks { IsMove self.old self.new }
     {
+        if self.is_layer_still(x, y, layer) {
+            return moved;
+        }
         match self.place(x, y, layer) {
             None => moved,
             Some(piece) => match self.goal(x, y, layer, piece.heading) {

@@ -1,16 +1,19 @@
 -- A cell that heads nowhere is still, and so is each cell of a line, or of a level, of which no heading is noted.
-use Rattle.std.proofs.Common.{◌≡◌, ◌+◌, ◌*◌, ◌<◌, ℕ, suc, List, [], ◌∷◌, Option, Bool, true, false, inl, inr, map, set, length, get_or, arith, ap, sym, ◌∙◌, refl, subst, get_or-set_same, get_or-set_other}
-use Rattle.std.specs.List.{All}
+use Rattle.std.proofs.Common.{◌≡◌, ◌+◌, ◌*◌, ◌<◌, ℕ, suc, List, [], ◌∷◌, Option, Some, None, Bool, true, false, inl, inr, map, set, length, get_or, arith, ap, sym, ◌∙◌, refl, subst, get_or-set_same, get_or-set_other}
+use Rattle.std.specs.Prelude.{find}
+use Rattle.std.specs.List.{All, range_with_len}
+use Rattle.std.specs.Option.{option_map}
 use Rattle.std.proofs.lemmas.Bool.{cases_eq}
 use Rattle.std.proofs.lemmas.List.{get_or_default}
 use Rattle.std.proofs.lemmas.List.Elements.{All-map}
 use Rattle.std.proofs.lemmas.Nat.{mul-add-lt, mod-mul-add}
 use Rattle.pz_sets.specs.Sets.{member, IsWithin}
-use Rattle.pz_game.specs.Headings.{heads, flag}
+use Rattle.pz_game.specs.declared.direction.Dir.{Dir}
+use Rattle.pz_game.specs.Headings.{heads, heading_in, flag}
 use Rattle.pz_cells.specs.declared.cell.Cell.{Cell}
 use Rattle.pz_cells.specs.declared.piece.Piece.{Piece}
 use Rattle.pz_cells.specs.Cell.{still_place}
-use Rattle.pz_cells.specs.Shown.{place_of}
+use Rattle.pz_cells.specs.Shown.{place_of, stands_on, piece_with}
 use Rattle.pz_sheet.specs.Grid.{cell_at}
 use Rattle.pz_sheet.specs.Seen.{seen, grid_of, IsSound, HeadingSets, HeadsWithin, HeadNowhere, AreNoted, IsStored}
 use Rattle.pz_sheet.proofs.SheetLemmas.{seen_at}
@@ -21,6 +24,13 @@ pub still_seen : (N depth : ℕ) (layers : List ℕ) (cell : Cell N) → IsSound
 still_seen N depth layers cell sound none =
     cell_mapped depth layers cell.objects cell.movement cell.objects cell.movement still_place sound.of_game
     (λ layer. still_shows layers (member cell.objects) (heads cell.movement layer) (heads cell.movement layer) layer (place_of layers cell.objects cell.movement layer) (λ dir. none (flag layer dir)) (sound.shows layer))
+
+-- what stands where nothing heads is still
+pub place_is_still : (layers objects movement : List ℕ) (layer : ℕ) → heading_in movement layer ≡ None → place_of layers objects movement layer ≡ still_place (place_of layers objects movement layer)
+place_is_still layers objects movement layer nowhere = by_found (find (stands_on layers objects layer) (range_with_len 0 (length layers))) where
+  by_found : (found : Option ℕ) → option_map (piece_with (heading_in movement layer)) found ≡ still_place (option_map (piece_with (heading_in movement layer)) found)
+  by_found None = refl
+  by_found (Some object) = ap (λ (heading : Option Dir). Some (piece_with heading object)) nowhere
 
 -- what is within nothing has nothing
 none_within : (wanted words : List ℕ) → IsWithin wanted words → ((number : ℕ) → member words number ≡ false) → (number : ℕ) → member wanted number ≡ false

@@ -4,7 +4,7 @@ ghost use Rattle.std.specs.Prelude.{◌≡◌, ℕ, ◌<◌, ◌≤◌, true, fa
 ghost use Rattle.pz_cells.specs.Cell.{still_place};
 ghost use Rattle.pz_cells.specs.Shown.{cell_of, AreLawful};
 ghost use Rattle.pz_sets.specs.Sets.{member};
-ghost use Rattle.pz_sheet.specs.Grid.{IsLawful, cell_at};
+ghost use Rattle.pz_sheet.specs.Grid.{IsLawful, cell_at, place_at};
 ghost use Rattle.pz_sheet.specs.Movement.{stilled};
 ghost use Rattle.pz_sheet.specs.Seen.{IsSound, AreMapped, HeadNowhere};
 
@@ -21,6 +21,17 @@ impl<const N: usize> Sheet<N> {
     {
         let index = self.index(x, y);
         self.cells[index].is_still()
+    }
+
+    /// Whether what stands on a layer of a position of the map heads nowhere.
+    pub fn is_layer_still(&self, x: u32, y: u32, layer: usize) -> bool
+        requires x_in { x < self.now.grid.width }
+        requires y_in { y < self.now.grid.height }
+        requires layer_in { layer < self.now.grid.depth }
+        ensures { result ≡ true → place_at self.now.grid x y layer ≡ still_place (place_at self.now.grid x y layer) }
+    {
+        let index = self.index(x, y);
+        self.cells[index].is_layer_still(layer)
     }
 
     /// Whether no heading is noted for a column of the map: where that is true, nothing in it heads anywhere.

@@ -1,9 +1,16 @@
 use Rattle.std.proofs.Common.{◌≡◌, Option, Some, ap, sym, ◌∙◌}
 use Rattle.pz_cells.specs.declared.piece.Piece.{Piece}
 use Rattle.pz_cells.specs.Cell.{still_piece}
-use Rattle.pz_sheet.specs.Grid.{with_place}
+use Rattle.pz_sheet.specs.Grid.{with_place, place_at}
+use Rattle.pz_grid.specs.Movement.{in_pass, spot}
 use Rattle.pz_grid.proofs.MoveLemmas.{moves_piece}
+use Rattle.pz_grid.proofs.StillLemmas.{stays}
 use Rattle.pz_grid.proofs.Level.move_at.Goals as goal
+
+pub returns-then-is_layer_still-clause-pass : goal.returns-then-is_layer_still-clause-pass
+returns-then-is_layer_still-clause-pass c =
+    let grid = c.args.self.now.grid in
+    sym (stays (in_pass grid c.args.moved) (spot c.args.x c.args.y c.args.layer) (place_at grid c.args.x c.args.y c.args.layer) (c.is_layer_still.ensures c.if-is_layer_still.true))
 
 pub returns-in-Some-goal-clause-marks : goal.returns-in-Some-goal-clause-marks
 returns-in-Some-goal-clause-marks c =

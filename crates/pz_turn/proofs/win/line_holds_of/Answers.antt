@@ -1,4 +1,4 @@
-use Rattle.std.proofs.Common.{Bool, not, ap, sym, ◌∙◌}
+use Rattle.std.proofs.Common.{not, ap, sym, ◌∙◌}
 use Rattle.pz_game.specs.declared.win_line.Quantifier.{Quantifier}
 use Rattle.pz_sheet.specs.Presence.{holds_both, holds_if}
 use Rattle.pz_turn.specs.Win.{fits_both, fits_if, holds_of}
