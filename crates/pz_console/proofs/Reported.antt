@@ -6,7 +6,7 @@ use Rattle.pz_lines.specs.declared.fault.Cause.{Cause}
 use Rattle.pz_lines.specs.declared.fault.WriteFault.{WriteFault}
 use Rattle.pz_lines.specs.Writing.{Writes, HasFailed, HasWritten}
 use Rattle.pz_lines.proofs.Sent.{Appends-more, written_more, written_none}
-use Rattle.pz_console.specs.Refusing.{IsCut, IsReported}
+use Rattle.pz_console.specs.Failures.{IsCut, IsReported}
 
 -- a part before which x went out, and behind which z would have followed
 pub cut_behind : (x y z : List ℕ) (k : ℕ) (a b c : Writes) (cause : Cause) → k < length y → HasWritten x a b → HasFailed cause (take k y) b c → IsCut (x ++ (y ++ z)) a c

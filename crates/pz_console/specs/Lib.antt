@@ -1,3 +1,3 @@
 pub mod Options
 pub mod Reading
-pub mod Refusing
+pub mod Failures

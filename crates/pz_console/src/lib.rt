@@ -3,6 +3,6 @@
 #![tactic(auto)]
 
 pub mod counted;
+pub mod failure;
 pub mod input;
 pub mod options;
-pub mod refusal;

@@ -2,7 +2,7 @@
 #![tactic(auto)]
 
 use pz_console::counted::Counted;
-use pz_console::refusal::{Refusal, refuse};
+use pz_console::failure::{Failure, fail_with};
 use pz_lines::output::Output;
 use pz_serving::command_line::serve_words;
 use std::env;
@@ -11,11 +11,11 @@ use std::io::ErrorKind;
 use std::process::ExitCode;
 
 /// The words of the command line. A word that isn't UTF-8 is no good word.
-fn words<R: Env + AllocGlobal>(rt: &R) -> Result<Vec<String>, Refusal> {
+fn words<R: Env + AllocGlobal>(rt: &R) -> Result<Vec<String>, Failure> {
     match env::args(rt) {
         Ok(words) => Ok(words.collect(rt.alloc())?),
-        Err(error) if error.kind() == ErrorKind::OutOfMemory => Err(Refusal::Memory),
-        Err(_) => Err(Refusal::BadLine),
+        Err(error) if error.kind() == ErrorKind::OutOfMemory => Err(Failure::Memory),
+        Err(_) => Err(Failure::BadLine),
     }
 }
 
@@ -26,7 +26,7 @@ fn main(rt: HostRuntime) -> ExitCode {
     let mut errors = Output::new(rt.stderr());
     let status = match words(&rt) {
         Ok(words) => serve_words(&rt, &words, &mut input, &mut output, &mut errors),
-        Err(refusal) => refuse(refusal, &mut errors),
+        Err(failure) => fail_with(failure, &mut errors),
     };
     ExitCode::from(status)
 }

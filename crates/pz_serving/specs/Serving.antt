@@ -17,9 +17,9 @@ use Rattle.pz_session.specs.declared.recording.Record.{Record}
 use Rattle.pz_lines.specs.Lines.{text_of}
 use Rattle.pz_session.specs.Recording.{recording}
 use Rattle.pz_lines.specs.Writing.{Writes, EndsFor, HasWritten}
-use Rattle.pz_console.specs.declared.refusal.Refusal.{Refusal}
-use Rattle.pz_console.specs.declared.refusal.Refusal.TheVariants as refusal
-use Rattle.pz_console.specs.Refusing.{IsReported, refusal_line}
+use Rattle.pz_console.specs.declared.failure.Failure.{Failure}
+use Rattle.pz_console.specs.declared.failure.Failure.TheVariants as failure
+use Rattle.pz_console.specs.Failures.{IsReported, failure_line}
 
 -- the entries that the bytes of a file hold, or its first fault: its length, that it is UTF-8, what it says
 unfoldable pub sessions_in : List ℕ → Result (List Entry) FileFault
@@ -55,21 +55,21 @@ pub record WritesPart (order : Order) (bytes : List ℕ) (cut : WriteFault) (old
 
 -- what a run over this input leaves in its output, where it ends so: nothing but for sessions that were read and replayed;
 -- the command line and the opening of FILE come before it. A lane can be lost only where the entries of the file were read
-abbrev pub Serves : Order → Option (List ℕ) → Writes → Writes → Result Bool Refusal → Type 0
+abbrev pub Serves : Order → Option (List ℕ) → Writes → Writes → Result Bool Failure → Type 0
 Serves order input old new (Ok passed) = IfSome input (λ bytes. WritesAll order bytes passed old new)
-Serves order input old new (Err (refusal.WriteFault cut)) = IfSome input (λ bytes. WritesPart order bytes cut old new)
-Serves order input old new (Err (refusal.File cause)) = (new ≡ old) × IfSome input (λ bytes. cause ≢ fault.Memory → sessions_in bytes ≡ Err cause)
-Serves order input old new (Err refusal.LaneLost) = (new ≡ old) × IfSome input (λ bytes. IsOk (sessions_in bytes))
-Serves order input old new (Err refusal.BadLine) = ⊥
-Serves order input old new (Err refusal.OpenFault) = ⊥
+Serves order input old new (Err (failure.WriteFault cut)) = IfSome input (λ bytes. WritesPart order bytes cut old new)
+Serves order input old new (Err (failure.File cause)) = (new ≡ old) × IfSome input (λ bytes. cause ≢ fault.Memory → sessions_in bytes ≡ Err cause)
+Serves order input old new (Err failure.LaneLost) = (new ≡ old) × IfSome input (λ bytes. IsOk (sessions_in bytes))
+Serves order input old new (Err failure.BadLine) = ⊥
+Serves order input old new (Err failure.OpenFault) = ⊥
 Serves order input old new (Err other) = new ≡ old
 
 -- 0: every session passed; 1: some didn't; 2: there is no whole recording
-abbrev pub status_of : Result Bool Refusal → ℕ
+abbrev pub status_of : Result Bool Failure → ℕ
 status_of (Ok passed) = if passed then 0 else 1
-status_of (Err refusal) = 2
+status_of (Err failure) = 2
 
--- a refusal has its line, and nothing else has one
-abbrev pub Reports : Writes → Writes → Result Bool Refusal → Type 0
+-- a failure has its line, and nothing else has one
+abbrev pub Reports : Writes → Writes → Result Bool Failure → Type 0
 Reports old new (Ok passed) = new ≡ old
-Reports old new (Err cause) = IsReported (refusal_line cause) old new
+Reports old new (Err cause) = IsReported (failure_line cause) old new

@@ -3,12 +3,12 @@
 ghost use Rattle.std.specs.Prelude.{◌≡◌, ◌≤◌, ◌+◌, ◌⊎◌, Bool, false, Result, IfErr, map, string_bytes};
 ghost use Rattle.pz_serving.specs.CommandLine.{Obeys};
 ghost use Rattle.pz_serving.specs.Serving.{Reports, status_of};
-ghost use Rattle.pz_console.specs.declared.refusal.Refusal.{Refusal};
+ghost use Rattle.pz_console.specs.declared.failure.Failure.{Failure};
 
 use crate::serving::serve;
 use pz_console::counted::Counted;
+use pz_console::failure::{Failure, fail_with};
 use pz_console::options::{Chosen, OptionsFault, read_options};
-use pz_console::refusal::{Refusal, refuse};
 use pz_entries::file::MOST_BYTES;
 use pz_lines::output::Output;
 use std::fs;
@@ -18,13 +18,13 @@ use std::sync::Wait;
 use std::thread::Threads;
 
 /// Opens the file of a name.
-fn open<R: Files>(rt: &R, name: &str) -> Result<R::File, Refusal>
-    ensures { IfErr result (λ refusal. (refusal ≡ Refusal.Memory) ⊎ (refusal ≡ Refusal.OpenFault)) }
+fn open<R: Files>(rt: &R, name: &str) -> Result<R::File, Failure>
+    ensures { IfErr result (λ failure. (failure ≡ Failure.Memory) ⊎ (failure ≡ Failure.OpenFault)) }
 {
     match fs::open(rt, name) {
         Ok(file) => Ok(file),
-        Err(error) if error.kind() == ErrorKind::OutOfMemory => Err(Refusal::Memory),
-        Err(_) => Err(Refusal::OpenFault),
+        Err(error) if error.kind() == ErrorKind::OutOfMemory => Err(Failure::Memory),
+        Err(_) => Err(Failure::OpenFault),
     }
 }
 
@@ -40,17 +40,17 @@ pub fn serve_words<T: Files + Threads + Wait + Sync + AllocGlobal, R: Read, W: W
     requires fresh { (input.old.calls ≡ 0) × (input.old.has_failed ≡ false) }
     requires sound { (output.old.has_failed ≡ false) × (errors.old.has_failed ≡ false) }
     ensures called { input.new.calls ≤ MOST_BYTES + 1 }
-    ensures served { (end : Result Bool Refusal) × (result ≡ status_of end)
+    ensures served { (end : Result Bool Failure) × (result ≡ status_of end)
         × Obeys (map string_bytes words.now) input.old.remaining output.old output.new end
         × Reports errors.old errors.new end }
 {
-    let Chosen { options, file } = match read_options(rt.alloc(), words) {
+    let Chosen { settings, file } = match read_options(rt.alloc(), words) {
         Ok(chosen) => chosen,
-        Err(OptionsFault::Memory) => return refuse(Refusal::Memory, errors),
-        Err(OptionsFault::BadLine) => return refuse(Refusal::BadLine, errors),
+        Err(OptionsFault::Memory) => return fail_with(Failure::Memory, errors),
+        Err(OptionsFault::BadLine) => return fail_with(Failure::BadLine, errors),
     };
     let Some(name) = file else {
-        return serve(rt, rt.alloc(), input, output, errors, options);
+        return serve(rt, rt.alloc(), input, output, errors, settings);
     };
     match open(rt, name.as_str()) {
         Ok(file) => serve(
@@ -59,8 +59,8 @@ pub fn serve_words<T: Files + Threads + Wait + Sync + AllocGlobal, R: Read, W: W
             &mut Counted::new(file),
             output,
             errors,
-            options,
+            settings,
         ),
-        Err(refusal) => refuse(refusal, errors),
+        Err(failure) => fail_with(failure, errors),
     }
 }

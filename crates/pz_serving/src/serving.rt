@@ -3,13 +3,13 @@
 ghost use Rattle.std.specs.Prelude.{◌≡◌, ◌≢◌, ◌≤◌, ◌+◌, ◌⊎◌, ◌↔◌, Bool, true, false, Result, Ok, Err, IfOk, IfErr, length};
 ghost use Rattle.pz_entries.specs.declared.fault.FileFault.TheVariants as fault;
 ghost use Rattle.pz_console.specs.declared.options.TheConstants.{MOST_WORKERS};
-ghost use Rattle.pz_console.specs.declared.refusal.Refusal.{Refusal};
+ghost use Rattle.pz_console.specs.declared.failure.Failure.{Failure};
 ghost use Rattle.pz_serving.specs.Serving.{Reports, Serves, all_passed, has_passed, sessions_in, shown_of, status_of};
 
 use pz_console::counted::Counted;
+use pz_console::failure::{Failure, fail_with};
 use pz_console::input::{InputFault, read_input};
-use pz_console::options::Options;
-use pz_console::refusal::{Refusal, refuse};
+use pz_console::options::Settings;
 use pz_entries::entry::Entry;
 use pz_entries::fault::FileFault;
 use pz_entries::file::{MOST_BYTES, read_sessions};
@@ -46,19 +46,19 @@ fn record<T: Threads + Wait + Sync>(
     rt: &T,
     alloc: Global,
     entries: Vec<Entry>,
-    options: Options,
-) -> Result<Recording, Refusal>
+    settings: Settings,
+) -> Result<Recording, Failure>
     requires entries { length entries.items ≤ MOST_ENTRIES }
-    requires some { 1 ≤ options.workers }
-    requires few { options.workers ≤ MOST_WORKERS }
-    ensures shown { IfOk result (λ shown. shown ≡ shown_of options.order entries.items) }
-    ensures refused { IfErr result (λ refusal. (refusal ≡ Refusal.Memory) ⊎ (refusal ≡ Refusal.LaneLost)) }
+    requires some { 1 ≤ settings.workers }
+    requires few { settings.workers ≤ MOST_WORKERS }
+    ensures shown { IfOk result (λ shown. shown ≡ shown_of settings.order entries.items) }
+    ensures refused { IfErr result (λ failure. (failure ≡ Failure.Memory) ⊎ (failure ≡ Failure.LaneLost)) }
 {
-    let job = prepare(alloc, entries, options.order)?;
-    match replay(rt, alloc, &job, options.workers, &Always) {
+    let job = prepare(alloc, entries, settings.order)?;
+    match replay(rt, alloc, &job, settings.workers, &Always) {
         Ok(recording) => Ok(recording),
-        Err(ReplayFault::Memory) => Err(Refusal::Memory),
-        Err(ReplayFault::LaneLost) => Err(Refusal::LaneLost),
+        Err(ReplayFault::Memory) => Err(Failure::Memory),
+        Err(ReplayFault::LaneLost) => Err(Failure::LaneLost),
         Err(ReplayFault::Workers | ReplayFault::GateClosed) => unreachable!(),
     }
 }
@@ -87,30 +87,30 @@ fn run<T: Threads + Wait + Sync, R: Read, W: Write>(
     alloc: Global,
     input: &mut Counted<R>,
     output: &mut Output<W>,
-    options: Options,
-) -> Result<bool, Refusal>
+    settings: Settings,
+) -> Result<bool, Failure>
     requires fresh { (input.old.calls ≡ 0) × (input.old.has_failed ≡ false) }
     requires sound { output.old.has_failed ≡ false }
-    requires some { 1 ≤ options.workers }
-    requires few { options.workers ≤ MOST_WORKERS }
+    requires some { 1 ≤ settings.workers }
+    requires few { settings.workers ≤ MOST_WORKERS }
     ensures called { input.new.calls ≤ MOST_BYTES + 1 }
-    ensures failed { (result ≡ Err Refusal.ReadFault) ↔ (input.new.has_failed ≡ true) }
-    ensures served { Serves options.order input.old.remaining output.old output.new result }
+    ensures failed { (result ≡ Err Failure.ReadFault) ↔ (input.new.has_failed ≡ true) }
+    ensures served { Serves settings.order input.old.remaining output.old output.new result }
 {
     let bytes = match read_input(alloc, input) {
         Ok(bytes) => bytes,
-        Err(InputFault::Memory) => return Err(Refusal::Memory),
-        Err(InputFault::Device) => return Err(Refusal::ReadFault),
-        Err(InputFault::TooLong) => return Err(Refusal::File(FileFault::TooMany)),
+        Err(InputFault::Memory) => return Err(Failure::Memory),
+        Err(InputFault::Device) => return Err(Failure::ReadFault),
+        Err(InputFault::TooLong) => return Err(Failure::File(FileFault::TooMany)),
     };
     let entries = match decode(alloc, &bytes) {
         Ok(entries) => entries,
-        Err(fault) => return Err(Refusal::File(fault)),
+        Err(fault) => return Err(Failure::File(fault)),
     };
-    let recording = record(rt, alloc, entries, options)?;
+    let recording = record(rt, alloc, entries, settings)?;
     match write_recording(alloc, &recording, output) {
         Ok(()) => Ok(all_passed(&recording)),
-        Err(fault) => Err(Refusal::WriteFault(fault)),
+        Err(fault) => Err(Failure::WriteFault(fault)),
     }
 }
 
@@ -124,20 +124,20 @@ pub fn serve<T: Threads + Wait + Sync, R: Read, W: Write, E: Write>(
     input: &mut Counted<R>,
     output: &mut Output<W>,
     errors: &mut Output<E>,
-    options: Options,
+    settings: Settings,
 ) -> u8
     requires fresh { (input.old.calls ≡ 0) × (input.old.has_failed ≡ false) }
     requires sound { (output.old.has_failed ≡ false) × (errors.old.has_failed ≡ false) }
-    requires some { 1 ≤ options.workers }
-    requires few { options.workers ≤ MOST_WORKERS }
+    requires some { 1 ≤ settings.workers }
+    requires few { settings.workers ≤ MOST_WORKERS }
     ensures called { input.new.calls ≤ MOST_BYTES + 1 }
-    ensures served { (end : Result Bool Refusal) × (result ≡ status_of end) × ((end ≡ Err Refusal.ReadFault) ↔ (input.new.has_failed ≡ true))
-        × Serves options.order input.old.remaining output.old output.new end
+    ensures served { (end : Result Bool Failure) × (result ≡ status_of end) × ((end ≡ Err Failure.ReadFault) ↔ (input.new.has_failed ≡ true))
+        × Serves settings.order input.old.remaining output.old output.new end
         × Reports errors.old errors.new end }
 {
-    match run(rt, alloc, input, output, options) {
+    match run(rt, alloc, input, output, settings) {
         Ok(true) => 0,
         Ok(false) => 1,
-        Err(refusal) => refuse(refusal, errors),
+        Err(failure) => fail_with(failure, errors),
     }
 }

@@ -1,7 +1,7 @@
 //! The command line, and the serving of files.
 
 use pz_console::counted::Counted;
-use pz_console::options::{Options, OptionsFault, read_options};
+use pz_console::options::{OptionsFault, Settings, read_options};
 use pz_lines::output::Output;
 use pz_record::order::Order;
 use pz_serving::command_line::serve_words;
@@ -23,8 +23,8 @@ fn chooses_what_the_words_say(rt: HostRuntime) -> Result<(), Fail> {
     let line = words(&rt, "pz_replayer --workers 64 --order rows in.json")?;
     let chosen = read_options(rt.alloc(), &line);
     assert!(rt;
-        chosen.is_ok_and(|c| c.options.workers == 64
-            && c.options.order == Order::Rows
+        chosen.is_ok_and(|c| c.settings.workers == 64
+            && c.settings.order == Order::Rows
             && c.file.is_some_and(|f| f.as_str() == "in.json"))
     );
     Ok(())
@@ -35,8 +35,8 @@ fn chooses_two_workers_and_columns(rt: HostRuntime) -> Result<(), Fail> {
     let line = words(&rt, "pz_replayer")?;
     let chosen = read_options(rt.alloc(), &line);
     assert!(rt;
-        chosen.is_ok_and(|c| c.options.workers == 2
-            && c.options.order == Order::Columns
+        chosen.is_ok_and(|c| c.settings.workers == 2
+            && c.settings.order == Order::Columns
             && c.file.is_none())
     );
     Ok(())
@@ -84,7 +84,7 @@ impl<'a> Read for Slow<'a> {
 const REFUSED: &str = r#"[["walk",["no game",[3],"",0]]]"#;
 
 /// One worker, and columns.
-const BY_ONE: Options = Options {
+const BY_ONE: Settings = Settings {
     workers: 1,
     order: Order::Columns,
 };

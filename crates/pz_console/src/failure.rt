@@ -2,8 +2,8 @@
 
 ghost use Rattle.std.specs.Prelude.{◌≡◌, ◌++◌, false, IfErr, OnOk};
 ghost use Rattle.pz_lines.specs.Writing.{HasWritten};
-ghost use Rattle.pz_console.specs.Refusing.{IsCut, IsReported, file_line, refusal_line};
-ghost use Rattle.pz_console.specs.declared.refusal.Refusal.TheVariants.{Memory};
+ghost use Rattle.pz_console.specs.Failures.{IsCut, IsReported, file_line, failure_line};
+ghost use Rattle.pz_console.specs.declared.failure.Failure.TheVariants.{Memory};
 
 use itoa::Buffer;
 use pz_entries::fault::FileFault;
@@ -15,7 +15,7 @@ use std::io::Write;
 /// Why there is no whole recording: memory or a thread was refused, the command line is bad, FILE can't be opened, a read failed, the
 /// file of sessions has a fault, a worker's lane was lost, or the writing ended before the last byte.
 #[derive(Clone, Copy, Debug, PartialEq, Eq)]
-pub enum Refusal {
+pub enum Failure {
     Memory,
     BadLine,
     OpenFault,
@@ -25,11 +25,11 @@ pub enum Refusal {
     WriteFault(WriteFault),
 }
 
-impl From<AllocError> for Refusal {
-    ghost from_gives = { λ _ refusal. refusal ≡ Memory };
+impl From<AllocError> for Failure {
+    ghost from_gives = { λ _ failure. failure ≡ Memory };
 
-    fn from(_: AllocError) -> Refusal {
-        Refusal::Memory
+    fn from(_: AllocError) -> Failure {
+        Failure::Memory
     }
 }
 
@@ -75,21 +75,21 @@ fn report_file<E: Write>(fault: FileFault, errors: &mut Output<E>) -> Result<(),
     }
 }
 
-/// Writes the line of a refusal. Where that writer fails too, the line ends early, and the answer is that fault.
-fn report<E: Write>(refusal: Refusal, errors: &mut Output<E>) -> Result<(), WriteFault>
+/// Writes the line of a failure. Where that writer fails too, the line ends early, and the answer is that fault.
+fn report<E: Write>(failure: Failure, errors: &mut Output<E>) -> Result<(), WriteFault>
     requires { errors.old.has_failed ≡ false }
-    ensures whole { OnOk result (HasWritten (refusal_line refusal) errors.old errors.new) }
-    ensures cut { IfErr result (λ _. IsCut (refusal_line refusal) errors.old errors.new) }
+    ensures whole { OnOk result (HasWritten (failure_line failure) errors.old errors.new) }
+    ensures cut { IfErr result (λ _. IsCut (failure_line failure) errors.old errors.new) }
 {
     let mut digits = Buffer::new();
-    match refusal {
-        Refusal::Memory => write_parts("memory", "", "\n", errors),
-        Refusal::BadLine => write_parts("bad command line", "", "\n", errors),
-        Refusal::OpenFault => write_parts("open-fault", "", "\n", errors),
-        Refusal::ReadFault => write_parts("read-fault", "", "\n", errors),
-        Refusal::File(fault) => report_file(fault, errors),
-        Refusal::LaneLost => write_parts("lane-lost", "", "\n", errors),
-        Refusal::WriteFault(fault) => write_parts(
+    match failure {
+        Failure::Memory => write_parts("memory", "", "\n", errors),
+        Failure::BadLine => write_parts("bad command line", "", "\n", errors),
+        Failure::OpenFault => write_parts("open-fault", "", "\n", errors),
+        Failure::ReadFault => write_parts("read-fault", "", "\n", errors),
+        Failure::File(fault) => report_file(fault, errors),
+        Failure::LaneLost => write_parts("lane-lost", "", "\n", errors),
+        Failure::WriteFault(fault) => write_parts(
             "write-fault ",
             digits.format(fault.written),
             "\n",
@@ -98,12 +98,12 @@ fn report<E: Write>(refusal: Refusal, errors: &mut Output<E>) -> Result<(), Writ
     }
 }
 
-/// Ends with the line of a refusal: the status is 2.
-pub fn refuse<E: Write>(refusal: Refusal, errors: &mut Output<E>) -> u8
+/// Ends with the line of a failure: the status is 2.
+pub fn fail_with<E: Write>(failure: Failure, errors: &mut Output<E>) -> u8
     requires { errors.old.has_failed ≡ false }
     ensures status { result ≡ 2 }
-    ensures line { IsReported (refusal_line refusal) errors.old errors.new }
+    ensures line { IsReported (failure_line failure) errors.old errors.new }
 {
-    let _ = report(refusal, errors);
+    let _ = report(failure, errors);
     2
 }

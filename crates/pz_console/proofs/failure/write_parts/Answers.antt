@@ -1,5 +1,5 @@
 use Rattle.pz_console.proofs.Reported.{first_cut, second_cut, third_cut, all_written, of_fault}
-use Rattle.pz_console.proofs.refusal.write_parts.Goals as goal
+use Rattle.pz_console.proofs.failure.write_parts.Goals as goal
 
 pub returns-in_err-write_whole-clause-cut : goal.returns-in_err-write_whole-clause-cut
 returns-in_err-write_whole-clause-cut g c =

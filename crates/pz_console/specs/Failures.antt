@@ -4,8 +4,8 @@ use Rattle.std.specs.Io.KnownBytes.{Appends}
 use Rattle.pz_entries.specs.declared.fault.FileFault.{FileFault}
 use Rattle.pz_entries.specs.declared.fault.FileFault.TheVariants as fault
 use Rattle.pz_lines.specs.Writing.{Writes, HasWritten}
-use Rattle.pz_console.specs.declared.refusal.Refusal.{Refusal}
-use Rattle.pz_console.specs.declared.refusal.Refusal.TheVariants as refusal
+use Rattle.pz_console.specs.declared.failure.Failure.{Failure}
+use Rattle.pz_console.specs.declared.failure.Failure.TheVariants as failure
 
 abbrev pub file_line : FileFault → List ℕ
 file_line fault.Memory = codes "memory\n"
@@ -15,14 +15,14 @@ file_line (fault.BadLevel n) = codes "bad-level " ++ decimal n ++ codes "\n"
 file_line fault.TooMany = codes "too-many\n"
 
 -- the line that says why there is none
-abbrev pub refusal_line : Refusal → List ℕ
-refusal_line refusal.Memory = codes "memory\n"
-refusal_line refusal.BadLine = codes "bad command line\n"
-refusal_line refusal.OpenFault = codes "open-fault\n"
-refusal_line refusal.ReadFault = codes "read-fault\n"
-refusal_line (refusal.File cause) = file_line cause
-refusal_line refusal.LaneLost = codes "lane-lost\n"
-refusal_line (refusal.WriteFault cut) = codes "write-fault " ++ decimal cut.written ++ codes "\n"
+abbrev pub failure_line : Failure → List ℕ
+failure_line failure.Memory = codes "memory\n"
+failure_line failure.BadLine = codes "bad command line\n"
+failure_line failure.OpenFault = codes "open-fault\n"
+failure_line failure.ReadFault = codes "read-fault\n"
+failure_line (failure.File cause) = file_line cause
+failure_line failure.LaneLost = codes "lane-lost\n"
+failure_line (failure.WriteFault cut) = codes "write-fault " ++ decimal cut.written ++ codes "\n"
 
 -- a front of a line goes out, and then a write fails
 abbrev pub IsCut : List ℕ → Writes → Writes → Type 0

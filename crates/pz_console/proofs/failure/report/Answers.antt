@@ -1,4 +1,4 @@
-use Rattle.pz_console.proofs.refusal.report.Goals as goal
+use Rattle.pz_console.proofs.failure.report.Goals as goal
 
 pub returns-in-OpenFault-clause-whole : goal.returns-in-OpenFault-clause-whole
 returns-in-OpenFault-clause-whole g c = rw c.in-OpenFault.is c.write_parts-in-OpenFault.ensures.whole
