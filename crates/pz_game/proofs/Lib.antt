@@ -1,2 +1,3 @@
 pub mod FlagLemmas
 pub mod MaskLemmas
+pub mod SegmentLemmas

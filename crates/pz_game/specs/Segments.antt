@@ -1,11 +1,16 @@
--- Groups in segments: runs of instances of which one thing is told at once.
-use Rattle.std.specs.Prelude.{◌≡◌, ⊤, List, [], ◌∷◌, None, All}
-use Rattle.std.specs.List.{flat_map}
+-- Groups in segments: runs of instances that may be left out together.
+use Rattle.std.specs.Prelude.{◌≡◌, ◌⊎◌, ⊤, ℕ, List, [], ◌∷◌, None, true, All}
+use Rattle.std.specs.List.{flat_map, list_any}
+use Rattle.pz_sets.specs.Sets.{member}
+use Rattle.pz_game.specs.declared.direction.Dir.{Dir}
+use Rattle.pz_game.specs.declared.pattern.Item.{Item}
 use Rattle.pz_game.specs.Commands.{no_commands}
+use Rattle.pz_game.specs.Headings.{heads}
+use Rattle.pz_game.specs.Masks.{IsLow, asks_toward}
 use Rattle.pz_game.specs.Pattern.{RuleRow}
 use Rattle.pz_game.specs.declared.instance.Instance.{Instance}
 use Rattle.pz_game.specs.declared.group.Parts.{Parts}
-use Rattle.pz_game.specs.declared.group.Parts.TheVariants.{Single, Idle}
+use Rattle.pz_game.specs.declared.group.Parts.TheVariants.{Single, Run}
 
 -- an instance that does nothing on any level: it has no right and no commands, and one row, without a gap
 pub record IsIdle (instance : Instance) : Type 0 where
@@ -15,14 +20,36 @@ pub record IsIdle (instance : Instance) : Type 0 where
   pub left : instance.left ≡ row ∷ []
   pub gapless : row.gap_at ≡ None
 
+-- one of a row's cells asks a layer to head in a direction of a set
+pub record AsksAmong (set : List ℕ) (cells : List (List Item)) : Type 0 where
+  pub layer : ℕ
+  pub dir : Dir
+  pub among : heads set layer dir ≡ true
+  pub asks : list_any (asks_toward layer dir) cells ≡ true
+
+-- the first row of an instance asks so, if its items are within the limits of games
+pub record IsMoving (set : List ℕ) (instance : Instance) : Type 0 where
+  pub row : RuleRow
+  pub rows : List RuleRow
+  pub left : instance.left ≡ row ∷ rows
+  pub asks : All (All IsLow) row.cells → AsksAmong set row.cells
+
+-- it asks for a direction of each set that has this number
+abbrev pub AsksFor : ℕ → Instance → Type 0
+AsksFor number instance = (set : List ℕ) → member set number ≡ true → IsMoving set instance
+
+-- an instance that does nothing where nothing heads in a direction of a set
+abbrev pub IsLeftOut : List ℕ → Instance → Type 0
+IsLeftOut set instance = IsIdle instance ⊎ IsMoving set instance
+
 abbrev pub instances_in : Parts → List Instance
 instances_in (Single instance) = instance ∷ []
-instances_in (Idle instances) = instances
+instances_in (Run asked instances) = instances
 
 -- what is told of the instances of a segment
 abbrev pub AreAsTold : Parts → Type 0
 AreAsTold (Single instance) = ⊤
-AreAsTold (Idle instances) = All IsIdle instances
+AreAsTold (Run asked instances) = All (IsLeftOut asked.items) instances
 
 -- the instances of segments, one segment after the other
 abbrev pub instances_of : List (List Instance) → List Instance

@@ -1,24 +1,28 @@
-//! Groups of instances, in segments: runs of instances of which one thing is told at once.
+//! Groups of instances, in segments: runs of instances that may be left out together.
 
-ghost use Rattle.std.specs.Prelude.{◌≡◌, ◌++◌, ◌∷◌, [], true, All, IfOk, OnOk};
-ghost use Rattle.pz_game.specs.Segments.{IsIdle, instances_of};
+ghost use Rattle.std.specs.Prelude.{◌≡◌, ◌<◌, ◌++◌, ◌∷◌, [], true, All, IfSome, IfOk, OnOk};
+ghost use Rattle.pz_sets.specs.declared.set.TheConstants.{CAPACITY};
+ghost use Rattle.pz_game.specs.Segments.{IsIdle, AsksFor, IsLeftOut, instances_of};
 
+use crate::direction::Dir;
 use crate::instance::Instance;
 use bitflags::Flags;
 use pz_base::listed::Listed;
+use pz_sets::set::NumberSet;
+use pz_sets::words::next;
 use std::alloc::{AllocError, Global};
 use std::marker::Model;
 use std::mem::replace;
 use std::slice::from_ref;
 
-/// The instances of a segment: one of which nothing is told, or some that are idle.
+/// The instances of a segment: one of which nothing is told, or some that do nothing where nothing heads in a direction of a set.
 #[derive(Drop)]
 enum Parts {
     Single(Instance),
-    Idle(Listed<Instance>),
+    Run(Vec<u128>, Listed<Instance>),
 }
 
-/// Instances of a group that stand together, and of which one thing may be told at once.
+/// Instances of a group that stand together, and may be left out together.
 #[derive(Drop)]
 pub struct Segment {
     parts: Parts,
@@ -45,22 +49,23 @@ impl Segment {
         }
     }
 
-    fn idle(instances: Vec<Instance>) -> Segment
-        requires { All IsIdle instances.items }
-        ensures { result ≡ instances.items }
+    fn run_of(asked: &NumberSet, instances: Vec<Instance>) -> Result<Segment, AllocError>
+        requires { All (IsLeftOut asked.now) instances.items }
+        ensures { IfOk result (λ segment. segment ≡ instances.items) }
     {
-        Segment {
-            parts: Parts::Idle(Listed::new(instances)),
-        }
+        let asked = Vec::from_slice(*instances.allocator(), asked.words())?;
+        Ok(Segment {
+            parts: Parts::Run(asked, Listed::new(instances)),
+        })
     }
 
-    /// Whether it is told that all its instances are idle.
-    pub fn is_idle(&self) -> bool
-        ensures { result ≡ true → All IsIdle self.now }
+    /// A set of directions of layers: where nothing heads in any of them, none of the segment's instances does anything.
+    pub fn asked(&self) -> Option<&[u128]>
+        ensures { IfSome result (λ asked. All (IsLeftOut asked.now) self.now) }
     {
         match &self.parts {
-            Parts::Single(_) => false,
-            Parts::Idle(_) => true,
+            Parts::Single(_) => None,
+            Parts::Run(asked, _) => Some(asked.as_slice()),
         }
     }
 
@@ -69,7 +74,7 @@ impl Segment {
     {
         match &self.parts {
             Parts::Single(instance) => from_ref(instance),
-            Parts::Idle(instances) => instances.items(),
+            Parts::Run(_, instances) => instances.items(),
         }
     }
 }
@@ -111,23 +116,26 @@ impl Group {
     }
 }
 
-/// Instances that are being cut: the segments that are done, and the idle instances behind them.
+/// Instances that are being cut: the segments that are done, and the run behind them, whose instances are all idle, or all scanned in one
+/// direction.
 #[derive(Drop)]
 struct Cut {
     done: Vec<Segment>,
-    idle: Vec<Instance>,
+    scan: Option<Dir>,
+    asked: NumberSet,
+    run: Vec<Instance>,
 }
 
 impl Model for Cut {
     ghost use Rattle.std.specs.Prelude.{List, ◌++◌, All};
     ghost use Rattle.pz_game.specs.declared.instance.Instance.{Instance};
-    ghost use Rattle.pz_game.specs.Segments.{IsIdle, instances_of};
+    ghost use Rattle.pz_game.specs.Segments.{IsLeftOut, instances_of};
 
     ghost Value = { List Instance };
 
-    ghost view = { λ c. instances_of c.done.items ++ c.idle.items };
+    ghost view = { λ c. instances_of c.done.items ++ c.run.items };
 
-    ghost invariant = { λ c. All IsIdle c.idle.items };
+    ghost invariant = { λ c. All (IsLeftOut c.asked) c.run.items };
 }
 
 impl Cut {
@@ -136,7 +144,9 @@ impl Cut {
     {
         Cut {
             done: Vec::new(alloc),
-            idle: Vec::new(alloc),
+            scan: None,
+            asked: NumberSet::empty(),
+            run: Vec::new(alloc),
         }
     }
 
@@ -145,34 +155,90 @@ impl Cut {
         ensures { OnOk result (self.new ≡ self.old ++ instance ∷ []) }
     {
         if is_idle(&instance) {
-            self.idle.push(instance)?;
+            return self.add_idle(instance);
+        }
+        match asked_by(&instance) {
+            None => self.add_single(instance),
+            Some(number) => self.add_moving(number, instance),
+        }
+    }
+
+    /// Ends the run, and begins another.
+    fn begin(&mut self, scan: Option<Dir>) -> Result<(), AllocError>
+        ensures { OnOk result (self.new ≡ self.old) }
+    {
+        let none = Vec::new(*self.run.allocator());
+        let run = replace(&mut self.run, none);
+        close(&mut self.done, &self.asked, run)?;
+        self.asked = NumberSet::empty();
+        self.scan = scan;
+        Ok(())
+    }
+
+    /// Ends the run, if it is of another direction.
+    fn begin_unless(&mut self, scan: Option<Dir>) -> Result<(), AllocError>
+        ensures { OnOk result (self.new ≡ self.old) }
+    {
+        if self.scan == scan {
             return Ok(());
         }
-        let none = Vec::new(*self.idle.allocator());
-        let idle = replace(&mut self.idle, none);
-        close(&mut self.done, idle)?;
+        self.begin(scan)
+    }
+
+    fn add_single(&mut self, instance: Instance) -> Result<(), AllocError>
+        ensures { OnOk result (self.new ≡ self.old ++ instance ∷ []) }
+    {
+        let none = Vec::new(*self.run.allocator());
+        let run = replace(&mut self.run, none);
+        close(&mut self.done, &self.asked, run)?;
+        self.asked = NumberSet::empty();
         self.done.push(Segment::single(instance))?;
+        Ok(())
+    }
+
+    fn add_idle(&mut self, instance: Instance) -> Result<(), AllocError>
+        requires idle { IsIdle instance }
+        ensures { OnOk result (self.new ≡ self.old ++ instance ∷ []) }
+    {
+        self.begin_unless(None)?;
+        self.run.push(instance)?;
+        Ok(())
+    }
+
+    fn add_moving(&mut self, number: usize, instance: Instance) -> Result<(), AllocError>
+        requires low { number < CAPACITY }
+        requires asks { AsksFor number instance }
+        ensures { OnOk result (self.new ≡ self.old ++ instance ∷ []) }
+    {
+        self.begin_unless(Some(instance.scan))?;
+        self.asked.insert(number);
+        self.run.push(instance)?;
         Ok(())
     }
 
     fn into_group(self) -> Result<Group, AllocError>
         ensures { IfOk result (λ group. group ≡ self) }
     {
-        let Cut { mut done, idle } = self;
-        close(&mut done, idle)?;
+        let Cut {
+            mut done,
+            scan: _,
+            asked,
+            run,
+        } = self;
+        close(&mut done, &asked, run)?;
         Ok(Group { segments: done })
     }
 }
 
-/// Adds idle instances as a segment of their own, if there are any.
-fn close(done: &mut Vec<Segment>, idle: Vec<Instance>) -> Result<(), AllocError>
-    requires { All IsIdle idle.items }
-    ensures { OnOk result (instances_of done.new.items ≡ instances_of done.old.items ++ idle.items) }
+/// Adds a run as a segment of its own, if there is any instance in it.
+fn close(done: &mut Vec<Segment>, asked: &NumberSet, run: Vec<Instance>) -> Result<(), AllocError>
+    requires { All (IsLeftOut asked.now) run.items }
+    ensures { OnOk result (instances_of done.new.items ≡ instances_of done.old.items ++ run.items) }
 {
-    if idle.is_empty() {
+    if run.is_empty() {
         return Ok(());
     }
-    done.push(Segment::idle(idle))?;
+    done.push(Segment::run_of(asked, run)?)?;
     Ok(())
 }
 
@@ -187,4 +253,12 @@ fn is_idle(instance: &Instance) -> bool
         [row] => row.gap_at().is_none(),
         _ => false,
     }
+}
+
+/// A direction of a layer for which the first row of an instance asks, if it asks for any.
+fn asked_by(instance: &Instance) -> Option<usize>
+    ensures { IfSome result (λ number. (number < CAPACITY) × AsksFor number instance.now) }
+{
+    let (row, _) = instance.left.items().split_first()?;
+    next(row.required().words(), 0)
 }

@@ -14,6 +14,7 @@ use std::marker::Model;
 
 mod admitted;
 mod bare;
+mod headed;
 pub mod laws;
 mod loading;
 mod marks;

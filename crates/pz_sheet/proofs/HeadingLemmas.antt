@@ -1,10 +1,11 @@
 -- A level notes each heading that a row of a rule asks for whose cells all hold somewhere, for the whole and for each line.
-use Rattle.std.proofs.Common.{◌≡◌, ◌+◌, ◌*◌, ◌%◌, ◌<◌, ℕ, List, [], ◌∷◌, true, false, inl, inr, suc, length, get_or, arith, ap, sym, ◌∙◌, refl, subst}
+use Rattle.std.proofs.Common.{◌≡◌, ◌+◌, ◌*◌, ◌%◌, ◌<◌, ℕ, List, [], ◌∷◌, Bool, true, false, not, inl, inr, suc, length, get_or, arith, ap, sym, ◌∙◌, refl, subst}
+use Rattle.std.specs.Prelude.{IsTrue, ◌↔◌}
 use Rattle.std.specs.List.{All, list_any}
 use Rattle.std.proofs.lemmas.Bool.{cases_lt, or_cases}
 use Rattle.std.proofs.lemmas.List.{get_or_default}
 use Rattle.std.proofs.lemmas.Nat.{mul-add-lt, div-mul-add, mod-mul-add}
-use Rattle.pz_sets.specs.Sets.{member, IsWithin}
+use Rattle.pz_sets.specs.Sets.{member, IsWithin, AreApart}
 use Rattle.pz_game.specs.declared.direction.Dir.{Dir}
 use Rattle.pz_game.specs.declared.pattern.Item.{Item}
 use Rattle.pz_game.specs.Headings.{flag, heads}
@@ -18,6 +19,11 @@ use Rattle.pz_sheet.specs.Grid.{Grid}
 use Rattle.pz_sheet.specs.Searching.{HoldsSomewhere, HoldsInRow, HoldsInColumn}
 use Rattle.pz_sheet.specs.Seen.{HeadingSets, HeadsWithin, grid_of, IsStored}
 use Rattle.pz_sheet.proofs.SheetLemmas.{seen_at}
+
+-- a number of both sets: they aren't apart
+pub not_apart : (apart : Bool) (asked words : List ℕ) (number : ℕ) → (IsTrue apart ↔ AreApart asked words) → member asked number ≡ true → member words number ≡ true → not apart ≡ true
+not_apart true asked words number is wanted there = let none : true ≡ false = sym there ∙ is.0 refl number wanted in cc
+not_apart false asked words number is wanted there = refl
 
 pub no_cell : (N : ℕ) → Cell N
 no_cell N = record { objects = []; movement = [] }
@@ -63,13 +69,19 @@ module _ (N width height depth : ℕ) (layers : List ℕ) (sets : List (List ℕ
   in_cells : (x y : ℕ) → x < width → y < height → y * width + x < length cells
   in_cells x y x_in y_in = omega (arith, mul-add-lt y width x height y_in x_in, s.covers)
 
-  pub asked_somewhere : (rows : List (List Item)) (required : List ℕ) → AreRequired rows required → All (AreOf layers) rows → All (HoldsSomewhere grid) rows → IsWithin required notes.whole
-  asked_somewhere = asked_is_noted notes.whole (HoldsSomewhere grid) (λ items h. record {
+  somewhere : (items : List Item) → HoldsSomewhere grid items → IsWhere N cells grid notes.whole items
+  somewhere items h = record {
     at = h.y * width + h.x;
     within = in_cells h.x h.y h.x_in h.y_in;
     holds = h.holds;
     noted = (s.noted.each (h.y * width + h.x) (no_cell N) (in_cells h.x h.y h.x_in h.y_in)).whole;
-  })
+  }
+
+  pub asked_somewhere : (rows : List (List Item)) (required : List ℕ) → AreRequired rows required → All (AreOf layers) rows → All (HoldsSomewhere grid) rows → IsWithin required notes.whole
+  asked_somewhere = asked_is_noted notes.whole (HoldsSomewhere grid) somewhere
+
+  pub heads_somewhere : (rows : List (List Item)) (layer : ℕ) (dir : Dir) → All (AreOf layers) rows → All (HoldsSomewhere grid) rows → list_any (asks_toward layer dir) rows ≡ true → heads notes.whole layer dir ≡ true
+  heads_somewhere = heads_there notes.whole (HoldsSomewhere grid) somewhere
 
   pub asked_in_row : (y : ℕ) → y < height → (rows : List (List Item)) (required : List ℕ) → AreRequired rows required → All (AreOf layers) rows → All (HoldsInRow grid y) rows → IsWithin required (get_or notes.rows y [])
   asked_in_row y y_in = asked_is_noted (get_or notes.rows y []) (HoldsInRow grid y) (λ items h. record {

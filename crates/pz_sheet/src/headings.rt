@@ -1,12 +1,14 @@
 //! Where something heads in a level.
 
-ghost use Rattle.std.specs.Prelude.{◌≡◌, ◌<◌, All, true};
-ghost use Rattle.pz_game.specs.Pattern.{IsRowOf};
+ghost use Rattle.std.specs.Prelude.{◌≡◌, ◌<◌, List, All, true};
+ghost use Rattle.pz_game.specs.declared.pattern.Item.{Item};
+ghost use Rattle.pz_game.specs.Pattern.{AreOf, IsRowOf};
+ghost use Rattle.pz_game.specs.Segments.{AsksAmong};
 ghost use Rattle.pz_sheet.specs.Searching.{HoldsSomewhere, HoldsInRow, HoldsInColumn};
 
 use crate::Sheet;
 use pz_game::pattern::Row;
-use pz_sets::words::has_subset;
+use pz_sets::words::{has_subset, is_disjoint};
 
 impl<const N: usize> Sheet<N> {
     /// Whether something may head as the cells of a row ask: true where each of them holds somewhere.
@@ -15,6 +17,13 @@ impl<const N: usize> Sheet<N> {
         ensures { All (HoldsSomewhere self.now.grid) row.now.cells → result ≡ true }
     {
         has_subset(self.notes.whole().words(), row.required().words())
+    }
+
+    /// Whether something may head in a direction of a set: true where cells that ask for one of them all hold somewhere.
+    pub fn may_head_in(&self, asked: &[u128]) -> bool
+        ensures { (cells : List (List Item)) → All (AreOf self.now.grid.layers) cells → AsksAmong asked.now cells → All (HoldsSomewhere self.now.grid) cells → result ≡ true }
+    {
+        !is_disjoint(self.notes.whole().words(), asked)
     }
 
     /// Whether something may head in a row of the map as the cells of a rule's row ask: true where each of them holds somewhere in it.

@@ -1,13 +1,19 @@
 -- The segments of a group, run one after another, give what its instances give.
-use Rattle.std.proofs.Common.{◌≡◌, ℕ, zero, suc, Result, Ok, Err, List, [], ◌∷◌, ◌++◌, Bool, true, false, cond, ◌||◌, inl, Option, Some, None, fold, refl, ap, sym, ◌∙◌}
+use Rattle.std.proofs.Common.{◌≡◌, ℕ, zero, suc, Result, Ok, Err, List, [], ◌∷◌, ◌++◌, Bool, true, false, cond, ◌||◌, inl, inr, Option, Some, None, fold, get_or, refl, ap, sym, subst, ◌∙◌}
 use Rattle.std.specs.List.{All, flat_map, find, range_with_len}
-use Rattle.std.proofs.lemmas.List.Elements.{All-nil, All-cons, All-head, All-tail, All-weaker}
+use Rattle.std.proofs.lemmas.List.Elements.{All-nil, All-cons, All-head, All-tail}
 use Rattle.std.proofs.lemmas.List.Sums.{fold-append}
 use Rattle.pz_game.specs.declared.commands.Commands.{Commands}
 use Rattle.pz_game.specs.declared.instance.Instance.{Instance}
 use Rattle.pz_game.specs.Commands.{no_commands, either}
-use Rattle.pz_game.specs.Segments.{IsIdle, instances_of}
+use Rattle.pz_game.specs.declared.direction.Dir.{Dir}
+use Rattle.pz_game.specs.Instance.{IsInstanceOf, IsGroupOf}
+use Rattle.pz_game.specs.Masks.{IsLow}
+use Rattle.pz_game.specs.Pattern.{RuleRow, IsRowOf, AreRowsOf}
+use Rattle.pz_game.specs.Segments.{IsIdle, AsksAmong, IsMoving, IsLeftOut, instances_of}
+use Rattle.pz_cells.proofs.HoldLemmas.{low_of_game}
 use Rattle.pz_sheet.specs.Grid.{Grid, IsLawful}
+use Rattle.pz_grid.specs.Places.{places}
 use Rattle.pz_turn.specs.declared.outcome.StepFault.{StepFault}
 use Rattle.pz_turn.specs.Instance.{applied, HasNoEffect}
 use Rattle.pz_turn.specs.Outcome.{Outcome, untouched, followed_by, joined}
@@ -15,6 +21,7 @@ use Rattle.pz_turn.specs.Rest.{Runs, pass_of, passes, ends, ends_after, is_last,
 use Rattle.pz_turn.proofs.Calm.{either_assoc, either_comm}
 use Rattle.pz_turn.proofs.Effectless.{applied_without_effect}
 use Rattle.pz_turn.proofs.Passes.{fold_stopped}
+use Rattle.pz_turn.proofs.Skipping.{IsNoneTaken, none_first, applied_none}
 
 -- ---- what holds of all instances of a group holds of those of each segment
 all_left : {X : Type 0} (P : X → Type 0) (xs ys : List X) → All P (xs ++ ys) → All P xs
@@ -125,5 +132,16 @@ left_pass grid (x ∷ xs) all =
 idle_applied : (grid : Grid) → IsLawful grid → (x : Instance) → IsIdle x → applied x grid ≡ Ok (untouched grid)
 idle_applied grid lawful x idle = applied_without_effect x grid lawful (record { right = idle.right; commands = idle.commands; row = idle.row; left = idle.left; few = inl idle.gapless })
 
-pub idle_pass : (grid : Grid) (xs : List Instance) → IsLawful grid → All IsIdle xs → pass_of applied xs grid ≡ Ok (untouched grid)
-idle_pass grid xs lawful all = left_pass grid xs (All-weaker IsIdle (λ (x : Instance). applied x grid ≡ Ok (untouched grid)) (idle_applied grid lawful) xs all)
+-- an instance that asks for what nothing heads in does nothing
+moving_applied : (grid : Grid) (set : List ℕ) → IsLawful grid → ((row : RuleRow) (dir : Dir) → IsRowOf grid.layers row → AsksAmong set row.cells → places grid row dir ≡ []) → (x : Instance) → IsInstanceOf grid.layers x → IsMoving set x → applied x grid ≡ Ok (untouched grid)
+moving_applied grid set lawful nowhere x is_of moving =
+    let row = moving.row in
+    let are : IsRowOf grid.layers row = All-head (IsRowOf grid.layers) row moving.rows (subst (AreRowsOf grid.layers) moving.left is_of.left) in
+    let low : All (All IsLow) row.cells = λ k d within. low_of_game grid.depth grid.layers (get_or row.cells k d) lawful.layered lawful.few lawful.shallow (are k d within) in
+    applied_none x grid (subst (IsNoneTaken grid x.scan) (sym moving.left) (none_first grid x.scan row moving.rows (nowhere row x.scan are (moving.asks low))))
+
+pub left_out_pass : (grid : Grid) (set : List ℕ) (xs : List Instance) → IsLawful grid → IsGroupOf grid.layers xs → All (IsLeftOut set) xs → ((row : RuleRow) (dir : Dir) → IsRowOf grid.layers row → AsksAmong set row.cells → places grid row dir ≡ []) → pass_of applied xs grid ≡ Ok (untouched grid)
+left_out_pass grid set xs lawful are left nowhere = left_pass grid xs (λ k d within. by (get_or xs k d) (are k d within) (left k d within)) where
+  by : (x : Instance) → IsInstanceOf grid.layers x → IsLeftOut set x → applied x grid ≡ Ok (untouched grid)
+  by x is_of (inl idle) = idle_applied grid lawful x idle
+  by x is_of (inr moving) = moving_applied grid set lawful nowhere x is_of moving

@@ -1,10 +1,10 @@
 //! Groups of instances, run to rest segment by segment.
 
-ghost use Rattle.std.specs.Prelude.{◌≡◌, IfOk, false};
+ghost use Rattle.std.specs.Prelude.{◌≡◌, Ok, IfOk, true, false};
 ghost use Rattle.pz_game.specs.Instance.{IsGroupOf};
 ghost use Rattle.pz_sheet.specs.Grid.{SameSize};
 ghost use Rattle.pz_turn.specs.Instance.{applied};
-ghost use Rattle.pz_turn.specs.Outcome.{GivesOutcome};
+ghost use Rattle.pz_turn.specs.Outcome.{GivesOutcome, untouched};
 ghost use Rattle.pz_turn.specs.Rest.{pass_of, rest_of, group_runs};
 ghost use Rattle.pz_turn.specs.declared.rest.TheConstants.{PASSES};
 
@@ -14,16 +14,28 @@ use pz_game::group::{Group, Segment};
 use pz_grid::Level;
 use std::alloc::Global;
 
-/// A segment of a group: its instances, one after another. Where it is told that they are idle, none of them is looked at.
+/// Whether it is told at once that all instances of a segment leave a level as it is: nothing heads in any of the directions for
+/// which they ask.
+fn is_left_out(level: &Level, segment: &Segment) -> bool
+    requires of_game { IsGroupOf level.now.grid.layers segment.now }
+    ensures { result ≡ true → pass_of applied segment.now level.now.grid ≡ Ok (untouched level.now.grid) }
+{
+    // (brings the proof the law of levels)
+    let _ = level.width();
+    match segment.asked() {
+        None => false,
+        Some(asked) => !level.may_head_in(asked),
+    }
+}
+
+/// A segment of a group: its instances, one after another, unless they are left out together.
 impl Runnable for Segment {
     ghost is_of = { IsGroupOf };
 
     ghost runs = { pass_of applied };
 
     fn run(&self, alloc: Global, level: &mut Level) -> Result<Given, StepFault> {
-        // (brings the proof the law of levels)
-        let _ = level.width();
-        if self.is_idle() {
+        if is_left_out(level, self) {
             return Ok(Given::nothing());
         }
         pass(alloc, level, self.instances())
