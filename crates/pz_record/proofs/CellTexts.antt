@@ -1,6 +1,6 @@
 -- The texts of a level's cells, which are looked at one after the other.
-use Rattle.std.proofs.Common.{◌≡◌, ℕ, zero, suc, ◌+◌, ◌*◌, ◌<◌, ◌≤◌, List, [], ◌∷◌, ◌++◌, length, take, map, set, All, refl, ap, ap₂, sym, ◌∙◌, arith}
-use Rattle.std.proofs.lemmas.List.{length-take, length-map, map-set, take_more, take_more_set, take_all}
+use Rattle.std.proofs.Common.{◌≡◌, ℕ, zero, suc, ◌+◌, ◌*◌, ◌<◌, ◌≤◌, List, [], ◌∷◌, ◌++◌, length, take, map, set, get_or, All, refl, ap, ap₂, sym, ◌∙◌, subst, arith}
+use Rattle.std.proofs.lemmas.List.{length-take, length-map, get_or-map, map-set, take_more, take_more_set, take_all}
 use Rattle.std.proofs.lemmas.List.Elements.{All-head, All-tail}
 use Rattle.pz_game.specs.declared.game.GameParts.{GameParts}
 use Rattle.pz_sheet.specs.Grid.{Grid}
@@ -43,6 +43,14 @@ pub cell_seen : (game : GameParts) (order : Order) (grid : Grid) (k x y : ℕ) (
 unfolding standing_names
 cell_seen game order grid k x y objects h e f same =
     ap (λ l. joined (set_of l)) (chosen_same (member objects) (stands grid x y) same 0 game.objects) ∙ sym (text_at_number game order grid k x y h e f)
+
+-- a cell that is known has the text of its objects
+pub text_known : (names texts : List (List ℕ)) (cells : List LabelledSet) (k : ℕ) (cell : LabelledSet) → All (λ c. IsLabelOf names texts c.objects c.label) cells → k < length cells → cell ≡ get_or cells k cell
+    → get_or (map (λ (c : LabelledSet). text_at texts c.label) cells) k [] ≡ set_text names cell.objects
+text_known names texts cells k cell all h is =
+    let text : LabelledSet → List ℕ = λ c. text_at texts c.label in
+    let known : IsLabelOf names texts cell.objects cell.label = subst (λ (c : LabelledSet). IsLabelOf names texts c.objects c.label) (sym is) (all k cell h) in
+    get_or-map text cells k cell [] h ∙ ap text (sym is) ∙ known.1
 
 -- one more cell was looked at
 pub front_long : (new old : List (List ℕ)) (n : ℕ) (text : List ℕ) → n ≤ length old → take (n + 1) new ≡ take n old ++ text ∷ [] → n + 1 ≤ length new

@@ -58,12 +58,14 @@ impl<'a> TextWriter<'a> {
         }
     }
 
-    /// Whether the last level's cell of a number has the same objects.
-    fn is_same(&self, place: usize, objects: &NumberSet) -> bool
-        ensures { OnTrue result ((place < length self.now.cells) × (slice_index_or self.now.cells place [] ≡ set_text self.now.table.game.objects objects.now)) }
+    /// Whether the last level's cell of a number has the objects that stand at its position now.
+    fn is_same(&self, level: &Level, number: u32, x: u32, y: u32) -> bool
+        requires within { number < level.now.grid.width * level.now.grid.height }
+        requires at { IsAt self.now.order level.now.grid number x y }
+        ensures { OnTrue result ((number < length self.now.cells) × (slice_index_or self.now.cells number [] ≡ text_of_cell self.now.table.game self.now.order level.now.grid number)) }
     {
-        match self.cells.get(place) {
-            Some(cell) => cell.objects.same(objects),
+        match self.cells.get(number as usize) {
+            Some(cell) => level.holds_exactly(x, y, &cell.objects),
             None => false,
         }
     }
@@ -113,13 +115,12 @@ impl<'a> TextWriter<'a> {
         ensures game { self.new.table.game ≡ self.old.table.game }
         ensures order { self.new.order ≡ self.old.order }
     {
-        let objects = level.objects_at(x, y);
-        let place = number as usize;
-        if self.is_same(place, &objects) {
+        if self.is_same(level, number, x, y) {
             return Ok(());
         }
+        let objects = level.objects_at(x, y);
         let label = self.label_at(level, x, y, objects)?;
-        self.put(place, LabelledSet { objects, label })?;
+        self.put(number as usize, LabelledSet { objects, label })?;
         Ok(())
     }
 

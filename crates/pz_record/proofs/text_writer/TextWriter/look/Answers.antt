@@ -7,11 +7,9 @@ use Rattle.pz_record.proofs.text_writer.TextWriter.look.Goals as goal
 
 pub returns-then-is_same-clause-cells : goal.returns-then-is_same-clause-cells
 returns-then-is_same-clause-cells c =
-    let game = c.args.self.now.table.game in
     let n = c.args.number in
     let cells = c.args.self.now.cells in
-    take_more cells n [] c.if-is_same.ensures.0
-    ∙ ap (λ t. take n cells ++ t ∷ []) (c.if-is_same.ensures.1 ∙ cell_seen game c.args.self.now.order c.args.level.now.grid n _ _ _ c.requires.within c.requires.at.column c.requires.at.row c.objects_at-objects.ensures)
+    take_more cells n [] c.if-is_same.ensures.0 ∙ ap (λ t. take n cells ++ t ∷ []) c.if-is_same.ensures.1
 
 pub returns-clause-cells : goal.returns-clause-cells
 returns-clause-cells c =
