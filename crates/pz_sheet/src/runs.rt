@@ -121,7 +121,9 @@ impl<const N: usize> Sheet<N> {
         true
     }
 
-    /// Whether rules' cells hold from a position on, where the first does: the action leads nowhere.
+    /// Whether rules' cells hold from a position on, where the first does: the action leads nowhere. It stays a call, which few positions
+    /// of a search come to.
+    #[inline(never)]
     fn rest_holds(&self, dir: Dir, x: u32, y: u32, patterns: &[Pattern]) -> bool
         requires some { 0 < length patterns.now }
         requires x_in { x < self.now.grid.width }
@@ -139,7 +141,8 @@ impl<const N: usize> Sheet<N> {
         }
     }
 
-    /// Whether rules' cells hold from a position of the map on.
+    /// Whether rules' cells hold from a position of the map on. Its test of the first cell is the body of each search.
+    #[inline(always)]
     fn runs_from(&self, dir: Dir, x: u32, y: u32, patterns: &[Pattern]) -> bool
         requires some { 0 < length patterns.now }
         requires x_in { x < self.now.grid.width }
