@@ -9,3 +9,6 @@ pub mod ChangeLemmas
 pub mod LineLemmas
 pub mod StillLemmas
 pub mod HoldingLemmas
+pub mod BitLemmas
+pub mod PlaneLemmas
+pub mod StartLemmas

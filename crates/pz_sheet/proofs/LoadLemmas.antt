@@ -61,6 +61,11 @@ glyphs_more N depth layers f numbers index d cells now cell within are sound e i
       ∙ (ap (λ (y : List (Option Piece)). map f (take index numbers) ++ y ∷ []) e ∙ sym (map_more f numbers index d within))));
 }
 
+-- a level as it is drawn has a cell for each position
+pub drawn_covers : (N : ℕ) (game : GameParts) (drawing : Drawing) (width height : ℕ) (cells : List (Cell N)) → IsDrawing drawing → width ≡ drawing.width → height ≡ drawing.height → AreGlyphs N game.depth game.layers (glyph_cell game) drawing.cells cells → length cells ≡ width * height
+drawn_covers N game drawing width height cells d is_width is_height are =
+    sym (length-map cells (seen N game.depth game.layers)) ∙ (ap length are.cells_are ∙ (length-map drawing.cells (glyph_cell game) ∙ (d.covers ∙ (ap (λ (w : ℕ). w * drawing.height) (sym is_width) ∙ ap (λ (t : ℕ). width * t) (sym is_height)))))
+
 -- a level as it is drawn is stored with the sets of its game
 pub stored_drawn : (N : ℕ) (game : GameParts) (drawing : Drawing) (width height depth : ℕ) (layers layers_read : List ℕ) (sets : List (List ℕ)) (cells : List (Cell N)) (notes : HeadingSets) → IsGame game → IsDrawing drawing → N ≤ 4 → length game.layers ≤ 128 * N → game.depth ≤ 25 * N → width ≡ drawing.width → height ≡ drawing.height → depth ≡ game.depth → layers ≡ game.layers → layers_read ≡ game.layers → length sets ≡ game.depth → IsTable layers_read sets → AreGlyphs N game.depth game.layers (glyph_cell game) drawing.cells cells → AreNoted N width height notes cells → IsStored N width height depth layers sets cells notes
 stored_drawn N game drawing width height depth layers layers_read sets cells notes h d short room movement_room is_width is_height is_depth is_layers is_read deep table are noted = record {
@@ -73,7 +78,7 @@ stored_drawn N game drawing width height depth layers layers_read sets cells not
   layered = subst (λ (all : List ℕ). All (λ layer. layer < depth) all) (sym is_layers) (subst (λ (n : ℕ). All (λ layer. layer < n) game.layers) (sym is_depth) h.layered);
   deep = deep ∙ sym is_depth;
   table = subst (λ (all : List ℕ). IsTable all sets) (is_read ∙ sym is_layers) table;
-  covers = sym (length-map cells (seen N game.depth game.layers)) ∙ (ap length are.cells_are ∙ (length-map drawing.cells (glyph_cell game) ∙ (d.covers ∙ (ap (λ (w : ℕ). w * drawing.height) (sym is_width) ∙ ap (λ (t : ℕ). width * t) (sym is_height)))));
+  covers = drawn_covers N game drawing width height cells d is_width is_height are;
   sound = subst (λ (all : List ℕ). All (IsSound N all) cells) (sym is_layers) are.sound;
   noted = noted;
 } where

@@ -15,7 +15,7 @@ use Rattle.pz_cells.specs.declared.piece.Piece.{Piece}
 use Rattle.pz_cells.specs.Cell.{still_place}
 use Rattle.pz_cells.specs.Shown.{place_of, stands_on, piece_with}
 use Rattle.pz_sheet.specs.Grid.{cell_at}
-use Rattle.pz_sheet.specs.Seen.{seen, grid_of, IsSound, HeadingSets, HeadsWithin, HeadNowhere, AreNoted, IsStored}
+use Rattle.pz_sheet.specs.Seen.{seen, grid_of, IsSound, HeadingSets, HeadsWithin, HeadNowhere, HaveSameObjects, AreNoted, IsStored}
 use Rattle.pz_sheet.proofs.SheetLemmas.{seen_at}
 use Rattle.pz_sheet.proofs.HeadingLemmas.{no_cell}
 use Rattle.pz_sheet.proofs.MapLemmas.{cell_mapped, still_shows}
@@ -84,4 +84,13 @@ pub nowhere_more : (N : ℕ) (cells : List (Cell N)) (index : ℕ) (new : Cell N
 nowhere_more N cells index new within none before k cell number below = elim (cases_eq k index) [
   | inl same ↦ ap (λ (there : Cell N). member there.movement number) (ap (λ (i : ℕ). get_or (set cells index new) i cell) same ∙ get_or-set_same cells index new cell within) ∙ none number
   | inr other ↦ ap (λ (there : Cell N). member there.movement number) (get_or-set_other cells index k new cell other) ∙ before k cell number (omega (arith, below, other))
+]
+
+-- one more cell has the same objects
+pub same_objects_more : (N : ℕ) (old cells : List (Cell N)) (index : ℕ) (here new : Cell N) → index < length cells → here ≡ get_or cells index here → new.objects ≡ here.objects → HaveSameObjects N old cells → HaveSameObjects N old (set cells index new)
+same_objects_more N old cells index here new within is same before k cell = elim (cases_eq k index) [
+  | inl at ↦
+      ap (λ (there : Cell N). there.objects) (ap (λ (i : ℕ). get_or (set cells index new) i cell) at ∙ get_or-set_same cells index new cell within) ∙ same
+      ∙ ap (λ (there : Cell N). there.objects) (is ∙ get_or_default cells index here cell within ∙ ap (λ (i : ℕ). get_or cells i cell) (sym at)) ∙ before k cell
+  | inr other ↦ ap (λ (there : Cell N). there.objects) (get_or-set_other cells index k new cell other) ∙ before k cell
 ]

@@ -1,4 +1,5 @@
 pub mod Grid
+pub mod Planes
 pub mod Seen
 pub mod Standing
 pub mod Sameness

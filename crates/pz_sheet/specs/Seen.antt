@@ -7,6 +7,7 @@ use Rattle.pz_cells.specs.declared.cell.Cell.{Cell}
 use Rattle.pz_cells.specs.declared.piece.Piece.{Piece}
 use Rattle.pz_cells.specs.Shown.{cell_of, IsSetOf, AreLawful}
 use Rattle.pz_sheet.specs.Grid.{Grid}
+use Rattle.pz_sheet.specs.Planes.{PlaneSets, ArePlaced}
 
 -- a cell, seen by layers
 abbrev pub seen : (N : ℕ) → ℕ → List ℕ → Cell N → List (Option Piece)
@@ -73,6 +74,15 @@ pub record IsStored (N width height depth : ℕ) (layers : List ℕ) (sets : Lis
   pub covers : length cells ≡ width * height
   pub sound : All (IsSound N layers) cells
   pub noted : AreNoted N width height notes cells
+
+-- what holds of a level in words: these, and each object is noted where it stands
+pub record IsSheet (N width height depth : ℕ) (layers : List ℕ) (sets : List (List ℕ)) (cells : List (Cell N)) (notes : HeadingSets) (planes : PlaneSets) : Type 0 where
+  pub stored : IsStored N width height depth layers sets cells notes
+  pub placed : ArePlaced N (length layers) width height planes cells
+
+-- cells of which each has the objects of the other of its number
+abbrev pub HaveSameObjects : (N : ℕ) → List (Cell N) → List (Cell N) → Type 0
+HaveSameObjects N old new = (index : ℕ) (cell : Cell N) → (slice_index_or new index cell).objects ≡ (slice_index_or old index cell).objects
 
 -- cells of words that are seen as others, each made from one of those by a function
 pub record AreMapped (N depth : ℕ) (layers : List ℕ) (f : List (Option Piece) → List (Option Piece)) (old new : List (Cell N)) : Type 0 where

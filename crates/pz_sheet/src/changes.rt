@@ -43,8 +43,10 @@ impl<const N: usize> Sheet<N> {
         requires { IsChangeOf N self.old.grid change.now }
         ensures { self.new.grid ≡ with_cell self.old.grid (change_seen N self.old.grid.depth self.old.grid.layers change.now) }
     {
+        let before = self.cells[change.index];
         self.cells[change.index] = change.cell;
         self.notes.note(change.index, &change.cell);
+        self.planes.note_at(change.index, &before, &change.cell);
     }
 }
 

@@ -15,6 +15,7 @@ impl<const N: usize> Sheet<N> {
         let sets = Vec::from_slice(alloc, &self.sets)?;
         let cells = Vec::from_slice(alloc, &self.cells)?;
         let notes = self.notes.copy()?;
+        let planes = self.planes.copy()?;
         let copy = Sheet {
             width: self.width,
             height: self.height,
@@ -23,6 +24,7 @@ impl<const N: usize> Sheet<N> {
             sets,
             cells,
             notes,
+            planes,
         };
         Ok(copy)
     }
@@ -35,7 +37,9 @@ impl<const N: usize> Sheet<N> {
         make_room(&mut self.layers, other.layers.len())?;
         make_room(&mut self.sets, other.sets.len())?;
         make_room(&mut self.cells, other.cells.len())?;
+        let planes = other.planes.copy()?;
         self.notes.copy_from(&other.notes)?;
+        self.planes = planes;
         self.width = other.width;
         self.height = other.height;
         self.depth = other.depth;

@@ -5,10 +5,12 @@ ghost use Rattle.std.specs.Prelude.{◌≡◌, ◌+◌, ◌*◌, ◌<◌, length
 ghost use Rattle.pz_sheet.specs.Grid.{IsLawful};
 
 use notes::Notes;
+use planes::Planes;
 use pz_cells::cell::Cell;
 use pz_sets::set::NumberSet;
 use std::marker::Model;
 
+mod bits;
 pub mod changes;
 mod copying;
 mod headings;
@@ -18,6 +20,7 @@ mod loading;
 mod movement;
 mod notes;
 mod place;
+mod planes;
 mod pushing;
 mod reading;
 mod runs;
@@ -25,7 +28,7 @@ mod sameness;
 mod searching;
 
 /// The cells of a level, in `N` words for the objects and `N` for their headings, with the sets of the objects of the game's layers, and
-/// what is noted of where the cells head.
+/// what is noted of where the cells head and where the objects stand.
 #[derive(Drop)]
 pub struct Sheet<const N: usize> {
     width: u32,
@@ -35,17 +38,18 @@ pub struct Sheet<const N: usize> {
     sets: Vec<NumberSet>,
     cells: Vec<Cell<N>>,
     notes: Notes,
+    planes: Planes,
 }
 
 impl<const N: usize> Model for Sheet<N> {
     ghost use Rattle.pz_sheet.specs.Grid.{BareState};
-    ghost use Rattle.pz_sheet.specs.Seen.{grid_of, IsStored};
+    ghost use Rattle.pz_sheet.specs.Seen.{grid_of, IsSheet};
 
     ghost Value = { BareState };
 
     ghost view = { λ a. record { grid = grid_of N a.width a.height a.depth a.layers.items a.cells.items } };
 
-    ghost invariant = { λ a. IsStored N a.width a.height a.depth a.layers.items a.sets.items a.cells.items a.notes };
+    ghost invariant = { λ a. IsSheet N a.width a.height a.depth a.layers.items a.sets.items a.cells.items a.notes a.planes };
 }
 
 impl<const N: usize> Sheet<N> {

@@ -11,6 +11,7 @@ ghost use Rattle.pz_sheet.specs.Seen.{seen, IsSound, AreMapped};
 
 use crate::Sheet;
 use crate::notes::Notes;
+use crate::planes::Planes;
 use pz_cells::cell::Cell;
 use pz_cells::piece::Piece;
 use pz_game::game::Game;
@@ -34,6 +35,8 @@ impl<const N: usize> Sheet<N> {
         let height = drawing.height();
         let mut notes = Notes::empty(alloc, width as usize, height as usize)?;
         notes.renew(&cells);
+        let mut planes = Planes::empty(alloc, layers.len(), width as usize, height as usize)?;
+        planes.note_all(&cells);
         Ok(Sheet {
             width,
             height,
@@ -42,6 +45,7 @@ impl<const N: usize> Sheet<N> {
             sets,
             cells,
             notes,
+            planes,
         })
     }
 
@@ -61,6 +65,7 @@ impl<const N: usize> Sheet<N> {
             piece,
         );
         self.notes.renew(&self.cells);
+        self.planes.note_all(&self.cells);
     }
 }
 

@@ -6,7 +6,7 @@ ghost use Rattle.pz_cells.specs.Shown.{cell_of, AreLawful};
 ghost use Rattle.pz_sets.specs.Sets.{member};
 ghost use Rattle.pz_sheet.specs.Grid.{IsLawful, cell_at, place_at};
 ghost use Rattle.pz_sheet.specs.Movement.{stilled};
-ghost use Rattle.pz_sheet.specs.Seen.{IsSound, AreMapped, HeadNowhere};
+ghost use Rattle.pz_sheet.specs.Seen.{IsSound, AreMapped, HeadNowhere, HaveSameObjects};
 
 use crate::Sheet;
 use crate::notes::is_empty;
@@ -68,6 +68,7 @@ fn still_cells<const N: usize>(cells: &mut Vec<Cell<N>>, depth: usize, layers: &
     requires sound { All (IsSound N layers.now) cells.old.items }
     ensures mapped { AreMapped N depth layers.now (map still_place) cells.old.items cells.new.items }
     ensures nowhere { HeadNowhere N cells.new.items }
+    ensures objects { HaveSameObjects N cells.old.items cells.new.items }
 {
     for index in 0..cells.len() {
         still_cell(&mut cells[index], depth, layers);
@@ -79,6 +80,7 @@ fn still_cell<const N: usize>(cell: &mut Cell<N>, depth: usize, layers: &[usize]
     ensures lawful { AreLawful layers.now cell.new.objects cell.new.movement }
     ensures cell { cell_of depth layers.now cell.new.objects cell.new.movement ≡ map still_place (cell_of depth layers.now cell.old.objects cell.old.movement) }
     ensures none { (number : ℕ) → member cell.new.movement number ≡ false }
+    ensures objects { cell.new.objects ≡ cell.old.objects }
 {
     // (the contract alone speaks of the layers)
     let _ = depth;

@@ -38,8 +38,10 @@ impl<const N: usize> Sheet<N> {
         let index = self.index(x, y);
         let here = self.cells[index].place(&self.layers, self.sets[layer].words(), layer);
         let cell = &mut self.cells[index];
+        let before = *cell;
         cell.put(&self.layers, layer, here, place);
         self.notes.note(index, cell);
+        self.planes.note(x as usize, y as usize, &before, cell);
     }
 
     /// Whether a rule's cell holds at a position of the map.
@@ -64,8 +66,10 @@ impl<const N: usize> Sheet<N> {
     {
         let index = self.index(x, y);
         let cell = &mut self.cells[index];
+        let before = *cell;
         let changed = cell.rewrite(self.depth, &self.layers, &self.sets, left, right);
         self.notes.note(index, cell);
+        self.planes.note(x as usize, y as usize, &before, cell);
         changed
     }
 }

@@ -45,8 +45,10 @@ impl<const N: usize> Sheet<N> {
         ensures { self.new.grid ≡ pushed_at players.now dir index self.old.grid }
     {
         let cell = &mut self.cells[index];
+        let before = *cell;
         push_cell(cell, self.depth, &self.layers, players, dir);
         self.notes.note(index, cell);
+        self.planes.note_at(index, &before, cell);
     }
 }
 

@@ -1,13 +1,14 @@
 //! Rules' cells one after another in a direction: whether they hold from a position on, and where in a line they do so next.
 
-ghost use Rattle.std.specs.Prelude.{◌≡◌, ◌<◌, ◌≤◌, ◌^◌, All, true, length, slice_index_or, []};
+ghost use Rattle.std.specs.Prelude.{◌≡◌, ℕ, ◌<◌, ◌≤◌, ◌^◌, All, true, length, slice_index_or, []};
+ghost use Rattle.pz_sets.specs.Sets.{in_word};
 ghost use Rattle.pz_game.specs.Pattern.{AreOf};
 ghost use Rattle.pz_cells.specs.Pattern.{pattern_holds};
 ghost use Rattle.pz_sheet.specs.Grid.{cell_at};
 ghost use Rattle.pz_sheet.specs.Runs.{on_map, along, holds_at, run_holds, runs_in_row, runs_in_column};
 ghost use Rattle.pz_sheet.specs.Searching.{IsNext};
 
-use crate::Sheet;
+use crate::{Sheet, bits};
 use pz_game::direction::Dir;
 use pz_game::pattern::Pattern;
 
@@ -166,8 +167,62 @@ impl<const N: usize> Sheet<N> {
         }
     }
 
+    /// The columns of a row of the map from which rules' cells may hold, by what is noted of the objects that they name as present: all from
+    /// which they do. Nothing is told of cells that stand in other rows.
+    fn starts_in_row(&self, dir: Dir, y: u32, patterns: &[Pattern]) -> u128
+        requires narrow { self.now.grid.width ≤ 128 }
+        requires some { 0 < length patterns.now }
+        requires y_in { y < self.now.grid.height }
+        requires of_game { All (AreOf self.now.grid.layers) patterns.now }
+        ensures { (x : ℕ) → x < self.now.grid.width → runs_in_row self.now.grid dir y patterns.now x ≡ true → in_word result x ≡ true }
+    {
+        let rows = self.planes.rows();
+        match dir {
+            Dir::Right => rows.starts_ahead(y as usize, patterns),
+            Dir::Left => rows.starts_back(y as usize, patterns),
+            Dir::Up | Dir::Down | Dir::Action => bits::all(),
+        }
+    }
+
+    /// The same of the rows of a column.
+    fn starts_in_column(&self, dir: Dir, x: u32, patterns: &[Pattern]) -> u128
+        requires low { self.now.grid.height ≤ 128 }
+        requires some { 0 < length patterns.now }
+        requires x_in { x < self.now.grid.width }
+        requires of_game { All (AreOf self.now.grid.layers) patterns.now }
+        ensures { (y : ℕ) → y < self.now.grid.height → runs_in_column self.now.grid dir x patterns.now y ≡ true → in_word result y ≡ true }
+    {
+        let columns = self.planes.columns();
+        match dir {
+            Dir::Down => columns.starts_ahead(x as usize, patterns),
+            Dir::Up => columns.starts_back(x as usize, patterns),
+            Dir::Left | Dir::Right | Dir::Action => bits::all(),
+        }
+    }
+
     /// The first column from one on from which rules' cells hold in a row of the map.
     pub fn next_run_in_row(&self, dir: Dir, y: u32, from: u32, patterns: &[Pattern]) -> Option<u32>
+        requires some { 0 < length patterns.now }
+        requires y_in { y < self.now.grid.height }
+        requires of_game { All (AreOf self.now.grid.layers) patterns.now }
+        ensures { IsNext (runs_in_row self.now.grid dir y patterns.now) from self.now.grid.width result }
+    {
+        if self.width() > bits::ROOM {
+            return self.next_run_in_wide_row(dir, y, from, patterns);
+        }
+        let starts = self.starts_in_row(dir, y, patterns);
+        let mut x = from;
+        'starts: while let Some(start) = bits::next(starts, x, self.width()) {
+            if self.runs_from(dir, start, y, patterns) {
+                return Some(start);
+            }
+            x = start + 1;
+        }
+        None
+    }
+
+    /// The same, column by column.
+    fn next_run_in_wide_row(&self, dir: Dir, y: u32, from: u32, patterns: &[Pattern]) -> Option<u32>
         requires some { 0 < length patterns.now }
         requires y_in { y < self.now.grid.height }
         requires of_game { All (AreOf self.now.grid.layers) patterns.now }
@@ -183,6 +238,33 @@ impl<const N: usize> Sheet<N> {
 
     /// The first row from one on from which rules' cells hold in a column of the map.
     pub fn next_run_in_column(
+        &self,
+        dir: Dir,
+        x: u32,
+        from: u32,
+        patterns: &[Pattern],
+    ) -> Option<u32>
+        requires some { 0 < length patterns.now }
+        requires x_in { x < self.now.grid.width }
+        requires of_game { All (AreOf self.now.grid.layers) patterns.now }
+        ensures { IsNext (runs_in_column self.now.grid dir x patterns.now) from self.now.grid.height result }
+    {
+        if self.height() > bits::ROOM {
+            return self.next_run_in_high_column(dir, x, from, patterns);
+        }
+        let starts = self.starts_in_column(dir, x, patterns);
+        let mut y = from;
+        'starts: while let Some(start) = bits::next(starts, y, self.height()) {
+            if self.runs_from(dir, x, start, patterns) {
+                return Some(start);
+            }
+            y = start + 1;
+        }
+        None
+    }
+
+    /// The same, row by row.
+    fn next_run_in_high_column(
         &self,
         dir: Dir,
         x: u32,

@@ -18,18 +18,18 @@ changes_between-requires g c =
     let layers : c.deref.result.now ≡ b.layers.items = c.deref.ensures.value ∙ (ap (λ (g : Grid). g.layers) e ∙ (sym c.requires.size.layers ∙ sym (ap (λ (g : Grid). g.layers) f))) in
     let width : a.width ≡ b.width = ap (λ (g : Grid). g.width) e ∙ (sym c.requires.size.width ∙ sym (ap (λ (g : Grid). g.width) f)) in
     let height : a.height ≡ b.height = ap (λ (g : Grid). g.height) e ∙ (sym c.requires.size.height ∙ sym (ap (λ (g : Grid). g.height) f)) in (
-      small_cell _ c.self.invariant.short,
+      small_cell _ c.self.invariant.stored.short,
       (
-        small_change _ c.self.invariant.short,
+        small_change _ c.self.invariant.stored.short,
         (
-          c.self.invariant.short,
+          c.self.invariant.stored.short,
           (
-            subst (λ (all : List ℕ). All (λ layer. layer < a.depth) all) (sym c.deref.ensures.value) c.self.invariant.layered,
+            subst (λ (all : List ℕ). All (λ layer. layer < a.depth) all) (sym c.deref.ensures.value) c.self.invariant.stored.layered,
             (
-              subst (λ (cells : List (Cell g.row.N)). All (IsSound g.row.N c.deref.result.now) cells) (sym c.deref-2.ensures.value) (sound_read g.row.N a.layers.items c.deref.result.now a.cells.items c.deref.ensures.value c.self.invariant.sound),
+              subst (λ (cells : List (Cell g.row.N)). All (IsSound g.row.N c.deref.result.now) cells) (sym c.deref-2.ensures.value) (sound_read g.row.N a.layers.items c.deref.result.now a.cells.items c.deref.ensures.value c.self.invariant.stored.sound),
               (
-                subst (λ (cells : List (Cell g.row.N)). All (IsSound g.row.N c.deref.result.now) cells) (sym c.deref-3.ensures.value) (sound_read g.row.N b.layers.items c.deref.result.now b.cells.items layers c.older.invariant.sound),
-                ap length c.deref-2.ensures.value ∙ (c.self.invariant.covers ∙ (ap (λ (w : ℕ). w * a.height) width ∙ (ap (λ (h : ℕ). b.width * h) height ∙ (sym c.older.invariant.covers ∙ sym (ap length c.deref-3.ensures.value))))),
+                subst (λ (cells : List (Cell g.row.N)). All (IsSound g.row.N c.deref.result.now) cells) (sym c.deref-3.ensures.value) (sound_read g.row.N b.layers.items c.deref.result.now b.cells.items layers c.older.invariant.stored.sound),
+                ap length c.deref-2.ensures.value ∙ (c.self.invariant.stored.covers ∙ (ap (λ (w : ℕ). w * a.height) width ∙ (ap (λ (h : ℕ). b.width * h) height ∙ (sym c.older.invariant.stored.covers ∙ sym (ap length c.deref-3.ensures.value))))),
               ),
             ),
           ),
@@ -44,7 +44,7 @@ pub returns-clause-way_back : goal.returns-clause-way_back
 returns-clause-way_back g c =
     let grid = c.args.self.now.grid in
     let older = c.args.older.now.grid in
-    let lawful = subst IsLawful (ap (λ (s : BareState). s.grid) c.self.view_is) (lawful_seen _ _ _ _ _ _ _ _ c.self.invariant) in
-    let lawful_older = subst IsLawful (ap (λ (s : BareState). s.grid) c.older.view_is) (lawful_seen _ _ _ _ _ _ _ _ c.older.invariant) in
+    let lawful = subst IsLawful (ap (λ (s : BareState). s.grid) c.self.view_is) (lawful_seen _ _ _ _ _ _ _ _ c.self.invariant.stored) in
+    let lawful_older = subst IsLawful (ap (λ (s : BareState). s.grid) c.older.view_is) (lawful_seen _ _ _ _ _ _ _ _ c.older.invariant.stored) in
     IfOk-weaker c.changes_between.result (λ changes. changes_seen g.row.N grid changes.items ≡ changed_cells grid older) (λ changes. restored (changes_seen g.row.N grid changes.items) grid ≡ older)
     (λ changes e. way_back_by grid older (changes_seen g.row.N grid changes.items) c.requires.size lawful lawful_older e) (returns-clause-changes g c)

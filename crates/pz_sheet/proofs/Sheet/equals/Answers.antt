@@ -15,5 +15,5 @@ returns-then-same_size g c =
     let y = c.same_cells.result in
     let cells = subst (λ (there : List (Cell g.row.N)). IsTrue y ↔ HaveSame g.row.N a.cells.items there) c.deref-then-same_size.ensures.value
     (subst (λ (here : List (Cell g.row.N)). IsTrue y ↔ HaveSame g.row.N here c.deref-then-same_size.result.now) c.deref.ensures.value c.same_cells.ensures) in
-    decided_both g.row.N a.width a.height a.depth a.layers.items a.sets.items a.cells.items a.notes b.width b.height b.depth b.layers.items b.sets.items b.cells.items b.notes c.self.invariant c.other.invariant
+    decided_both g.row.N a.width a.height a.depth a.layers.items a.sets.items a.cells.items a.notes b.width b.height b.depth b.layers.items b.sets.items b.cells.items b.notes c.self.invariant.stored c.other.invariant.stored
     c.args.self.now.grid c.args.other.now.grid c.same_size.result y e f c.same_size.ensures cells c.if-same_size.true

@@ -1,7 +1,11 @@
 use Rattle.std.proofs.Common.{◌≡◌, ◌<◌, ℕ, List, Some, length, arith, ap, sym, ◌∙◌, subst}
+use Rattle.std.specs.List.{All}
+use Rattle.pz_cells.specs.declared.cell.Cell.{Cell}
 use Rattle.pz_cells.specs.Cell.{IsOnLayer}
 use Rattle.pz_sheet.specs.Grid.{Grid, BareState}
 use Rattle.pz_sheet.specs.Loading.{filled_cell}
+use Rattle.pz_sheet.specs.Planes.{AreKnown, AreAllThere}
+use Rattle.pz_sheet.proofs.PlaneLemmas.{covers_all, all_known, placed_all}
 use Rattle.pz_sheet.proofs.SheetLemmas.{small_cell, set_read, lawful_seen}
 use Rattle.pz_sheet.proofs.MapLemmas.{stored_mapped, mapped_read, sound_read, noted_read}
 use Rattle.pz_sheet.proofs.Sheet.fill.Goals as goal
@@ -13,24 +17,24 @@ fill_cells-requires g c =
     let same = c.deref.ensures.value in
     let long : length c.deref.result.now ≡ length a.layers.items = ap (λ (layers : List ℕ). length layers) same in
     let low : c.args.layer < a.depth = omega (arith, c.requires.layer_in, ap (λ (grid : Grid). grid.depth) e) in (
-      small_cell _ c.self.invariant.short,
+      small_cell _ c.self.invariant.stored.short,
       (
-        c.self.invariant.short,
+        c.self.invariant.stored.short,
         (
-          omega (arith, long, c.self.invariant.few),
+          omega (arith, long, c.self.invariant.stored.few),
           (
-            omega (arith, c.self.invariant.shallow),
+            omega (arith, c.self.invariant.stored.shallow),
             (
-              omega (arith, long, c.self.invariant.room),
+              omega (arith, long, c.self.invariant.stored.room),
               (
-                c.self.invariant.movement_room,
+                c.self.invariant.stored.movement_room,
                 (
                   low,
                   (
-                    set_read a.layers.items _ a.sets.items c.args.layer _ _ c.self.invariant.table (omega (arith, low, c.self.invariant.deep)) c.index.ensures c.words.ensures.words same,
+                    set_read a.layers.items _ a.sets.items c.args.layer _ _ c.self.invariant.stored.table (omega (arith, low, c.self.invariant.stored.deep)) c.index.ensures c.words.ensures.words same,
                     (
                       subst (λ (layers : List ℕ). IsOnLayer layers c.args.layer (Some c.args.piece)) (sym (same ∙ ap (λ (grid : Grid). grid.layers) e)) c.requires.on_layer,
-                      sound_read _ a.layers.items c.deref.result.now a.cells.items same c.self.invariant.sound,
+                      sound_read _ a.layers.items c.deref.result.now a.cells.items same c.self.invariant.stored.sound,
                     ),
                   ),
                 ),
@@ -41,12 +45,36 @@ fill_cells-requires g c =
       ),
     )
 
+pub note_all-requires : goal.note_all-requires
+note_all-requires g c =
+    let a = c.self.inside in
+    let cells = c.fill_cells.new.cells.items in
+    let mapped = mapped_read _ a.depth a.layers.items c.deref.result.now (filled_cell c.args.layer c.args.piece) a.cells.items cells c.deref.ensures.value c.fill_cells.ensures in
+    let stored = stored_mapped _ a.width a.height a.depth a.layers.items a.sets.items (filled_cell c.args.layer c.args.piece) a.cells.items cells a.notes c.renew.new.self c.self.invariant.stored mapped
+    (noted_read _ a.width a.height _ _ c.renew.new.self cells c.deref-2.result.now c.self.invariant.stored.noted.column_count c.self.invariant.stored.noted.row_count c.deref-2.ensures.value c.renew.ensures) in
+    let fits = c.self.invariant.placed.fits in
+    let is = c.deref-3.ensures.value in (
+      small_cell _ c.self.invariant.stored.short,
+      (
+        c.self.invariant.stored.short,
+        (
+          covers_all _ a.width a.height _ a.planes fits (ap (λ (all : List (Cell g.row.N)). length all) is ∙ stored.covers),
+          subst (λ (all : List (Cell g.row.N)). All (λ cell. AreKnown a.planes cell.objects) all) (sym is) (all_known _ a.layers.items a.width a.height a.planes cells fits stored.sound),
+        ),
+      ),
+    )
+
 pub invariant_of-self : goal.invariant_of-self
 invariant_of-self g c =
     let a = c.self.inside in
-    stored_mapped _ a.width a.height a.depth a.layers.items a.sets.items (filled_cell c.args.layer c.args.piece) a.cells.items c.fill_cells.new.cells.items a.notes c.renew.new.self c.self.invariant
-    (mapped_read _ a.depth a.layers.items c.deref.result.now (filled_cell c.args.layer c.args.piece) a.cells.items c.fill_cells.new.cells.items c.deref.ensures.value c.fill_cells.ensures)
-    (noted_read _ a.width a.height _ _ c.renew.new.self c.fill_cells.new.cells.items c.deref-2.result.now c.self.invariant.noted.column_count c.self.invariant.noted.row_count c.deref-2.ensures.value c.renew.ensures)
+    let cells = c.fill_cells.new.cells.items in
+    record {
+      stored = stored_mapped _ a.width a.height a.depth a.layers.items a.sets.items (filled_cell c.args.layer c.args.piece) a.cells.items cells a.notes c.renew.new.self c.self.invariant.stored
+          (mapped_read _ a.depth a.layers.items c.deref.result.now (filled_cell c.args.layer c.args.piece) a.cells.items cells c.deref.ensures.value c.fill_cells.ensures)
+          (noted_read _ a.width a.height _ _ c.renew.new.self cells c.deref-2.result.now c.self.invariant.stored.noted.column_count c.self.invariant.stored.noted.row_count c.deref-2.ensures.value c.renew.ensures);
+      placed = placed_all _ (length a.layers.items) a.width a.height a.planes c.note_all.new.self cells c.self.invariant.placed.fits c.note_all.ensures.size
+          (subst (AreAllThere g.row.N a.planes.columns.count a.planes.rows.count c.note_all.new.self) c.deref-3.ensures.value c.note_all.ensures.there);
+    }
 
 pub returns-clause-lawful : goal.returns-clause-lawful
-returns-clause-lawful g c = lawful_seen _ _ _ _ _ _ _ _ (invariant_of-self g c)
+returns-clause-lawful g c = lawful_seen _ _ _ _ _ _ _ _ (invariant_of-self g c).stored

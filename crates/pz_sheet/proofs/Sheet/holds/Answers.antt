@@ -17,20 +17,20 @@ holds-requires g c =
     let within = seen_within _ _ _ a.depth a.layers.items a.cells.items _ at e c.index-index.ensures.within in
     let of_game : AreOf a.layers.items c.args.pattern.now = subst (λ (grid : Grid). AreOf grid.layers c.args.pattern.now) (sym e) c.requires.of_game in
     let same = c.deref.ensures.value in (
-      small_cell _ c.self.invariant.short,
+      small_cell _ c.self.invariant.stored.short,
       (
-        subst (λ (layers : List ℕ). All (λ layer. layer < a.depth) layers) (sym same) c.self.invariant.layered,
+        subst (λ (layers : List ℕ). All (λ layer. layer < a.depth) layers) (sym same) c.self.invariant.stored.layered,
         (
-          omega (arith, ap (λ (layers : List ℕ). length layers) same, c.self.invariant.few),
+          omega (arith, ap (λ (layers : List ℕ). length layers) same, c.self.invariant.stored.few),
           (
-            omega (arith, c.self.invariant.shallow),
+            omega (arith, c.self.invariant.stored.shallow),
             (
-              omega (arith, ap (λ (layers : List ℕ). length layers) same, c.self.invariant.room),
+              omega (arith, ap (λ (layers : List ℕ). length layers) same, c.self.invariant.stored.room),
               (
-                c.self.invariant.movement_room,
+                c.self.invariant.stored.movement_room,
                 (
                   subst (λ (layers : List ℕ). AreOf layers c.args.pattern.now) (sym same) of_game,
-                  subst (λ (layers : List ℕ). AreLawful layers cell.objects cell.movement) (sym same) (sound_at _ a.layers.items a.cells.items at cell c.self.invariant.sound within c.index.ensures),
+                  subst (λ (layers : List ℕ). AreLawful layers cell.objects cell.movement) (sym same) (sound_at _ a.layers.items a.cells.items at cell c.self.invariant.stored.sound within c.index.ensures),
                 ),
               ),
             ),

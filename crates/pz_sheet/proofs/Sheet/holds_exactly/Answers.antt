@@ -17,11 +17,11 @@ returns-then-y-self g c =
     let cell = c.index-then-y-self.result.now in
     let at = c.index.result in
     let within = seen_within _ _ _ a.depth a.layers.items a.cells.items _ at e c.index.ensures.within in
-    let sound = sound_at _ a.layers.items a.cells.items at cell c.self.invariant.sound within c.index-then-y-self.ensures in
+    let sound = sound_at _ a.layers.items a.cells.items at cell c.self.invariant.stored.sound within c.index-then-y-self.ensures in
     let wide : c.args.x < grid.width = omega (arith, c.if-x-self.true, ap (λ (g : Grid). g.width) e) in
     let high : c.args.y < grid.height = omega (arith, c.if-y-self.true, ap (λ (g : Grid). g.height) e) in
     let there : (object : ℕ) → member cell.objects object ≡ stands grid c.args.x c.args.y object = λ object.
-    member_seen a.depth a.layers.items cell.objects cell.movement object c.self.invariant.layered sound
+    member_seen a.depth a.layers.items cell.objects cell.movement object c.self.invariant.stored.layered sound
     ∙ (ap (λ (here : List (Option Piece)). is_some (standing here object)) (seen_at _ _ _ a.depth a.layers.items a.cells.items grid at cell e within c.index-then-y-self.ensures ∙ ap (λ (i : ℕ). get_or grid.cells i []) c.index.ensures.index)
     ∙ ap (λ (stand : Option (Option Dir)). is_some stand) (sym (standing_on_map grid c.args.x c.args.y object wide high))) in
     (λ yes object. sym (c.has_exactly.ensures.0 yes object) ∙ there object, λ same. c.has_exactly.ensures.1 (λ object. there object ∙ sym (same object)))

@@ -20,10 +20,10 @@ returns g c =
     let at = c.args.index in
     let cell = c.index.result.now in
     let within = seen_within _ _ _ a.depth a.layers.items a.cells.items _ at e c.requires.within in
-    let sound = sound_at _ a.layers.items a.cells.items at cell c.self.invariant.sound within c.index.ensures in
-    let low : (object : ℕ) → member cell.objects object ≡ true → object < CAPACITY = λ object there. omega (arith, sound.of_game object there, c.self.invariant.few) in
+    let sound = sound_at _ a.layers.items a.cells.items at cell c.self.invariant.stored.sound within c.index.ensures in
+    let low : (object : ℕ) → member cell.objects object ≡ true → object < CAPACITY = λ object there. omega (arith, sound.of_game object there, c.self.invariant.stored.few) in
     let test : IsTrue c.is_disjoint.result ↔ AreApart cell.objects c.args.set.now = subst (λ (words : List ℕ). IsTrue c.is_disjoint.result ↔ AreApart cell.objects words) c.words.ensures.words c.is_disjoint.ensures in
     let here = seen_at _ _ _ a.depth a.layers.items a.cells.items grid at cell e within c.index.ensures in
     found_by_set objects cell.objects c.args.set.now c.requires.set low c.is_disjoint.result test
     ∙ any_alike (member cell.objects) (is_in (get_or grid.cells at [])) objects (λ object.
-    member_seen a.depth a.layers.items cell.objects cell.movement object c.self.invariant.layered sound ∙ ap (λ (there : List (Option Piece)). is_some (standing there object)) here)
+    member_seen a.depth a.layers.items cell.objects cell.movement object c.self.invariant.stored.layered sound ∙ ap (λ (there : List (Option Piece)). is_some (standing there object)) here)

@@ -12,6 +12,6 @@ returns g c =
     let e = ap (λ (s : BareState). s.grid) c.self.view_is in
     let cell = c.index.result.now in
     let within = seen_within _ _ _ a.depth a.layers.items a.cells.items _ c.args.index e c.requires in
-    let sound = sound_at _ a.layers.items a.cells.items c.args.index cell c.self.invariant.sound within c.index.ensures in
-    c.has.ensures ∙ (member_seen a.depth a.layers.items cell.objects cell.movement c.args.object c.self.invariant.layered sound
+    let sound = sound_at _ a.layers.items a.cells.items c.args.index cell c.self.invariant.stored.sound within c.index.ensures in
+    c.has.ensures ∙ (member_seen a.depth a.layers.items cell.objects cell.movement c.args.object c.self.invariant.stored.layered sound
     ∙ ap (λ (here : List (Option Piece)). is_some (standing here c.args.object)) (seen_at _ _ _ a.depth a.layers.items a.cells.items c.args.self.now.grid c.args.index cell e within c.index.ensures))

@@ -9,7 +9,7 @@ use Rattle.pz_sheet.proofs.Sheet.is_layer_still.Goals as goal
 pub is_layer_still-requires : goal.is_layer_still-requires
 is_layer_still-requires g c =
     let low : c.args.layer < c.self.inside.depth = omega (arith, c.requires.layer_in, ap (λ (s : BareState). s.grid.depth) c.self.view_is) in
-    (small_cell _ c.self.invariant.short, (c.self.invariant.short, omega (arith, low, c.self.invariant.shallow)))
+    (small_cell _ c.self.invariant.stored.short, (c.self.invariant.stored.short, omega (arith, low, c.self.invariant.stored.shallow)))
 
 pub returns : goal.returns
 returns g c = λ still.

@@ -10,7 +10,7 @@ use Rattle.pz_sheet.proofs.MapLemmas.{cell_mapped, still_shows}
 use Rattle.pz_sheet.proofs.Sheet.is_still.Goals as goal
 
 pub is_still-requires : goal.is_still-requires
-is_still-requires g c = (small_cell _ c.self.invariant.short, c.self.invariant.short)
+is_still-requires g c = (small_cell _ c.self.invariant.stored.short, c.self.invariant.stored.short)
 
 pub returns : goal.returns
 returns g c = λ still.
@@ -20,7 +20,7 @@ returns g c = λ still.
     let cell = c.index.result.now in
     let at = c.index-index.result in
     let within = seen_within _ _ _ a.depth layers a.cells.items _ at e c.index-index.ensures.within in
-    let sound = sound_at _ layers a.cells.items at cell c.self.invariant.sound within c.index.ensures in
+    let sound = sound_at _ layers a.cells.items at cell c.self.invariant.stored.sound within c.index.ensures in
     let none = c.is_still.ensures still in
     let shows = λ (layer : ℕ). still_shows layers (member cell.objects) (heads cell.movement layer) (heads cell.movement layer) layer (place_of layers cell.objects cell.movement layer) (λ dir. none (flag layer dir)) (sound.shows layer) in
     let stilled : cell_of a.depth layers cell.objects cell.movement ≡ map still_place (cell_of a.depth layers cell.objects cell.movement) =

@@ -18,13 +18,13 @@ piece-requires g c =
     let cell = c.index-then-y-self.result.now in
     let at = c.index.result in
     let within = seen_within _ _ _ a.depth a.layers.items a.cells.items _ at e c.index.ensures.within in
-    let sound = sound_at _ a.layers.items a.cells.items at cell c.self.invariant.sound within c.index-then-y-self.ensures in
+    let sound = sound_at _ a.layers.items a.cells.items at cell c.self.invariant.stored.sound within c.index-then-y-self.ensures in
     let same = c.deref.ensures.value in (
-      small_cell _ c.self.invariant.short,
+      small_cell _ c.self.invariant.stored.short,
       (
-        omega (arith, ap (λ (layers : List ℕ). length layers) same, c.self.invariant.few),
+        omega (arith, ap (λ (layers : List ℕ). length layers) same, c.self.invariant.stored.few),
         (
-          subst (λ (layers : List ℕ). All (λ layer. layer < MAX_LAYERS) layers) (sym same) (λ k d h. omega (arith, c.self.invariant.layered k d h, c.self.invariant.shallow)),
+          subst (λ (layers : List ℕ). All (λ layer. layer < MAX_LAYERS) layers) (sym same) (λ k d h. omega (arith, c.self.invariant.stored.layered k d h, c.self.invariant.stored.shallow)),
           subst (λ (layers : List ℕ). AreLawful layers cell.objects cell.movement) (sym same) sound,
         ),
       ),
@@ -39,12 +39,12 @@ returns-then-y-self g c =
     let cell = c.index-then-y-self.result.now in
     let at = c.index.result in
     let within = seen_within _ _ _ a.depth a.layers.items a.cells.items _ at e c.index.ensures.within in
-    let sound = sound_at _ a.layers.items a.cells.items at cell c.self.invariant.sound within c.index-then-y-self.ensures in
+    let sound = sound_at _ a.layers.items a.cells.items at cell c.self.invariant.stored.sound within c.index-then-y-self.ensures in
     let wide : c.args.x < grid.width = omega (arith, c.if-x-self.true, ap (λ (g : Grid). g.width) e) in
     let high : c.args.y < grid.height = omega (arith, c.if-y-self.true, ap (λ (g : Grid). g.height) e) in
     let here = seen_at _ _ _ a.depth a.layers.items a.cells.items grid at cell e within c.index-then-y-self.ensures ∙ ap (λ (i : ℕ). get_or grid.cells i []) c.index.ensures.index in
     piece_seen (member cell.objects object) (heading_in cell.movement (get_or c.deref.result.now object 0)) object _ c.piece.result
     (standing_on_map grid c.args.x c.args.y object wide high ∙ (ap (λ (places : List (Option Piece)). standing places object) (sym here)
-    ∙ (standing_seen a.depth a.layers.items cell.objects cell.movement object c.self.invariant.layered sound
+    ∙ (standing_seen a.depth a.layers.items cell.objects cell.movement object c.self.invariant.stored.layered sound
     ∙ ap (λ (layers : List ℕ). standing_by (member cell.objects object) (heading_in cell.movement (get_or layers object 0))) (sym c.deref.ensures.value))))
     c.piece.ensures

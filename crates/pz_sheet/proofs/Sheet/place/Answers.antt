@@ -14,16 +14,16 @@ place-requires g c =
     let within = seen_within _ _ _ a.depth a.layers.items a.cells.items _ at e c.index-index.ensures.within in
     let same = c.deref.ensures.value in
     let low : c.args.layer < a.depth = omega (arith, c.requires.layer_in, ap (λ (grid : Grid). grid.depth) e) in (
-      small_cell _ c.self.invariant.short,
+      small_cell _ c.self.invariant.stored.short,
       (
-        c.self.invariant.short,
+        c.self.invariant.stored.short,
         (
-          omega (arith, ap (λ (layers : List ℕ). length layers) same, c.self.invariant.few),
+          omega (arith, ap (λ (layers : List ℕ). length layers) same, c.self.invariant.stored.few),
           (
-            omega (arith, low, c.self.invariant.shallow),
+            omega (arith, low, c.self.invariant.stored.shallow),
             (
-              subst (λ (layers : List ℕ). AreLawful layers cell.objects cell.movement) (sym same) (sound_at _ a.layers.items a.cells.items at cell c.self.invariant.sound within c.index.ensures),
-              set_read a.layers.items _ a.sets.items c.args.layer _ _ c.self.invariant.table (omega (arith, low, c.self.invariant.deep)) c.index-2.ensures c.words.ensures.words same,
+              subst (λ (layers : List ℕ). AreLawful layers cell.objects cell.movement) (sym same) (sound_at _ a.layers.items a.cells.items at cell c.self.invariant.stored.sound within c.index.ensures),
+              set_read a.layers.items _ a.sets.items c.args.layer _ _ c.self.invariant.stored.table (omega (arith, low, c.self.invariant.stored.deep)) c.index-2.ensures c.words.ensures.words same,
             ),
           ),
         ),
@@ -44,12 +44,12 @@ pub returns-clause-on_layer : goal.returns-clause-on_layer
 returns-clause-on_layer g c =
     let grid = c.args.self.now.grid in
     let at = c.args.y * grid.width + c.args.x in
-    let lawful = subst IsLawful (ap (λ (s : BareState). s.grid) c.self.view_is) (lawful_seen _ _ _ _ _ _ _ _ c.self.invariant) in
+    let lawful = subst IsLawful (ap (λ (s : BareState). s.grid) c.self.view_is) (lawful_seen _ _ _ _ _ _ _ _ c.self.invariant.stored) in
     let within : at < length grid.cells = omega (arith, c.index-index.ensures.within, c.index-index.ensures.index) in
     subst (IsOnLayer grid.layers c.args.layer) (sym (returns-clause-place g c)) ((lawful.stacked at [] within).on_layers c.args.layer)
 
 pub returns-clause-low : goal.returns-clause-low
 returns-clause-low g c =
     let grid = c.args.self.now.grid in
-    let lawful = subst IsLawful (ap (λ (s : BareState). s.grid) c.self.view_is) (lawful_seen _ _ _ _ _ _ _ _ c.self.invariant) in
+    let lawful = subst IsLawful (ap (λ (s : BareState). s.grid) c.self.view_is) (lawful_seen _ _ _ _ _ _ _ _ c.self.invariant.stored) in
     low_place grid.layers c.args.layer c.place.result (omega (arith, lawful.few)) (returns-clause-on_layer g c)

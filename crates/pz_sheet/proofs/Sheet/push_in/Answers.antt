@@ -1,8 +1,9 @@
-use Rattle.std.proofs.Common.{◌<◌, ℕ, List, map, arith, ap, sym, ◌∙◌, refl, subst}
+use Rattle.std.proofs.Common.{◌<◌, ℕ, List, length, map, arith, ap, sym, ◌∙◌, refl, subst}
 use Rattle.std.specs.List.{All}
 use Rattle.pz_cells.specs.Shown.{AreLawful, cell_of}
 use Rattle.pz_sheet.specs.Grid.{Grid, BareState}
 use Rattle.pz_sheet.specs.Pushing.{pushed_place, pushed_at}
+use Rattle.pz_sheet.proofs.PlaneLemmas.{within_at, known_of, there_at, placed_at}
 use Rattle.pz_sheet.proofs.SheetLemmas.{seen_within, sound_at, small_cell, stored_set, grid_set}
 use Rattle.pz_sheet.proofs.Sheet.push_in.Goals as goal
 
@@ -13,14 +14,42 @@ push_cell-requires g c =
     let cell = c.index_mut-cell.result.now in
     let within = seen_within _ _ _ a.depth a.layers.items a.cells.items _ c.args.index e c.requires in
     let same = c.deref.ensures.value in (
-      small_cell _ c.self.invariant.short,
+      small_cell _ c.self.invariant.stored.short,
       (
-        omega (arith, c.self.invariant.shallow),
+        omega (arith, c.self.invariant.stored.shallow),
         (
-          c.self.invariant.movement_room,
+          c.self.invariant.stored.movement_room,
           (
-            subst (λ (layers : List ℕ). All (λ layer. layer < a.depth) layers) (sym same) c.self.invariant.layered,
-            subst (λ (layers : List ℕ). AreLawful layers cell.objects cell.movement) (sym same) (sound_at _ a.layers.items a.cells.items c.args.index cell c.self.invariant.sound within c.index_mut-cell.ensures.value),
+            subst (λ (layers : List ℕ). All (λ layer. layer < a.depth) layers) (sym same) c.self.invariant.stored.layered,
+            subst (λ (layers : List ℕ). AreLawful layers cell.objects cell.movement) (sym same) (sound_at _ a.layers.items a.cells.items c.args.index cell c.self.invariant.stored.sound within c.index_mut-cell.ensures.value),
+          ),
+        ),
+      ),
+    )
+
+pub note_at-requires : goal.note_at-requires
+note_at-requires g c =
+    let a = c.self.inside in
+    let e = ap (λ (s : BareState). s.grid) c.self.view_is in
+    let old = c.index_mut-cell.result.now in
+    let new = c.push_cell.new.cell in
+    let at = c.args.index in
+    let placed = c.self.invariant.placed in
+    let covers = c.self.invariant.stored.covers in
+    let within = seen_within _ _ _ a.depth a.layers.items a.cells.items _ at e c.requires in
+    let sound = sound_at _ a.layers.items a.cells.items at old c.self.invariant.stored.sound within c.index_mut-cell.ensures.value in
+    let sound_new = subst (λ (layers : List ℕ). AreLawful layers new.objects new.movement) c.deref.ensures.value c.push_cell.ensures.lawful in (
+      small_cell _ c.self.invariant.stored.short,
+      (
+        c.self.invariant.stored.short,
+        (
+          within_at _ a.width a.height at _ a.planes placed.fits within covers,
+          (
+            known_of a.layers.items a.width a.height a.planes old.objects placed.fits sound.of_game,
+            (
+              known_of a.layers.items a.width a.height a.planes new.objects placed.fits sound_new.of_game,
+              there_at _ _ a.width a.height at a.planes a.cells.items old placed within covers c.index_mut-cell.ensures.value,
+            ),
           ),
         ),
       ),
@@ -29,9 +58,14 @@ push_cell-requires g c =
 pub invariant_of-self : goal.invariant_of-self
 invariant_of-self g c =
     let a = c.self.inside in
+    let e = ap (λ (s : BareState). s.grid) c.self.view_is in
     let new = c.push_cell.new.cell in
-    stored_set _ a.width a.height a.depth a.layers.items a.sets.items a.cells.items c.args.index new a.notes c.note.new.self c.self.invariant
-    (subst (λ (layers : List ℕ). AreLawful layers new.objects new.movement) c.deref.ensures.value c.push_cell.ensures.lawful) c.note.ensures.noted c.note.ensures.wider
+    let within = seen_within _ _ _ a.depth a.layers.items a.cells.items _ c.args.index e c.requires in
+    record {
+      stored = stored_set _ a.width a.height a.depth a.layers.items a.sets.items a.cells.items c.args.index new a.notes c.note.new.self c.self.invariant.stored
+          (subst (λ (layers : List ℕ). AreLawful layers new.objects new.movement) c.deref.ensures.value c.push_cell.ensures.lawful) c.note.ensures.noted c.note.ensures.wider;
+      placed = placed_at _ (length a.layers.items) a.width a.height a.planes c.note_at.new.self a.cells.items c.args.index new c.self.invariant.placed within c.self.invariant.stored.covers c.note_at.ensures.there c.note_at.ensures.kept;
+    }
 
 pub returns : goal.returns
 returns g c =

@@ -5,6 +5,7 @@ use Rattle.pz_cells.specs.Shown.{AreLawful, cell_of}
 use Rattle.pz_cells.specs.Rewriting.{rewritten_cell}
 use Rattle.pz_sheet.specs.Grid.{Grid, BareState}
 use Rattle.pz_sheet.specs.Rewriting.{with_rewritten}
+use Rattle.pz_sheet.proofs.PlaneLemmas.{inside_of, known_of, there_of, placed_set}
 use Rattle.pz_sheet.proofs.SheetLemmas.{IsTable, seen_within, sound_at, small_cell, stored_set, grid_set}
 use Rattle.pz_sheet.proofs.Sheet.rewrite.Goals as goal
 
@@ -18,28 +19,28 @@ rewrite-changed-requires g c =
     let same = c.deref.ensures.value in
     let long : length c.deref.result.now ≡ length a.layers.items = ap (λ (layers : List ℕ). length layers) same in
     let sets : c.deref-2.result.now ≡ a.sets.items = c.deref-2.ensures.value in (
-      small_cell _ c.self.invariant.short,
+      small_cell _ c.self.invariant.stored.short,
       (
-        c.self.invariant.short,
+        c.self.invariant.stored.short,
         (
-          omega (arith, long, c.self.invariant.few),
+          omega (arith, long, c.self.invariant.stored.few),
           (
-            omega (arith, c.self.invariant.shallow),
+            omega (arith, c.self.invariant.stored.shallow),
             (
-              omega (arith, long, c.self.invariant.room),
+              omega (arith, long, c.self.invariant.stored.room),
               (
-                c.self.invariant.movement_room,
+                c.self.invariant.stored.movement_room,
                 (
-                  subst (λ (layers : List ℕ). All (λ layer. layer < a.depth) layers) (sym same) c.self.invariant.layered,
+                  subst (λ (layers : List ℕ). All (λ layer. layer < a.depth) layers) (sym same) c.self.invariant.stored.layered,
                   (
-                    ap (λ (table : List (List ℕ)). length table) sets ∙ c.self.invariant.deep,
+                    ap (λ (table : List (List ℕ)). length table) sets ∙ c.self.invariant.stored.deep,
                     (
-                      subst (λ (layers : List ℕ). IsTable layers c.deref-2.result.now) (sym same) (subst (IsTable a.layers.items) (sym sets) c.self.invariant.table),
+                      subst (λ (layers : List ℕ). IsTable layers c.deref-2.result.now) (sym same) (subst (IsTable a.layers.items) (sym sets) c.self.invariant.stored.table),
                       (
                         subst (λ (layers : List ℕ). AreOf layers c.args.left.now) (sym (same ∙ ap (λ (grid : Grid). grid.layers) e)) c.requires.left_of,
                         (
                           subst (λ (layers : List ℕ). AreOf layers c.args.right.now) (sym (same ∙ ap (λ (grid : Grid). grid.layers) e)) c.requires.right_of,
-                          subst (λ (layers : List ℕ). AreLawful layers cell.objects cell.movement) (sym same) (sound_at _ a.layers.items a.cells.items at cell c.self.invariant.sound within c.index_mut-cell.ensures.value),
+                          subst (λ (layers : List ℕ). AreLawful layers cell.objects cell.movement) (sym same) (sound_at _ a.layers.items a.cells.items at cell c.self.invariant.stored.sound within c.index_mut-cell.ensures.value),
                         ),
                       ),
                     ),
@@ -52,12 +53,51 @@ rewrite-changed-requires g c =
       ),
     )
 
+pub note-requires-2 : goal.note-requires-2
+note-requires-2 g c =
+    let a = c.self.inside in
+    let e = ap (λ (s : BareState). s.grid) c.self.view_is in
+    let old = c.index_mut-cell.result.now in
+    let new = c.rewrite-changed.new.self in
+    let at = c.index-index.result in
+    let placed = c.self.invariant.placed in
+    let within = seen_within _ _ _ a.depth a.layers.items a.cells.items _ at e c.index-index.ensures.within in
+    let x_in : c.args.x < a.width = omega (arith, c.requires.x_in, ap (λ (grid : Grid). grid.width) e) in
+    let y_in : c.args.y < a.height = omega (arith, c.requires.y_in, ap (λ (grid : Grid). grid.height) e) in
+    let number : at ≡ c.args.y * a.width + c.args.x = c.index-index.ensures.index ∙ sym (ap (λ (grid : Grid). c.args.y * grid.width + c.args.x) e) in
+    let sound = sound_at _ a.layers.items a.cells.items at old c.self.invariant.stored.sound within c.index_mut-cell.ensures.value in
+    let sound_new = subst (λ (layers : List ℕ). AreLawful layers new.objects new.movement) c.deref.ensures.value c.rewrite-changed.ensures.lawful in (
+      small_cell _ c.self.invariant.stored.short,
+      (
+        c.self.invariant.stored.short,
+        (
+          inside_of _ a.width a.height c.args.x c.args.y a.planes placed.fits x_in y_in,
+          (
+            known_of a.layers.items a.width a.height a.planes old.objects placed.fits sound.of_game,
+            (
+              known_of a.layers.items a.width a.height a.planes new.objects placed.fits sound_new.of_game,
+              there_of _ _ a.width a.height a.planes a.cells.items at c.args.x c.args.y old placed number x_in y_in c.index_mut-cell.ensures.value,
+            ),
+          ),
+        ),
+      ),
+    )
+
 pub invariant_of-self : goal.invariant_of-self
 invariant_of-self g c =
     let a = c.self.inside in
+    let e = ap (λ (s : BareState). s.grid) c.self.view_is in
     let new = c.rewrite-changed.new.self in
-    stored_set _ a.width a.height a.depth a.layers.items a.sets.items a.cells.items c.index-index.result new a.notes c.note.new.self c.self.invariant
-    (subst (λ (layers : List ℕ). AreLawful layers new.objects new.movement) c.deref.ensures.value c.rewrite-changed.ensures.lawful) c.note.ensures.noted c.note.ensures.wider
+    let at = c.index-index.result in
+    let within = seen_within _ _ _ a.depth a.layers.items a.cells.items _ at e c.index-index.ensures.within in
+    let x_in : c.args.x < a.width = omega (arith, c.requires.x_in, ap (λ (grid : Grid). grid.width) e) in
+    let y_in : c.args.y < a.height = omega (arith, c.requires.y_in, ap (λ (grid : Grid). grid.height) e) in
+    let number : at ≡ c.args.y * a.width + c.args.x = c.index-index.ensures.index ∙ sym (ap (λ (grid : Grid). c.args.y * grid.width + c.args.x) e) in
+    record {
+      stored = stored_set _ a.width a.height a.depth a.layers.items a.sets.items a.cells.items at new a.notes c.note.new.self c.self.invariant.stored
+          (subst (λ (layers : List ℕ). AreLawful layers new.objects new.movement) c.deref.ensures.value c.rewrite-changed.ensures.lawful) c.note.ensures.noted c.note.ensures.wider;
+      placed = placed_set _ (length a.layers.items) a.width a.height a.planes c.note-2.new.self a.cells.items at c.args.x c.args.y new c.self.invariant.placed number x_in y_in within c.note-2.ensures.there c.note-2.ensures.kept;
+    }
 
 pub returns-clause-level : goal.returns-clause-level
 returns-clause-level g c =

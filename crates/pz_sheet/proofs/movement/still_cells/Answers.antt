@@ -1,13 +1,14 @@
-use Rattle.std.proofs.Common.{◌≡◌, ◌<◌, length, arith, map, ◌∙◌}
+use Rattle.std.proofs.Common.{◌≡◌, ◌<◌, length, arith, map, ◌∙◌, refl}
 use Rattle.pz_cells.specs.Cell.{still_place}
 use Rattle.pz_sheet.proofs.SheetLemmas.{sound_at, small_cell}
 use Rattle.pz_sheet.proofs.MapLemmas.{mapped_none, mapped_long, mapped_more, mapped_all}
-use Rattle.pz_sheet.proofs.StillLemmas.{nowhere_more}
+use Rattle.pz_sheet.proofs.StillLemmas.{nowhere_more, same_objects_more}
 use Rattle.pz_sheet.proofs.movement.still_cells.Goals as goal
 
 pub loop-index-init : goal.loop-index-init
 loop-index-init g c = record {
   mapped = mapped_none g.row.N c.args.depth c.args.layers.now (map still_place) c.args.cells.now.items c.requires.sound;
+  objects = λ k cell. refl;
   nowhere = λ k cell number below. absurd (omega (arith, below));
 }
 
@@ -27,6 +28,7 @@ loop-index-preserved g c =
     let within : c.loop-index.index < length c.loop-index.cells.items = omega (arith, c.loop-index-test.true, count, long) in
     record {
       mapped = mapped_more g.row.N c.args.depth c.args.layers.now (map still_place) c.args.cells.now.items c.loop-index.cells.items c.loop-index.index c.index_mut.result.now c.still_cell.new.cell within i c.index_mut.ensures.value c.still_cell.ensures.lawful c.still_cell.ensures.cell;
+      objects = same_objects_more g.row.N c.args.cells.now.items c.loop-index.cells.items c.loop-index.index c.index_mut.result.now c.still_cell.new.cell within c.index_mut.ensures.value c.still_cell.ensures.objects c.loop-index.invariant.objects;
       nowhere = nowhere_more g.row.N c.loop-index.cells.items c.loop-index.index c.still_cell.new.cell within c.still_cell.ensures.none c.loop-index.invariant.nowhere;
     }
 

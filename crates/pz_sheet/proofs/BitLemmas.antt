@@ -1,0 +1,38 @@
+-- The bits of a word that is shifted.
+use Rattle.std.proofs.Common.{◌≡◌, ℕ, ◌+◌, ◌-◌, ◌*◌, ◌/◌, ◌%◌, ◌^◌, ◌<◌, ◌≤◌, ◌∷◌, [], true, arith, ap, sym, ◌∙◌, refl, nat_eq}
+use Rattle.std.specs.Int.{bit_at}
+use Rattle.std.proofs.lemmas.Nat.{shr-shr}
+use Rattle.std.proofs.lemmas.Nat.Bits.{bit_at_cat_low, bit_at_cat_high, bit_at_ones}
+use Rattle.std.proofs.Math.Pow.{pow-sub-lt}
+use Rattle.pz_sets.specs.Sets.{in_word, member}
+use Rattle.pz_sets.proofs.WordLemmas.{in_word-from}
+
+pub all_bits : (at : ℕ) → at < 128 → in_word (2 ^ 128 - 1) at ≡ true
+all_bits at low = in_word-from _ at 1 (bit_at_ones 128 at low)
+
+pub bit_ahead : (word k at : ℕ) → in_word (word / 2 ^ k) at ≡ in_word word (at + k)
+bit_ahead word k at =
+    let e : k + at ≡ at + k = omega arith in
+    ap (λ (m : ℕ). nat_eq (m % 2) 1) (shr-shr word k at ∙ ap (λ (j : ℕ). word / 2 ^ j) e)
+
+-- a word that lost its high bits has the low ones
+wrapped : (x n : ℕ) → n < 128 → bit_at (x % 340282366920938463463374607431768211456) n ≡ bit_at x n
+wrapped x n low =
+    let e : x / 340282366920938463463374607431768211456 * 2 ^ 128 + x % 340282366920938463463374607431768211456 ≡ x = omega arith in
+    sym (bit_at_cat_low (x / 340282366920938463463374607431768211456) 128 (x % 340282366920938463463374607431768211456) n low) ∙ ap (λ (y : ℕ). bit_at y n) e
+
+pub bit_back : (word k at : ℕ) → at < 128 → k ≤ at → in_word (word * 2 ^ k % 340282366920938463463374607431768211456) at ≡ in_word word (at - k)
+bit_back word k at low from =
+    ap (λ (y : ℕ). nat_eq y 1) (wrapped (word * 2 ^ k) at low ∙ ap (λ (y : ℕ). bit_at y at) (zero_more (word * 2 ^ k)) ∙ bit_at_cat_high word k 0 at (pow_positive k) from) where
+      zero_more : (x : ℕ) → x ≡ x + 0
+      zero_more x = omega arith
+
+      pow_positive : (k : ℕ) → 0 < 2 ^ k
+      pow_positive k = (let h : 2 ^ k - 1 < 2 ^ k = pow-sub-lt k {a = 1} (omega arith) in omega (arith, h))
+
+-- a set of one word
+pub one_word : (word at : ℕ) → at < 128 → member (word ∷ []) at ≡ in_word word at
+one_word word at low =
+    let a : at / 128 ≡ 0 = omega arith in
+    let b : at % 128 ≡ at = omega arith in
+    rw (a, b) refl

@@ -1,0 +1,58 @@
+//! Positions of a line, as the bits of a word.
+
+ghost use Rattle.std.specs.Prelude.{◌≡◌, ℕ, ◌+◌, ◌-◌, ◌<◌, ◌≤◌, ◌&&◌, true};
+ghost use Rattle.pz_sets.specs.Sets.{in_word};
+ghost use Rattle.pz_sheet.specs.Searching.{IsNext};
+
+use pz_sets::words;
+
+/// The number of positions that a word has room for.
+pub(crate) const ROOM: u32 = 128;
+
+/// All positions.
+pub(crate) fn all() -> u128
+    ensures { (at : ℕ) → at < 128 → in_word result at ≡ true }
+{
+    u128::MAX
+}
+
+/// The positions of both sets.
+pub(crate) fn both(set: u128, other: u128) -> u128
+    ensures { (at : ℕ) → in_word result at ≡ (in_word set at && in_word other at) }
+{
+    set & other
+}
+
+/// The positions from which one of the set is so many steps ahead.
+pub(crate) fn ahead(set: u128, steps: usize) -> u128
+    requires { steps < 128 }
+    ensures { (at : ℕ) → at + steps < 128 → in_word result at ≡ in_word set (at + steps) }
+{
+    set >> steps
+}
+
+/// The positions from which one of the set is so many steps back.
+pub(crate) fn back(set: u128, steps: usize) -> u128
+    requires { steps < 128 }
+    ensures { (at : ℕ) → at < 128 → steps ≤ at → in_word result at ≡ in_word set (at - steps) }
+{
+    set << steps
+}
+
+/// The first position of a set from one on and below an end.
+pub(crate) fn next(set: u128, from: u32, end: u32) -> Option<u32>
+    requires { end ≤ 128 }
+    ensures { IsNext (in_word set) from end result }
+{
+    if from >= end {
+        return None;
+    }
+    match words::next(&[set], from as usize) {
+        None => None,
+        Some(found) => if found < end as usize {
+            Some(found as u32)
+        } else {
+            None
+        },
+    }
+}

@@ -1,0 +1,339 @@
+//! At which positions of each row and each column the objects of a level stand, by which its lines are searched.
+
+ghost use Rattle.std.specs.Prelude.{◌≡◌, ℕ, ◌+◌, ◌*◌, ◌/◌, ◌%◌, ◌<◌, ◌≤◌, true, All, length, IfOk};
+ghost use Rattle.pz_game.specs.declared.limits.TheConstants.{MAX_OBJECTS, MAX_SIDE};
+ghost use Rattle.pz_game.specs.Items.{names};
+ghost use Rattle.pz_sets.specs.Sets.{in_word, member};
+ghost use Rattle.pz_sheet.specs.Planes.{LineSets, PlaneSets, stands_in, IsKept, AreKept, every, but, IsInside, IsKnown, AreKnown, IsThere, AreThere, AreAllThere, HaveSameLines, IsFor, AreItemsOf, MayHold, MayRunAhead, MayRunBack};
+
+use crate::bits;
+use pz_cells::cell::Cell;
+use pz_game::masks::names;
+use pz_game::pattern::{Item, Pattern};
+use pz_sets::words;
+use std::alloc::{AllocError, Global};
+use std::marker::Model;
+
+/// For each object and each line, at least the positions below 128 at which the object stands: a word for each line, those of one object
+/// one after another.
+#[derive(Drop)]
+pub(crate) struct LinePlanes {
+    objects: usize,
+    count: usize,
+    words: Vec<u128>,
+}
+
+impl Model for LinePlanes {
+    ghost use Rattle.pz_sheet.specs.Planes.{LineSets, HasLines};
+
+    ghost Value = { LineSets };
+
+    ghost view = { λ p. record { objects = p.objects; count = p.count; words = p.words.items } };
+
+    ghost invariant = { λ p. HasLines p.objects p.count p.words.items };
+}
+
+/// The same by rows and by columns. What is noted is exact where each change of a cell is noted; that it is at least what stands there is
+/// all that a search needs.
+#[derive(Drop)]
+pub(crate) struct Planes {
+    rows: LinePlanes,
+    columns: LinePlanes,
+}
+
+impl Model for Planes {
+    ghost use Rattle.pz_sheet.specs.Planes.{PlaneSets};
+
+    ghost Value = { PlaneSets };
+
+    ghost view = { λ p. record { rows = p.rows; columns = p.columns } };
+}
+
+impl LinePlanes {
+    /// Nothing is noted. Err: memory was refused.
+    fn empty(alloc: Global, objects: usize, count: usize) -> Result<LinePlanes, AllocError>
+        requires few { objects ≤ MAX_OBJECTS }
+        requires short { count ≤ MAX_SIDE }
+        ensures objects { IfOk result (λ planes. planes.objects ≡ objects) }
+        ensures count { IfOk result (λ planes. planes.count ≡ count) }
+    {
+        let words = vec![in alloc; 0; objects * count]?;
+        Ok(LinePlanes {
+            objects,
+            count,
+            words,
+        })
+    }
+
+    /// The number of the word of an object and a line.
+    fn index(&self, object: usize, line: usize) -> usize
+        requires object_in { object < self.now.objects }
+        requires line_in { line < self.now.count }
+        ensures index { result ≡ object * self.now.count + line }
+        ensures within { result < length self.now.words }
+        ensures low { result < 131072 }
+    {
+        let _ = &self.words;
+        object * self.count + line
+    }
+
+    /// Notes an object at a position of a line.
+    fn insert(&mut self, object: usize, line: usize, at: usize)
+        requires object_in { object < self.old.objects }
+        requires line_in { line < self.old.count }
+        ensures here { at < 128 → stands_in self.new object line at ≡ true }
+        ensures kept { IsKept self.old self.new line at every }
+    {
+        if at < bits::ROOM as usize {
+            let index = self.index(object, line);
+            words::insert(&mut self.words, index * 128 + at);
+        }
+    }
+
+    /// Notes an object at a position of a line no longer.
+    fn remove(&mut self, object: usize, line: usize, at: usize)
+        requires object_in { object < self.old.objects }
+        requires line_in { line < self.old.count }
+        ensures { IsKept self.old self.new line at (but object) }
+    {
+        if at < bits::ROOM as usize {
+            let index = self.index(object, line);
+            words::remove(&mut self.words, index * 128 + at);
+        }
+    }
+
+    /// The positions of a line that an item admits: those at which its object is noted, where it names that as present.
+    fn item_places(&self, line: usize, item: &Item) -> u128
+        requires line_in { line < self.now.count }
+        requires object_in { item.now.object < self.now.objects }
+        ensures { (at : ℕ) → at < 128 → (names item.now.word ≡ true → stands_in self.now item.now.object line at ≡ true) → in_word result at ≡ true }
+    {
+        if names(item.word) {
+            self.words[self.index(item.object, line)]
+        } else {
+            bits::all()
+        }
+    }
+
+    /// The positions of a line at which a rule's cell may hold: all at which each object that it names as present is noted.
+    pub(crate) fn places(&self, line: usize, pattern: &Pattern) -> u128
+        requires line_in { line < self.now.count }
+        requires of_game { AreItemsOf self.now pattern.now }
+        ensures { (at : ℕ) → at < 128 → MayHold self.now line at pattern.now → in_word result at ≡ true }
+    {
+        let mut places = bits::all();
+        for item in pattern.items() {
+            places = bits::both(places, self.item_places(line, item));
+        }
+        places
+    }
+
+    /// The positions of a line from which rules' cells may hold one after another ahead.
+    pub(crate) fn starts_ahead(&self, line: usize, patterns: &[Pattern]) -> u128
+        requires line_in { line < self.now.count }
+        requires of_game { All (AreItemsOf self.now) patterns.now }
+        ensures { (at : ℕ) → at < 128 → MayRunAhead self.now line patterns.now at → in_word result at ≡ true }
+    {
+        let mut starts = bits::all();
+        for index in 0..patterns.len().min(bits::ROOM as usize) {
+            let places = self.places(line, &patterns[index]);
+            starts = bits::both(starts, bits::ahead(places, index));
+        }
+        starts
+    }
+
+    /// The positions of a line from which rules' cells may hold one after another back.
+    pub(crate) fn starts_back(&self, line: usize, patterns: &[Pattern]) -> u128
+        requires line_in { line < self.now.count }
+        requires of_game { All (AreItemsOf self.now) patterns.now }
+        ensures { (at : ℕ) → at < 128 → MayRunBack self.now line patterns.now at → in_word result at ≡ true }
+    {
+        let mut starts = bits::all();
+        for index in 0..patterns.len().min(bits::ROOM as usize) {
+            let places = self.places(line, &patterns[index]);
+            starts = bits::both(starts, bits::back(places, index));
+        }
+        starts
+    }
+
+    /// The same once more. Err: memory was refused.
+    fn copy(&self) -> Result<LinePlanes, AllocError>
+        ensures { IfOk result (λ planes. planes ≡ self.now) }
+    {
+        let alloc = *self.words.allocator();
+        let words = Vec::from_slice(alloc, &self.words)?;
+        Ok(LinePlanes {
+            objects: self.objects,
+            count: self.count,
+            words,
+        })
+    }
+}
+
+impl Planes {
+    /// Nothing is noted. Err: memory was refused.
+    pub(crate) fn empty(
+        alloc: Global,
+        objects: usize,
+        width: usize,
+        height: usize,
+    ) -> Result<Planes, AllocError>
+        requires few { objects ≤ MAX_OBJECTS }
+        requires narrow { width ≤ MAX_SIDE }
+        requires low { height ≤ MAX_SIDE }
+        ensures { IfOk result (λ planes. IsFor objects width height planes) }
+    {
+        let rows = LinePlanes::empty(alloc, objects, height)?;
+        let columns = LinePlanes::empty(alloc, objects, width)?;
+        Ok(Planes { rows, columns })
+    }
+
+    /// The columns of each row at which objects stand.
+    pub(crate) fn rows(&self) -> &LinePlanes
+        ensures { result.now ≡ self.now.rows }
+    {
+        &self.rows
+    }
+
+    /// The rows of each column at which objects stand.
+    pub(crate) fn columns(&self) -> &LinePlanes
+        ensures { result.now ≡ self.now.columns }
+    {
+        &self.columns
+    }
+
+    fn insert(&mut self, object: usize, x: usize, y: usize)
+        requires inside { IsInside self.old x y }
+        requires known { IsKnown self.old object }
+        ensures here { IsThere self.new x y object }
+        ensures kept { AreKept self.old self.new x y every }
+    {
+        self.rows.insert(object, y, x);
+        self.columns.insert(object, x, y);
+    }
+
+    fn remove(&mut self, object: usize, x: usize, y: usize)
+        requires inside { IsInside self.old x y }
+        requires known { IsKnown self.old object }
+        ensures { AreKept self.old self.new x y (but object) }
+    {
+        self.rows.remove(object, y, x);
+        self.columns.remove(object, x, y);
+    }
+
+    /// Notes an object no longer, unless it is one of some.
+    fn remove_unless(&mut self, object: usize, x: usize, y: usize, after: &[u128])
+        requires inside { IsInside self.old x y }
+        requires known { IsKnown self.old object }
+        ensures { AreKept self.old self.new x y (member after.now) }
+    {
+        if !words::contains(after, object) {
+            self.remove(object, x, y);
+        }
+    }
+
+    /// Takes away the notes of the objects that a cell had and has no longer.
+    fn leave(&mut self, x: usize, y: usize, before: &[u128], after: &[u128])
+        requires short { length before.now ≤ 4 }
+        requires inside { IsInside self.old x y }
+        requires known { AreKnown self.old before.now }
+        ensures { AreKept self.old self.new x y (member after.now) }
+    {
+        let mut from = 0;
+        'objects: while let Some(object) = words::next(before, from) {
+            self.remove_unless(object, x, y, after);
+            from = object + 1;
+        }
+    }
+
+    /// Notes the objects of a cell.
+    fn arrive(&mut self, x: usize, y: usize, objects: &[u128])
+        requires short { length objects.now ≤ 4 }
+        requires inside { IsInside self.old x y }
+        requires known { AreKnown self.old objects.now }
+        ensures there { AreThere self.new x y objects.now }
+        ensures kept { AreKept self.old self.new x y every }
+    {
+        let mut from = 0;
+        'objects: while let Some(object) = words::next(objects, from) {
+            self.insert(object, x, y);
+            from = object + 1;
+        }
+    }
+
+    /// Notes the objects of a cell at a position of the map, where others stood before.
+    pub(crate) fn note<const N: usize>(
+        &mut self,
+        x: usize,
+        y: usize,
+        before: &Cell<N>,
+        after: &Cell<N>,
+    )
+        requires short { N ≤ 4 }
+        requires inside { IsInside self.old x y }
+        requires known_before { AreKnown self.old before.now.objects }
+        requires known { AreKnown self.old after.now.objects }
+        requires there { AreThere self.old x y before.now.objects }
+        ensures there { AreThere self.new x y after.now.objects }
+        ensures kept { AreKept self.old self.new x y (member after.now.objects) }
+    {
+        if words::same(&before.objects, &after.objects) {
+            return;
+        }
+        self.leave(x, y, &before.objects, &after.objects);
+        self.arrive(x, y, &after.objects);
+    }
+
+    /// The same in the cell of a number, counted row by row.
+    pub(crate) fn note_at<const N: usize>(
+        &mut self,
+        index: usize,
+        before: &Cell<N>,
+        after: &Cell<N>,
+    )
+        requires short { N ≤ 4 }
+        requires within { index < self.old.columns.count * self.old.rows.count }
+        requires known_before { AreKnown self.old before.now.objects }
+        requires known { AreKnown self.old after.now.objects }
+        requires there { AreThere self.old (index % self.old.columns.count) (index / self.old.columns.count) before.now.objects }
+        ensures there { AreThere self.new (index % self.old.columns.count) (index / self.old.columns.count) after.now.objects }
+        ensures kept { AreKept self.old self.new (index % self.old.columns.count) (index / self.old.columns.count) (member after.now.objects) }
+    {
+        let width = self.columns.count;
+        self.note(index % width, index / width, before, after);
+    }
+
+    /// Notes the objects of the cell of a number, counted row by row.
+    fn arrive_at<const N: usize>(&mut self, index: usize, cell: &Cell<N>)
+        requires short { N ≤ 4 }
+        requires within { index < self.old.columns.count * self.old.rows.count }
+        requires known { AreKnown self.old cell.now.objects }
+        ensures there { AreThere self.new (index % self.old.columns.count) (index / self.old.columns.count) cell.now.objects }
+        ensures kept { AreKept self.old self.new (index % self.old.columns.count) (index / self.old.columns.count) every }
+    {
+        let width = self.columns.count;
+        self.arrive(index % width, index / width, &cell.objects);
+    }
+
+    /// Notes the objects of all cells.
+    pub(crate) fn note_all<const N: usize>(&mut self, cells: &[Cell<N>])
+        requires short { N ≤ 4 }
+        requires covers { length cells.now ≡ self.old.columns.count * self.old.rows.count }
+        requires known { All (λ cell. AreKnown self.old cell.objects) cells.now }
+        ensures size { HaveSameLines self.old self.new }
+        ensures there { AreAllThere N self.old.columns.count self.old.rows.count self.new cells.now }
+    {
+        for index in 0..cells.len() {
+            self.arrive_at(index, &cells[index]);
+        }
+    }
+
+    /// The same once more. Err: memory was refused.
+    pub(crate) fn copy(&self) -> Result<Planes, AllocError>
+        ensures { IfOk result (λ planes. planes ≡ self.now) }
+    {
+        let rows = self.rows.copy()?;
+        let columns = self.columns.copy()?;
+        Ok(Planes { rows, columns })
+    }
+}
