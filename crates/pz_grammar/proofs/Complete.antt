@@ -2,6 +2,7 @@
 use Rattle.std.proofs.Common.{◌≡◌, ℕ, Bool, true, false, ◌&&◌, List, [], ◌∷◌, ◌++◌, map, Option, Some, None, IfSome, MatchOption, option_map, if◌then◌else◌, refl, ap, sym, ◌∙◌, append_assoc}
 use Rattle.std.specs.List.{flat_map, list_all}
 use Rattle.std.proofs.lemmas.Bool.{and_parts, false≢true}
+use Rattle.pz_grammar.specs.declared.token.Class.{Class}
 use Rattle.pz_grammar.specs.declared.token.Lead.{Lead}
 use Rattle.pz_grammar.specs.declared.token.Command.{Command}
 use Rattle.pz_grammar.specs.declared.token.Token.{Token}
@@ -14,7 +15,7 @@ use Rattle.pz_grammar.specs.Written.{phrase_tokens, cell_tokens, cells_tokens, r
 use Rattle.pz_grammar.specs.Parsed.{Seen, with_phrase, with_gap, with_bar, with_close, with_open, end, outside, inside, commands_of, begins_joined, after_joined, prefixes_of, after_prefixes, with_commands, with_right, with_rows, with_left, parsed}
 use Rattle.pz_grammar.proofs.Sound.{sound}
 
-complete-phrase : (lead : Option Lead) (name : Option ℕ) (ps : List Phrase) (ts : List Token) (cells : List Cell) (s : Seen)
+complete-phrase : (lead : Option (Lead Class)) (name : Option ℕ) (ps : List Phrase) (ts : List Token) (cells : List Cell) (s : Seen)
     → inside ts ≡ Some (record { cell = cell.Items ps; cells = cells; seen = s })
     → inside (phrase_tokens (record { lead = lead; name = name }) ++ ts) ≡ Some (record { cell = cell.Items (record { lead = lead; name = name } ∷ ps); cells = cells; seen = s })
 unfolding inside

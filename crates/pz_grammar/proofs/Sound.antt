@@ -2,6 +2,7 @@
 use Rattle.std.proofs.Common.{◌≡◌, Bool, true, false, ◌&&◌, List, [], ◌∷◌, ◌++◌, map, Option, Some, None, IfSome, option_map, if◌then◌else◌, refl, ap, ◌∙◌, append_assoc}
 use Rattle.std.specs.List.{list_all}
 use Rattle.std.proofs.lemmas.Bool.{and_from}
+use Rattle.pz_grammar.specs.declared.token.Class.{Class}
 use Rattle.pz_grammar.specs.declared.token.Lead.{Lead}
 use Rattle.pz_grammar.specs.declared.token.Command.{Command}
 use Rattle.pz_grammar.specs.declared.token.Token.{Token}
@@ -76,7 +77,7 @@ mutual
   sound-inside (token.Close ∷ ts) = sound-with_close ts (outside ts) (sound-outside ts)
   sound-inside (t ∷ ts) = tt
 
-  sound-led : (lead : Lead) (ts : List Token) → IfSome (led lead ts) (WithinIs (token.Lead lead ∷ ts))
+  sound-led : (lead : Lead Class) (ts : List Token) → IfSome (led lead ts) (WithinIs (token.Lead lead ∷ ts))
   sound-led lead [] = tt
   sound-led lead (token.Name name ∷ ts) = sound-with_phrase (record { lead = Some lead; name = name }) ts (inside ts) (sound-inside ts)
   sound-led lead (t ∷ ts) = tt

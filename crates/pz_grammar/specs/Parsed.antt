@@ -1,6 +1,7 @@
 -- The rule of a line, token by token.
-use Rattle.std.specs.Prelude.{Bool, true, false, List, [], ◌∷◌, Option, Some, None, if◌then◌else◌}
-use Rattle.std.specs.Option.{option_map}
+use Rattle.std.specs.Prelude.{Bool, true, false, List, [], ◌∷◌, map, Option, Some, None, if◌then◌else◌}
+use Rattle.pz_base.specs.Each.{all_some}
+use Rattle.pz_grammar.specs.declared.token.Class.{Class}
 use Rattle.pz_grammar.specs.declared.token.Lead.{Lead}
 use Rattle.pz_grammar.specs.declared.token.Command.{Command}
 use Rattle.pz_grammar.specs.declared.token.Token.{Token}
@@ -73,7 +74,7 @@ unfoldable mutual
   inside (t ∷ ts) = None
 
   -- a name, after the word before it
-  pub led : Lead → List Token → Option Within
+  pub led : Lead Class → List Token → Option Within
   led lead [] = None
   led lead (token.Name name ∷ ts) = with_phrase (record { lead = Some lead; name = name }) (inside ts)
   led lead (t ∷ ts) = None
@@ -84,9 +85,7 @@ command_of _ = None
 
 -- commands alone
 unfoldable pub commands_of : List Token → Option (List Command)
-commands_of [] = Some []
-commands_of (token.Command command ∷ ts) = option_map (λ commands. command ∷ commands) (commands_of ts)
-commands_of (t ∷ ts) = None
+commands_of tokens = all_some (map command_of tokens)
 
 abbrev pub begins_joined : List Token → Bool
 begins_joined (token.Plus ∷ ts) = true

@@ -5,6 +5,7 @@ use Rattle.std.specs.Option.{option_or, option_map, option_map_or}
 use Rattle.pz_base.specs.NameSet.{number_in}
 use Rattle.pz_game.specs.declared.direction.Dir.TheVariants as dir
 use Rattle.pz_grammar.specs.declared.token.Turn.TheVariants as turn
+use Rattle.pz_grammar.specs.declared.token.Class.{Class}
 use Rattle.pz_grammar.specs.declared.token.Class.TheVariants as class
 use Rattle.pz_grammar.specs.declared.token.Lead.{Lead}
 use Rattle.pz_grammar.specs.declared.token.Lead.TheVariants as lead
@@ -14,7 +15,7 @@ use Rattle.pz_grammar.specs.declared.token.Token.{Token}
 use Rattle.pz_grammar.specs.declared.token.Token.TheVariants as token
 
 -- a word that may stand before a name
-unfoldable pub lead_of : List ℕ → Option Lead
+unfoldable pub lead_of : List ℕ → Option (Lead Class)
 lead_of word =
     (if bytes_eq word (codes "no") then Some lead.No else
     (if bytes_eq word (codes "up") then Some (lead.Toward dir.Up) else
@@ -27,12 +28,12 @@ lead_of word =
     (if bytes_eq word (codes "<") then Some (lead.Turned turn.Back) else
     (if bytes_eq word (codes ">") then Some (lead.Turned turn.Ahead) else
     (if bytes_eq word (codes "stationary") then Some lead.Stationary else
-    (if bytes_eq word (codes "moving") then Some (lead.Class class.Moving) else
-    (if bytes_eq word (codes "orthogonal") then Some (lead.Class class.Orthogonal) else
-    (if bytes_eq word (codes "horizontal") then Some (lead.Class class.Horizontal) else
-    (if bytes_eq word (codes "vertical") then Some (lead.Class class.Vertical) else
-    (if bytes_eq word (codes "parallel") then Some (lead.Class class.Parallel) else
-    (if bytes_eq word (codes "perpendicular") then Some (lead.Class class.Perpendicular) else
+    (if bytes_eq word (codes "moving") then Some (lead.OneOf class.Moving) else
+    (if bytes_eq word (codes "orthogonal") then Some (lead.OneOf class.Orthogonal) else
+    (if bytes_eq word (codes "horizontal") then Some (lead.OneOf class.Horizontal) else
+    (if bytes_eq word (codes "vertical") then Some (lead.OneOf class.Vertical) else
+    (if bytes_eq word (codes "parallel") then Some (lead.OneOf class.Parallel) else
+    (if bytes_eq word (codes "perpendicular") then Some (lead.OneOf class.Perpendicular) else
     None)))))))))))))))))
 
 unfoldable pub command_of_word : List ℕ → Option Command

@@ -3,6 +3,7 @@ use Rattle.std.specs.Prelude.{◌≡◌, Bool, true, false, ◌&&◌, List, [], 
 use Rattle.std.specs.List.{flat_map, list_all}
 use Rattle.pz_grammar.specs.declared.token.Lead.{Lead}
 use Rattle.pz_grammar.specs.declared.token.Lead.TheVariants as lead
+use Rattle.pz_grammar.specs.declared.token.Class.{Class}
 use Rattle.pz_grammar.specs.declared.token.Class.TheVariants as class
 use Rattle.pz_game.specs.declared.direction.Dir.TheVariants as dir
 use Rattle.pz_grammar.specs.declared.token.Token.{Token}
@@ -12,7 +13,7 @@ use Rattle.pz_grammar.specs.declared.rule.Cell.{Cell}
 use Rattle.pz_grammar.specs.declared.rule.Cell.TheVariants as cell
 use Rattle.pz_grammar.specs.declared.rule.Rule.{Rule}
 
-abbrev pub lead_tokens : Option Lead → List Token
+abbrev pub lead_tokens : Option (Lead Class) → List Token
 lead_tokens None = []
 lead_tokens (Some lead) = token.Lead lead ∷ []
 
@@ -47,12 +48,12 @@ written rule =
     ++ (rule.prefixes ++ (rows_tokens rule.left ++ token.Arrow ∷ (rows_tokens rule.right ++ map token.Command rule.commands)))
 
 -- the words for directions that may stand before the rows
-abbrev pub is_direction : Lead → Bool
+abbrev pub is_direction : Lead Class → Bool
 is_direction (lead.Toward dir.Action) = false
 is_direction (lead.Toward direction) = true
-is_direction (lead.Class class.Horizontal) = true
-is_direction (lead.Class class.Vertical) = true
-is_direction (lead.Class class.Orthogonal) = true
+is_direction (lead.OneOf class.Horizontal) = true
+is_direction (lead.OneOf class.Vertical) = true
+is_direction (lead.OneOf class.Orthogonal) = true
 is_direction _ = false
 
 abbrev pub is_prefix : Token → Bool

@@ -11,12 +11,12 @@ use pz_base::listed::Listed;
 use pz_game::direction::Dir;
 use std::alloc::{AllocError, Global};
 
-fn is_direction(lead: Lead) -> bool
+fn is_direction(lead: Lead<Class>) -> bool
     ensures { result ≡ is_direction lead }
 {
     match lead {
         Lead::Toward(direction) => !matches!(direction, Dir::Action),
-        Lead::Class(class) => matches!(
+        Lead::OneOf(class) => matches!(
             class,
             Class::Horizontal | Class::Vertical | Class::Orthogonal
         ),

@@ -6,7 +6,7 @@ ghost use Rattle.pz_grammar.specs.Written.{has_cells};
 ghost use Rattle.pz_grammar.specs.Steps.{before, row_before, rows_before, StepIs, StepFits, after_open};
 
 use crate::rule::{Cell, Phrase};
-use crate::token::{Lead, Token};
+use crate::token::{Class, Lead, Token};
 use pz_base::listed::Listed;
 use pz_base::listing::pushed;
 use std::alloc::{AllocError, Global};
@@ -92,7 +92,11 @@ fn close_added<'a>(row: OpenRow, rest: &'a [Token]) -> Result<Step<'a>, AllocErr
 
 /// A name, after the word before it.
 #[tactic(auto, unfolding(crate::specs::Parsed::led))]
-fn lead_added<'a>(row: OpenRow, lead: Lead, rest: &'a [Token]) -> Result<Step<'a>, AllocError>
+fn lead_added<'a>(
+    row: OpenRow,
+    lead: Lead<Class>,
+    rest: &'a [Token],
+) -> Result<Step<'a>, AllocError>
     ensures step { IfOk result (StepIs (before row.cells row.cell (led lead rest.now))) }
     ensures shorter { IfOk result (StepFits (length rest.now)) }
 {

@@ -1,12 +1,12 @@
 //! A rule as it is written.
 
-use crate::token::{Command, Lead, Token};
+use crate::token::{Class, Command, Lead, Token};
 use pz_base::listed::Listed;
 
 /// A name, by its number, with the word before it; None as a name: nothing has that name.
 #[derive(Clone, Copy)]
 pub struct Phrase {
-    pub lead: Option<Lead>,
+    pub lead: Option<Lead<Class>>,
     pub name: Option<usize>,
 }
 
@@ -18,11 +18,26 @@ pub enum Cell {
 }
 
 /// A rule as it is written: whether a `+` stands before it, its prefixes, the rows of both sides, and its commands.
-#[derive(Drop)]
 pub struct Rule {
     pub is_joined: bool,
     pub prefixes: Listed<Token>,
     pub left: Listed<Listed<Cell>>,
     pub right: Listed<Listed<Cell>>,
     pub commands: Listed<Command>,
+}
+
+impl Drop for Rule {
+    fn drop(self) {
+        let Rule {
+            is_joined: _,
+            prefixes,
+            left,
+            right,
+            commands,
+        } = self;
+        drop(prefixes);
+        drop(left);
+        drop(right);
+        drop(commands);
+    }
 }

@@ -22,14 +22,15 @@ pub enum Class {
     Perpendicular,
 }
 
-/// A word that may stand before a name: `no`, or a movement word.
-#[derive(Clone, Copy, PartialEq, Eq)]
-pub enum Lead {
+/// A word that may stand before a name: `no`, or a movement word. One that stands for one of several directions has with it which:
+/// as it is written its class, and in a plan the number of the choice that gives the direction.
+#[derive(Clone, Copy)]
+pub enum Lead<C> {
     No,
     Stationary,
     Toward(Dir),
     Turned(Turn),
-    Class(Class),
+    OneOf(C),
 }
 
 /// A command, as a rule line gives it. Sounds and messages have no effect.
@@ -56,7 +57,7 @@ pub enum Token {
     Late,
     StartLoop,
     EndLoop,
-    Lead(Lead),
+    Lead(Lead<Class>),
     Command(Command),
     Name(Option<usize>),
 }

@@ -11,7 +11,7 @@ use pz_game::game::Game;
 use std::alloc::{AllocError, Global};
 
 #[tactic(auto, unfolding(crate::specs::Words::lead_of))]
-fn lead_of(word: &str) -> Option<Lead>
+fn lead_of(word: &str) -> Option<Lead<Class>>
     ensures { result ≡ lead_of word.now }
 {
     match word {
@@ -26,12 +26,12 @@ fn lead_of(word: &str) -> Option<Lead>
         "<" => Some(Lead::Turned(Turn::Back)),
         ">" => Some(Lead::Turned(Turn::Ahead)),
         "stationary" => Some(Lead::Stationary),
-        "moving" => Some(Lead::Class(Class::Moving)),
-        "orthogonal" => Some(Lead::Class(Class::Orthogonal)),
-        "horizontal" => Some(Lead::Class(Class::Horizontal)),
-        "vertical" => Some(Lead::Class(Class::Vertical)),
-        "parallel" => Some(Lead::Class(Class::Parallel)),
-        "perpendicular" => Some(Lead::Class(Class::Perpendicular)),
+        "moving" => Some(Lead::OneOf(Class::Moving)),
+        "orthogonal" => Some(Lead::OneOf(Class::Orthogonal)),
+        "horizontal" => Some(Lead::OneOf(Class::Horizontal)),
+        "vertical" => Some(Lead::OneOf(Class::Vertical)),
+        "parallel" => Some(Lead::OneOf(Class::Parallel)),
+        "perpendicular" => Some(Lead::OneOf(Class::Perpendicular)),
         _ => None,
     }
 }

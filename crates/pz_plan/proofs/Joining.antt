@@ -1,6 +1,6 @@
 -- A list before the rest of a list, if the rest is there.
-use Rattle.std.proofs.Common.{◌≡◌, ◌<◌, ◌+◌, ℕ, ◌++◌, List, [], ◌∷◌, Option, Some, None, option_map, length, drop, get_or, refl, ap, sym, ◌∙◌, append_assoc}
-use Rattle.std.proofs.lemmas.List.{at_drop_more}
+use Rattle.std.proofs.Common.{◌≡◌, ◌<◌, ◌≤◌, ◌+◌, ℕ, ◌++◌, List, [], ◌∷◌, Option, Some, None, option_map, length, drop, get_or, refl, ap, sym, ◌∙◌, append_assoc}
+use Rattle.std.proofs.lemmas.List.{at_drop_more, drop_all, append-nil}
 use Rattle.pz_plan.specs.declared.plan.Choice.{Choice}
 use Rattle.pz_plan.specs.declared.plan.Mention.{Mention}
 use Rattle.pz_plan.specs.declared.plan.PlanRow.{PlanRow}
@@ -40,3 +40,12 @@ rows-at choices out rows i row in_range at =
 -- a list that goes on with one that is there
 pub after-some : {X : Type 0} (xs : List X) (x : X) (one : Option X) (rest whole : Option (List X)) → one ≡ Some x → after xs (joined one rest) ≡ whole → after (xs ++ x ∷ []) rest ≡ whole
 after-some xs x one rest whole there e = after-push xs x rest ∙ ap (λ o. after xs (joined o rest)) (sym there) ∙ e
+
+pub after-nothing : {X : Type 0} (rest : Option (List X)) → after [] rest ≡ rest
+after-nothing None = refl
+after-nothing (Some ys) = refl
+
+-- where nothing is left, all is there
+pub after-all : {X A : Type 0} (f : List A → Option (List X)) → f [] ≡ Some [] → (out : List X) (xs : List A) (i : ℕ) (whole : Option (List X)) → length xs ≤ i → after out (f (drop i xs)) ≡ whole → Some out ≡ whole
+after-all f none out xs i whole over e =
+    ap Some (sym (append-nil out)) ∙ (ap (after out) (sym none) ∙ (ap (λ l. after out (f l)) (sym (drop_all i xs over)) ∙ e))

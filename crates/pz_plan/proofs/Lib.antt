@@ -5,6 +5,5 @@ pub mod Directions
 pub mod Mentions
 pub mod Joining
 pub mod Numbered
-pub mod Only
 pub mod Shaping
 pub mod EachOf

@@ -34,15 +34,15 @@ same_class_is Parallel Parallel h = refl
 same_class_is Perpendicular Perpendicular h = refl
 same_class_is _ _ h = cc
 
-same_word_is : (a b : Lead) → same_word a b ≡ true → a ≡ b
+same_word_is : (a b : Lead Class) → same_word a b ≡ true → a ≡ b
 same_word_is lead.No lead.No h = refl
 same_word_is lead.Stationary lead.Stationary h = refl
 same_word_is (lead.Toward a) (lead.Toward b) h = ap lead.Toward (same_dir_is a b h)
 same_word_is (lead.Turned a) (lead.Turned b) h = ap lead.Turned (same_turn_is a b h)
-same_word_is (lead.Class a) (lead.Class b) h = ap lead.Class (same_class_is a b h)
+same_word_is (lead.OneOf a) (lead.OneOf b) h = ap lead.OneOf (same_class_is a b h)
 same_word_is _ _ h = cc
 
-same_lead_is : (a b : Option Lead) → same_lead a b ≡ true → a ≡ b
+same_lead_is : (a b : Option (Lead Class)) → same_lead a b ≡ true → a ≡ b
 same_lead_is None None h = refl
 same_lead_is (Some a) (Some b) h = ap Some (same_word_is a b h)
 same_lead_is _ _ h = cc
@@ -56,7 +56,7 @@ pub same_mention_is : (a b : Mention) → same_mention a b ≡ true → a ≡ b
 unfolding same_mention
 same_mention_is a b h =
     let p = and_parts (same_lead a.lead b.lead) (same_subject a.subject b.subject) h in
-    let with_lead : Option Lead → Mention = λ l. record { lead = l; subject = a.subject } in
+    let with_lead : Option (Lead Class) → Mention = λ l. record { lead = l; subject = a.subject } in
     let with_subject : Subject → Mention = λ s. record { lead = b.lead; subject = s } in
     ap with_lead (same_lead_is a.lead b.lead p.0) ∙ ap with_subject (same_subject_is a.subject b.subject p.1)
 

@@ -1,6 +1,6 @@
 -- Terms and choices of a left side, one after the other.
 use Rattle.std.proofs.Common.{◌≡◌, ◌<◌, ◌+◌, ℕ, ◌++◌, List, [], ◌∷◌, map, length, drop, get_or, ap, sym, ◌∙◌, append_assoc, length-append, arith}
-use Rattle.std.specs.List.{flat_map}
+use Rattle.std.specs.List.{flat_map, enumerate_from}
 use Rattle.std.proofs.lemmas.List.{at_drop_more, map-append, length-map}
 use Rattle.std.proofs.lemmas.List.Sums.{sum_by-cons}
 use Rattle.pz_base.proofs.ListLemmas.{drop-next}
@@ -10,7 +10,7 @@ use Rattle.pz_plan.specs.declared.plan.Mention.{Mention}
 use Rattle.pz_plan.specs.declared.plan.PlanRow.{PlanRow}
 use Rattle.pz_plan.specs.declared.plan.Spot.{Spot}
 use Rattle.pz_plan.specs.declared.plan.Term.{Term}
-use Rattle.pz_plan.specs.Numbering.{asked_by, asked_in, asked_count, choices_at, choices_in_cells, choices_in_rows, term_of, terms_of, cells_of, rows_of}
+use Rattle.pz_plan.specs.Numbering.{asked_by, asked_in, asked_count, choices_at, choices_of_cell, choices_in_row, choices_of_row, term_of, terms_of, cells_of, rows_of}
 
 -- one more mention of a cell
 terms-at : (n : ℕ) (ms : List Mention) (i : ℕ) (d : Mention) → i < length ms
@@ -54,11 +54,11 @@ cells-more out n more cells i cell whole in_range at counted e =
     ∙ ap (λ l. out ++ cells_of n l) (sym (drop-next cells i cell in_range at)) ∙ e
 
 pub cell_choices-more : (row : ℕ) (before : List Choice) (cells : List (List Mention)) (i : ℕ) (cell : List Mention) (whole : List Choice) → i < length cells → cell ≡ get_or cells i cell
-    → before ++ choices_in_cells row i (drop i cells) ≡ whole → (before ++ choices_at (record { row = row; cell = i }) cell) ++ choices_in_cells row (i + 1) (drop (i + 1) cells) ≡ whole
-unfolding choices_in_cells
+    → before ++ flat_map (choices_of_cell row) (enumerate_from i (drop i cells)) ≡ whole
+    → (before ++ choices_at (record { row = row; cell = i }) cell) ++ flat_map (choices_of_cell row) (enumerate_from (i + 1) (drop (i + 1) cells)) ≡ whole
 cell_choices-more row before cells i cell whole in_range at e =
-    append_assoc before (choices_at (record { row = row; cell = i }) cell) (choices_in_cells row (i + 1) (drop (i + 1) cells))
-    ∙ ap (λ l. before ++ choices_in_cells row i l) (sym (drop-next cells i cell in_range at)) ∙ e
+    append_assoc before (choices_at (record { row = row; cell = i }) cell) (flat_map (choices_of_cell row) (enumerate_from (i + 1) (drop (i + 1) cells)))
+    ∙ ap (λ l. before ++ flat_map (choices_of_cell row) (enumerate_from i l)) (sym (drop-next cells i cell in_range at)) ∙ e
 
 pub asked-more : (n more : ℕ) (cells : List (List Mention)) (i : ℕ) (cell : List Mention) (whole : ℕ) → i < length cells → cell ≡ get_or cells i cell
     → more ≡ n + asked_in cell → n + asked_count (drop i cells) ≡ whole → more + asked_count (drop (i + 1) cells) ≡ whole
@@ -70,16 +70,15 @@ asked-more n more cells i cell whole in_range at counted e =
 
 -- one more row
 pub rows-more : (out : List (PlanRow Term)) (n more : ℕ) (rows : List (PlanRow Mention)) (i : ℕ) (row : PlanRow Mention) (whole : List (PlanRow Term)) → i < length rows → row ≡ get_or rows i row
-    → more ≡ n + asked_count row.cells → out ++ rows_of n (drop i rows) ≡ whole → (out ++ (record { cells = cells_of n row.cells; gap = row.gap }) ∷ []) ++ rows_of more (drop (i + 1) rows) ≡ whole
+    → more ≡ n + asked_count row.cells → out ++ rows_of n (drop i rows) ≡ whole → (out ++ (record { cells = cells_of n row.cells; gap_at = row.gap_at }) ∷ []) ++ rows_of more (drop (i + 1) rows) ≡ whole
 unfolding rows_of
 rows-more out n more rows i row whole in_range at counted e =
-    append_assoc out ((record { cells = cells_of n row.cells; gap = row.gap }) ∷ []) (rows_of more (drop (i + 1) rows))
-    ∙ ap (λ k. out ++ (record { cells = cells_of n row.cells; gap = row.gap }) ∷ rows_of k (drop (i + 1) rows)) counted
+    append_assoc out ((record { cells = cells_of n row.cells; gap_at = row.gap_at }) ∷ []) (rows_of more (drop (i + 1) rows))
+    ∙ ap (λ k. out ++ (record { cells = cells_of n row.cells; gap_at = row.gap_at }) ∷ rows_of k (drop (i + 1) rows)) counted
     ∙ ap (λ l. out ++ rows_of n l) (sym (drop-next rows i row in_range at)) ∙ e
 
 pub row_choices-more : (before : List Choice) (rows : List (PlanRow Mention)) (i : ℕ) (row : PlanRow Mention) (whole : List Choice) → i < length rows → row ≡ get_or rows i row
-    → before ++ choices_in_rows i (drop i rows) ≡ whole → (before ++ choices_in_cells i 0 row.cells) ++ choices_in_rows (i + 1) (drop (i + 1) rows) ≡ whole
-unfolding choices_in_rows
+    → before ++ flat_map choices_of_row (enumerate_from i (drop i rows)) ≡ whole → (before ++ choices_in_row i row.cells) ++ flat_map choices_of_row (enumerate_from (i + 1) (drop (i + 1) rows)) ≡ whole
 row_choices-more before rows i row whole in_range at e =
-    append_assoc before (choices_in_cells i 0 row.cells) (choices_in_rows (i + 1) (drop (i + 1) rows))
-    ∙ ap (λ l. before ++ choices_in_rows i l) (sym (drop-next rows i row in_range at)) ∙ e
+    append_assoc before (choices_in_row i row.cells) (flat_map choices_of_row (enumerate_from (i + 1) (drop (i + 1) rows)))
+    ∙ ap (λ l. before ++ flat_map choices_of_row (enumerate_from i l)) (sym (drop-next rows i row in_range at)) ∙ e

@@ -1,7 +1,7 @@
 -- The rows of a plan have the shape of rows.
-use Rattle.std.proofs.Common.{◌≡◌, ℕ, zero, suc, ◌+◌, ◌-◌, ◌<◌, ◌≤◌, nat_lt, Bool, true, false, cond, ◌&&◌, ◌||◌, if◌then◌else◌, List, [], ◌∷◌, filter, map, length, Option, Some, None, IfSome, option_map, Result, Ok, Err, refl, ap, sym, ◌∙◌, subst, arith}
+use Rattle.std.proofs.Common.{◌≡◌, ℕ, zero, suc, ◌+◌, ◌-◌, ◌<◌, ◌≤◌, nat_lt, Bool, true, false, cond, ◌&&◌, ◌||◌, if◌then◌else◌, List, [], ◌∷◌, filter, map, length, Option, Some, None, IfSome, option_map, Result, Ok, Err, refl, ap, sym, subst, arith}
 use Rattle.std.specs.List.{list_any, list_all, flat_map, position_or_len, count_by}
-use Rattle.std.proofs.lemmas.Bool.{and_parts, and_from, or_parts, ltb-true, ltb-false, false≢true}
+use Rattle.std.proofs.lemmas.Bool.{and_parts, or_parts, ltb-true, ltb-false, false≢true}
 use Rattle.std.proofs.lemmas.List.Elements.{All-nil, All-cons, All-head, All-tail}
 use Rattle.std.proofs.lemmas.List.Sums.{length-filter}
 use Rattle.pz_game.specs.declared.limits.TheConstants.{MAX_ROW_CELLS}
@@ -22,7 +22,7 @@ use Rattle.pz_plan.specs.Checks.{has_more_gaps, is_long, is_large, in_rule, is_u
 use Rattle.pz_plan.specs.Deciding.{joined, decided_terms, decided_cells, decided_row, decided_rows}
 use Rattle.pz_plan.specs.Numbering.{choices_in_rows, asked_in, asked_count, cells_of, rows_of}
 use Rattle.pz_plan.specs.Planning.{with_right, planned, plan_of}
-use Rattle.pz_plan.specs.Shape.{IsShaped, AreShaped}
+use Rattle.pz_plan.specs.Shape.{IsShaped, AreShaped, AreShort}
 use Rattle.pz_plan.specs.Spelling.{cell_of, is_gap, gap_of, row_spelled_out, rows_spelled_out}
 use Rattle.pz_grammar.specs.Written.{is_prefix, has_cells, has_rows, is_whole}
 
@@ -95,8 +95,8 @@ shaped-rows_of : (n : ℕ) (rows : List (PlanRow Mention)) → AreShaped rows �
 unfolding rows_of
 shaped-rows_of n [] h = All-nil IsShaped
 shaped-rows_of n (row ∷ rows) h =
-    All-cons IsShaped (record { cells = cells_of n row.cells; gap = row.gap }) (rows_of (n + asked_count row.cells) rows)
-    (subst (λ k. HasShape k row.gap) (sym (length-cells_of n row.cells)) (All-head IsShaped row rows h))
+    All-cons IsShaped (record { cells = cells_of n row.cells; gap_at = row.gap_at }) (rows_of (n + asked_count row.cells) rows)
+    (subst (λ k. HasShape k row.gap_at) (sym (length-cells_of n row.cells)) (All-head IsShaped row rows h))
     (shaped-rows_of (n + asked_count row.cells) rows (All-tail IsShaped row rows h))
 
 joined-length : {X : Type 0} (n : ℕ) (o : Option X) (p : Option (List X)) → IfSome p (λ xs. length xs ≡ n) → IfSome (joined o p) (λ xs. length xs ≡ suc n)
@@ -115,15 +115,15 @@ joined-shaped (Some row) None h k = tt
 joined-shaped None p h k = tt
 
 abbrev row_with : Option ℕ → List (List Term) → PlanRow Term
-row_with gap cs = record { cells = cs; gap = gap }
+row_with gap_at cs = record { cells = cs; gap_at = gap_at }
 
 shaped-decided_row : (cs : List Choice) (n : ℕ) (row : PlanRow Mention) → IsShaped row → IfSome (decided_row cs n row) IsShaped
 unfolding decided_row
 shaped-decided_row cs n row h =
-    let by : (o : Option (List (List Term))) → IfSome o (λ xs. length xs ≡ length row.cells) → IfSome (option_map (row_with row.gap) o) IsShaped =
-    λ o. elim o as (λ o. IfSome o (λ xs. length xs ≡ length row.cells) → IfSome (option_map (row_with row.gap) o) IsShaped) [
+    let by : (o : Option (List (List Term))) → IfSome o (λ xs. length xs ≡ length row.cells) → IfSome (option_map (row_with row.gap_at) o) IsShaped =
+    λ o. elim o as (λ o. IfSome o (λ xs. length xs ≡ length row.cells) → IfSome (option_map (row_with row.gap_at) o) IsShaped) [
       | None ↦ λ e. tt
-      | Some cs ↦ λ e. subst (λ k. HasShape k row.gap) (sym e) h
+      | Some cs ↦ λ e. subst (λ k. HasShape k row.gap_at) (sym e) h
     ] in
     by (decided_cells cs n 0 row.cells) (length-decided cs n 0 row.cells)
 
@@ -162,6 +162,20 @@ well-written t late rule e =
     let f = passed (is_misshapen rule) _ _ d.1 in
     record { gaps = a.0; large = b.0; shape = f.0 }
 
+short-rows : (rows : List (List Cell)) → list_any is_long rows ≡ false → AreShort rows
+unfolding is_long
+short-rows [] h = All-nil (λ row. length row ≤ MAX_ROW_CELLS)
+short-rows (row ∷ rows) h =
+    let p = or_parts (is_long row) (list_any is_long rows) h in
+    All-cons (λ row. length row ≤ MAX_ROW_CELLS) row rows (ltb-false MAX_ROW_CELLS (length row) p.0) (short-rows rows p.1)
+
+-- the rows of a rule without a fault are short
+pub short-sides : (t : List Denotation) (late : Bool) (rule : Rule) → fault_of t late rule ≡ None → AreShort rule.left × AreShort rule.right
+unfolding is_large
+short-sides t late rule e =
+    let l = or_parts (is_large rule.left) (is_large rule.right) (well-written t late rule e).large in
+    (short-rows rule.left (or_parts (nat_lt 8 (length rule.left)) (list_any is_long rule.left) l.0).1, short-rows rule.right (or_parts (nat_lt 8 (length rule.right)) (list_any is_long rule.right) l.1).1)
+
 shaped-planned : (t : List Denotation) (rule : Rule) → is_whole rule ≡ true → Written_well rule → PlanIsShaped (planned rule (rows_spelled_out side.Left t rule.left) (rows_spelled_out side.Right t rule.right))
 unfolding planned rows_spelled_out is_large is_misshapen
 shaped-planned t rule whole well =
@@ -176,9 +190,9 @@ shaped-planned t rule whole well =
     let e = or_parts (list_any has_loose_gap rule.left) (list_any has_loose_gap rule.right) s.0 in
     let left = rows_spelled_out side.Left t rule.left in
     let right = rows_spelled_out side.Right t rule.right in
-    shaped-with_right rule left (decided_rows (choices_in_rows 0 left) 0 right)
+    shaped-with_right rule left (decided_rows (choices_in_rows left) 0 right)
     (shaped-rows side.Left t rule.left c.0 g.0 ll.1 e.0)
-    (shaped-decided (choices_in_rows 0 left) 0 right (shaped-rows side.Right t rule.right c.1 g.1 lr.1 e.1))
+    (shaped-decided (choices_in_rows left) 0 right (shaped-rows side.Right t rule.right c.1 g.1 lr.1 e.1))
 
 shaped-plan : (t : List Denotation) (late : Bool) (rule : Rule) → is_whole rule ≡ true → PlanIsShaped (plan_of t late rule)
 unfolding plan_of

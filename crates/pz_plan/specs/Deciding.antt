@@ -1,5 +1,6 @@
 -- Which choice of the left decides an item of the right.
-use Rattle.std.specs.Prelude.{ℕ, ◌+◌, Bool, false, ◌&&◌, ◌==◌, List, [], ◌∷◌, Option, Some, None, if◌then◌else◌}
+use Rattle.std.specs.Prelude.{ℕ, ◌+◌, Bool, false, ◌&&◌, ◌==◌, List, [], ◌∷◌, Option, Some, None, map, filter}
+use Rattle.std.specs.List.{enumerate_from}
 use Rattle.std.specs.Option.{option_map, option_or}
 use Rattle.pz_grammar.specs.declared.token.Class.{Class}
 use Rattle.pz_grammar.specs.declared.token.Lead.{Lead}
@@ -11,14 +12,12 @@ use Rattle.pz_plan.specs.declared.plan.PlanRow.{PlanRow}
 use Rattle.pz_plan.specs.declared.plan.Spot.{Spot}
 use Rattle.pz_plan.specs.declared.plan.Asked.TheVariants as asked
 use Rattle.pz_plan.specs.declared.plan.Choice.{Choice}
-use Rattle.pz_plan.specs.declared.plan.TermWord.{TermWord}
-use Rattle.pz_plan.specs.declared.plan.TermWord.TheVariants as word
 use Rattle.pz_plan.specs.declared.plan.TermName.{TermName}
 use Rattle.pz_plan.specs.declared.plan.TermName.TheVariants as name
 use Rattle.pz_plan.specs.declared.plan.Term.{Term}
 use Rattle.pz_plan.specs.declared.deciding.Wanted.{Wanted}
 use Rattle.pz_plan.specs.declared.deciding.Wanted.TheVariants as wanted
-use Rattle.pz_plan.specs.Numbering.{word_of, name_of}
+use Rattle.pz_plan.specs.Numbering.{lead_of, name_of}
 use Rattle.pz_plan.specs.Same.{same_class, same_subject}
 
 abbrev pub same_spot : Spot → Spot → Bool
@@ -50,10 +49,9 @@ abbrev pub fits_within : Wanted → Option Spot → Choice → Bool
 fits_within what (Some spot) = is_here spot (fits what)
 fits_within what None = fits what
 
--- the numbers of such choices, where n choices stand before them
-abbrev pub numbers_from : ℕ → (Choice → Bool) → List Choice → List ℕ
-numbers_from n is [] = []
-numbers_from n is (choice ∷ choices) = if is choice then n ∷ numbers_from (n + 1) is choices else numbers_from (n + 1) is choices
+-- of numbered choices, the numbers of those that are such
+abbrev pub numbers_of : (Choice → Bool) → List (ℕ × Choice) → List ℕ
+numbers_of is numbered = map (λ choice. choice.0) (filter (λ choice. is choice.1) numbered)
 
 -- the element of a list of length one
 abbrev pub lone : List ℕ → Option ℕ
@@ -63,7 +61,7 @@ lone (k ∷ next ∷ more) = None
 
 -- the number of the choice that alone is such
 unfoldable pub the_only : (Choice → Bool) → List Choice → Option ℕ
-the_only is choices = lone (numbers_from 0 is choices)
+the_only is choices = lone (numbers_of is (enumerate_from 0 choices))
 
 -- the member of a property: of its only occurrence in the cell, else of its only one in the rule
 unfoldable pub member_choice : List Choice → Spot → ℕ → Option ℕ
@@ -76,23 +74,23 @@ direction_choice choices spot class on =
     option_or (the_only (is_here spot (is_direction_on class on)) choices)
     (option_or (the_only (is_here spot (is_direction class)) choices) (the_only (is_direction class) choices))
 
-unfoldable pub decided_word : List Choice → Spot → Option Lead → Subject → Option TermWord
-decided_word choices spot (Some (lead.Class class)) on = option_map word.Chosen (direction_choice choices spot class on)
-decided_word choices spot other on = Some (word_of 0 other)
+unfoldable pub decided_lead : List Choice → Spot → Option (Lead Class) → Subject → Option (Option (Lead ℕ))
+decided_lead choices spot (Some (lead.OneOf class)) on = option_map (λ k. Some (lead.OneOf k)) (direction_choice choices spot class on)
+decided_lead choices spot other on = Some (lead_of 0 other)
 
 unfoldable pub decided_name : List Choice → Spot → Subject → Option TermName
 decided_name choices spot (subject.Property property) = option_map name.Chosen (member_choice choices spot property)
 decided_name choices spot other = Some (name_of 0 other)
 
-abbrev pub with_word : Option TermWord → Option TermName → Option Term
-with_word (Some word) (Some name) = Some (record { word = word; name = name })
-with_word (Some word) None = None
-with_word None name = None
+abbrev pub with_lead : Option (Option (Lead ℕ)) → Option TermName → Option Term
+with_lead (Some lead) (Some name) = Some (record { lead = lead; name = name })
+with_lead (Some lead) None = None
+with_lead None name = None
 
 -- the term of an item of the right; None: which choice decides it is ambiguous
 unfoldable pub decided_term : List Choice → Spot → Mention → Option Term
 decided_term choices spot mention =
-    with_word (decided_word choices spot mention.lead mention.subject) (decided_name choices spot mention.subject)
+    with_lead (decided_lead choices spot mention.lead mention.subject) (decided_name choices spot mention.subject)
 
 -- a list with one more before it, if both are there
 abbrev pub joined : {X : Type 0} → Option X → Option (List X) → Option (List X)
@@ -111,7 +109,7 @@ decided_cells choices row n (cell ∷ cells) =
     joined (decided_terms choices (record { row = row; cell = n }) cell) (decided_cells choices row (n + 1) cells)
 
 unfoldable pub decided_row : List Choice → ℕ → PlanRow Mention → Option (PlanRow Term)
-decided_row choices n row = option_map (λ cells. record { cells = cells; gap = row.gap }) (decided_cells choices n 0 row.cells)
+decided_row choices n row = option_map (λ cells. record { cells = cells; gap_at = row.gap_at }) (decided_cells choices n 0 row.cells)
 
 unfoldable pub decided_rows : List Choice → ℕ → List (PlanRow Mention) → Option (List (PlanRow Term))
 decided_rows choices n [] = Some []

@@ -1,6 +1,7 @@
 -- The choices of a left side, in the order of its text, and its terms, which point at them.
 use Rattle.std.specs.Prelude.{ℕ, Option, Some, None, ◌+◌, sum_by, List, [], ◌∷◌, ◌++◌, map, length}
-use Rattle.std.specs.List.{flat_map}
+use Rattle.std.specs.List.{flat_map, enumerate_from}
+use Rattle.pz_grammar.specs.declared.token.Class.{Class}
 use Rattle.pz_grammar.specs.declared.token.Lead.{Lead}
 use Rattle.pz_grammar.specs.declared.token.Lead.TheVariants as lead
 use Rattle.pz_plan.specs.declared.plan.Subject.{Subject}
@@ -11,15 +12,13 @@ use Rattle.pz_plan.specs.declared.plan.Spot.{Spot}
 use Rattle.pz_plan.specs.declared.plan.Asked.{Asked}
 use Rattle.pz_plan.specs.declared.plan.Asked.TheVariants as asked
 use Rattle.pz_plan.specs.declared.plan.Choice.{Choice}
-use Rattle.pz_plan.specs.declared.plan.TermWord.{TermWord}
-use Rattle.pz_plan.specs.declared.plan.TermWord.TheVariants as word
 use Rattle.pz_plan.specs.declared.plan.TermName.{TermName}
 use Rattle.pz_plan.specs.declared.plan.TermName.TheVariants as name
 use Rattle.pz_plan.specs.declared.plan.Term.{Term}
 
 -- a word for several directions asks for one of them
-abbrev pub asked_by_mark : Option Lead → Subject → List Asked
-asked_by_mark (Some (lead.Class class)) on = asked.Direction class on ∷ []
+abbrev pub asked_by_mark : Option (Lead Class) → Subject → List Asked
+asked_by_mark (Some (lead.OneOf class)) on = asked.Direction class on ∷ []
 asked_by_mark _ on = []
 
 -- a property asks for a member
@@ -35,24 +34,30 @@ asked_by mention = asked_by_mark mention.lead mention.subject ++ asked_by_subjec
 unfoldable pub choices_at : Spot → List Mention → List Choice
 choices_at spot mentions = map (λ what. record { spot = spot; asked = what }) (flat_map asked_by mentions)
 
--- what the cells of a row ask for, where n cells of the row stand before them
-unfoldable pub choices_in_cells : ℕ → ℕ → List (List Mention) → List Choice
-choices_in_cells row n [] = []
-choices_in_cells row n (cell ∷ cells) = choices_at (record { row = row; cell = n }) cell ++ choices_in_cells row (n + 1) cells
+-- what a cell asks for that has this number in its row
+abbrev pub choices_of_cell : ℕ → ℕ × List Mention → List Choice
+choices_of_cell row numbered = choices_at (record { row = row; cell = numbered.0 }) numbered.1
 
--- what rows ask for, where n rows stand before them
-unfoldable pub choices_in_rows : ℕ → List (PlanRow Mention) → List Choice
-choices_in_rows n [] = []
-choices_in_rows n (row ∷ rows) = choices_in_cells n 0 row.cells ++ choices_in_rows (n + 1) rows
+-- what the cells of a row ask for
+unfoldable pub choices_in_row : ℕ → List (List Mention) → List Choice
+choices_in_row row cells = flat_map (choices_of_cell row) (enumerate_from 0 cells)
+
+-- what a row of this number asks for
+abbrev pub choices_of_row : ℕ × PlanRow Mention → List Choice
+choices_of_row numbered = choices_in_row numbered.0 numbered.1.cells
+
+-- what rows ask for
+unfoldable pub choices_in_rows : List (PlanRow Mention) → List Choice
+choices_in_rows rows = flat_map choices_of_row (enumerate_from 0 rows)
 
 -- the word of a term, if the choice of its direction has the number k
-abbrev pub word_of : ℕ → Option Lead → TermWord
-word_of k None = word.Bare
-word_of k (Some lead.No) = word.No
-word_of k (Some lead.Stationary) = word.Stationary
-word_of k (Some (lead.Toward direction)) = word.Toward direction
-word_of k (Some (lead.Turned turn)) = word.Turned turn
-word_of k (Some (lead.Class class)) = word.Chosen k
+abbrev pub lead_of : ℕ → Option (Lead Class) → Option (Lead ℕ)
+lead_of k None = None
+lead_of k (Some lead.No) = Some lead.No
+lead_of k (Some lead.Stationary) = Some lead.Stationary
+lead_of k (Some (lead.Toward direction)) = Some (lead.Toward direction)
+lead_of k (Some (lead.Turned turn)) = Some (lead.Turned turn)
+lead_of k (Some (lead.OneOf class)) = Some (lead.OneOf k)
 
 -- the name of a term, if the choice of its member has the number k
 abbrev pub name_of : ℕ → Subject → TermName
@@ -63,7 +68,7 @@ name_of k (subject.Property property) = name.Chosen k
 unfoldable pub term_of : ℕ → Mention → Term
 term_of n mention =
     record {
-      word = word_of n mention.lead;
+      lead = lead_of n mention.lead;
       name = name_of (n + length (asked_by_mark mention.lead mention.subject)) mention.subject;
     }
 
@@ -86,4 +91,4 @@ cells_of n (cell ∷ cells) = terms_of n cell ∷ cells_of (n + asked_in cell) c
 
 unfoldable pub rows_of : ℕ → List (PlanRow Mention) → List (PlanRow Term)
 rows_of n [] = []
-rows_of n (row ∷ rows) = record { cells = cells_of n row.cells; gap = row.gap } ∷ rows_of (n + asked_count row.cells) rows
+rows_of n (row ∷ rows) = record { cells = cells_of n row.cells; gap_at = row.gap_at } ∷ rows_of (n + asked_count row.cells) rows

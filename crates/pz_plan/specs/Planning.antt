@@ -20,11 +20,11 @@ use Rattle.pz_plan.specs.Spelling.{rows_spelled_out}
 unfoldable pub with_right : Rule → List (PlanRow Mention) → Option (List (PlanRow Term)) → Result Plan RuleFault
 with_right rule left None = Err fault.AmbiguousRight
 with_right rule left (Some right) =
-    Ok (record { directions = directions_of rule; choices = choices_in_rows 0 left; left = rows_of 0 left; right = right; commands = commands_given rule.commands })
+    Ok (record { directions = directions_of rule; choices = choices_in_rows left; left = rows_of 0 left; right = right; commands = commands_given rule.commands })
 
 -- the plan of a rule whose names are spelled out
 unfoldable pub planned : Rule → List (PlanRow Mention) → List (PlanRow Mention) → Result Plan RuleFault
-planned rule left right = with_right rule left (decided_rows (choices_in_rows 0 left) 0 right)
+planned rule left right = with_right rule left (decided_rows (choices_in_rows left) 0 right)
 
 -- the plan of a rule, late or not, or its first fault
 unfoldable pub plan_of : List Denotation → Bool → Rule → Result Plan RuleFault

@@ -25,9 +25,9 @@ prefix_directions (token.Lead (lead.Toward Up)) = Up ∷ []
 prefix_directions (token.Lead (lead.Toward Down)) = Down ∷ []
 prefix_directions (token.Lead (lead.Toward Left)) = Left ∷ []
 prefix_directions (token.Lead (lead.Toward Right)) = Right ∷ []
-prefix_directions (token.Lead (lead.Class class.Horizontal)) = Left ∷ Right ∷ []
-prefix_directions (token.Lead (lead.Class class.Vertical)) = Up ∷ Down ∷ []
-prefix_directions (token.Lead (lead.Class class.Orthogonal)) = Up ∷ Down ∷ Left ∷ Right ∷ []
+prefix_directions (token.Lead (lead.OneOf class.Horizontal)) = Left ∷ Right ∷ []
+prefix_directions (token.Lead (lead.OneOf class.Vertical)) = Up ∷ Down ∷ []
+prefix_directions (token.Lead (lead.OneOf class.Orthogonal)) = Up ∷ Down ∷ Left ∷ Right ∷ []
 prefix_directions _ = []
 
 -- the directions that the prefixes mention, each once, in the order of mention

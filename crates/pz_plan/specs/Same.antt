@@ -34,15 +34,15 @@ same_subject (subject.Object a) (subject.Object b) = a == b
 same_subject (subject.Property a) (subject.Property b) = a == b
 same_subject _ _ = false
 
-abbrev pub same_word : Lead → Lead → Bool
+abbrev pub same_word : Lead Class → Lead Class → Bool
 same_word lead.No lead.No = true
 same_word lead.Stationary lead.Stationary = true
 same_word (lead.Toward a) (lead.Toward b) = same_dir a b
 same_word (lead.Turned a) (lead.Turned b) = same_turn a b
-same_word (lead.Class a) (lead.Class b) = same_class a b
+same_word (lead.OneOf a) (lead.OneOf b) = same_class a b
 same_word _ _ = false
 
-abbrev pub same_lead : Option Lead → Option Lead → Bool
+abbrev pub same_lead : Option (Lead Class) → Option (Lead Class) → Bool
 same_lead None None = true
 same_lead (Some a) (Some b) = same_word a b
 same_lead _ _ = false
@@ -51,8 +51,8 @@ unfoldable pub same_mention : Mention → Mention → Bool
 same_mention a b = same_lead a.lead b.lead && same_subject a.subject b.subject
 
 -- a word for several directions
-abbrev pub is_class : Option Lead → Bool
-is_class (Some (lead.Class class)) = true
+abbrev pub is_class : Option (Lead Class) → Bool
+is_class (Some (lead.OneOf class)) = true
 is_class _ = false
 
 abbrev pub is_some_member : Subject → Bool

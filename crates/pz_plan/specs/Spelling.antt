@@ -2,6 +2,7 @@
 use Rattle.std.specs.Prelude.{ℕ, Bool, true, false, not, ◌&&◌, ◌==◌, List, [], ◌∷◌, Option, Some, map, option_and_then, slice_get, position, length, if◌then◌else◌}
 use Rattle.std.specs.List.{flat_map}
 use Rattle.std.specs.Option.{option_map_or}
+use Rattle.pz_grammar.specs.declared.token.Class.{Class}
 use Rattle.pz_grammar.specs.declared.token.Lead.{Lead}
 use Rattle.pz_grammar.specs.declared.token.Lead.TheVariants as lead
 use Rattle.pz_game.specs.declared.denotation.Kind.{Kind}
@@ -17,7 +18,7 @@ use Rattle.pz_plan.specs.declared.spelling.Side.{Side}
 use Rattle.pz_base.specs.Lists.{firsts}
 use Rattle.pz_plan.specs.Same.{says_the_same}
 
-abbrev pub is_no : Option Lead → Bool
+abbrev pub is_no : Option (Lead Class) → Bool
 is_no (Some lead.No) = true
 is_no _ = false
 
@@ -26,11 +27,11 @@ is_property kind.Property = true
 is_property _ = false
 
 -- a property of several members stands for one of them, but under `no` for each
-abbrev pub is_chosen : Option Lead → Denotation → Bool
+abbrev pub is_chosen : Option (Lead Class) → Denotation → Bool
 is_chosen word denotation = is_property denotation.kind && not (is_no word) && not (length denotation.members == 1)
 
 -- what a name stands for, each with the word before the name
-unfoldable pub mentions_of : Option Lead → Denotation → List Mention
+unfoldable pub mentions_of : Option (Lead Class) → Denotation → List Mention
 mentions_of word denotation =
     if is_chosen word denotation then record { lead = word; subject = subject.Property denotation.number } ∷ []
     else map (λ object. record { lead = word; subject = subject.Object object }) denotation.members
@@ -60,7 +61,7 @@ unfoldable pub gap_of : List Cell → Option ℕ
 gap_of row = position is_gap row
 
 unfoldable pub row_spelled_out : Side → List Denotation → List Cell → PlanRow Mention
-row_spelled_out side table row = record { cells = flat_map (cell_of side table) row; gap = gap_of row }
+row_spelled_out side table row = record { cells = flat_map (cell_of side table) row; gap_at = gap_of row }
 
 unfoldable pub rows_spelled_out : Side → List Denotation → List (List Cell) → List (PlanRow Mention)
 rows_spelled_out side table rows = map (row_spelled_out side table) rows

@@ -1,10 +1,10 @@
 //! Which choice of the left decides an item of the right.
 
 ghost use Rattle.std.specs.Prelude.{◌≡◌, ◌++◌, ◌+◌, List, Option, IfOk, map, length};
-ghost use Rattle.pz_plan.specs.Deciding.{same_spot, is_member, is_direction, is_direction_on, is_here, the_only, member_choice, direction_choice, decided_word, decided_name, decided_term, decided_terms, decided_cells, decided_row, decided_rows, fits, fits_within};
+ghost use Rattle.pz_plan.specs.Deciding.{same_spot, is_member, is_direction, is_direction_on, is_here, the_only, member_choice, direction_choice, decided_lead, decided_name, decided_term, decided_terms, decided_cells, decided_row, decided_rows, fits, fits_within};
 
-use crate::numbering::{name_of, word_of};
-use crate::plan::{Asked, Choice, Mention, PlanRow, Spot, Subject, Term, TermName, TermWord};
+use crate::numbering::{lead_of, name_of};
+use crate::plan::{Asked, Choice, Mention, PlanRow, Spot, Subject, Term, TermName};
 use pz_base::listed::Listed;
 use pz_grammar::token::{Class, Lead};
 use std::alloc::{AllocError, Global};
@@ -79,21 +79,21 @@ fn direction_choice(choices: &[Choice], spot: Spot, class: Class, on: Subject) -
         .or(the_only(wanted, None, choices))
 }
 
-#[tactic(auto, unfolding(crate::specs::Deciding::decided_word))]
-fn decided_word(
+#[tactic(auto, unfolding(crate::specs::Deciding::decided_lead))]
+fn decided_lead(
     choices: &[Choice],
     spot: Spot,
-    lead: Option<Lead>,
+    lead: Option<Lead<Class>>,
     subject: Subject,
-) -> Option<TermWord>
-    ensures { result ≡ decided_word choices.now spot lead subject }
+) -> Option<Option<Lead<usize>>>
+    ensures { result ≡ decided_lead choices.now spot lead subject }
 {
     match lead {
-        Some(Lead::Class(class)) => match direction_choice(choices, spot, class, subject) {
-            Some(number) => Some(TermWord::Chosen(number)),
+        Some(Lead::OneOf(class)) => match direction_choice(choices, spot, class, subject) {
+            Some(number) => Some(Some(Lead::OneOf(number))),
             None => None,
         },
-        other => Some(word_of(0, other)),
+        other => Some(lead_of(0, other)),
     }
 }
 
@@ -115,9 +115,9 @@ fn decided_name(choices: &[Choice], spot: Spot, subject: Subject) -> Option<Term
 fn decided_term(choices: &[Choice], spot: Spot, mention: &Mention) -> Option<Term>
     ensures { result ≡ decided_term choices.now spot mention.now }
 {
-    let word = decided_word(choices, spot, mention.lead, mention.subject)?;
+    let lead = decided_lead(choices, spot, mention.lead, mention.subject)?;
     let name = decided_name(choices, spot, mention.subject)?;
-    Some(Term { word, name })
+    Some(Term { lead, name })
 }
 
 /// The terms of a cell of the right, if none is ambiguous.
@@ -172,7 +172,7 @@ fn decided_row(
     match decided_cells(alloc, choices, number, row.cells.items())? {
         Some(cells) => Ok(Some(PlanRow {
             cells,
-            gap: row.gap,
+            gap_at: row.gap_at,
         })),
         None => Ok(None),
     }

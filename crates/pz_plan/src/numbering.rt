@@ -2,24 +2,24 @@
 
 ghost use Rattle.std.specs.Prelude.{◌≡◌, ◌++◌, ◌+◌, List, OnOk, IfOk, map, length};
 ghost use Rattle.std.specs.List.{flat_map};
-ghost use Rattle.pz_plan.specs.Numbering.{asked_by_mark, asked_by_subject, asked_by, choices_at, choices_in_cells, choices_in_rows, word_of, name_of, term_of, terms_of, cells_of, asked_in, asked_count, rows_of};
+ghost use Rattle.pz_plan.specs.Numbering.{asked_by_mark, asked_by_subject, asked_by, choices_at, choices_in_row, choices_in_rows, lead_of, name_of, term_of, terms_of, cells_of, asked_in, asked_count, rows_of};
 
-use crate::plan::{Asked, Choice, Mention, PlanRow, Spot, Subject, Term, TermName, TermWord};
+use crate::plan::{Asked, Choice, Mention, PlanRow, Spot, Subject, Term, TermName};
 use pz_base::listed::Listed;
-use pz_grammar::token::Lead;
+use pz_grammar::token::{Class, Lead};
 use std::alloc::{AllocError, Global};
 
 /// The word of a term, if the choice of its direction has this number.
-pub fn word_of(number: usize, lead: Option<Lead>) -> TermWord
-    ensures { result ≡ word_of number lead }
+pub fn lead_of(number: usize, lead: Option<Lead<Class>>) -> Option<Lead<usize>>
+    ensures { result ≡ lead_of number lead }
 {
     match lead {
-        None => TermWord::Bare,
-        Some(Lead::No) => TermWord::No,
-        Some(Lead::Stationary) => TermWord::Stationary,
-        Some(Lead::Toward(direction)) => TermWord::Toward(direction),
-        Some(Lead::Turned(turn)) => TermWord::Turned(turn),
-        Some(Lead::Class(_)) => TermWord::Chosen(number),
+        None => None,
+        Some(Lead::No) => Some(Lead::No),
+        Some(Lead::Stationary) => Some(Lead::Stationary),
+        Some(Lead::Toward(direction)) => Some(Lead::Toward(direction)),
+        Some(Lead::Turned(turn)) => Some(Lead::Turned(turn)),
+        Some(Lead::OneOf(_)) => Some(Lead::OneOf(number)),
     }
 }
 
@@ -36,13 +36,13 @@ pub fn name_of(number: usize, subject: Subject) -> TermName
 /// Adds the choice of a word for several directions.
 fn add_mark(
     spot: Spot,
-    lead: Option<Lead>,
+    lead: Option<Lead<Class>>,
     subject: Subject,
     choices: &mut Vec<Choice>,
 ) -> Result<(), AllocError>
     ensures { OnOk result (choices.new.items ≡ choices.old.items ++ map (λ what. record { spot = spot; asked = what }) (asked_by_mark lead subject)) }
 {
-    if let Some(Lead::Class(class)) = lead {
+    if let Some(Lead::OneOf(class)) = lead {
         choices.push(Choice {
             spot,
             asked: Asked::Direction(class, subject),
@@ -70,11 +70,11 @@ fn number_term(spot: Spot, mention: &Mention, choices: &mut Vec<Choice>) -> Resu
     ensures term { IfOk result (λ term. term ≡ term_of (length choices.old.items) mention.now) }
     ensures choices { OnOk result (choices.new.items ≡ choices.old.items ++ map (λ what. record { spot = spot; asked = what }) (asked_by mention.now)) }
 {
-    let word = word_of(choices.len(), mention.lead);
+    let lead = lead_of(choices.len(), mention.lead);
     add_mark(spot, mention.lead, mention.subject, choices)?;
     let name = name_of(choices.len(), mention.subject);
     add_subject(spot, mention.subject, choices)?;
-    Ok(Term { word, name })
+    Ok(Term { lead, name })
 }
 
 /// The terms of a cell, whose choices are added.
@@ -97,7 +97,7 @@ fn number_terms(
 }
 
 /// The terms of the cells of a row, whose choices are added.
-#[tactic(auto, unfolding(crate::specs::Numbering::cells_of, crate::specs::Numbering::asked_count, crate::specs::Numbering::choices_in_cells))]
+#[tactic(auto, unfolding(crate::specs::Numbering::cells_of, crate::specs::Numbering::asked_count, crate::specs::Numbering::choices_in_row))]
 fn number_cells(
     alloc: Global,
     row: usize,
@@ -105,7 +105,7 @@ fn number_cells(
     choices: &mut Vec<Choice>,
 ) -> Result<Listed<Listed<Term>>, AllocError>
     ensures cells { IfOk result (λ out. out ≡ cells_of (length choices.old.items) cells.now) }
-    ensures choices { OnOk result (choices.new.items ≡ choices.old.items ++ choices_in_cells row 0 cells.now) }
+    ensures choices { OnOk result (choices.new.items ≡ choices.old.items ++ choices_in_row row cells.now) }
     ensures count { OnOk result (length choices.new.items ≡ length choices.old.items + asked_count cells.now) }
 {
     let mut out = Vec::new(alloc);
@@ -123,14 +123,14 @@ pub fn number_rows(
     choices: &mut Vec<Choice>,
 ) -> Result<Listed<PlanRow<Term>>, AllocError>
     ensures rows { IfOk result (λ out. out ≡ rows_of (length choices.old.items) rows.now) }
-    ensures choices { OnOk result (choices.new.items ≡ choices.old.items ++ choices_in_rows 0 rows.now) }
+    ensures choices { OnOk result (choices.new.items ≡ choices.old.items ++ choices_in_rows rows.now) }
 {
     let mut out = Vec::new(alloc);
     for (number, row) in rows.iter().enumerate() {
         let cells = number_cells(alloc, number, row.cells.items(), choices)?;
         out.push(PlanRow {
             cells,
-            gap: row.gap,
+            gap_at: row.gap_at,
         })?;
     }
     Ok(Listed::new(out))

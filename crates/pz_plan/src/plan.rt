@@ -3,7 +3,7 @@
 use pz_base::listed::Listed;
 use pz_game::commands::Commands;
 use pz_game::direction::Dir;
-use pz_grammar::token::{Class, Lead, Turn};
+use pz_grammar::token::{Class, Lead};
 
 /// An object, or one of the members of a property, by the number of the property's own name.
 #[derive(Clone, Copy, PartialEq, Eq)]
@@ -13,17 +13,17 @@ pub enum Subject {
 }
 
 /// An object or a property of several members, with the word before it.
-#[derive(Clone, Copy, PartialEq, Eq)]
+#[derive(Clone, Copy)]
 pub struct Mention {
-    pub lead: Option<Lead>,
+    pub lead: Option<Lead<Class>>,
     pub subject: Subject,
 }
 
-/// The cells of a row without its gap, and how many of them stand before the gap.
+/// The cells of a row without its gap, and the number of the cell before which the gap stands.
 #[derive(Drop)]
 pub struct PlanRow<T> {
     pub cells: Listed<Listed<T>>,
-    pub gap: Option<usize>,
+    pub gap_at: Option<u32>,
 }
 
 /// A cell, by its row and its place there.
@@ -47,17 +47,6 @@ pub struct Choice {
     pub asked: Asked,
 }
 
-/// The word of a term: as it stands there, or the direction that a choice gives.
-#[derive(Clone, Copy)]
-pub enum TermWord {
-    Bare,
-    No,
-    Stationary,
-    Toward(Dir),
-    Turned(Turn),
-    Chosen(usize),
-}
-
 /// The name of a term: an object, or the object that a choice gives.
 #[derive(Clone, Copy)]
 pub enum TermName {
@@ -65,20 +54,35 @@ pub enum TermName {
     Chosen(usize),
 }
 
-/// An item of a cell, before the choices are made.
+/// An item of a cell, before the choices are made: a word for several directions stands there as the number of its choice.
 #[derive(Clone, Copy)]
 pub struct Term {
-    pub word: TermWord,
+    pub lead: Option<Lead<usize>>,
     pub name: TermName,
 }
 
 /// A rule whose choices are numbered in the order of its text, with each term pointing at the choices that decide it, and the
 /// commands that it gives.
-#[derive(Drop)]
 pub struct Plan {
     pub directions: Listed<Dir>,
     pub choices: Listed<Choice>,
     pub left: Listed<PlanRow<Term>>,
     pub right: Listed<PlanRow<Term>>,
     pub commands: Commands,
+}
+
+impl Drop for Plan {
+    fn drop(self) {
+        let Plan {
+            directions,
+            choices,
+            left,
+            right,
+            commands: _,
+        } = self;
+        drop(directions);
+        drop(choices);
+        drop(left);
+        drop(right);
+    }
 }

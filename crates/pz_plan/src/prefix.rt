@@ -38,9 +38,9 @@ fn prefix_directions(token: Token) -> &'static [Dir]
         Token::Lead(Lead::Toward(Dir::Down)) => &[Dir::Down],
         Token::Lead(Lead::Toward(Dir::Left)) => &[Dir::Left],
         Token::Lead(Lead::Toward(Dir::Right)) => &[Dir::Right],
-        Token::Lead(Lead::Class(Class::Horizontal)) => &[Dir::Left, Dir::Right],
-        Token::Lead(Lead::Class(Class::Vertical)) => &[Dir::Up, Dir::Down],
-        Token::Lead(Lead::Class(Class::Orthogonal)) => &[Dir::Up, Dir::Down, Dir::Left, Dir::Right],
+        Token::Lead(Lead::OneOf(Class::Horizontal)) => &[Dir::Left, Dir::Right],
+        Token::Lead(Lead::OneOf(Class::Vertical)) => &[Dir::Up, Dir::Down],
+        Token::Lead(Lead::OneOf(Class::Orthogonal)) => &[Dir::Up, Dir::Down, Dir::Left, Dir::Right],
         _ => &[],
     }
 }

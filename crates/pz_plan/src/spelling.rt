@@ -1,16 +1,18 @@
 //! What the names of a rule stand for: aggregates and synonyms are replaced, and what a cell says twice counts once.
 
-ghost use Rattle.std.specs.Prelude.{◌≡◌, ◌||◌, ◌++◌, OnOk, IfOk, option_copied, slice_get};
+ghost use Rattle.std.specs.Prelude.{◌≡◌, ◌<◌, ◌≤◌, ◌||◌, ◌++◌, OnOk, IfOk, IfSome, option_copied, slice_get, length};
 ghost use Rattle.std.specs.List.{flat_map, list_any};
 ghost use Rattle.pz_base.specs.Lists.{added, added_all};
-ghost use Rattle.pz_plan.specs.Same.{is_class, is_some_member, same_mention, says_the_same};
+ghost use Rattle.pz_plan.specs.Shape.{AreShort};
+ghost use Rattle.pz_plan.specs.Same.{is_class, is_some_member, same_word, same_lead, same_subject, same_mention, says_the_same};
 ghost use Rattle.pz_plan.specs.Spelling.{is_chosen, mentions_of, mentions_at, denoted, spelled_out, cell_of, is_gap, gap_of, row_spelled_out, rows_spelled_out};
 
 use crate::plan::{Mention, PlanRow, Subject};
 use pz_base::listed::Listed;
 use pz_game::denotation::{Denotation, Kind};
+use pz_game::limits::MAX_ROW_CELLS;
 use pz_grammar::rule::{Cell, Phrase};
-use pz_grammar::token::Lead;
+use pz_grammar::token::{Class, Lead};
 use std::alloc::{AllocError, Global};
 
 /// A side of a rule.
@@ -20,18 +22,46 @@ pub enum Side {
     Right,
 }
 
+fn same_word(a: Lead<Class>, b: Lead<Class>) -> bool
+    ensures { result ≡ same_word a b }
+{
+    match (a, b) {
+        (Lead::No, Lead::No) | (Lead::Stationary, Lead::Stationary) => true,
+        (Lead::Toward(a), Lead::Toward(b)) => a == b,
+        (Lead::Turned(a), Lead::Turned(b)) => a == b,
+        (Lead::OneOf(a), Lead::OneOf(b)) => a == b,
+        _ => false,
+    }
+}
+
+fn same_lead(a: Option<Lead<Class>>, b: Option<Lead<Class>>) -> bool
+    ensures { result ≡ same_lead a b }
+{
+    match (a, b) {
+        (None, None) => true,
+        (Some(a), Some(b)) => same_word(a, b),
+        _ => false,
+    }
+}
+
+fn same_subject(a: Subject, b: Subject) -> bool
+    ensures { result ≡ same_subject a b }
+{
+    a == b
+}
+
 #[tactic(auto, unfolding(crate::specs::Same::same_mention))]
 fn same_mention(a: &Mention, b: &Mention) -> bool
     ensures { result ≡ same_mention a.now b.now }
 {
-    a == b
+    same_lead(a.lead, b.lead) && same_subject(a.subject, b.subject)
 }
 
 /// Whether a mention has a choice.
 fn has_choice(mention: &Mention) -> bool
     ensures { result ≡ is_class mention.now.lead || is_some_member mention.now.subject }
 {
-    matches!(mention.lead, Some(Lead::Class(_))) || matches!(mention.subject, Subject::Property(_))
+    matches!(mention.lead, Some(Lead::OneOf(_))) || matches!(mention.subject, Subject::Property(_))
 }
 
 /// Whether a mention says no more than one before it.
@@ -64,7 +94,7 @@ fn add_mention(side: Side, mention: Mention, mentions: &mut Vec<Mention>) -> Res
 }
 
 /// Whether the name stands for one of its members.
-fn is_chosen(lead: Option<Lead>, denotation: &Denotation) -> bool
+fn is_chosen(lead: Option<Lead<Class>>, denotation: &Denotation) -> bool
     ensures { result ≡ is_chosen lead denotation.now }
 {
     matches!(denotation.kind, Kind::Property)
@@ -76,7 +106,7 @@ fn is_chosen(lead: Option<Lead>, denotation: &Denotation) -> bool
 #[tactic(auto, unfolding(crate::specs::Spelling::mentions_of))]
 fn add_mentions(
     side: Side,
-    lead: Option<Lead>,
+    lead: Option<Lead<Class>>,
     denotation: &Denotation,
     mentions: &mut Vec<Mention>,
 ) -> Result<(), AllocError>
@@ -202,9 +232,21 @@ pub fn is_gap(cell: &Cell) -> bool
 /// How many cells stand before the gap of a row.
 #[tactic(auto, unfolding(crate::specs::Spelling::gap_of))]
 pub fn gap_of(row: &[Cell]) -> Option<usize>
-    ensures { result ≡ gap_of row.now }
+    ensures gap { result ≡ gap_of row.now }
+    ensures within { IfSome result (λ at. at < length row.now) }
 {
     row.iter().position(|cell| is_gap(cell))
+}
+
+/// The same of a row that isn't too long.
+fn gap_at(row: &[Cell]) -> Option<u32>
+    requires { length row.now ≤ MAX_ROW_CELLS }
+    ensures { result ≡ gap_of row.now }
+{
+    match gap_of(row) {
+        Some(at) => Some(at as u32),
+        None => None,
+    }
 }
 
 #[tactic(auto, unfolding(crate::specs::Spelling::row_spelled_out))]
@@ -214,22 +256,24 @@ fn row_spelled_out(
     table: &[Denotation],
     row: &[Cell],
 ) -> Result<PlanRow<Mention>, AllocError>
+    requires { length row.now ≤ MAX_ROW_CELLS }
     ensures { IfOk result (λ out. out ≡ row_spelled_out side table.now row.now) }
 {
     Ok(PlanRow {
         cells: cells_spelled_out(alloc, side, table, row)?,
-        gap: gap_of(row),
+        gap_at: gap_at(row),
     })
 }
 
 /// The rows with each name replaced by what it stands for.
 #[tactic(auto, unfolding(crate::specs::Spelling::rows_spelled_out))]
-pub fn rows_spelled_out(
+pub(crate) fn rows_spelled_out(
     alloc: Global,
     side: Side,
     table: &[Denotation],
     rows: &[Listed<Cell>],
 ) -> Result<Listed<PlanRow<Mention>>, AllocError>
+    requires { AreShort rows.now }
     ensures { IfOk result (λ out. out ≡ rows_spelled_out side table.now rows.now) }
 {
     let mut out = Vec::new(alloc);

@@ -22,16 +22,16 @@ use Rattle.pz_plan.specs.declared.plan.Subject.TheVariants as subject
 use Rattle.pz_plan.specs.declared.plan.Term.{Term}
 use Rattle.pz_plan.specs.declared.plan.TermName.{TermName}
 use Rattle.pz_plan.specs.declared.plan.TermName.TheVariants as name
-use Rattle.pz_plan.specs.declared.plan.TermWord.{TermWord}
 use Rattle.pz_grammar.specs.declared.rule.Cell.{Cell}
 use Rattle.pz_grammar.specs.declared.rule.Cell.TheVariants as cell
 use Rattle.pz_grammar.specs.declared.rule.Phrase.{Phrase}
 use Rattle.pz_grammar.specs.declared.rule.Rule.{Rule}
 use Rattle.pz_plan.specs.declared.spelling.Side.{Side}
 use Rattle.pz_plan.specs.declared.spelling.Side.TheVariants as side
+use Rattle.pz_grammar.specs.declared.token.Class.{Class}
 use Rattle.pz_grammar.specs.declared.token.Lead.{Lead}
 use Rattle.pz_plan.specs.Checks.{fault_of}
-use Rattle.pz_plan.specs.Deciding.{joined, with_word, decided_word, decided_name, decided_term, decided_terms, decided_cells, decided_row, decided_rows, member_choice}
+use Rattle.pz_plan.specs.Deciding.{joined, with_lead, decided_lead, decided_name, decided_term, decided_terms, decided_cells, decided_row, decided_rows, member_choice}
 use Rattle.pz_rules.specs.Equal.{same_instance}
 use Rattle.pz_rules.specs.Instances.{members_at, options_of, picked_object, object_of, layer_of, item_of, cell_of, row_of, rows_of, instance_of, is_possible, picks_of, possible_of, instances_of}
 use Rattle.pz_base.specs.Lists.{firsts}
@@ -64,7 +64,7 @@ mention_fits n m = subject_fits n m.subject
 abbrev said_fits : ℕ → PlanRow Mention → Bool
 said_fits n row = list_all (list_all (mention_fits n)) row.cells
 
-mentions_of-fit : (n : ℕ) (w : Option Lead) (d : Denotation) → denotes n d ≡ true → list_all (mention_fits n) (mentions_of w d) ≡ true
+mentions_of-fit : (n : ℕ) (w : Option (Lead Class)) (d : Denotation) → denotes n d ≡ true → list_all (mention_fits n) (mentions_of w d) ≡ true
 unfolding mentions_of
 mentions_of-fit n w d h =
     let mention : ℕ → Mention = λ object. record { lead = w; subject = subject.Object object } in
@@ -156,10 +156,10 @@ decided_name-fits n cs at (subject.Property property) h =
     let by : (o : Option ℕ) → IfSome (option_map name.Chosen o) (λ x. name_fits n x ≡ true) = λ o. elim o as (λ o. IfSome (option_map name.Chosen o) (λ x. name_fits n x ≡ true)) [ None ↦ tt | Some k ↦ refl ] in
     by (member_choice cs at property)
 
-with_word-fits : (n : ℕ) (w : Option TermWord) (x : Option TermName) → IfSome x (λ x. name_fits n x ≡ true) → IfSome (with_word w x) (λ t. term_fits n t ≡ true)
-with_word-fits n (Some w) (Some x) h = h
-with_word-fits n (Some w) None h = tt
-with_word-fits n None x h = tt
+with_lead-fits : (n : ℕ) (w : Option (Option (Lead ℕ))) (x : Option TermName) → IfSome x (λ x. name_fits n x ≡ true) → IfSome (with_lead w x) (λ t. term_fits n t ≡ true)
+with_lead-fits n (Some w) (Some x) h = h
+with_lead-fits n (Some w) None h = tt
+with_lead-fits n None x h = tt
 
 decided_terms-fit : (n : ℕ) (cs : List Choice) (at : Spot) (ms : List Mention) → list_all (mention_fits n) ms ≡ true → IfSome (decided_terms cs at ms) (λ ts. list_all (term_fits n) ts ≡ true)
 unfolding decided_terms decided_term
@@ -167,8 +167,8 @@ decided_terms-fit n cs at [] h = refl
 decided_terms-fit n cs at (m ∷ ms) h =
     let a = and_parts (mention_fits n m) (list_all (mention_fits n) ms) h in
     let x = decided_name cs at m.subject in
-    joined-fits (term_fits n) (with_word (decided_word cs at m.lead m.subject) x) (decided_terms cs at ms)
-    (with_word-fits n (decided_word cs at m.lead m.subject) x (decided_name-fits n cs at m.subject a.0))
+    joined-fits (term_fits n) (with_lead (decided_lead cs at m.lead m.subject) x) (decided_terms cs at ms)
+    (with_lead-fits n (decided_lead cs at m.lead m.subject) x (decided_name-fits n cs at m.subject a.0))
     (decided_terms-fit n cs at ms a.1)
 
 decided_cells-fit : (n : ℕ) (cs : List Choice) (r k : ℕ) (cells : List (List Mention)) → list_all (list_all (mention_fits n)) cells ≡ true → IfSome (decided_cells cs r k cells) (λ out. list_all (list_all (term_fits n)) out ≡ true)
@@ -181,12 +181,12 @@ decided_cells-fit n cs r k (c ∷ cells) h =
     (decided_cells-fit n cs r (k + 1) cells a.1)
 
 abbrev row_with : Option ℕ → List (List Term) → PlanRow Term
-row_with gap cs = record { cells = cs; gap = gap }
+row_with gap_at cs = record { cells = cs; gap_at = gap_at }
 
 decided_row-fits : (n : ℕ) (cs : List Choice) (k : ℕ) (row : PlanRow Mention) → said_fits n row ≡ true → IfSome (decided_row cs k row) (λ row. row_fits n row ≡ true)
 unfolding decided_row
 decided_row-fits n cs k row h =
-    let by : (o : Option (List (List Term))) → IfSome o (λ out. list_all (list_all (term_fits n)) out ≡ true) → IfSome (option_map (row_with row.gap) o) (λ row. row_fits n row ≡ true) = λ o. elim o as (λ o. IfSome o (λ out. list_all (list_all (term_fits n)) out ≡ true) → IfSome (option_map (row_with row.gap) o) (λ row. row_fits n row ≡ true)) [
+    let by : (o : Option (List (List Term))) → IfSome o (λ out. list_all (list_all (term_fits n)) out ≡ true) → IfSome (option_map (row_with row.gap_at) o) (λ row. row_fits n row ≡ true) = λ o. elim o as (λ o. IfSome o (λ out. list_all (list_all (term_fits n)) out ≡ true) → IfSome (option_map (row_with row.gap_at) o) (λ row. row_fits n row ≡ true)) [
       | None ↦ λ e. tt
       | Some out ↦ λ e. e
     ] in
@@ -216,7 +216,7 @@ unfolding plan_of planned
 plan-fits n table late rule h =
     let left = rows_spelled_out side.Left table rule.left in
     let right = rows_spelled_out side.Right table rule.right in
-    let cs = choices_in_rows 0 left in
+    let cs = choices_in_rows left in
     let by : (o : Option RuleFault) → PlanFits n (elim o [ Some fault ↦ Err fault | None ↦ with_right rule left (decided_rows cs 0 right) ]) = λ o. elim o as (λ o. PlanFits n (elim o [ Some fault ↦ Err fault | None ↦ with_right rule left (decided_rows cs 0 right) ])) [
       | Some fault ↦ tt
       | None ↦ with_right-fits n rule left (decided_rows cs 0 right) (said-fits n side.Left table h rule.left) (right-fits n cs 0 right (said-fits n side.Right table h rule.right))

@@ -1,5 +1,5 @@
 -- The instances of a plan.
-use Rattle.std.specs.Prelude.{ℕ, Bool, not, ◌==◌, List, [], Option, Some, map, filter, slice_get, unwrap_or, length, if◌then◌else◌}
+use Rattle.std.specs.Prelude.{ℕ, Bool, not, ◌==◌, List, [], Option, Some, None, map, filter, slice_get, unwrap_or, length, if◌then◌else◌}
 use Rattle.std.specs.List.{list_any, list_all, flat_map}
 use Rattle.std.specs.Option.{option_map_or}
 use Rattle.pz_game.specs.declared.denotation.Denotation.{Denotation}
@@ -12,6 +12,8 @@ use Rattle.pz_game.specs.declared.pattern.Word.TheVariants.{Present, Still, Towa
 use Rattle.pz_game.specs.declared.instance.Instance.{Instance}
 use Rattle.pz_rules.specs.declared.instances.Pick.{Pick}
 use Rattle.pz_rules.specs.declared.instances.Pick.TheVariants as pick
+use Rattle.pz_grammar.specs.declared.token.Lead.{Lead}
+use Rattle.pz_grammar.specs.declared.token.Lead.TheVariants as lead
 use Rattle.pz_plan.specs.declared.plan.Asked.TheVariants as asked
 use Rattle.pz_plan.specs.declared.plan.Choice.{Choice}
 use Rattle.pz_plan.specs.declared.plan.Plan.{Plan}
@@ -19,8 +21,6 @@ use Rattle.pz_plan.specs.declared.plan.PlanRow.{PlanRow}
 use Rattle.pz_plan.specs.declared.plan.Term.{Term}
 use Rattle.pz_plan.specs.declared.plan.TermName.{TermName}
 use Rattle.pz_plan.specs.declared.plan.TermName.TheVariants as name
-use Rattle.pz_plan.specs.declared.plan.TermWord.{TermWord}
-use Rattle.pz_plan.specs.declared.plan.TermWord.TheVariants as word
 use Rattle.pz_rules.specs.Equal.{same_instance}
 use Rattle.pz_rules.specs.Exclusion.{has_impossible}
 use Rattle.pz_base.specs.Lists.{product, firsts, added}
@@ -52,13 +52,13 @@ object_of picks (name.Object object) = object
 object_of picks (name.Chosen k) = picked_object (slice_get picks k)
 
 -- what a word says of its object in a rule of this direction
-abbrev pub meaning_of : Dir → List Pick → TermWord → Word
-meaning_of direction picks word.Bare = Present
-meaning_of direction picks word.No = Absent
-meaning_of direction picks word.Stationary = Still
-meaning_of direction picks (word.Toward toward) = Toward toward
-meaning_of direction picks (word.Turned turn) = Toward (turned direction turn)
-meaning_of direction picks (word.Chosen k) = picked_word (slice_get picks k)
+abbrev pub meaning_of : Dir → List Pick → Option (Lead ℕ) → Word
+meaning_of direction picks None = Present
+meaning_of direction picks (Some lead.No) = Absent
+meaning_of direction picks (Some lead.Stationary) = Still
+meaning_of direction picks (Some (lead.Toward toward)) = Toward toward
+meaning_of direction picks (Some (lead.Turned turn)) = Toward (turned direction turn)
+meaning_of direction picks (Some (lead.OneOf k)) = picked_word (slice_get picks k)
 
 abbrev pub layer_of : List ℕ → ℕ → ℕ
 layer_of layers object = unwrap_or (slice_get layers object) 0
@@ -66,13 +66,13 @@ layer_of layers object = unwrap_or (slice_get layers object) 0
 unfoldable pub item_of : List ℕ → Dir → List Pick → Term → Item
 item_of layers direction picks term =
     let object = object_of picks term.name in
-    record { object = object; layer = layer_of layers object; word = meaning_of direction picks term.word }
+    record { object = object; layer = layer_of layers object; word = meaning_of direction picks term.lead }
 
 unfoldable pub cell_of : List ℕ → Dir → List Pick → List Term → List Item
 cell_of layers direction picks terms = map (item_of layers direction picks) terms
 
 unfoldable pub row_of : List ℕ → Dir → List Pick → PlanRow Term → RuleRow
-row_of layers direction picks row = record { cells = map (cell_of layers direction picks) row.cells; gap_at = row.gap }
+row_of layers direction picks row = record { cells = map (cell_of layers direction picks) row.cells; gap_at = row.gap_at }
 
 unfoldable pub rows_of : List ℕ → Dir → List Pick → List (PlanRow Term) → List RuleRow
 rows_of layers direction picks rows = map (row_of layers direction picks) rows

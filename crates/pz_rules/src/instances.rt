@@ -15,7 +15,8 @@ use pz_game::denotation::Denotation;
 use pz_game::direction::Dir;
 use pz_game::instance::Instance;
 use pz_game::pattern::{Item, Pattern, Row, Rows, Word};
-use pz_plan::plan::{Asked, Choice, Plan, PlanRow, Term, TermName, TermWord};
+use pz_grammar::token::Lead;
+use pz_plan::plan::{Asked, Choice, Plan, PlanRow, Term, TermName};
 use std::alloc::{AllocError, Global};
 
 /// What a choice gives.
@@ -91,16 +92,16 @@ fn object_of(picks: &[Pick], name: TermName) -> usize
 }
 
 /// What a word says of its object in a rule of this direction.
-fn meaning_of(direction: Dir, picks: &[Pick], word: TermWord) -> Word
-    ensures { result ≡ meaning_of direction picks.now word }
+fn meaning_of(direction: Dir, picks: &[Pick], lead: Option<Lead<usize>>) -> Word
+    ensures { result ≡ meaning_of direction picks.now lead }
 {
-    match word {
-        TermWord::Bare => Word::Present,
-        TermWord::No => Word::Absent,
-        TermWord::Stationary => Word::Still,
-        TermWord::Toward(toward) => Word::Toward(toward),
-        TermWord::Turned(turn) => Word::Toward(turned(direction, turn)),
-        TermWord::Chosen(k) => match picks.get(k) {
+    match lead {
+        None => Word::Present,
+        Some(Lead::No) => Word::Absent,
+        Some(Lead::Stationary) => Word::Still,
+        Some(Lead::Toward(toward)) => Word::Toward(toward),
+        Some(Lead::Turned(turn)) => Word::Toward(turned(direction, turn)),
+        Some(Lead::OneOf(k)) => match picks.get(k) {
             Some(Pick::Toward(toward)) => Word::Toward(*toward),
             _ => Word::Present,
         },
@@ -121,7 +122,7 @@ fn item_of(layers: &[usize], direction: Dir, picks: &[Pick], term: &Term) -> Ite
     Item {
         object,
         layer: layer_of(layers, object),
-        word: meaning_of(direction, picks, term.word),
+        word: meaning_of(direction, picks, term.lead),
     }
 }
 
@@ -170,17 +171,6 @@ fn cells_of(
     Ok(out)
 }
 
-/// The number of the cell before which the gap of a row stands.
-fn gap_at(row: &PlanRow<Term>) -> Option<u32>
-    requires { IsShaped row.now }
-    ensures { result ≡ row.now.gap }
-{
-    match row.gap {
-        Some(at) => Some(at as u32),
-        None => None,
-    }
-}
-
 #[tactic(auto, unfolding(crate::specs::Instances::row_of))]
 fn row_of(
     patterns: &mut Patterns,
@@ -193,7 +183,7 @@ fn row_of(
     ensures { IfOk result (λ out. out ≡ row_of layers.now direction picks.now row.now) }
 {
     let cells = cells_of(patterns, layers, direction, picks, row.cells.items())?;
-    Ok(Row::new(cells, gap_at(row)))
+    Ok(Row::new(cells, row.gap_at))
 }
 
 #[tactic(auto, unfolding(crate::specs::Instances::rows_of))]
