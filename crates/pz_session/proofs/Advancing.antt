@@ -6,7 +6,8 @@ use Rattle.pz_record.specs.declared.input.Input.{Input}
 use Rattle.pz_session.specs.declared.item.Stop.TheVariants.{AgainLimit}
 use Rattle.pz_session.specs.declared.player.Phase.TheVariants as phase
 use Rattle.pz_session.specs.declared.player.Player.{Player}
-use Rattle.pz_session.specs.Session.{Links, items_from, numbered, played, ticks_after}
+use Rattle.pz_session.specs.Board.{begun, tick_link}
+use Rattle.pz_session.specs.Session.{items_from, numbered, played, ticks_after}
 use Rattle.pz_session.specs.Player.{left_in, to_come, left_with, left, is_waiting, is_waiting_in}
 use Rattle.pz_session.proofs.Leaving.{left-at, left-of_stopped}
 
@@ -14,38 +15,38 @@ none-from : {X : Type 0} (o : Option X) → is_none o ≡ true → o ≡ None
 none-from None e = refl
 none-from (Some x) e = absurd (false≢true e)
 
-pub record Waiting {S : Type 0} (p : Player S) : Type 0 where
+pub record Waiting (p : Player) : Type 0 where
   pub first : p.first ≡ None
   pub second : p.second ≡ None
   pub here : is_waiting_in p.phase p.taken p.inputs ≡ true
 
-pub waiting-parts : {S : Type 0} (p : Player S) → is_waiting p ≡ true → Waiting p
+pub waiting-parts : (p : Player) → is_waiting p ≡ true → Waiting p
 waiting-parts p h =
     let a = and_parts (is_none p.first && is_none p.second) (is_waiting_in p.phase p.taken p.inputs) h in
     let b = and_parts (is_none p.first) (is_none p.second) a.0 in
     record { first = none-from p.first b.0; second = none-from p.second b.1; here = a.1 }
 
 -- no tick is allowed any more
-pub left-no_tick : {S : Type 0} (links : Links S) (p q : Player S) (allowed : ℕ) → Waiting p → p.phase ≡ phase.Ticking allowed → allowed ≡ 0 → q.phase ≡ phase.Stopped AgainLimit → q.first ≡ None → q.second ≡ None → left links q ≡ left links p
+pub left-no_tick : (p q : Player) (allowed : ℕ) → Waiting p → p.phase ≡ phase.Ticking allowed → allowed ≡ 0 → q.phase ≡ phase.Stopped AgainLimit → q.first ≡ None → q.second ≡ None → left q ≡ left p
 unfolding left_in items_from numbered to_come
-left-no_tick links p q allowed w at none stopped e f =
-    left-of_stopped links q AgainLimit stopped e f
-    ∙ sym (left-at links p None None w.first w.second ∙ ap (λ a. left_in links a p.number [] p.taken (drop p.taken p.inputs) p.machine) (at ∙ ap phase.Ticking none))
+left-no_tick p q allowed w at none stopped e f =
+    left-of_stopped q AgainLimit stopped e f
+    ∙ sym (left-at p None None w.first w.second ∙ ap (λ a. left_in a p.number [] p.taken (drop p.taken p.inputs) p.board) (at ∙ ap phase.Ticking none))
 
 -- a tick
-pub left-tick : {S : Type 0} (links : Links S) (p : Player S) (allowed : ℕ) → Waiting p → p.phase ≡ phase.Ticking allowed → (allowed ≡ 0 → ⊥) → left_with links (allowed - 1) p.number p.taken (drop p.taken p.inputs) (links.ticked p.machine) ≡ left links p
+pub left-tick : (p : Player) (allowed : ℕ) → Waiting p → p.phase ≡ phase.Ticking allowed → (allowed ≡ 0 → ⊥) → left_with (allowed - 1) p.number p.taken (drop p.taken p.inputs) (tick_link p.board) ≡ left p
 unfolding left_in items_from numbered to_come
-left-tick links p zero w at some = absurd (some refl)
-left-tick links p (suc n) w at some =
+left-tick p zero w at some = absurd (some refl)
+left-tick p (suc n) w at some =
     let one : suc n - 1 ≡ n = omega arith in
-    ap (λ k. left_with links k p.number p.taken (drop p.taken p.inputs) (links.ticked p.machine)) one
-    ∙ sym (left-at links p None None w.first w.second ∙ ap (λ a. left_in links a p.number [] p.taken (drop p.taken p.inputs) p.machine) at)
+    ap (λ k. left_with k p.number p.taken (drop p.taken p.inputs) (tick_link p.board)) one
+    ∙ sym (left-at p None None w.first w.second ∙ ap (λ a. left_in a p.number [] p.taken (drop p.taken p.inputs) p.board) at)
 
 -- the next input
-pub left-begin : {S : Type 0} (links : Links S) (p : Player S) (input : Input) (n : ℕ) → Waiting p → p.phase ≡ phase.Between → p.taken < length p.inputs → input ≡ get_or p.inputs p.taken input → n ≡ ticks_after input → left_with links n p.number (p.taken + 1) (drop (p.taken + 1) p.inputs) (links.begun input p.machine) ≡ left links p
+pub left-begin : (p : Player) (input : Input) (n : ℕ) → Waiting p → p.phase ≡ phase.Between → p.taken < length p.inputs → input ≡ get_or p.inputs p.taken input → n ≡ ticks_after input → left_with n p.number (p.taken + 1) (drop (p.taken + 1) p.inputs) (begun input p.board) ≡ left p
 unfolding left_in items_from numbered to_come played
-left-begin {S} links p input n w at in_range is allowed =
+left-begin p input n w at in_range is allowed =
     let next : drop p.taken p.inputs ≡ input ∷ drop (p.taken + 1) p.inputs =
     drop_more p.inputs p.taken input in_range ∙ ap (λ i. i ∷ drop (p.taken + 1) p.inputs) (sym is) in
-    ap (λ k. left_with links k p.number (p.taken + 1) (drop (p.taken + 1) p.inputs) (links.begun input p.machine)) allowed
-    ∙ sym (left-at links p None None w.first w.second ∙ ap (λ a. left_in links a p.number [] p.taken (drop p.taken p.inputs) p.machine) at ∙ ap (λ l. left_in links phase.Between p.number [] p.taken l p.machine) next)
+    ap (λ k. left_with k p.number (p.taken + 1) (drop (p.taken + 1) p.inputs) (begun input p.board)) allowed
+    ∙ sym (left-at p None None w.first w.second ∙ ap (λ a. left_in a p.number [] p.taken (drop p.taken p.inputs) p.board) at ∙ ap (λ l. left_in phase.Between p.number [] p.taken l p.board) next)

@@ -10,98 +10,99 @@ use Rattle.pz_session.specs.declared.item.Item.{Item}
 use Rattle.pz_session.specs.declared.item.Item.TheVariants as item
 use Rattle.pz_session.specs.declared.player.Phase.{Phase}
 use Rattle.pz_session.specs.declared.player.Phase.TheVariants as phase
-use Rattle.pz_session.specs.Session.{Links, Played, items_from, numbered, played, showing, going_on, after_chain}
+use Rattle.pz_session.specs.Session.{Played, items_from, numbered, played, showing, going_on, after_chain}
 use Rattle.pz_session.specs.declared.chain.Shown.{Shown}
 use Rattle.pz_session.specs.declared.chain.PlayFault.{PlayFault}
 use Rattle.pz_session.specs.declared.chain.PlayFault.TheVariants as fault
+use Rattle.pz_session.specs.Board.{State, board_links, settled, tick_link, verdict_of}
 use Rattle.pz_session.specs.Chain.{Link, follow, ticks, preceded, GivesLink, shown_frames}
 use Rattle.pz_session.specs.declared.player.Player.{Player}
 use Rattle.pz_session.specs.Player.{pending, left_in, to_come, to_follow, left_with, left, is_waiting, is_waiting_in}
 
-pub left-first : {S : Type 0} (links : Links S) (at : Phase) (n : ℕ) (frame : Frame) (first : Option Frame) (second : List Frame) (taken : ℕ) (inputs : List Input) (state : S) → first ≡ Some frame → left_in links at n (option_to_list first ++ second) taken inputs state ≡ item.Frame n taken frame ∷ left_in links at (n + 1) second taken inputs state
+pub left-first : (at : Phase) (n : ℕ) (frame : Frame) (first : Option Frame) (second : List Frame) (taken : ℕ) (inputs : List Input) (state : State) → first ≡ Some frame → left_in at n (option_to_list first ++ second) taken inputs state ≡ item.Frame n taken frame ∷ left_in at (n + 1) second taken inputs state
 unfolding left_in items_from numbered
-left-first links at n frame first second taken inputs state e = ap (λ o. left_in links at n (option_to_list o ++ second) taken inputs state) e
+left-first at n frame first second taken inputs state e = ap (λ o. left_in at n (option_to_list o ++ second) taken inputs state) e
 
-pub left-stopped : {S : Type 0} (links : Links S) (stop : Stop) (n : ℕ) (taken : ℕ) (inputs : List Input) (state : S) → left_in links (phase.Stopped stop) n [] taken inputs state ≡ item.Close (Stopped stop) ∷ []
+pub left-stopped : (stop : Stop) (n : ℕ) (taken : ℕ) (inputs : List Input) (state : State) → left_in (phase.Stopped stop) n [] taken inputs state ≡ item.Close (Stopped stop) ∷ []
 unfolding left_in items_from numbered to_come
-left-stopped links stop n taken inputs state = refl
+left-stopped stop n taken inputs state = refl
 
-pub left-over : {S : Type 0} (links : Links S) (n : ℕ) (taken : ℕ) (state : S) → left_in links phase.Between n [] taken [] state ≡ item.Close (links.verdict state) ∷ []
+pub left-over : (n : ℕ) (taken : ℕ) (state : State) → left_in phase.Between n [] taken [] state ≡ item.Close (verdict_of state) ∷ []
 unfolding left_in items_from numbered to_come played
-left-over links n taken state = refl
+left-over n taken state = refl
 
-pub left-closed : {S : Type 0} (links : Links S) (n : ℕ) (taken : ℕ) (inputs : List Input) (state : S) → left_in links phase.Closed n [] taken inputs state ≡ []
+pub left-closed : (n : ℕ) (taken : ℕ) (inputs : List Input) (state : State) → left_in phase.Closed n [] taken inputs state ≡ []
 unfolding left_in items_from numbered to_come
-left-closed links n taken inputs state = refl
+left-closed n taken inputs state = refl
 
 -- what is left, where the pending frames are known
-pub left-at : {S : Type 0} (links : Links S) (p : Player S) (first second : Option Frame) → p.first ≡ first → p.second ≡ second → left links p ≡ left_in links p.phase p.number (option_to_list first ++ option_to_list second) p.taken (drop p.taken p.inputs) p.machine
-left-at links p first second e f =
-    ap (λ o. left_in links p.phase p.number (option_to_list o ++ option_to_list p.second) p.taken (drop p.taken p.inputs) p.machine) e
-    ∙ ap (λ o. left_in links p.phase p.number (option_to_list first ++ option_to_list o) p.taken (drop p.taken p.inputs) p.machine) f
+pub left-at : (p : Player) (first second : Option Frame) → p.first ≡ first → p.second ≡ second → left p ≡ left_in p.phase p.number (option_to_list first ++ option_to_list second) p.taken (drop p.taken p.inputs) p.board
+left-at p first second e f =
+    ap (λ o. left_in p.phase p.number (option_to_list o ++ option_to_list p.second) p.taken (drop p.taken p.inputs) p.board) e
+    ∙ ap (λ o. left_in p.phase p.number (option_to_list first ++ option_to_list o) p.taken (drop p.taken p.inputs) p.board) f
 
 -- a frame that was numbered comes before what is left
-pub left-numbered : {S : Type 0} (links : Links S) (p q : Player S) (frame : Frame) (shown : Item) → shown ≡ item.Frame p.number p.taken frame → q ≡ record p { number = p.number + 1 }
-    → item.Frame p.number p.taken frame ∷ left_in links p.phase (p.number + 1) (pending p) p.taken (drop p.taken p.inputs) p.machine ≡ shown ∷ left links q
-left-numbered links p q frame shown is after = ap₂ (λ i l. i ∷ l) (sym is) (ap (left links) (sym after))
+pub left-numbered : (p q : Player) (frame : Frame) (shown : Item) → shown ≡ item.Frame p.number p.taken frame → q ≡ record p { number = p.number + 1 }
+    → item.Frame p.number p.taken frame ∷ left_in p.phase (p.number + 1) (pending p) p.taken (drop p.taken p.inputs) p.board ≡ shown ∷ left q
+left-numbered p q frame shown is after = ap₂ (λ i l. i ∷ l) (sym is) (ap left (sym after))
 
 -- no link is needed: with nothing pending, the phase says so
-pub ready-in : {S : Type 0} (p : Player S) → is_waiting p ≡ false → p.first ≡ None → p.second ≡ None → is_waiting_in p.phase p.taken p.inputs ≡ false
+pub ready-in : (p : Player) → is_waiting p ≡ false → p.first ≡ None → p.second ≡ None → is_waiting_in p.phase p.taken p.inputs ≡ false
 ready-in p ready e f =
     sym (ap (λ o. is_none o && is_none p.second && is_waiting_in p.phase p.taken p.inputs) e ∙ ap (λ o. is_none o && is_waiting_in p.phase p.taken p.inputs) f) ∙ ready
 
-pub left-of_closed : {S : Type 0} (links : Links S) (p : Player S) → p.phase ≡ phase.Closed → p.first ≡ None → p.second ≡ None → left links p ≡ []
-left-of_closed links p at e f =
-    left-at links p None None e f ∙ ap (λ q. left_in links q p.number [] p.taken (drop p.taken p.inputs) p.machine) at ∙ left-closed links p.number p.taken _ p.machine
+pub left-of_closed : (p : Player) → p.phase ≡ phase.Closed → p.first ≡ None → p.second ≡ None → left p ≡ []
+left-of_closed p at e f =
+    left-at p None None e f ∙ ap (λ q. left_in q p.number [] p.taken (drop p.taken p.inputs) p.board) at ∙ left-closed p.number p.taken _ p.board
 
-pub left-of_stopped : {S : Type 0} (links : Links S) (p : Player S) (stop : Stop) → p.phase ≡ phase.Stopped stop → p.first ≡ None → p.second ≡ None → left links p ≡ item.Close (Stopped stop) ∷ []
-left-of_stopped links p stop at e f =
-    left-at links p None None e f ∙ ap (λ q. left_in links q p.number [] p.taken (drop p.taken p.inputs) p.machine) at ∙ left-stopped links stop p.number p.taken _ p.machine
+pub left-of_stopped : (p : Player) (stop : Stop) → p.phase ≡ phase.Stopped stop → p.first ≡ None → p.second ≡ None → left p ≡ item.Close (Stopped stop) ∷ []
+left-of_stopped p stop at e f =
+    left-at p None None e f ∙ ap (λ q. left_in q p.number [] p.taken (drop p.taken p.inputs) p.board) at ∙ left-stopped stop p.number p.taken _ p.board
 
-pub left-of_over : {S : Type 0} (links : Links S) (p : Player S) → p.phase ≡ phase.Between → p.first ≡ None → p.second ≡ None → is_waiting p ≡ false → left links p ≡ item.Close (links.verdict p.machine) ∷ []
-left-of_over links p at e f ready =
+pub left-of_over : (p : Player) → p.phase ≡ phase.Between → p.first ≡ None → p.second ≡ None → is_waiting p ≡ false → left p ≡ item.Close (verdict_of p.board) ∷ []
+left-of_over p at e f ready =
     let none_left : is_waiting_in phase.Between p.taken p.inputs ≡ false = ap (λ q. is_waiting_in q p.taken p.inputs) (sym at) ∙ ready-in p ready e f in
     let past = ltb-false p.taken (length p.inputs) none_left in
-    left-at links p None None e f ∙ ap (λ q. left_in links q p.number [] p.taken (drop p.taken p.inputs) p.machine) at
-    ∙ ap (λ l. left_in links phase.Between p.number [] p.taken l p.machine) (drop_all p.taken p.inputs past) ∙ left-over links p.number p.taken p.machine
+    left-at p None None e f ∙ ap (λ q. left_in q p.number [] p.taken (drop p.taken p.inputs) p.board) at
+    ∙ ap (λ l. left_in phase.Between p.number [] p.taken l p.board) (drop_all p.taken p.inputs past) ∙ left-over p.number p.taken p.board
 
 -- the frames of a link come first
-pub going_on-link : {S : Type 0} (links : Links S) (n taken : ℕ) (inputs : List Input) (link : Link S) → going_on links taken (played links taken inputs) (follow (ticks links.ticked n) (Ok link)) ≡ showing taken link.shown (to_follow links link.goes_on n taken inputs link.after)
-going_on-link {S} links n taken inputs link =
+pub going_on-link : (n taken : ℕ) (inputs : List Input) (link : Link State) → going_on board_links taken (played board_links taken inputs) (follow (ticks tick_link n) (Ok link)) ≡ showing taken link.shown (to_follow link.goes_on n taken inputs link.after)
+going_on-link n taken inputs link =
     let at : Frame → ℕ × Frame = λ frame. (taken, frame) in
-    let chain = ticks links.ticked n link.after in
-    let later = played links taken inputs in
-    let rest = after_chain links later chain.after in
-    let whole : Bool → Played = λ b. going_on links taken later (if b then preceded link.shown chain else record { shown = link.shown; after = Ok link.after }) in
-    let parts : Bool → Played = λ b. showing taken link.shown (to_follow links b n taken inputs link.after) in
+    let chain = ticks tick_link n link.after in
+    let later = played board_links taken inputs in
+    let rest = after_chain board_links later chain.after in
+    let whole : Bool → Played = λ b. going_on board_links taken later (if b then preceded link.shown chain else record { shown = link.shown; after = Ok link.after }) in
+    let parts : Bool → Played = λ b. showing taken link.shown (to_follow b n taken inputs link.after) in
     let both : (b : Bool) → whole b ≡ parts b = λ b. elim b as (λ v. whole v ≡ parts v) [
       | true ↦ ap (λ l. record { shown = l; close = rest.close }) (ap (λ l. l ++ rest.shown) (map-append at link.shown chain.shown) ∙ append_assoc (map at link.shown) (map at chain.shown) rest.shown)
       | false ↦ refl
     ] in
     both link.goes_on
 
-pub to_come-ticking : {S : Type 0} (links : Links S) (goes_on : Bool) (n : ℕ) (state : S) → goes_on ≡ true → (taken : ℕ) (inputs : List Input) → to_come links (phase.Ticking n) taken inputs state ≡ to_follow links goes_on n taken inputs state
+pub to_come-ticking : (goes_on : Bool) (n : ℕ) (state : State) → goes_on ≡ true → (taken : ℕ) (inputs : List Input) → to_come (phase.Ticking n) taken inputs state ≡ to_follow goes_on n taken inputs state
 unfolding to_come
-to_come-ticking links goes_on n state e taken inputs = ap (λ b. to_follow links b n taken inputs state) (sym e)
+to_come-ticking goes_on n state e taken inputs = ap (λ b. to_follow b n taken inputs state) (sym e)
 
-pub to_come-between : {S : Type 0} (links : Links S) (goes_on : Bool) (n : ℕ) (state after : S) → goes_on ≡ false → after ≡ links.settled state → (taken : ℕ) (inputs : List Input) → to_come links phase.Between taken inputs after ≡ to_follow links goes_on n taken inputs state
+pub to_come-between : (goes_on : Bool) (n : ℕ) (state after : State) → goes_on ≡ false → after ≡ settled state → (taken : ℕ) (inputs : List Input) → to_come phase.Between taken inputs after ≡ to_follow goes_on n taken inputs state
 unfolding to_come
-to_come-between links goes_on n state after e f taken inputs = ap (played links taken inputs) f ∙ ap (λ b. to_follow links b n taken inputs state) (sym e)
+to_come-between goes_on n state after e f taken inputs = ap (played board_links taken inputs) f ∙ ap (λ b. to_follow b n taken inputs state) (sym e)
 
 -- what is left after a link that is known
-pub left-link : {S : Type 0} (links : Links S) (n number taken : ℕ) (inputs : List Input) (frames : List Frame) (goes_on : Bool) (state after : S) (at : Phase) (link : Result (Link S) Stop) → link ≡ Ok (record { shown = frames; after = state; goes_on = goes_on }) → ((t : ℕ) (is : List Input) → to_come links at t is after ≡ to_follow links goes_on n t is state) → left_in links at number frames taken inputs after ≡ left_with links n number taken inputs link
+pub left-link : (n number taken : ℕ) (inputs : List Input) (frames : List Frame) (goes_on : Bool) (state after : State) (at : Phase) (link : Result (Link State) Stop) → link ≡ Ok (record { shown = frames; after = state; goes_on = goes_on }) → ((t : ℕ) (is : List Input) → to_come at t is after ≡ to_follow goes_on n t is state) → left_in at number frames taken inputs after ≡ left_with n number taken inputs link
 unfolding left_in
-left-link links n number taken inputs frames goes_on state after at link is comes =
+left-link n number taken inputs frames goes_on state after at link is comes =
     ap (λ q. items_from number (showing taken frames q)) (comes taken inputs)
-    ∙ ap (items_from number) (sym (going_on-link links n taken inputs (record { shown = frames; after = state; goes_on = goes_on })))
-    ∙ ap (left_with links n number taken inputs) (sym is)
+    ∙ ap (items_from number) (sym (going_on-link n taken inputs (record { shown = frames; after = state; goes_on = goes_on })))
+    ∙ ap (left_with n number taken inputs) (sym is)
 
-pub left-link_stopped : {S : Type 0} (links : Links S) (n : ℕ) (p : Player S) (stop : Stop) (link : Result (Link S) Stop) → p.phase ≡ phase.Stopped stop → p.first ≡ None → p.second ≡ None → link ≡ Err stop → left links p ≡ left_with links n p.number p.taken (drop p.taken p.inputs) link
+pub left-link_stopped : (n : ℕ) (p : Player) (stop : Stop) (link : Result (Link State) Stop) → p.phase ≡ phase.Stopped stop → p.first ≡ None → p.second ≡ None → link ≡ Err stop → left p ≡ left_with n p.number p.taken (drop p.taken p.inputs) link
 unfolding items_from numbered
-left-link_stopped links n p stop link at e f is = left-of_stopped links p stop at e f ∙ ap (left_with links n p.number p.taken (drop p.taken p.inputs)) (sym is)
+left-link_stopped n p stop link at e f is = left-of_stopped p stop at e f ∙ ap (left_with n p.number p.taken (drop p.taken p.inputs)) (sym is)
 
-pub link-ok : {S : Type 0} (link : Result (Link S) Stop) (state : S) (outcome : Result Shown PlayFault) (shown : Shown) → GivesLink link state outcome → outcome ≡ Ok shown → link ≡ Ok (record { shown = shown_frames shown; after = state; goes_on = shown.goes_on })
+pub link-ok : (link : Result (Link State) Stop) (state : State) (outcome : Result Shown PlayFault) (shown : Shown) → GivesLink link state outcome → outcome ≡ Ok shown → link ≡ Ok (record { shown = shown_frames shown; after = state; goes_on = shown.goes_on })
 link-ok link state outcome shown gives e = subst (GivesLink link state) e gives
 
-pub link-stopped : {S : Type 0} (link : Result (Link S) Stop) (state : S) (outcome : Result Shown PlayFault) (why : PlayFault) (stop : Stop) → GivesLink link state outcome → outcome ≡ Err why → why ≡ fault.Stopped stop → link ≡ Err stop
+pub link-stopped : (link : Result (Link State) Stop) (state : State) (outcome : Result Shown PlayFault) (why : PlayFault) (stop : Stop) → GivesLink link state outcome → outcome ≡ Err why → why ≡ fault.Stopped stop → link ≡ Err stop
 link-stopped link state outcome why stop gives e f = subst (GivesLink link state) (e ∙ ap Err f) gives

@@ -1,15 +1,17 @@
 -- The items of a session that begins.
-use Rattle.std.proofs.Common.{◌≡◌, ℕ, List, Result, Ok, Err, IfOk, ap, ap₂, ◌∙◌}
+use Rattle.std.proofs.Common.{◌≡◌, ℕ, ◌+◌, ◌<◌, ◌≤◌, ◌^◌, List, length, Result, Ok, Err, IfOk, ap, ap₂, ◌∙◌, arith}
 use Rattle.pz_game.specs.declared.game.GameParts.{GameParts}
 use Rattle.pz_game.specs.declared.instance.Program.{Program}
 use Rattle.pz_record.specs.declared.order.Order.{Order}
 use Rattle.pz_record.specs.declared.input.Input.{Input}
 use Rattle.pz_session.specs.declared.chain.TheConstants.{MOST_TICKS}
 use Rattle.pz_session.specs.declared.item.Item.{Item}
-use Rattle.pz_session.specs.Player.{left_with}
-use Rattle.pz_session.specs.Board.{State, board_links, start_link, loaded_at}
+use Rattle.pz_session.specs.declared.player.Player.{Player}
+use Rattle.pz_session.specs.Player.{left, left_with}
+use Rattle.pz_session.specs.Board.{State, start_link, loaded_at}
 use Rattle.pz_session.specs.Plan.{PlanState}
 use Rattle.pz_session.specs.Case.{state_of, played_items}
+use Rattle.pz_session.proofs.Bounds.{items_bound}
 
 starts : (plan : PlanState) (state : State) (game : GameParts) (program : Program) (order : Order) (recorded : List (List (List ℕ))) (first : ℕ)
     → state ≡ loaded_at game program order recorded first
@@ -19,10 +21,21 @@ starts plan state game program order recorded first is e p f g h =
     ∙ ap (λ x. loaded_at plan.game plan.program x recorded first) f
     ∙ ap (λ x. loaded_at plan.game plan.program plan.order x first) g ∙ ap (loaded_at plan.game plan.program plan.order plan.recorded) h
 
-pub begins : (plan : PlanState) (state : State) (inputs : List Input) (items : List Item) → state ≡ state_of plan → inputs ≡ plan.inputs
-    → items ≡ left_with board_links MOST_TICKS 0 0 inputs (Ok (start_link state)) → items ≡ played_items plan
+begins : (plan : PlanState) (state : State) (inputs : List Input) (items : List Item) → state ≡ state_of plan → inputs ≡ plan.inputs
+    → items ≡ left_with MOST_TICKS 0 0 inputs (Ok (start_link state)) → items ≡ played_items plan
 unfolding played_items
-begins plan state inputs items e f g = g ∙ ap₂ (λ i s. left_with board_links MOST_TICKS 0 0 i (Ok (start_link s))) f e
+begins plan state inputs items e f g = g ∙ ap₂ (λ i s. left_with MOST_TICKS 0 0 i (Ok (start_link s))) f e
+
+pub begins_if_ok : {E : Type 0} (plan : PlanState) (state : State) (inputs : List Input) (result : Result Player E) → state ≡ state_of plan → inputs ≡ plan.inputs
+    → IfOk result (λ player. left player ≡ left_with MOST_TICKS 0 0 inputs (Ok (start_link state))) → IfOk result (λ player. left player ≡ played_items plan)
+begins_if_ok plan state inputs (Ok player) e f g = begins plan state inputs (left player) e f g
+begins_if_ok plan state inputs (Err fault) e f g = g
+
+-- a session that begins with the number 0 can be numbered to its end
+pub room_if_ok : {E : Type 0} (plan : PlanState) (result : Result Player E) → length plan.inputs ≤ 65536 → IfOk result (λ player. player.number ≡ 0)
+    → IfOk result (λ player. left player ≡ played_items plan) → IfOk result (λ player. player.number + length (left player) < 2 ^ 63)
+room_if_ok plan (Ok player) few first is = omega (arith, first, ap length is, items_bound plan few)
+room_if_ok plan (Err fault) few first is = is
 
 pub starts_if_ok : {E : Type 0} (plan : PlanState) (result : Result State E) (game : GameParts) (program : Program) (order : Order) (recorded : List (List (List ℕ))) (first : ℕ)
     → IfOk result (λ state. state ≡ loaded_at game program order recorded first)

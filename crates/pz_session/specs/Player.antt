@@ -10,24 +10,25 @@ use Rattle.pz_session.specs.declared.player.Phase.TheVariants as phase
 use Rattle.pz_session.specs.declared.player.Player.{Player}
 use Rattle.pz_session.specs.declared.item.Stop.{Stop}
 use Rattle.pz_session.specs.Chain.{Link, ticks, follow}
-use Rattle.pz_session.specs.Session.{Links, Played, played, closing, going_on, showing, items_from}
+use Rattle.pz_session.specs.Session.{Played, played, closing, going_on, showing, items_from}
+use Rattle.pz_session.specs.Board.{State, board_links, settled, tick_link}
 
 -- what is still to come in a phase
-unfoldable pub to_come : {S : Type 0} → Links S → Phase → ℕ → List Input → S → Played
-to_come links phase.Between taken inputs state = played links taken inputs state
-to_come links (phase.Ticking n) taken inputs state = going_on links taken (played links taken inputs) (ticks links.ticked n state)
-to_come links (phase.Stopped stop) taken inputs state = closing (Stopped stop)
-to_come links phase.Closed taken inputs state = record { shown = []; close = None }
+unfoldable pub to_come : Phase → ℕ → List Input → State → Played
+to_come phase.Between taken inputs state = played board_links taken inputs state
+to_come (phase.Ticking n) taken inputs state = going_on board_links taken (played board_links taken inputs) (ticks tick_link n state)
+to_come (phase.Stopped stop) taken inputs state = closing (Stopped stop)
+to_come phase.Closed taken inputs state = record { shown = []; close = None }
 
 -- the items that are left: the pending frames and what is to come; nothing after the close
-unfoldable pub left_in : {S : Type 0} → Links S → Phase → ℕ → List Frame → ℕ → List Input → S → List Item
-left_in links phase number frames taken inputs state = items_from number (showing taken frames (to_come links phase taken inputs state))
+unfoldable pub left_in : Phase → ℕ → List Frame → ℕ → List Input → State → List Item
+left_in phase number frames taken inputs state = items_from number (showing taken frames (to_come phase taken inputs state))
 
-abbrev pub pending : {S : Type 0} → Player S → List Frame
+abbrev pub pending : Player → List Frame
 pending player = option_to_list player.first ++ option_to_list player.second
 
-abbrev pub left : {S : Type 0} → Links S → Player S → List Item
-left links player = left_in links player.phase player.number (pending player) player.taken (drop player.taken player.inputs) player.machine
+abbrev pub left : Player → List Item
+left player = left_in player.phase player.number (pending player) player.taken (drop player.taken player.inputs) player.board
 
 -- an answer is the first of the items that were left
 abbrev pub Yields : List Item → Option Item → List Item → Type 0
@@ -39,7 +40,7 @@ abbrev pub rank : Phase → ℕ
 rank (phase.Ticking n) = n + 1
 rank _ = 0
 
-abbrev pub work : {S : Type 0} → Player S → ℕ
+abbrev pub work : Player → ℕ
 work player = (length player.inputs - player.taken) * (MOST_TICKS + 2) + rank player.phase
 
 -- no link is needed before the next item
@@ -48,21 +49,16 @@ is_waiting_in phase.Between taken inputs = nat_lt taken (length inputs)
 is_waiting_in (phase.Ticking n) taken inputs = true
 is_waiting_in _ taken inputs = false
 
-abbrev pub is_waiting : {S : Type 0} → Player S → Bool
+abbrev pub is_waiting : Player → Bool
 is_waiting player = is_none player.first && is_none player.second && is_waiting_in player.phase player.taken player.inputs
 
 -- what comes after a link's frames
-abbrev pub to_follow : {S : Type 0} → Links S → Bool → ℕ → ℕ → List Input → S → Played
-to_follow links goes_on n taken inputs state =
-    if goes_on then going_on links taken (played links taken inputs) (ticks links.ticked n state)
-    else played links taken inputs (links.settled state)
+abbrev pub to_follow : Bool → ℕ → ℕ → List Input → State → Played
+to_follow goes_on n taken inputs state =
+    if goes_on then going_on board_links taken (played board_links taken inputs) (ticks tick_link n state)
+    else played board_links taken inputs (settled state)
 
 -- what is left once a link was begun, at most n ticks allowed after it
-abbrev pub left_with : {S : Type 0} → Links S → ℕ → ℕ → ℕ → List Input → Result (Link S) Stop → List Item
-left_with links n number taken inputs link =
-    items_from number (going_on links taken (played links taken inputs) (follow (ticks links.ticked n) link))
-
--- a session in play: the items that are left, and whether memory was refused
-pub record Remaining : Type 0 where
-  pub items : List Item
-  pub has_failed : Bool
+abbrev pub left_with : ℕ → ℕ → ℕ → List Input → Result (Link State) Stop → List Item
+left_with n number taken inputs link =
+    items_from number (going_on board_links taken (played board_links taken inputs) (follow (ticks tick_link n) link))

@@ -11,7 +11,7 @@ ghost use Rattle.pz_turn.specs.declared.outcome.StepFault.TheVariants.{Memory};
 ghost use Rattle.pz_session.specs.Chain.{GivesLink};
 ghost use Rattle.pz_session.specs.FirstLevel.{level_from};
 
-use crate::chain::{Machine, PlayFault, Shown};
+use crate::chain::{PlayFault, Shown};
 use crate::first_level::level_after;
 use crate::item::{Frame, FrameKind, Verdict};
 use crate::place::put;
@@ -427,13 +427,15 @@ impl<'a> Board<'a> {
     }
 }
 
-impl<'a> Machine for Board<'a> {
-    ghost use Rattle.pz_session.specs.Board.{board_links};
+/// What a player asks of its board. Each call leaves the state that its link leaves.
+impl<'a> Board<'a> {
+    ghost use Rattle.pz_session.specs.Board.{begun, settled, tick_link, verdict_of};
 
-    ghost links = { board_links };
-
+    /// The first link of an input.
     #[tactic(auto, unfolding(crate::specs::Board::begun))]
-    fn begin(&mut self, input: Input) -> Result<Shown, PlayFault> {
+    pub fn begin(&mut self, input: Input) -> Result<Shown, PlayFault>
+        ensures { GivesLink (begun input self.old) self.new result }
+    {
         if self.is_over {
             let shown = self.show(FrameKind::Over, false)?;
             return Ok(shown);
@@ -452,12 +454,18 @@ impl<'a> Machine for Board<'a> {
         }
     }
 
-    fn tick(&mut self) -> Result<Shown, PlayFault> {
+    /// A tick.
+    pub fn tick(&mut self) -> Result<Shown, PlayFault>
+        ensures { GivesLink (tick_link self.old) self.new result }
+    {
         self.pass_time()
     }
 
+    /// What is done once an input with its whole chain is over.
     #[tactic(auto, unfolding(crate::specs::Board::settled))]
-    fn settle(&mut self) -> Result<(), AllocError> {
+    pub fn settle(&mut self) -> Result<(), AllocError>
+        ensures { OnOk result (self.new ≡ settled self.old) }
+    {
         if let Some(before) = self.before.take() {
             if !before.same(&self.level) {
                 return self.past.push(before);
@@ -467,7 +475,10 @@ impl<'a> Machine for Board<'a> {
         Ok(())
     }
 
-    fn verdict(&self) -> Verdict {
+    /// The close of a session whose inputs were all played.
+    pub fn verdict(&self) -> Verdict
+        ensures { result ≡ verdict_of self.now }
+    {
         if equals(self.game, &self.level, self.recorded, self.order) {
             Verdict::Passed
         } else {

@@ -15,7 +15,6 @@ mod player;
 pub mod recording;
 pub mod rulebook;
 pub mod run;
-mod session;
 mod stage;
 mod tape;
 mod turn;

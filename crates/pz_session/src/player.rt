@@ -1,9 +1,11 @@
-//! A session, one item at a time.
+//! A session in play, one item at a time.
 
 ghost use Rattle.std.specs.Prelude.{◌≡◌, ◌≢◌, ◌<◌, ◌≤◌, ◌+◌, ◌^◌, List, OnOk, IfOk, IfErr, Err, None, MatchOption, false, true, ℕ, drop, Result, Ok};
 ghost use Rattle.pz_session.specs.Session.{ticks_after};
+ghost use Rattle.pz_session.specs.Player.{rank, to_come, to_follow};
 
-use crate::chain::{MOST_TICKS, Machine, PlayFault, Shown};
+use crate::board::Board;
+use crate::chain::{MOST_TICKS, PlayFault, Shown};
 use crate::item::{Frame, Item, Stop, Verdict};
 use crate::place::put;
 use crate::tape::Tape;
@@ -33,11 +35,11 @@ fn ticks_after(input: Input) -> u64
     }
 }
 
-/// A session in play: its machine, the inputs with how many were taken, the frames that are still to be handed out, what comes
+/// A session in play: its board, the inputs with how many were taken, the frames that are still to be handed out, what comes
 /// after them, and the number of the next frame.
 #[derive(Drop)]
-pub struct Player<'a, M: Machine> {
-    pub machine: M,
+pub struct Player<'a> {
+    pub board: Board<'a>,
     pub inputs: Tape<'a>,
     pub taken: u64,
     pub first: Option<Frame>,
@@ -46,19 +48,34 @@ pub struct Player<'a, M: Machine> {
     pub number: u64,
 }
 
-impl<'a, M: Machine> Player<'a, M> {
-    ghost use Rattle.pz_session.specs.Chain.{Link, GivesLink};
-    ghost use Rattle.pz_session.specs.Player.{left, left_with, to_follow, to_come, work, rank, is_waiting, Yields};
+/// The phase after a link, which settles the board where the chain is over.
+fn phase_after(board: &mut Board<'_>, goes_on: bool, allowed: u64) -> Result<Phase, AllocError>
+    ensures to_come { IfOk result (λ phase. (taken : ℕ) (inputs : List Input) →
+        to_come phase taken inputs board.new
+        ≡ to_follow goes_on allowed taken inputs board.old) }
+    ensures rank { IfOk result (λ phase. rank phase ≤ allowed + 1) }
+{
+    if goes_on {
+        return Ok(Phase::Ticking(allowed));
+    }
+    board.settle()?;
+    Ok(Phase::Between)
+}
 
-    /// A session whose first link was played.
-    pub fn start(machine: M, inputs: Tape<'a>, shown: Shown) -> Result<Player<'a, M>, AllocError>
-        ensures left { IfOk result (λ player. (link : Link M) → GivesLink (Ok link) machine (Ok shown) →
-            left M.links player
-            ≡ left_with M.links MOST_TICKS 0 0 inputs.entry (Ok link)) }
+impl<'a> Player<'a> {
+    ghost use Rattle.pz_session.specs.Chain.{Link, GivesLink};
+    ghost use Rattle.pz_session.specs.Board.{State, start_link};
+    ghost use Rattle.pz_session.specs.Player.{left, left_with, work, rank, is_waiting, Yields};
+
+    /// A session whose first link was played: it shows the board.
+    pub fn start(board: Board<'a>, inputs: Tape<'a>) -> Result<Player<'a>, AllocError>
+        ensures left { IfOk result (λ player. left player ≡ left_with MOST_TICKS 0 0 inputs.entry (Ok (start_link board.entry))) }
         ensures number { IfOk result (λ player. player.number ≡ 0) }
     {
+        let mut board = board;
+        let shown = board.start()?;
         let mut player = Player {
-            machine,
+            board,
             inputs,
             taken: 0,
             first: None,
@@ -102,8 +119,8 @@ impl<'a, M: Machine> Player<'a, M> {
     fn take_item(&mut self) -> Option<Item>
         requires ready { is_waiting self.old ≡ false }
         requires room { self.old.number + 1 < 2 ^ 64 }
-        ensures item { Yields (left M.links self.old) result
-            (left M.links self.new) }
+        ensures item { Yields (left self.old) result
+            (left self.new) }
         ensures number { MatchOption result (self.new.number ≡ self.old.number) (λ _. self.new.number ≤ self.old.number + 1) }
     {
         if let Some(frame) = self.first.take() {
@@ -115,25 +132,11 @@ impl<'a, M: Machine> Player<'a, M> {
         let close = match self.phase {
             Phase::Closed => return None,
             Phase::Stopped(stop) => Verdict::Stopped(stop),
-            Phase::Between => self.machine.verdict(),
+            Phase::Between => self.board.verdict(),
             Phase::Ticking(_) => unreachable!(),
         };
         self.phase = Phase::Closed;
         Some(Item::Close(close))
-    }
-
-    /// The phase after a link, which settles the machine where the chain is over.
-    fn phase_after(machine: &mut M, goes_on: bool, allowed: u64) -> Result<Phase, AllocError>
-        ensures to_come { IfOk result (λ phase. (taken : ℕ) (inputs : List Input) →
-            to_come M.links phase taken inputs machine.new
-            ≡ to_follow M.links goes_on allowed taken inputs machine.old) }
-        ensures rank { IfOk result (λ phase. rank phase ≤ allowed + 1) }
-    {
-        if goes_on {
-            return Ok(Phase::Ticking(allowed));
-        }
-        machine.settle()?;
-        Ok(Phase::Between)
     }
 
     /// Takes over what a link gave, after which so many ticks are allowed.
@@ -144,9 +147,9 @@ impl<'a, M: Machine> Player<'a, M> {
     ) -> Result<(), AllocError>
         requires first { self.old.first ≡ None }
         requires second { self.old.second ≡ None }
-        ensures left { OnOk result ((link : Result (Link M) Stop) → GivesLink link self.old.machine outcome →
-            left M.links self.new
-            ≡ left_with M.links allowed self.old.number self.old.taken (drop self.old.taken self.old.inputs) link) }
+        ensures left { OnOk result ((link : Result (Link State) Stop) → GivesLink link self.old.board outcome →
+            left self.new
+            ≡ left_with allowed self.old.number self.old.taken (drop self.old.taken self.old.inputs) link) }
         ensures stop { IfErr result (λ _. (stop : Stop) → outcome ≢ Err (PlayFault.Stopped stop)) }
         ensures rank { OnOk result (rank self.new.phase ≤ allowed + 1) }
         ensures inputs { self.new.inputs ≡ self.old.inputs }
@@ -163,7 +166,7 @@ impl<'a, M: Machine> Player<'a, M> {
             ) => {
                 put(&mut self.first, first);
                 put(&mut self.second, second);
-                self.phase = Player::phase_after(&mut self.machine, goes_on, allowed)?;
+                self.phase = phase_after(&mut self.board, goes_on, allowed)?;
                 Ok(())
             }
             Err(fault) => match fault {
@@ -179,15 +182,15 @@ impl<'a, M: Machine> Player<'a, M> {
     /// Plays one link.
     fn advance(&mut self) -> Result<(), AllocError>
         requires { is_waiting self.old ≡ true }
-        ensures left { OnOk result (left M.links self.new
-            ≡ left M.links self.old) }
+        ensures left { OnOk result (left self.new
+            ≡ left self.old) }
         ensures work { OnOk result (work self.new < work self.old) }
         ensures number { self.new.number ≡ self.old.number }
     {
         match self.phase {
             Phase::Between => {
                 let input = self.inputs.items()[self.taken as usize];
-                let outcome = self.machine.begin(input);
+                let outcome = self.board.begin(input);
                 self.taken += 1;
                 self.take_link(outcome, ticks_after(input))
             }
@@ -196,7 +199,7 @@ impl<'a, M: Machine> Player<'a, M> {
                     self.phase = Phase::Stopped(Stop::AgainLimit);
                     return Ok(());
                 }
-                let outcome = self.machine.tick();
+                let outcome = self.board.tick();
                 self.take_link(outcome, allowed - 1)
             }
             Phase::Stopped(_) | Phase::Closed => unreachable!(),
@@ -206,8 +209,8 @@ impl<'a, M: Machine> Player<'a, M> {
     /// The next item; none after the close.
     pub fn next(&mut self) -> Result<Option<Item>, AllocError>
         requires room { self.old.number + 1 < 2 ^ 64 }
-        ensures item { IfOk result (λ answer. Yields (left M.links self.old) answer
-            (left M.links self.new)) }
+        ensures item { IfOk result (λ answer. Yields (left self.old) answer
+            (left self.new)) }
         ensures number { IfOk result (λ answer. MatchOption answer (self.new.number ≡ self.old.number) (λ _. self.new.number ≤ self.old.number + 1)) }
     {
         'links: while self.is_waiting() {

@@ -1,14 +1,15 @@
 //! The items of a case, one by one.
 
-ghost use Rattle.std.specs.Prelude.{◌≡◌, ◌++◌, ◌<◌, [], true, false, length, MatchResult, IsErr, IfOk, OnOk};
+ghost use Rattle.std.specs.Prelude.{◌≡◌, ◌+◌, ◌++◌, ◌<◌, ◌^◌, [], true, false, length, MatchResult, IsErr, IfOk, OnOk};
 ghost use Rattle.pz_session.specs.Case.{items_of, state_of, played_items};
+ghost use Rattle.pz_session.specs.Player.{left};
 
 use crate::board::Board;
 use crate::case::Case;
 use crate::item::{Item, Verdict};
+use crate::place::put;
 use crate::plan::Plan;
 use crate::player::Player;
-use crate::session::Session;
 use crate::stage::Stage;
 use crate::tape::Tape;
 use std::alloc::{AllocError, Global};
@@ -28,12 +29,13 @@ impl Drop for Run<'_> {
 }
 
 impl<'a> Model for Run<'a> {
-    ghost use Rattle.pz_session.specs.Player.{Remaining};
-    ghost use Rattle.pz_session.specs.Run.{remaining_in};
+    ghost use Rattle.pz_session.specs.Run.{Remaining, remaining_in, CanBeNumbered};
 
     ghost Value = { Remaining };
 
     ghost view = { λ r. remaining_in r.stage };
+
+    ghost invariant = { λ r. CanBeNumbered r.stage };
 }
 
 /// The board of a plan, before its first link.
@@ -51,14 +53,12 @@ fn board_of(alloc: Global, plan: &Plan) -> Result<Board<'_>, AllocError>
 }
 
 /// A session at its start.
-fn play(alloc: Global, plan: &Plan) -> Result<Session<'_, Board<'_>>, AllocError>
-    ensures items { IfOk result (λ session. session.items ≡ played_items plan.now) }
-    ensures healthy { IfOk result (λ session. session.has_failed ≡ false) }
+fn play(alloc: Global, plan: &Plan) -> Result<Player<'_>, AllocError>
+    ensures items { IfOk result (λ player. left player ≡ played_items plan.now) }
+    ensures room { IfOk result (λ player. player.number + length (left player) < 2 ^ 63) }
 {
-    let mut board = board_of(alloc, plan)?;
-    let shown = board.start()?;
-    let player = Player::start(board, Tape::new(plan.inputs().items()), shown)?;
-    Ok(Session::new(player))
+    let board = board_of(alloc, plan)?;
+    Player::start(board, Tape::new(plan.inputs().items()))
 }
 
 impl<'a> Run<'a> {
@@ -85,11 +85,18 @@ impl<'a> Run<'a> {
         ensures failed { self.old.has_failed ≡ true → IsErr result }
     {
         match &mut self.stage {
-            Stage::Playing(session) => session.next(),
+            Stage::Playing(player) => match player.next() {
+                Ok(item) => Ok(item),
+                Err(fault) => {
+                    put(&mut self.stage, Stage::Failed);
+                    Err(fault)
+                }
+            },
             Stage::Refused(refusal) => match refusal.take() {
                 Some(refusal) => Ok(Some(Item::Close(Verdict::Refused(refusal)))),
                 None => Ok(None),
             },
+            Stage::Failed => Err(AllocError),
         }
     }
 }

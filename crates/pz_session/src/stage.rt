@@ -1,8 +1,7 @@
 //! Where the run of a case stands.
 
-use crate::board::Board;
 use crate::item::Refusal;
-use crate::session::Session;
+use crate::player::Player;
 
 /// What is still to come in the run of a case.
 #[derive(Drop)]
@@ -10,5 +9,7 @@ pub enum Stage<'a> {
     /// The close of a session that is refused; None: it was handed out.
     Refused(Option<Refusal>),
     /// The items of a session in play.
-    Playing(Session<'a, Board<'a>>),
+    Playing(Player<'a>),
+    /// Nothing: memory was refused.
+    Failed,
 }

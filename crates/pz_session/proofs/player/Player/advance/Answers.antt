@@ -10,22 +10,22 @@ use Rattle.pz_session.proofs.Advancing.{waiting-parts, left-no_tick, left-tick, 
 use Rattle.pz_session.proofs.player.Player.advance.Goals as goal
 
 pub returns-then-allowed-eq0-clause-left : goal.returns-then-allowed-eq0-clause-left
-returns-then-allowed-eq0-clause-left g c =
+returns-then-allowed-eq0-clause-left c =
     let w = waiting-parts c.args.self.now c.requires in
-    left-no_tick g.M.Machine.links c.args.self.now _ c.in-Ticking.allowed w c.in-Ticking.is c.if-allowed-eq0.true refl w.first w.second
+    left-no_tick c.args.self.now _ c.in-Ticking.allowed w c.in-Ticking.is c.if-allowed-eq0.true refl w.first w.second
 
 pub returns-in-Between-clause-left : goal.returns-in-Between-clause-left
-returns-in-Between-clause-left g c =
+returns-in-Between-clause-left c =
     let p = c.args.self.now in
     let w = waiting-parts p c.requires in
     let input : Input = get_or c.items.result.now p.taken (Press Up) in
     let here : nat_lt p.taken (length p.inputs) ≡ true = ap (λ a. is_waiting_in a p.taken p.inputs) (sym c.in-Between.is) ∙ w.here in
     let in_range : p.taken < length p.inputs = ltb-true p.taken (length p.inputs) here in
     let is : input ≡ get_or p.inputs p.taken input = ap (λ l. get_or l p.taken (Press Up)) c.items.ensures ∙ get_or_default p.inputs p.taken (Press Up) input in_range in
-    on_ok_weaker c.take_link.result (λ then. then _ c.begin-outcome.ensures ∙ left-begin g.M.Machine.links p input c.ticks_after.result w c.in-Between.is in_range is c.ticks_after.ensures) c.take_link.ensures.left
+    on_ok_weaker c.take_link.result (λ then. then _ c.begin-outcome.ensures ∙ left-begin p input c.ticks_after.result w c.in-Between.is in_range is c.ticks_after.ensures) c.take_link.ensures.left
 
 pub returns-else-allowed-eq0-clause-left : goal.returns-else-allowed-eq0-clause-left
-returns-else-allowed-eq0-clause-left g c =
+returns-else-allowed-eq0-clause-left c =
     let p = c.args.self.now in
     let w = waiting-parts p c.requires in
-    on_ok_weaker c.take_link-in-Ticking.result (λ then. then _ c.tick-outcome.ensures ∙ left-tick g.M.Machine.links p c.in-Ticking.allowed w c.in-Ticking.is c.if-allowed-eq0.false) c.take_link-in-Ticking.ensures.left
+    on_ok_weaker c.take_link-in-Ticking.result (λ then. then _ c.tick-outcome.ensures ∙ left-tick p c.in-Ticking.allowed w c.in-Ticking.is c.if-allowed-eq0.false) c.take_link-in-Ticking.ensures.left

@@ -3,9 +3,9 @@ use Rattle.pz_session.specs.Player.{left, work}
 use Rattle.pz_session.proofs.player.Player.next.Given as goal
 
 abbrev pub decreases-links : goal.decreases-links
-decreases-links g l = work l.self
+decreases-links l = work l.self
 
 -- what is left stays as it is
 abbrev pub invariant-links : goal.invariant-links
-invariant-links g l =
-    (left g.M.Machine.links l.self ≡ left g.M.Machine.links l.fn.self) × (l.self.number ≡ l.fn.self.number)
+invariant-links l =
+    (left l.self ≡ left l.fn.self) × (l.self.number ≡ l.fn.self.number)
