@@ -1,3 +1,4 @@
 pub mod Kept
 pub mod Plans
+pub mod SameRules
 pub mod WorkedJobs

@@ -1,2 +1,3 @@
 pub mod Rulebooks
+pub mod SameRules
 pub mod Job

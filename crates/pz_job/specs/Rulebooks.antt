@@ -5,6 +5,9 @@ use Rattle.std.specs.Global.{Global}
 use Rattle.std.specs.HashMap.{HashMap, get_by_text}
 use Rattle.std.specs.declared.sync.Arc.{Arc}
 use Rattle.pz_base.specs.declared.fault.SourceFault.{SourceFault}
+use Rattle.pz_game.specs.Instance.{IsProgramOf}
+use Rattle.pz_game.specs.declared.game.GameParts.{GameParts}
+use Rattle.pz_game.specs.declared.instance.Program.{Program}
 use Rattle.pz_source.specs.Reading.{source_of}
 use Rattle.pz_rules.specs.Drafts.{program_of}
 use Rattle.pz_session.specs.declared.item.Refusal.{Refusal}
@@ -21,6 +24,11 @@ rulebook_of source =
     or_refused (source_of source) (λ game.
     or_refused (program_of game) (λ program.
     Ok (record { game = game; program = program })))
+
+-- the program of a game, whose items are of its objects
+pub record IsProgramFor (game : GameParts) (program : Program) : Type 0 where
+  pub made : program_of game ≡ Ok program
+  pub owned : IsProgramOf game.layers program
 
 -- what is shared, whoever else has it
 abbrev pub shared_in : Result (Arc RulebookState Global) Refusal → Result RulebookState Refusal

@@ -1,51 +1,78 @@
 //! The programs that games share.
 
-ghost use Rattle.std.specs.Prelude.{◌≡◌, IfOk, IfSome};
+ghost use Rattle.std.specs.Prelude.{◌≡◌, Ok, IfOk, IfSome};
 ghost use Rattle.std.specs.Arc.{arc_value};
+ghost use Rattle.pz_rules.specs.Drafts.{program_of};
+ghost use Rattle.pz_job.specs.Rulebooks.{IsProgramFor};
 
-use crate::same::Same;
+use crate::same::same_rules;
+use pz_game::game::Game;
 use pz_game::instance::Program;
+use pz_session::rulebook::Rulebook;
 use std::alloc::{AllocError, Global};
 use std::sync::Arc;
 
-/// How many of the newest programs one is compared with.
+/// With how many of the newest games one is compared.
 const NEWEST: usize = 16;
 
-/// The programs that were made: games that differ only in their levels, as a suite has them, share one.
+/// A game that was expanded, with its program.
+#[derive(Drop)]
+struct Expanded {
+    rulebook: Arc<Rulebook>,
+    program: Arc<Program>,
+    ghost made: { program_of (arc_value rulebook).game ≡ Ok (arc_value program) },
+    ghost same: { (arc_value rulebook).program ≡ arc_value program },
+}
+
+impl Expanded {
+    /// The program, if it is that of a game too.
+    fn program_for(&self, game: &Game) -> Option<&Arc<Program>>
+        ensures { IfSome result (λ program. IsProgramFor game.now (arc_value program.now)) }
+    {
+        if same_rules(self.rulebook.game(), game) {
+            Some(&self.program)
+        } else {
+            None
+        }
+    }
+}
+
+/// The games that were expanded: those that have the same rules, as the games of a suite do, share one program.
 #[derive(Drop)]
 pub(crate) struct Programs {
-    made: Vec<Arc<Program>>,
+    expanded: Vec<Expanded>,
 }
 
 impl Programs {
     pub fn new(alloc: Global) -> Programs {
         Programs {
-            made: Vec::new(alloc),
+            expanded: Vec::new(alloc),
         }
     }
 
-    /// The same program among the newest, if it was made before.
-    fn made_before(&self, program: &Program) -> Option<&Arc<Program>>
-        ensures { IfSome result (λ made. arc_value made.now ≡ program.now) }
+    /// The program of a game that has the same rules as one of the newest.
+    pub fn program_for(&self, game: &Game) -> Option<&Arc<Program>>
+        ensures { IfSome result (λ program. IsProgramFor game.now (arc_value program.now)) }
     {
-        for made in self.made.iter().rev().take(NEWEST) {
-            if made.same(program) {
-                return Some(made);
+        for expanded in self.expanded.iter().rev().take(NEWEST) {
+            if let Some(program) = expanded.program_for(game) {
+                return Some(program);
             }
         }
         None
     }
 
-    /// A program, shared with the games that have the same.
-    pub fn shared(&mut self, alloc: Global, program: Program) -> Result<Arc<Program>, AllocError>
-        ensures { IfOk result (λ shared. arc_value shared ≡ program) }
+    /// Keeps a game that was expanded, with its program.
+    pub fn keep(
+        &mut self,
+        rulebook: &Arc<Rulebook>,
+        program: Arc<Program>,
+    ) -> Result<(), AllocError>
+        requires made { program_of (arc_value rulebook.now).game ≡ Ok (arc_value program) }
+        requires same { (arc_value rulebook.now).program ≡ arc_value program }
     {
-        if let Some(made) = self.made_before(&program) {
-            drop(program);
-            return Arc::try_clone(made);
-        }
-        let shared = Arc::new(alloc, program)?;
-        self.made.push(Arc::try_clone(&shared)?)?;
-        Ok(shared)
+        let rulebook = Arc::try_clone(rulebook)?;
+        self.expanded.push(Expanded { rulebook, program })?;
+        Ok(())
     }
 }

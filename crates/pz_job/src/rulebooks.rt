@@ -2,11 +2,13 @@
 
 ghost use Rattle.std.specs.Prelude.{◌≡◌, ◌≢◌, IfOk, IfErr, IfSome, Ok, Err};
 ghost use Rattle.pz_rules.specs.Drafts.{program_of};
-ghost use Rattle.pz_job.specs.Rulebooks.{or_refused, rulebook_of, shared_in, AreKept};
+ghost use Rattle.std.specs.Arc.{arc_value};
+ghost use Rattle.pz_job.specs.Rulebooks.{or_refused, rulebook_of, shared_in, AreKept, IsProgramFor};
 
 use crate::programs::Programs;
 use pz_base::fault::{Code, SourceFault};
 use pz_game::game::Game;
+use pz_game::instance::Program;
 use pz_rules::expand::expand;
 use pz_session::item::Refusal;
 use pz_session::rulebook::Rulebook;
@@ -37,31 +39,58 @@ fn refused(fault: SourceFault) -> Result<Answer, AllocError>
     Ok(Err(refusal))
 }
 
-/// A rulebook, to be shared.
-fn share(alloc: Global, rulebook: Rulebook) -> Result<Answer, AllocError>
-    ensures { IfOk result (λ answer. shared_in answer ≡ Ok rulebook) }
+/// What a game gives whose program is known.
+fn with_program(alloc: Global, game: Game, program: Arc<Program>) -> Result<Answer, AllocError>
+    requires { IsProgramFor game (arc_value program) }
+    ensures { IfOk result (λ answer. shared_in answer ≡ Ok (record { game = game; program = arc_value program })) }
 {
-    let rulebook = Arc::new(alloc, rulebook)?;
+    let rulebook = Arc::new(alloc, Rulebook::new(game, program))?;
     Ok(Ok(rulebook))
 }
 
-/// What a game gives with its rules. A game goes out of scope by a call: it has many parts.
+/// What a game gives that is expanded now; its program is kept.
+fn with_new_program(
+    programs: &mut Programs,
+    alloc: Global,
+    game: Game,
+    program: Program,
+) -> Result<Answer, AllocError>
+    requires { IsProgramFor game program }
+    ensures { IfOk result (λ answer. shared_in answer ≡ Ok (record { game = game; program = program })) }
+{
+    let program = Arc::new(alloc, program)?;
+    let shared = Arc::try_clone(&program)?;
+    let rulebook = Arc::new(alloc, Rulebook::new(game, shared))?;
+    programs.keep(&rulebook, program)?;
+    Ok(Ok(rulebook))
+}
+
+/// What a game gives whose program has to be made. A game goes out of scope by a call: it has many parts.
+fn with_expansion(programs: &mut Programs, alloc: Global, game: Game) -> Result<Answer, AllocError>
+    ensures { IfOk result (λ answer. shared_in answer ≡ or_refused (program_of game) (λ program. Ok (record { game = game; program = program }))) }
+{
+    match expand(alloc, &game) {
+        Ok(program) => with_new_program(programs, alloc, game, program),
+        Err(fault) => {
+            drop(game);
+            refused(fault)
+        }
+    }
+}
+
+/// What a game gives with its rules, which are expanded where no game before it has the same.
 fn with_rules(programs: &mut Programs, alloc: Global, game: Game) -> Result<Answer, AllocError>
     ensures { IfOk result (λ answer. shared_in answer ≡ or_refused (program_of game) (λ program. Ok (record { game = game; program = program }))) }
 {
-    let program = match expand(alloc, &game) {
-        Ok(program) => program,
-        Err(fault) => {
-            drop(game);
-            return refused(fault);
-        }
-    };
-    match programs.shared(alloc, program) {
-        Ok(program) => share(alloc, Rulebook::new(game, program)),
-        Err(fault) => {
-            drop(game);
-            Err(fault)
-        }
+    match programs.program_for(&game) {
+        Some(program) => match Arc::try_clone(program) {
+            Ok(program) => with_program(alloc, game, program),
+            Err(fault) => {
+                drop(game);
+                Err(fault)
+            }
+        },
+        None => with_expansion(programs, alloc, game),
     }
 }
 

@@ -1,14 +1,17 @@
-//! Programs that are the same.
+//! Games whose rules are the same: they differ only in their levels, or in where their lines stand, as those of a suite do.
 
-ghost use Rattle.std.specs.Prelude.{◌≡◌, true};
+ghost use Rattle.std.specs.Prelude.{◌≡◌, true, All};
+ghost use Rattle.pz_base.specs.NameSet.{number_in};
+ghost use Rattle.pz_job.specs.SameRules.{AreSameLines, HaveSameRules, IsSameLine};
 
 use pz_base::listed::Listed;
-use pz_game::group::{Group, Segment};
-use pz_game::instance::{Block, Instance, Program};
-use pz_game::pattern::{Item, Pattern, Row};
+use pz_base::name::Name;
+use pz_game::denotation::Denotation;
+use pz_game::game::Game;
+use pz_game::rule_line::RuleLine;
 
-/// What two programs are compared by, part by part.
-pub(crate) trait Same {
+/// What parts of two games are compared by.
+trait Same {
     /// Whether another one is the same.
     fn same(&self, other: &Self) -> bool
         ensures { result ≡ true → self.now ≡ other.now };
@@ -35,57 +38,77 @@ impl<T: Same> Same for Listed<T> {
     }
 }
 
-impl Same for Item {
-    fn same(&self, other: &Item) -> bool {
+impl Same for usize {
+    fn same(&self, other: &usize) -> bool {
         *self == *other
     }
 }
 
-impl Same for Pattern {
-    fn same(&self, other: &Pattern) -> bool {
-        same_items(self.items(), other.items())
+impl Same for Name {
+    fn same(&self, other: &Name) -> bool {
+        self.as_str() == other.as_str()
     }
 }
 
-impl Same for Row {
-    fn same(&self, other: &Row) -> bool {
-        self.gap_at() == other.gap_at() && same_items(self.cells(), other.cells())
+impl Same for Denotation {
+    fn same(&self, other: &Denotation) -> bool {
+        self.kind == other.kind && self.number == other.number && self.members.same(&other.members)
     }
 }
 
-impl Same for Instance {
-    fn same(&self, other: &Instance) -> bool {
-        self.scan == other.scan
-            && self.commands == other.commands
-            && self.left.same(&other.left)
-            && self.right.same(&other.right)
+/// Whether two numbers are the same, where there are two.
+fn same_number(number: Option<usize>, other: Option<usize>) -> bool
+    ensures { result ≡ true → number ≡ other }
+{
+    match (number, other) {
+        (Some(number), Some(other)) => number == other,
+        (None, None) => true,
+        _ => false,
     }
 }
 
-impl Same for Segment {
-    fn same(&self, other: &Segment) -> bool {
-        same_items(self.instances(), other.instances())
-    }
-}
-
-impl Same for Group {
-    fn same(&self, other: &Group) -> bool {
-        same_items(self.segments(), other.segments())
-    }
-}
-
-impl Same for Block {
-    fn same(&self, other: &Block) -> bool {
-        match (self, other) {
-            (Block::One(group), Block::One(other)) => group.same(other),
-            (Block::Loop(groups), Block::Loop(others)) => groups.same(others),
-            _ => false,
+/// Whether each of the words is the same name in two games.
+fn same_numbers(game: &Game, other: &Game, words: &[Name]) -> bool
+    ensures { result ≡ true → All (λ word. number_in game.now.names word ≡ number_in other.now.names word) words.now }
+{
+    for number in 0..words.len() {
+        let word = words[number].as_str();
+        if !same_number(game.number_of(word), other.number_of(word)) {
+            return false;
         }
     }
+    true
 }
 
-impl Same for Program {
-    fn same(&self, other: &Program) -> bool {
-        self.early.same(&other.early) && self.late.same(&other.late)
+/// Whether a rule line of each of two games says the same.
+fn same_line(game: &Game, other: &Game, line: &RuleLine, others: &RuleLine) -> bool
+    ensures { result ≡ true → IsSameLine game.now.names other.now.names line.now others.now }
+{
+    line.words.same(&others.words) && same_numbers(game, other, line.words.items())
+}
+
+/// Whether the rule lines of two games say the same, one by one.
+fn same_lines(game: &Game, other: &Game) -> bool
+    ensures { result ≡ true → AreSameLines game.now.names other.now.names game.now.rules other.now.rules }
+{
+    let lines = game.rules();
+    let others = other.rules();
+    if lines.len() != others.len() {
+        return false;
     }
+    for number in 0..lines.len() {
+        if !same_line(game, other, &lines[number], &others[number]) {
+            return false;
+        }
+    }
+    true
+}
+
+/// Whether two games have the same rules, and so the same program.
+pub(crate) fn same_rules(game: &Game, other: &Game) -> bool
+    ensures { result ≡ true → HaveSameRules game.now other.now }
+{
+    same_lines(game, other)
+        && same_items(game.layers(), other.layers())
+        && same_items(game.values(), other.values())
 }
