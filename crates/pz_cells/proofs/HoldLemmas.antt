@@ -8,7 +8,6 @@ use Rattle.pz_game.specs.declared.limits.TheConstants.{MAX_LAYERS, MAX_OBJECTS}
 use Rattle.pz_sets.specs.Sets.{member, IsWithin, AreApart}
 use Rattle.pz_cells.specs.declared.piece.Piece.{Piece}
 use Rattle.pz_game.specs.declared.direction.Dir.{Dir}
-use Rattle.pz_game.specs.declared.direction.Dir.TheVariants.{Up, Down, Left, Right, Action}
 use Rattle.pz_game.specs.declared.pattern.Word.{Word}
 use Rattle.pz_game.specs.declared.pattern.Word.TheVariants.{Present, Still, Toward, Absent}
 use Rattle.pz_game.specs.declared.pattern.Item.{Item}
@@ -18,6 +17,7 @@ use Rattle.pz_game.specs.Pattern.{AreOf}
 use Rattle.pz_cells.specs.Standing.{standing}
 use Rattle.pz_cells.specs.Pattern.{word_holds, item_holds, pattern_holds}
 use Rattle.pz_game.specs.Items.{names, is_on, names_object, forbids_object}
+use Rattle.pz_cells.proofs.SameLemmas.{same_dir_is, same_dir_self}
 use Rattle.pz_cells.proofs.CellLemmas.{OnItsLayer, standing_on_layer, standing_off_layer, standing_past}
 use Rattle.pz_game.specs.Headings.{is_toward, flag, heads, heading_in}
 use Rattle.pz_cells.specs.Shown.{place_of, cell_of, Shows, AreLawful}
@@ -87,21 +87,6 @@ pub record IsMet (item : Item) (objects movement : List ℕ) : Type 0 where
   pub absent : not (names item.word) ≡ true → member objects item.object ≡ false
   pub required : (dir : Dir) → is_toward (toward true item.word) dir ≡ true → heads movement item.layer dir ≡ true
   pub forbidden : is_still item.word ≡ true → (dir : Dir) → heads movement item.layer dir ≡ false
-
-same_dir_is : (a b : Dir) → same_dir a b ≡ true → a ≡ b
-same_dir_is Up Up h = refl
-same_dir_is Down Down h = refl
-same_dir_is Left Left h = refl
-same_dir_is Right Right h = refl
-same_dir_is Action Action h = refl
-same_dir_is _ _ h = cc
-
-same_dir_self : (a : Dir) → same_dir a a ≡ true
-same_dir_self Up = refl
-same_dir_self Down = refl
-same_dir_self Left = refl
-same_dir_self Right = refl
-same_dir_self Action = refl
 
 -- a heading without a direction
 none_toward : (heading : Option Dir) → ((dir : Dir) → is_toward heading dir ≡ false) → heading ≡ None

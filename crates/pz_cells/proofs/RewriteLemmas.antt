@@ -74,7 +74,7 @@ and_yes : (x : Bool) → (x && true) ≡ x
 and_yes true = refl
 and_yes false = refl
 
-and_no : (x : Bool) → (x && false) ≡ false
+pub and_no : (x : Bool) → (x && false) ≡ false
 and_no true = refl
 and_no false = refl
 

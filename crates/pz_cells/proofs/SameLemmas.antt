@@ -8,7 +8,7 @@ use Rattle.pz_cells.specs.declared.piece.Piece.{Piece}
 use Rattle.pz_game.specs.Direction.{same_dir}
 use Rattle.pz_cells.specs.Sameness.{same_heading, same_place, same_cell}
 
-same_dir_is : (a b : Dir) → same_dir a b ≡ true → a ≡ b
+pub same_dir_is : (a b : Dir) → same_dir a b ≡ true → a ≡ b
 same_dir_is Up Up h = refl
 same_dir_is Down Down h = refl
 same_dir_is Left Left h = refl
@@ -16,7 +16,7 @@ same_dir_is Right Right h = refl
 same_dir_is Action Action h = refl
 same_dir_is _ _ h = cc
 
-same_dir_self : (a : Dir) → same_dir a a ≡ true
+pub same_dir_self : (a : Dir) → same_dir a a ≡ true
 same_dir_self Up = refl
 same_dir_self Down = refl
 same_dir_self Left = refl

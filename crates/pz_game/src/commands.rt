@@ -1,7 +1,7 @@
 //! The set of commands that rules may give.
 
 ghost use Rattle.std.specs.Prelude.{⊤, ◌≡◌, [], ◌∷◌, codes};
-ghost use Rattle.pz_game.specs.Commands.{has, either};
+ghost use Rattle.pz_game.specs.Commands.{either};
 
 use bitflags::{Flag, Flags, bitflag_items};
 
@@ -39,13 +39,6 @@ impl Flags for Commands {
     fn from_bits_retain(bits: u8) -> Commands {
         Commands(bits)
     }
-}
-
-/// Whether a command is in the set.
-pub fn gives(commands: Commands, command: Commands) -> bool
-    ensures { result ≡ has commands command }
-{
-    commands.contains(command)
 }
 
 /// The commands of either set.

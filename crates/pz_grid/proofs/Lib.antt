@@ -1,4 +1,3 @@
-pub mod CellLemmas
 pub mod StandingLemmas
 pub mod SameLemmas
 pub mod GatherLemmas

@@ -22,13 +22,10 @@ use Rattle.pz_cells.specs.Pattern.{word_holds, item_holds, pattern_holds}
 use Rattle.pz_grid.specs.Places.{on_map, along, distance, position_of, holds_at, cell_holds, row_holds, place_in, gap_count, line_length, line_count, pairs, places}
 use Rattle.pz_grid.specs.Marks.{IsMarked}
 use Rattle.pz_grid.specs.Admitted.{marks_of, marks_item, marks_cell, admits, admits_line, admitted, searches_level, searches_line, line_of, start_of, starts_at, starts_in, start_count, StartsNowhere}
+use Rattle.pz_cells.proofs.RewriteLemmas.{and_no}
 use Rattle.pz_grid.proofs.MarkLemmas.{in_row_from, in_column_from}
 use Rattle.pz_grid.proofs.GatherLemmas.{gather, range_more}
 use Rattle.pz_grid.proofs.FoundLemmas.{found_with, found_at, found_in, found_at_all, found_in_all}
-
-and_no : (x : Bool) → (x && false) ≡ false
-and_no true = refl
-and_no false = refl
 
 -- where an item's object isn't marked, the pattern doesn't hold
 item_none : (cell : List (Option Piece)) (marks : List ℕ) (item : Item) → (is_in cell item.object ≡ true → member marks item.object ≡ true) → marks_item marks item ≡ false → item_holds cell item ≡ false

@@ -6,7 +6,7 @@ use Rattle.std.proofs.lemmas.Bool.{cases_eq}
 use Rattle.pz_cells.specs.declared.piece.Piece.{Piece}
 use Rattle.pz_game.specs.declared.direction.Dir.{Dir}
 use Rattle.pz_cells.specs.Standing.{standing}
-use Rattle.pz_grid.proofs.CellLemmas.{OnItsLayer, standing_on_layer, standing_off_layer}
+use Rattle.pz_cells.proofs.CellLemmas.{OnItsLayer, standing_on_layer, standing_off_layer}
 
 -- a piece of one cell stands in the other
 kept_place : (layers : List ℕ) (a b : List (Option Piece)) (layer : ℕ) (piece : Piece) → OnItsLayer layers a → OnItsLayer layers b → ((object : ℕ) → standing a object ≡ standing b object) → get_or a layer None ≡ Some piece → get_or b layer None ≡ Some piece

@@ -10,8 +10,8 @@ ghost use Rattle.pz_game.specs.declared.direction.Dir.{Dir};
 
 use crate::Level;
 use crate::bare::BareLevel;
-use crate::rewriting::names;
 use pz_game::direction::Dir;
+use pz_game::masks::names;
 use pz_game::pattern::{Item, Pattern, Row};
 use pz_sets::set::NumberSet;
 use pz_sets::words::has_subset;

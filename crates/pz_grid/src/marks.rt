@@ -10,7 +10,7 @@ ghost use Rattle.pz_grid.specs.Marks.{is_marked, IsExact, IsMore};
 
 use crate::Level;
 use crate::bare::BareLevel;
-use crate::rewriting::names;
+use pz_game::masks::names;
 use pz_game::pattern::{Item, Pattern};
 use pz_sets::set::NumberSet;
 use std::alloc::{AllocError, Global};

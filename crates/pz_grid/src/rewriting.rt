@@ -1,33 +1,20 @@
 //! The rewriting of cells by the instances of rules.
 
-ghost use Rattle.std.specs.Prelude.{not, false, ◌≡◌, ◌<◌, ◌^◌, [], length, All, IfSome, slice_index_or, slice_set};
-ghost use Rattle.pz_game.specs.Game.{IsGame};
+ghost use Rattle.std.specs.Prelude.{false, ◌≡◌, ◌<◌, ◌^◌, IfSome};
 ghost use Rattle.pz_game.specs.Instance.{IsInstanceOf};
 ghost use Rattle.pz_game.specs.Pattern.{AreOf, IsRowOf, AreRowsOf};
 ghost use Rattle.pz_sheet.specs.Grid.{IsLawful, IsOfGame, SameSize};
 ghost use Rattle.pz_grid.specs.Marks.{IsMarked, IsMarkedAt, IsWidenedBy, row_places, places_object};
-ghost use Rattle.pz_game.specs.Items.{names, tells_movement, is_on, places_on, placed_on, tells_of, names_object, forbids_object};
-ghost use Rattle.pz_cells.specs.Rewriting.{new_heading, kept, rewritten_place, rewritten_cell};
+ghost use Rattle.pz_game.specs.Items.{names_object};
 ghost use Rattle.pz_sheet.specs.Rewriting.{with_rewritten, changes};
 ghost use Rattle.pz_grid.specs.Rewriting.{in_rewrite, rewritten_at, rewritten_along, rewritten_row, rewritten};
-ghost use Rattle.pz_cells.specs.Sameness.{same_place, same_cell};
 
 use crate::Level;
 use crate::places::Place;
 use pz_game::direction::Dir;
 use pz_game::game::Game;
 use pz_game::instance::Instance;
-use pz_game::pattern::{Item, Pattern, Row, Word};
-
-/// Whether an item under this word names its object as present.
-pub(crate) fn names(word: Word) -> bool
-    ensures { result ≡ names word }
-{
-    match word {
-        Word::Absent => false,
-        Word::Present | Word::Still | Word::Toward(_) => true,
-    }
-}
+use pz_game::pattern::{Pattern, Row};
 
 impl Level {
     /// Rewrites the cell at a position, whose row and column are marked with what the right places.

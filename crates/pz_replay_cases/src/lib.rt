@@ -1,4 +1,4 @@
-//! Tests of replays, from outside: lanes, workers, whole jobs, and the writing of a recording.
+//! Tests of replays, from outside: lanes, workers, and whole jobs.
 #![tactic(auto)]
 
 #[cfg(test)]
@@ -9,5 +9,3 @@ mod replaying;
 mod sessions;
 #[cfg(test)]
 mod work;
-#[cfg(test)]
-mod writing;

@@ -23,10 +23,10 @@ use Rattle.pz_grid.specs.Places.{searched}
 use Rattle.pz_turn.specs.declared.outcome.StepFault.TheVariants.{LoopLimit}
 use Rattle.pz_turn.specs.declared.rest.TheConstants.{PASSES}
 use Rattle.pz_turn.specs.Combinations.{combinations}
-use Rattle.pz_game.specs.Commands.{no_commands}
+use Rattle.pz_game.specs.Commands.{cancel, no_commands}
 use Rattle.pz_turn.specs.Instance.{applied}
 use Rattle.pz_turn.specs.Rest.{pass_of, rest_of, group_runs}
-use Rattle.pz_turn.specs.Step.{block_runs, blocks_run, rules_run, step_of, cancel}
+use Rattle.pz_turn.specs.Step.{block_runs, blocks_run, rules_run, step_of}
 use Rattle.pz_turn.specs.Win.{has_won}
 
 -- the first list varies fastest

@@ -11,7 +11,7 @@ use Rattle.pz_game.specs.declared.commands.Commands.{Commands}
 use Rattle.pz_game.specs.declared.instance.Block.{Block}
 use Rattle.pz_game.specs.declared.instance.Block.TheVariants.{One, Loop}
 use Rattle.pz_game.specs.declared.instance.Program.{Program}
-use Rattle.pz_game.specs.Commands.{has, either}
+use Rattle.pz_game.specs.Commands.{cancel, has, either}
 use Rattle.pz_cells.specs.declared.piece.Piece.{Piece}
 use Rattle.pz_sheet.specs.Grid.{Grid}
 use Rattle.pz_grid.specs.Movement.{resolved}
@@ -62,9 +62,6 @@ has_stayed players before after =
 abbrev pub must_cancel : GameParts → Option Dir → Grid → Grid → Bool
 must_cancel game input before after =
     game.options.require_player_movement && (is_some input && has_stayed (players_of game) before after)
-
-abbrev pub cancel : Commands
-cancel = record { 0 = 2 }
 
 abbrev pub with_cancel : Bool → Commands → Commands
 with_cancel true commands = either commands cancel
