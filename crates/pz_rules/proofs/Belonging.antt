@@ -32,7 +32,7 @@ use Rattle.pz_grammar.specs.declared.token.Class.{Class}
 use Rattle.pz_grammar.specs.declared.token.Lead.{Lead}
 use Rattle.pz_plan.specs.Checks.{fault_of}
 use Rattle.pz_plan.specs.Deciding.{joined, with_lead, decided_lead, decided_name, decided_term, decided_terms, decided_cells, decided_row, decided_rows, member_choice}
-use Rattle.pz_rules.specs.Equal.{same_instance}
+use Rattle.pz_instances.specs.Equal.{same_instance}
 use Rattle.pz_rules.specs.Instances.{members_at, options_of, picked_object, object_of, layer_of, item_of, cell_of, row_of, rows_of, instance_of, is_possible, picks_of, possible_of, instances_of}
 use Rattle.pz_base.specs.Lists.{firsts}
 use Rattle.pz_plan.specs.Numbering as numbering

@@ -1,7 +1,7 @@
 -- Considering picks one by one gives the instances of a plan.
 use Rattle.std.proofs.Common.{◌≡◌, ℕ, ◌+◌, ◌<◌, cond, List, [], ◌∷◌, ◌++◌, filter, map, fold, take, length, get_or, refl, ap, sym, ◌∙◌, ⊎_elim}
 use Rattle.std.proofs.lemmas.Bool.{cases_Bool, cond-true, cond-false}
-use Rattle.std.proofs.lemmas.List.{take_more, append-nil, map-id}
+use Rattle.std.proofs.lemmas.List.{take_more, append-nil}
 use Rattle.std.proofs.lemmas.List.Concat.{flat_map-append}
 use Rattle.std.specs.List.{flat_map}
 use Rattle.pz_game.specs.declared.direction.Dir.{Dir}
@@ -9,11 +9,11 @@ use Rattle.pz_game.specs.declared.instance.Instance.{Instance}
 use Rattle.pz_rules.specs.declared.instances.Pick.{Pick}
 use Rattle.pz_plan.specs.declared.plan.Plan.{Plan}
 use Rattle.pz_game.specs.declared.denotation.Denotation.{Denotation}
-use Rattle.pz_rules.specs.Equal.{same_instance}
-use Rattle.pz_base.specs.Lists.{firsts, product, added}
-use Rattle.pz_rules.specs.Instances.{instance_of, is_possible, considered, picks_of, possible_of, options_of}
+use Rattle.pz_instances.specs.Equal.{same_instance}
+use Rattle.pz_base.specs.Lists.{firsts, added}
+use Rattle.pz_rules.specs.Instances.{instance_of, is_possible, considered, picks_of, possible_of}
 use Rattle.pz_plan.proofs.Firsts.{firsts-append}
-use Rattle.pz_rules.proofs.EqualLemmas.{same_instance-trans}
+use Rattle.pz_instances.proofs.EqualLemmas.{same_instance-trans}
 
 pub fold-considered : (layers : List ℕ) (plan : Plan) (direction : Dir) (kept : List Instance) (all : List (List Pick)) → fold (considered layers plan direction) kept all ≡ fold (added same_instance) kept (filter is_possible (map (instance_of layers plan direction) all))
 unfolding considered
@@ -28,13 +28,12 @@ fold-considered layers plan direction kept (picks ∷ all) =
     (cases_Bool (is_possible i))
 
 -- the picks of one more direction
-pub firsts-possible_more : (table : List Denotation) (layers : List ℕ) (plan : Plan) (ds : List Dir) (i : ℕ) (d : Dir) (kept : List Instance) → i < length ds → d ≡ get_or ds i d → kept ≡ firsts same_instance (flat_map (possible_of table layers plan) (take i ds)) → fold (considered layers plan d) kept (map (λ rest. [] ++ rest) (product (map (options_of table d) plan.choices))) ≡ firsts same_instance (flat_map (possible_of table layers plan) (take (i + 1) ds))
-unfolding possible_of picks_of
+pub firsts-possible_more : (table : List Denotation) (layers : List ℕ) (plan : Plan) (ds : List Dir) (i : ℕ) (d : Dir) (kept : List Instance) → i < length ds → d ≡ get_or ds i d → kept ≡ firsts same_instance (flat_map (possible_of table layers plan) (take i ds)) → fold (considered layers plan d) kept (picks_of table plan d) ≡ firsts same_instance (flat_map (possible_of table layers plan) (take (i + 1) ds))
+unfolding possible_of
 firsts-possible_more table layers plan ds i d kept in_range at so_far =
-    let all = product (map (options_of table d) plan.choices) in
     let before = flat_map (possible_of table layers plan) (take i ds) in
     let split : flat_map (possible_of table layers plan) (take (i + 1) ds) ≡ before ++ possible_of table layers plan d =
     ap (flat_map (possible_of table layers plan)) (take_more ds i d in_range ∙ ap (λ y. take i ds ++ y ∷ []) (sym at)) ∙ flat_map-append (possible_of table layers plan) (take i ds) (d ∷ []) ∙ ap (λ l. before ++ l) (append-nil (possible_of table layers plan d)) in
-    ap (fold (considered layers plan d) kept) (map-id all) ∙ fold-considered layers plan d kept all ∙
+    fold-considered layers plan d kept (picks_of table plan d) ∙
     ap (λ k. fold (added same_instance) k (possible_of table layers plan d)) so_far ∙
     firsts-append same_instance same_instance-trans before (possible_of table layers plan d) ∙ sym (ap (firsts same_instance) split)

@@ -1,7 +1,4 @@
 mod CountingLemmas
-mod EqualLemmas
-mod HashLemmas
-mod KeptLemmas
 mod Expanding
 mod Mapped
 mod Belonging

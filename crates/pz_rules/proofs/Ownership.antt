@@ -28,7 +28,7 @@ use Rattle.pz_game.specs.declared.pattern.Item.{Item}
 use Rattle.pz_plan.specs.declared.plan.Plan.{Plan}
 use Rattle.pz_grammar.specs.declared.rule.Rule.{Rule}
 use Rattle.pz_rules.specs.declared.sides.Sides.{Sides}
-use Rattle.pz_rules.specs.Clash.{has_clash}
+use Rattle.pz_instances.specs.Clash.{has_clash}
 use Rattle.pz_rules.specs.Counting.{pair_count}
 use Rattle.pz_rules.specs.Drafts.{placed, settled, opened, loop_of, with_loop, closed, is_misplaced, lateness, joins, before, extended, extended_by, rule_added, parsed_added, loop_added, line_added, going_on, finished, program_from, nothing, program_of}
 use Rattle.pz_rules.specs.Expansion.{unless_clash, expansion_within, expanded_plan, expanded}

@@ -9,7 +9,7 @@ use Rattle.pz_plan.specs.declared.fault.RuleFault.TheVariants as fault
 use Rattle.pz_game.specs.declared.instance.Instance.{Instance}
 use Rattle.pz_plan.specs.declared.plan.Plan.{Plan}
 use Rattle.pz_grammar.specs.declared.rule.Rule.{Rule}
-use Rattle.pz_rules.specs.Clash.{has_clash}
+use Rattle.pz_instances.specs.Clash.{has_clash}
 use Rattle.pz_rules.specs.Counting.{pair_count}
 use Rattle.pz_rules.specs.Instances.{instances_of}
 use Rattle.pz_plan.specs.Planning.{plan_of}

@@ -5,7 +5,7 @@ use Rattle.std.specs.Option.{option_map_or}
 use Rattle.pz_game.specs.declared.denotation.Denotation.{Denotation}
 use Rattle.pz_game.specs.declared.direction.Dir.{Dir}
 use Rattle.pz_game.specs.declared.direction.Dir.TheVariants.{Up}
-use Rattle.pz_rules.specs.declared.exclusion.Role.TheVariants.{Asked}
+use Rattle.pz_instances.specs.declared.exclusion.Role.TheVariants.{Asked}
 use Rattle.pz_game.specs.declared.pattern.Item.{Item}
 use Rattle.pz_game.specs.declared.pattern.Word.{Word}
 use Rattle.pz_game.specs.declared.pattern.Word.TheVariants.{Present, Still, Toward, Absent}
@@ -21,8 +21,8 @@ use Rattle.pz_plan.specs.declared.plan.PlanRow.{PlanRow}
 use Rattle.pz_plan.specs.declared.plan.Term.{Term}
 use Rattle.pz_plan.specs.declared.plan.TermName.{TermName}
 use Rattle.pz_plan.specs.declared.plan.TermName.TheVariants as name
-use Rattle.pz_rules.specs.Equal.{same_instance}
-use Rattle.pz_rules.specs.Exclusion.{has_impossible}
+use Rattle.pz_instances.specs.Equal.{same_instance}
+use Rattle.pz_instances.specs.Exclusion.{has_impossible}
 use Rattle.pz_base.specs.Lists.{product, firsts, added}
 use Rattle.pz_game.specs.Pattern.{RuleRow}
 use Rattle.pz_rules.specs.Turning.{turned, class_directions}

@@ -1,11 +1,6 @@
 pub mod Counting
 pub mod Turning
-pub mod Equal
-pub mod Hashes
-pub mod Kept
-pub mod Exclusion
 pub mod Instances
-pub mod Clash
 pub mod Expansion
 pub mod Sides
 pub mod Drafts

@@ -8,7 +8,6 @@ ghost use Rattle.pz_rules.specs.Expansion.{unless_clash, expansion_within, expan
 ghost use Rattle.pz_plan.specs.Shape.{AreShaped};
 ghost use Rattle.pz_grammar.specs.Written.{is_whole};
 
-use crate::clash::have_clash;
 use crate::counting::count_within;
 use crate::instances::instances_of;
 use crate::patterns::Patterns;
@@ -16,6 +15,7 @@ use pz_base::listed::Listed;
 use pz_game::denotation::Denotation;
 use pz_game::instance::Instance;
 use pz_grammar::rule::Rule;
+use pz_instances::clash::have_clash;
 use pz_plan::fault::RuleFault;
 use pz_plan::plan::Plan;
 use pz_plan::planning::plan_of;

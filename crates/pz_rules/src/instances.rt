@@ -1,12 +1,11 @@
 //! The instances of a plan.
 
-ghost use Rattle.std.specs.Prelude.{◌≡◌, ◌++◌, IfOk, OnOk, map, fold, slice_get};
-ghost use Rattle.std.specs.List.{list_any, list_all};
+ghost use Rattle.std.specs.Prelude.{◌≡◌, ◌++◌, [], IfOk, OnOk, map, fold, slice_get};
+ghost use Rattle.std.specs.List.{list_all};
 ghost use Rattle.pz_base.specs.Lists.{product};
 ghost use Rattle.pz_plan.specs.Shape.{IsShaped, AreShaped};
-ghost use Rattle.pz_rules.specs.Instances.{members_at, options_of, object_of, meaning_of, layer_of, item_of, cell_of, row_of, rows_of, is_one_cell, scan_of, instance_of, is_possible, instances_of, considered};
+ghost use Rattle.pz_rules.specs.Instances.{members_at, options_of, object_of, meaning_of, layer_of, item_of, cell_of, row_of, rows_of, is_one_cell, scan_of, picks_of, instances_of, considered};
 
-use crate::exclusion::{Role, have_impossible};
 use crate::kept::Kept;
 use crate::patterns::Patterns;
 use crate::turning::{class_directions, turned};
@@ -16,6 +15,7 @@ use pz_game::direction::Dir;
 use pz_game::instance::Instance;
 use pz_game::pattern::{Item, Pattern, Row, Rows, Word};
 use pz_grammar::token::Lead;
+use pz_instances::exclusion::{Role, have_impossible};
 use pz_plan::plan::{Asked, Choice, Plan, PlanRow, Term, TermName};
 use std::alloc::{AllocError, Global};
 
@@ -115,58 +115,58 @@ fn layer_of(layers: &[usize], object: usize) -> usize
 }
 
 #[tactic(auto, unfolding(crate::specs::Instances::item_of))]
-fn item_of(layers: &[usize], direction: Dir, picks: &[Pick], term: &Term) -> Item
-    ensures { result ≡ item_of layers.now direction picks.now term.now }
+fn item_of(directed: &DirectedPlan, picks: &[Pick], term: &Term) -> Item
+    ensures { result ≡ item_of directed.now.layers.now directed.now.direction picks.now term.now }
 {
     let object = object_of(picks, term.name);
     Item {
         object,
-        layer: layer_of(layers, object),
-        word: meaning_of(direction, picks, term.lead),
+        layer: layer_of(directed.layers, object),
+        word: meaning_of(directed.direction, picks, term.lead),
     }
 }
 
-fn items_of(
-    alloc: Global,
-    layers: &[usize],
-    direction: Dir,
+/// Adds the items of a cell.
+fn add_items(
+    items: &mut Vec<Item>,
+    directed: &DirectedPlan,
     picks: &[Pick],
     terms: &[Term],
-) -> Result<Vec<Item>, AllocError>
-    ensures { IfOk result (λ items. items.items ≡ map (item_of layers.now direction picks.now) terms.now) }
+) -> Result<(), AllocError>
+    requires { items.old.items ≡ [] }
+    ensures { OnOk result (items.new.items ≡ map (item_of directed.now.layers.now directed.now.direction picks.now) terms.now) }
 {
-    terms
-        .iter()
-        .map(|term| item_of(layers, direction, picks, term))
-        .collect(alloc)
+    for term in terms {
+        items.push(item_of(directed, picks, term))?;
+    }
+    Ok(())
 }
 
 #[tactic(auto, unfolding(crate::specs::Instances::cell_of))]
 fn cell_of(
     patterns: &mut Patterns,
-    layers: &[usize],
-    direction: Dir,
+    directed: &DirectedPlan,
     picks: &[Pick],
     terms: &Listed<Term>,
 ) -> Result<Pattern, AllocError>
-    ensures { IfOk result (λ cell. cell ≡ cell_of layers.now direction picks.now terms.now) }
+    ensures { IfOk result (λ cell. cell ≡ cell_of directed.now.layers.now directed.now.direction picks.now terms.now) }
 {
-    let items = items_of(patterns.alloc(), layers, direction, picks, terms.items())?;
+    let mut items = patterns.take_room();
+    add_items(&mut items, directed, picks, terms.items())?;
     patterns.pattern_of(items)
 }
 
 fn cells_of(
     patterns: &mut Patterns,
-    layers: &[usize],
-    direction: Dir,
+    directed: &DirectedPlan,
     picks: &[Pick],
     cells: &[Listed<Term>],
 ) -> Result<Vec<Pattern>, AllocError>
-    ensures { IfOk result (λ out. out.items ≡ map (cell_of layers.now direction picks.now) cells.now) }
+    ensures { IfOk result (λ out. out.items ≡ map (cell_of directed.now.layers.now directed.now.direction picks.now) cells.now) }
 {
     let mut out = Vec::with_capacity(patterns.alloc(), cells.len())?;
     for terms in cells {
-        out.push(cell_of(patterns, layers, direction, picks, terms)?)?;
+        out.push(cell_of(patterns, directed, picks, terms)?)?;
     }
     Ok(out)
 }
@@ -174,32 +174,30 @@ fn cells_of(
 #[tactic(auto, unfolding(crate::specs::Instances::row_of))]
 fn row_of(
     patterns: &mut Patterns,
-    layers: &[usize],
-    direction: Dir,
+    directed: &DirectedPlan,
     picks: &[Pick],
     row: &PlanRow<Term>,
 ) -> Result<Row, AllocError>
     requires { IsShaped row.now }
-    ensures { IfOk result (λ out. out ≡ row_of layers.now direction picks.now row.now) }
+    ensures { IfOk result (λ out. out ≡ row_of directed.now.layers.now directed.now.direction picks.now row.now) }
 {
-    let cells = cells_of(patterns, layers, direction, picks, row.cells.items())?;
+    let cells = cells_of(patterns, directed, picks, row.cells.items())?;
     Ok(Row::new(cells, row.gap_at))
 }
 
 #[tactic(auto, unfolding(crate::specs::Instances::rows_of))]
 fn rows_of(
     patterns: &mut Patterns,
-    layers: &[usize],
-    direction: Dir,
+    directed: &DirectedPlan,
     picks: &[Pick],
     rows: &[PlanRow<Term>],
 ) -> Result<Rows, AllocError>
     requires { AreShaped rows.now }
-    ensures { IfOk result (λ out. out ≡ rows_of layers.now direction picks.now rows.now) }
+    ensures { IfOk result (λ out. out ≡ rows_of directed.now.layers.now directed.now.direction picks.now rows.now) }
 {
     let mut out = Vec::with_capacity(patterns.alloc(), rows.len())?;
     for row in rows {
-        out.push(row_of(patterns, layers, direction, picks, row)?)?;
+        out.push(row_of(patterns, directed, picks, row)?)?;
     }
     Ok(Listed::new(out))
 }
@@ -228,38 +226,8 @@ fn scan_of(plan: &Plan, direction: Dir) -> Dir
     }
 }
 
-/// The instance of a plan for a direction and a list of picks.
-#[tactic(auto, unfolding(crate::specs::Instances::instance_of))]
-fn instance_of(
-    patterns: &mut Patterns,
-    directed: &DirectedPlan,
-    picks: &[Pick],
-) -> Result<Instance, AllocError>
-    requires left { AreShaped directed.now.plan.now.left }
-    requires right { AreShaped directed.now.plan.now.right }
-    ensures { IfOk result (λ instance. instance ≡ instance_of directed.now.layers.now directed.now.plan.now directed.now.direction picks.now) }
-{
-    let (layers, plan, direction) = (directed.layers, directed.plan, directed.direction);
-    let left = rows_of(patterns, layers, direction, picks, plan.left.items())?;
-    let right = rows_of(patterns, layers, direction, picks, plan.right.items())?;
-    Ok(Instance {
-        scan: scan_of(plan, direction),
-        left,
-        right,
-        commands: plan.commands,
-    })
-}
-
-/// Whether some level can be as the left of an instance says.
-#[tactic(auto, unfolding(crate::specs::Instances::is_possible))]
-fn is_possible(instance: &Instance) -> bool
-    ensures { result ≡ is_possible instance.now }
-{
-    !have_impossible(Role::Asked, instance.left.items())
-}
-
-/// Adds the instance of these picks, unless it is impossible or there already.
-#[tactic(auto, unfolding(crate::specs::Instances::considered))]
+/// Adds the instance of these picks, unless it is impossible or there already. The right of one that no level can be like isn't made.
+#[tactic(auto, unfolding(crate::specs::Instances::considered, crate::specs::Instances::instance_of, crate::specs::Instances::is_possible))]
 fn consider(
     patterns: &mut Patterns,
     directed: &DirectedPlan,
@@ -270,11 +238,17 @@ fn consider(
     requires right { AreShaped directed.now.plan.now.right }
     ensures { OnOk result (kept.new ≡ considered directed.now.layers.now directed.now.plan.now directed.now.direction kept.old picks.now) }
 {
-    let instance = instance_of(patterns, directed, picks)?;
-    if is_possible(&instance) {
-        kept.add(instance)?;
+    let plan = directed.plan;
+    let left = rows_of(patterns, directed, picks, plan.left.items())?;
+    if have_impossible(Role::Asked, left.items()) {
+        return Ok(());
     }
-    Ok(())
+    kept.add(Instance {
+        scan: scan_of(plan, directed.direction),
+        left,
+        right: rows_of(patterns, directed, picks, plan.right.items())?,
+        commands: plan.commands,
+    })
 }
 
 /// Considers every list of picks that begins with these.
@@ -319,8 +293,54 @@ fn all_options(
     Ok(options)
 }
 
-/// The instances of a plan: the possible ones in order, and of equal ones the first.
+/// Considers every list of picks for one direction.
+#[tactic(auto, unfolding(crate::specs::Instances::picks_of))]
+fn consider_direction(
+    patterns: &mut Patterns,
+    table: &[Denotation],
+    directed: &DirectedPlan,
+    kept: &mut Kept,
+) -> Result<(), AllocError>
+    requires left { AreShaped directed.now.plan.now.left }
+    requires right { AreShaped directed.now.plan.now.right }
+    ensures { OnOk result
+        (kept.new ≡ fold (considered directed.now.layers.now directed.now.plan.now directed.now.direction) kept.old
+        (picks_of table.now directed.now.plan.now directed.now.direction)) }
+{
+    let alloc = patterns.alloc();
+    let choices = directed.plan.choices.items();
+    let options = all_options(alloc, table, directed.direction, choices)?;
+    let mut picks = Vec::new(alloc);
+    consider_all(patterns, directed, &options, &mut picks, kept)?;
+    Ok(())
+}
+
+/// Considers every direction of a plan.
 #[tactic(auto, unfolding(crate::specs::Instances::instances_of))]
+fn consider_directions(
+    patterns: &mut Patterns,
+    table: &[Denotation],
+    layers: &[usize],
+    plan: &Plan,
+    kept: &mut Kept,
+) -> Result<(), AllocError>
+    requires none { kept.old ≡ [] }
+    requires left { AreShaped plan.now.left }
+    requires right { AreShaped plan.now.right }
+    ensures { OnOk result (kept.new ≡ instances_of table.now layers.now plan.now) }
+{
+    for direction in plan.directions.items() {
+        let directed = DirectedPlan {
+            layers,
+            plan,
+            direction: *direction,
+        };
+        consider_direction(patterns, table, &directed, kept)?;
+    }
+    Ok(())
+}
+
+/// The instances of a plan: the possible ones in order, and of equal ones the first.
 pub fn instances_of(
     patterns: &mut Patterns,
     table: &[Denotation],
@@ -332,16 +352,7 @@ pub fn instances_of(
     ensures { IfOk result (λ instances. instances.items ≡ instances_of table.now layers.now plan.now) }
 {
     let alloc = patterns.alloc();
-    let mut kept = Kept::new(alloc)?;
-    for direction in plan.directions.items() {
-        let options = all_options(alloc, table, *direction, plan.choices.items())?;
-        let directed = DirectedPlan {
-            layers,
-            plan,
-            direction: *direction,
-        };
-        let mut picks = Vec::new(alloc);
-        consider_all(patterns, &directed, &options, &mut picks, &mut kept)?;
-    }
-    Ok(kept.into_instances())
+    let mut kept = Kept::new(alloc);
+    consider_directions(patterns, table, layers, plan, &mut kept)?;
+    kept.into_instances(alloc)
 }

@@ -1,14 +1,10 @@
 //! The rules of a game, expanded: from its rule lines to the program of instances.
 #![tactic(auto)]
 
-pub mod clash;
 pub mod counting;
 pub mod draft;
-pub mod equal;
-pub mod exclusion;
 pub mod expand;
 pub mod expansion;
-pub mod hashes;
 pub mod instances;
 pub mod kept;
 pub mod patterns;

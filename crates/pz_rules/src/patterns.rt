@@ -1,10 +1,11 @@
 //! The patterns that were made: equal ones share their contents.
 
-ghost use Rattle.std.specs.Prelude.{◌≡◌, ◌↔◌, true, IfOk, IfSome};
+ghost use Rattle.std.specs.Prelude.{◌≡◌, ◌↔◌, [], true, IfOk, IfSome};
 
-use crate::hashes::{item_hash, spread};
 use pz_game::pattern::{Item, Pattern};
+use pz_instances::hashes::{item_hash, spread};
 use std::alloc::{AllocError, Global};
+use std::mem::replace;
 
 /// How many drawers there are: a pattern is looked for in one of them only.
 const DRAWERS: u64 = 1_024;
@@ -62,10 +63,12 @@ impl Drawer {
 }
 
 /// A table of patterns that were made. What it holds saves memory and decides nothing: a pattern is compared before it is shared.
+/// The room of items whose pattern was there already is kept for the next ones.
 #[derive(Drop)]
 pub struct Patterns {
     alloc: Global,
     drawers: Vec<Drawer>,
+    room: Vec<Item>,
 }
 
 impl Patterns {
@@ -74,7 +77,11 @@ impl Patterns {
         for _number in 0..DRAWERS {
             drawers.push(Drawer::new(alloc))?;
         }
-        Ok(Patterns { alloc, drawers })
+        Ok(Patterns {
+            alloc,
+            drawers,
+            room: Vec::new(alloc),
+        })
     }
 
     /// Where the patterns and what is made of them are stored.
@@ -82,18 +89,43 @@ impl Patterns {
         self.alloc
     }
 
+    /// An empty list, for the items of the next pattern.
+    pub fn take_room(&mut self) -> Vec<Item>
+        ensures { result.items ≡ [] }
+    {
+        let mut room = replace(&mut self.room, Vec::new(self.alloc));
+        room.clear();
+        room
+    }
+
+    /// The pattern of these items, if it was made before.
+    fn made_before(&self, items: &[Item]) -> Option<&Pattern>
+        ensures { IfSome result (λ pattern. pattern.now ≡ items.now) }
+    {
+        self.drawers.get(drawer_number(items))?.find(items)
+    }
+
+    /// A pattern of these items, which is kept.
+    fn make(&mut self, items: Vec<Item>) -> Result<Pattern, AllocError>
+        ensures { IfOk result (λ pattern. pattern ≡ items.items) }
+    {
+        let number = drawer_number(&items);
+        let pattern = Pattern::new(self.alloc, items)?;
+        if let Some(drawer) = self.drawers.get_mut(number) {
+            drawer.keep(&pattern)?;
+        }
+        Ok(pattern)
+    }
+
     /// The pattern of these items, which shares its contents with an equal one that is kept.
     pub fn pattern_of(&mut self, items: Vec<Item>) -> Result<Pattern, AllocError>
         ensures { IfOk result (λ pattern. pattern ≡ items.items) }
     {
-        let Some(drawer) = self.drawers.get_mut(drawer_number(&items)) else {
-            return Pattern::new(self.alloc, items);
+        let Some(made) = self.made_before(&items) else {
+            return self.make(items);
         };
-        if let Some(pattern) = drawer.find(&items) {
-            return pattern.share();
-        }
-        let pattern = Pattern::new(self.alloc, items)?;
-        drawer.keep(&pattern)?;
-        Ok(pattern)
+        let shared = made.share()?;
+        self.room = items;
+        Ok(shared)
     }
 }

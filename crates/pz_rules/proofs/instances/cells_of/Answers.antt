@@ -10,4 +10,4 @@ loop-terms-preserved c =
     let out = c.loop-terms.out.items in
     let in_range : i < length cells = omega arith in
     c.in_ok-push.ensures.items ∙ (ap (λ cell. out ++ cell ∷ []) c.in_ok-cell_of.ensures
-    ∙ mapped-more (cell_of c.args.layers.now c.args.direction c.args.picks.now) out cells i c.terms-item.result in_range c.terms-item.is c.loop-terms.invariant)
+    ∙ mapped-more (cell_of c.args.directed.now.layers.now c.args.directed.now.direction c.args.picks.now) out cells i c.terms-item.result in_range c.terms-item.is c.loop-terms.invariant)

@@ -3,4 +3,4 @@ use Rattle.pz_rules.specs.Instances.{cell_of}
 use Rattle.pz_rules.proofs.instances.cells_of.Given as goal
 
 abbrev pub invariant-loop-terms : goal.invariant-loop-terms
-invariant-loop-terms l = l.out.items ≡ map (cell_of l.layers l.direction l.picks) (take l.terms-index l.cells)
+invariant-loop-terms l = l.out.items ≡ map (cell_of l.directed.layers.now l.directed.direction l.picks) (take l.terms-index l.cells)

@@ -10,4 +10,4 @@ loop-row-preserved c =
     let out = c.loop-row.out.items in
     let in_range : i < length rows = omega arith in
     c.in_ok-push.ensures.items ∙ (ap (λ row. out ++ row ∷ []) c.in_ok-row_of.ensures
-    ∙ mapped-more (row_of c.args.layers.now c.args.direction c.args.picks.now) out rows i c.row-item.result in_range c.row-item.is c.loop-row.invariant)
+    ∙ mapped-more (row_of c.args.directed.now.layers.now c.args.directed.now.direction c.args.picks.now) out rows i c.row-item.result in_range c.row-item.is c.loop-row.invariant)

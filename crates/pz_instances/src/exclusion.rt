@@ -2,7 +2,7 @@
 
 ghost use Rattle.std.specs.Prelude.{◌≡◌};
 ghost use Rattle.std.specs.List.{list_any};
-ghost use Rattle.pz_rules.specs.Exclusion.{is_absent, is_present, at_odds, excludes, excludes_some, is_impossible, has_impossible};
+ghost use Rattle.pz_instances.specs.Exclusion.{is_absent, is_present, at_odds, excludes, excludes_some, is_impossible, has_impossible};
 
 use crate::equal::same_meaning;
 use pz_game::pattern::{Item, Row, Word};

@@ -2,9 +2,9 @@
 -- a word and once without.
 use Rattle.std.specs.Prelude.{Bool}
 use Rattle.std.specs.List.{list_any}
-use Rattle.pz_rules.specs.declared.exclusion.Role.TheVariants.{Placed}
+use Rattle.pz_instances.specs.declared.exclusion.Role.TheVariants.{Placed}
 use Rattle.pz_game.specs.declared.instance.Instance.{Instance}
-use Rattle.pz_rules.specs.Exclusion.{has_impossible}
+use Rattle.pz_instances.specs.Exclusion.{has_impossible}
 
 unfoldable pub has_clash : Instance → Bool
 has_clash instance = list_any (has_impossible Placed) instance.right

@@ -1,9 +1,8 @@
 //! Hashes of instances: equal instances have the same hash, and few unequal ones do.
 
 ghost use Rattle.std.specs.Prelude.{◌≡◌, fold};
-ghost use Rattle.pz_rules.specs.Hashes.{direction_number, word_number, spread, item_hash, cell_hash, with_cell, with_row, with_rows, hash_of};
+ghost use Rattle.pz_instances.specs.Hashes.{direction_number, word_number, spread, item_hash, item_bits, cell_bits, with_cell, with_row, hash_of};
 
-use crate::equal::has_item;
 use pz_game::direction::Dir;
 use pz_game::instance::Instance;
 use pz_game::pattern::{Item, Pattern, Row, Word};
@@ -36,15 +35,16 @@ fn word_number(word: Word) -> u64
 }
 
 /// A number with its bits spread over a whole word.
-pub(crate) fn spread(number: u64) -> u64
+pub fn spread(number: u64) -> u64
     ensures { result ≡ spread number }
 {
     let once = number.wrapping_mul(SPREADER);
     (once ^ (once >> 32)).wrapping_mul(SPREADER)
 }
 
+/// The hash of an item.
 #[tactic(auto, unfolding(crate::specs::Hashes::item_hash))]
-pub(crate) fn item_hash(item: &Item) -> u64
+pub fn item_hash(item: &Item) -> u64
     ensures { result ≡ item_hash item.now }
 {
     spread(
@@ -54,19 +54,21 @@ pub(crate) fn item_hash(item: &Item) -> u64
     )
 }
 
-/// The hash of a cell: it doesn't tell the order of the items, nor how often one stands there.
-fn cell_hash(items: &[Item]) -> u64
-    ensures { result ≡ cell_hash items.now }
+/// Some bits for an item, a quarter of a word's.
+#[tactic(auto, unfolding(crate::specs::Hashes::item_bits))]
+fn item_bits(item: &Item) -> u64
+    ensures { result ≡ item_bits item.now }
 {
-    let mut hash = 0;
-    let mut rest = items;
-    while let Some((item, others)) = rest.split_first() {
-        if !has_item(others, item) {
-            hash ^= item_hash(item);
-        }
-        rest = others;
-    }
-    hash
+    let hash = item_hash(item);
+    hash & spread(hash)
+}
+
+/// The bits of a cell's items: they tell neither the order of the items nor how often one stands there.
+#[tactic(auto, unfolding(crate::specs::Hashes::cell_bits))]
+fn cell_bits(items: &[Item]) -> u64
+    ensures { result ≡ cell_bits items.now }
+{
+    items.iter().fold(0, |bits, item| bits | item_bits(item))
 }
 
 /// The hash of some cells, and of one more behind them.
@@ -74,7 +76,7 @@ fn cell_hash(items: &[Item]) -> u64
 fn with_cell(hash: u64, cell: &Pattern) -> u64
     ensures { result ≡ with_cell hash cell.now }
 {
-    (hash ^ cell_hash(cell.items())).wrapping_mul(SPREADER)
+    (hash ^ cell_bits(cell.items())).wrapping_mul(SPREADER)
 }
 
 #[tactic(auto, unfolding(crate::specs::Hashes::with_row))]
@@ -86,9 +88,8 @@ fn with_row(hash: u64, row: &Row) -> u64
         .fold(hash, |hash, cell| with_cell(hash, cell))
 }
 
-#[tactic(auto, unfolding(crate::specs::Hashes::with_rows))]
 fn with_rows(hash: u64, rows: &[Row]) -> u64
-    ensures { result ≡ with_rows hash rows.now }
+    ensures { result ≡ fold with_row hash rows.now }
 {
     rows.iter().fold(hash, |hash, row| with_row(hash, row))
 }

@@ -1,12 +1,12 @@
 -- Items that can't stand in one cell: as a left asks for them, or as a right places them.
 use Rattle.std.specs.Prelude.{Bool, true, false, not, ◌&&◌, ◌||◌, ◌==◌, List, if◌then◌else◌}
 use Rattle.std.specs.List.{list_any}
-use Rattle.pz_rules.specs.declared.exclusion.Role.{Role}
-use Rattle.pz_rules.specs.declared.exclusion.Role.TheVariants.{Asked, Placed}
+use Rattle.pz_instances.specs.declared.exclusion.Role.{Role}
+use Rattle.pz_instances.specs.declared.exclusion.Role.TheVariants.{Asked, Placed}
 use Rattle.pz_game.specs.declared.pattern.Item.{Item}
 use Rattle.pz_game.specs.declared.pattern.Word.{Word}
 use Rattle.pz_game.specs.declared.pattern.Word.TheVariants.{Present, Absent}
-use Rattle.pz_rules.specs.Equal.{same_meaning}
+use Rattle.pz_instances.specs.Equal.{same_meaning}
 use Rattle.pz_game.specs.Pattern.{RuleRow}
 
 abbrev pub is_absent : Word → Bool

@@ -1,8 +1,9 @@
 //! Equal instances of a rule.
 
 ghost use Rattle.std.specs.Prelude.{◌≡◌};
-ghost use Rattle.std.specs.List.{list_any};
-ghost use Rattle.pz_rules.specs.Equal.{same_meaning, same_item, has_item, within_cell, same_cell, cells_agree, same_row, rows_agree, same_rows, same_instance};
+ghost use Rattle.std.specs.List.{list_all, list_any, zip};
+ghost use lib.Pointwise.{pointwise};
+ghost use Rattle.pz_instances.specs.Equal.{same_meaning, same_item, has_item, within_cell, same_cell, same_row, same_instance};
 
 use pz_game::instance::Instance;
 use pz_game::pattern::{Item, Pattern, Row, Word};
@@ -24,7 +25,7 @@ fn same_item(a: &Item, b: &Item) -> bool
 
 /// Whether an item is among those of a cell.
 #[tactic(auto, unfolding(crate::specs::Equal::has_item))]
-pub fn has_item(items: &[Item], item: &Item) -> bool
+fn has_item(items: &[Item], item: &Item) -> bool
     ensures { result ≡ has_item items.now item.now }
 {
     items.iter().any(|x| same_item(x, item))
@@ -47,14 +48,10 @@ fn same_cell(a: &Pattern, b: &Pattern) -> bool
 }
 
 /// Whether the cells of two rows agree, as far as both go.
-#[tactic(auto, unfolding(crate::specs::Equal::cells_agree))]
-fn cells_agree(a: &Row, b: &Row) -> bool
-    ensures { result ≡ cells_agree a.now.cells b.now.cells }
+fn cells_agree(a: &[Pattern], b: &[Pattern]) -> bool
+    ensures { result ≡ list_all (λ pair. same_cell pair.0 pair.1) (zip a.now b.now) }
 {
-    a.cells()
-        .iter()
-        .zip(b.cells())
-        .all(|(x, y)| same_cell(x, y))
+    a.iter().zip(b).all(|(x, y)| same_cell(x, y))
 }
 
 /// Whether two rows have the same cells.
@@ -62,21 +59,19 @@ fn cells_agree(a: &Row, b: &Row) -> bool
 fn same_row(a: &Row, b: &Row) -> bool
     ensures { result ≡ same_row a.now b.now }
 {
-    a.cells().len() == b.cells().len() && cells_agree(a, b)
+    a.cells().len() == b.cells().len() && cells_agree(a.cells(), b.cells())
 }
 
 /// Whether the rows of two sides agree, as far as both go.
-#[tactic(auto, unfolding(crate::specs::Equal::rows_agree))]
 fn rows_agree(a: &[Row], b: &[Row]) -> bool
-    ensures { result ≡ rows_agree a.now b.now }
+    ensures { result ≡ list_all (λ pair. same_row pair.0 pair.1) (zip a.now b.now) }
 {
     a.iter().zip(b).all(|(x, y)| same_row(x, y))
 }
 
 /// Whether two sides have the same rows.
-#[tactic(auto, unfolding(crate::specs::Equal::same_rows))]
 fn same_rows(a: &[Row], b: &[Row]) -> bool
-    ensures { result ≡ same_rows a.now b.now }
+    ensures { result ≡ pointwise same_row a.now b.now }
 {
     a.len() == b.len() && rows_agree(a, b)
 }

@@ -2,7 +2,7 @@
 
 ghost use Rattle.std.specs.Prelude.{◌≡◌};
 ghost use Rattle.std.specs.List.{list_any};
-ghost use Rattle.pz_rules.specs.Clash.{has_clash};
+ghost use Rattle.pz_instances.specs.Clash.{has_clash};
 
 use crate::exclusion::{Role, have_impossible};
 use pz_game::instance::Instance;

@@ -1,6 +1,7 @@
 -- Equal instances of a rule: cells are compared as sets of items. (The commands and the gaps of one rule's instances are the same.)
-use Rattle.std.specs.Prelude.{Bool, true, false, ◌&&◌, ◌==◌, List, length}
-use Rattle.std.specs.List.{list_all, list_any, zip}
+use Rattle.std.specs.Prelude.{Bool, true, false, ◌&&◌, ◌==◌, List}
+use Rattle.std.specs.List.{list_all, list_any}
+use lib.Pointwise.{pointwise}
 use Rattle.pz_game.specs.declared.pattern.Word.{Word}
 use Rattle.pz_game.specs.declared.pattern.Word.TheVariants.{Present, Still, Toward, Absent}
 use Rattle.pz_game.specs.declared.pattern.Item.{Item}
@@ -30,19 +31,9 @@ within_cell a b = list_all (λ x. has_item b x) a
 unfoldable pub same_cell : List Item → List Item → Bool
 same_cell a b = within_cell a b && within_cell b a
 
--- the cells of two rows are the same, as far as both rows go
-unfoldable pub cells_agree : List (List Item) → List (List Item) → Bool
-cells_agree a b = list_all (λ p. same_cell p.0 p.1) (zip a b)
-
+-- rows that are as long, cell by cell the same
 unfoldable pub same_row : RuleRow → RuleRow → Bool
-same_row a b = (length a.cells == length b.cells) && cells_agree a.cells b.cells
-
--- rows are the same, as far as both sides go
-unfoldable pub rows_agree : List RuleRow → List RuleRow → Bool
-rows_agree a b = list_all (λ p. same_row p.0 p.1) (zip a b)
-
-unfoldable pub same_rows : List RuleRow → List RuleRow → Bool
-same_rows a b = (length a == length b) && rows_agree a b
+same_row a b = pointwise same_cell a.cells b.cells
 
 unfoldable pub same_instance : Instance → Instance → Bool
-same_instance a b = same_dir a.scan b.scan && (same_rows a.left b.left && same_rows a.right b.right)
+same_instance a b = same_dir a.scan b.scan && (pointwise same_row a.left b.left && pointwise same_row a.right b.right)

@@ -1,0 +1,2 @@
+pub mod EqualLemmas
+pub mod HashLemmas

@@ -1,0 +1,4 @@
+pub mod Equal
+pub mod Hashes
+pub mod Exclusion
+pub mod Clash
