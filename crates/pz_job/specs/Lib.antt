@@ -1,3 +1,4 @@
 pub mod Rulebooks
 pub mod SameRules
+pub mod Sources
 pub mod Job

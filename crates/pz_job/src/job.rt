@@ -6,6 +6,7 @@ ghost use Rattle.pz_job.specs.Rulebooks.{shared_in};
 
 use crate::programs::Programs;
 use crate::rulebooks::{Answer, Rulebooks};
+use crate::sources::read_sources;
 use pz_entries::entry::Entry;
 use pz_record::input::Inputs;
 use pz_record::limits::MOST_ENTRIES;
@@ -17,6 +18,7 @@ use pz_session::item::Refusal;
 use pz_session::job::Job;
 use pz_session::plan::Plan;
 use std::alloc::{AllocError, Global};
+use std::thread::Threads;
 
 /// What is needed to play a session of a source that gave this, or why it is refused.
 fn make_plan(
@@ -75,14 +77,35 @@ fn make_cases(
     Ok(cases)
 }
 
+/// Reads the sources of the entries by so many threads, and expands their rules.
+fn read_all<R: Threads + Sync>(
+    rt: &R,
+    rulebooks: &mut Rulebooks,
+    programs: &mut Programs,
+    alloc: Global,
+    entries: &[Entry],
+    workers: usize,
+) -> Result<(), AllocError> {
+    let sources = read_sources(rt, alloc, entries, workers)?;
+    rulebooks.take_over(programs, alloc, sources)
+}
+
 /// The job that the entries make, each level's cells in this order: a case for each entry. An entry whose source or rules
-/// can't be read, or whose index leaves no level, makes a case that is refused.
-pub fn prepare(alloc: Global, entries: Vec<Entry>, order: Order) -> Result<Job, AllocError>
+/// can't be read, or whose index leaves no level, makes a case that is refused. At most so many threads read the sources, as many
+/// as there are workers.
+pub fn prepare<R: Threads + Sync>(
+    rt: &R,
+    alloc: Global,
+    entries: Vec<Entry>,
+    order: Order,
+    workers: usize,
+) -> Result<Job, AllocError>
     requires { length entries.items ≤ MOST_ENTRIES }
     ensures { IfOk result (λ job. job ≡ job_of order entries.items) }
 {
     let mut rulebooks = Rulebooks::new(alloc);
     let mut programs = Programs::new(alloc);
+    read_all(rt, &mut rulebooks, &mut programs, alloc, &entries, workers)?;
     let cases = make_cases(&mut rulebooks, &mut programs, alloc, entries, order)?;
     Ok(Job::new(cases))
 }

@@ -6,3 +6,4 @@ pub mod job;
 mod programs;
 mod rulebooks;
 mod same;
+mod sources;

@@ -4,8 +4,10 @@ ghost use Rattle.std.specs.Prelude.{◌≡◌, ◌≢◌, IfOk, IfErr, IfSome, O
 ghost use Rattle.pz_rules.specs.Drafts.{program_of};
 ghost use Rattle.std.specs.Arc.{arc_value};
 ghost use Rattle.pz_job.specs.Rulebooks.{or_refused, rulebook_of, shared_in, AreKept, IsProgramFor};
+ghost use Rattle.pz_job.specs.Sources.{IsKnown};
 
 use crate::programs::Programs;
+use crate::sources::{Known, Source};
 use pz_base::fault::{Code, SourceFault};
 use pz_game::game::Game;
 use pz_game::instance::Program;
@@ -105,6 +107,25 @@ fn read_rulebook(programs: &mut Programs, alloc: Global, source: &str) -> Result
     }
 }
 
+/// What a source gives of which this is known.
+#[tactic(auto, unfolding(crate::specs::Rulebooks::rulebook_of))]
+fn answer_from(
+    programs: &mut Programs,
+    alloc: Global,
+    text: &str,
+    known: Known,
+) -> Result<Answer, AllocError>
+    requires { IsKnown text.now known }
+    ensures { IfOk result (λ answer. shared_in answer ≡ rulebook_of text.now) }
+{
+    match known {
+        Known::Nothing => read_rulebook(programs, alloc, text),
+        Known::Read(game) => with_rules(programs, alloc, game),
+        Known::Expanded(game, program) => with_new_program(programs, alloc, game, program),
+        Known::Fault(fault) => refused(fault),
+    }
+}
+
 /// The same answer once more: its rulebook is shared.
 fn again(answer: &Answer) -> Result<Answer, AllocError>
     ensures { IfOk result (λ again. shared_in again ≡ shared_in answer.now) }
@@ -145,6 +166,30 @@ impl Rulebooks {
             Some(answer) => again(answer),
             None => self.read(programs, alloc, source),
         }
+    }
+
+    /// Takes over what is known of sources.
+    pub fn take_over(
+        &mut self,
+        programs: &mut Programs,
+        alloc: Global,
+        sources: Vec<Source<'_>>,
+    ) -> Result<(), AllocError> {
+        for source in sources {
+            self.add(programs, alloc, source)?;
+        }
+        Ok(())
+    }
+
+    fn add(
+        &mut self,
+        programs: &mut Programs,
+        alloc: Global,
+        source: Source<'_>,
+    ) -> Result<(), AllocError> {
+        let (text, known) = source.into_parts();
+        let answer = answer_from(programs, alloc, text, known)?;
+        self.keep(alloc, text, &answer)
     }
 
     /// What a source gives that is new; it is kept.

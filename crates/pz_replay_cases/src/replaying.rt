@@ -1,6 +1,6 @@
 //! The replay of a job by several workers.
 
-use crate::sessions::{ClosedTo, LONG, REFUSED, STALE, WALK, job_of};
+use crate::sessions::{ClosedTo, LONG, REFUSED, STALE, WALK, job_of, many_sources};
 use pz_base::listed::Listed;
 use pz_base::text::Text;
 use pz_lines::output::Output;
@@ -18,11 +18,11 @@ use std::test::Fail;
 use std::thread;
 use std::thread::Threads;
 
-fn nine_sessions(alloc: Global) -> Result<Job, Fail> {
+fn nine_sessions<R: Threads + Sync>(rt: &R, alloc: Global) -> Result<Job, Fail> {
     let text = format!(in alloc;
         "[{WALK},{REFUSED},{STALE},{LONG},{WALK},{LONG},{STALE},{REFUSED},{WALK}]"
     )?;
-    job_of(alloc, text.as_str())
+    job_of(rt, alloc, text.as_str(), 2)
 }
 
 /// What the cases show, one after the other, in the calling thread.
@@ -59,7 +59,7 @@ fn records<R: Threads + Wait + Sync>(
 
 #[test]
 fn records_the_same_with_any_number_of_workers(rt: HostRuntime) -> Result<(), Fail> {
-    let job = nine_sessions(rt.alloc())?;
+    let job = nine_sessions(&rt, rt.alloc())?;
     let bytes = bytes_of(rt.alloc(), &one_by_one(rt.alloc(), &job)?)?;
     for workers in [1, 2, 64] {
         assert!(rt; records(&rt, rt.alloc(), &job, workers, bytes.as_slice())?);
@@ -67,9 +67,30 @@ fn records_the_same_with_any_number_of_workers(rt: HostRuntime) -> Result<(), Fa
     Ok(())
 }
 
+/// What a file of many sources shows, where so many threads read them.
+fn bytes_of_many<R: Threads + Sync>(
+    rt: &R,
+    alloc: Global,
+    workers: usize,
+) -> Result<Vec<u8>, Fail> {
+    let text = many_sources(alloc, 32)?;
+    let job = job_of(rt, alloc, text.as_str(), workers)?;
+    bytes_of(alloc, &one_by_one(alloc, &job)?)
+}
+
+#[test]
+fn prepares_the_same_with_any_number_of_threads(rt: HostRuntime) -> Result<(), Fail> {
+    let bytes = bytes_of_many(&rt, rt.alloc(), 1)?;
+    assert!(rt; bytes.len() > 1000);
+    for workers in [0, 3, 64] {
+        assert!(rt; bytes_of_many(&rt, rt.alloc(), workers)?.as_slice() == bytes.as_slice());
+    }
+    Ok(())
+}
+
 #[test]
 fn refuses_other_numbers_of_workers(rt: HostRuntime) -> Result<(), Fail> {
-    let job = nine_sessions(rt.alloc())?;
+    let job = nine_sessions(&rt, rt.alloc())?;
     for workers in [0, 65] {
         let end = replay(&rt, rt.alloc(), &job, workers, &Always);
         assert!(rt; matches!(end, Err(ReplayFault::Workers)));
@@ -118,7 +139,7 @@ impl Gate for WaitsFor {
 
 #[test]
 fn plays_a_session_beside_one_that_waits(rt: HostRuntime) -> Result<(), Fail> {
-    let job = nine_sessions(rt.alloc())?;
+    let job = nine_sessions(&rt, rt.alloc())?;
     for session in [1, 2] {
         let gate = WaitsFor::new(session, 1_000_000_000);
         let narrow = replay_with(&rt, rt.alloc(), &job, 2, 1, &gate);
@@ -131,7 +152,7 @@ fn plays_a_session_beside_one_that_waits(rt: HostRuntime) -> Result<(), Fail> {
 
 #[test]
 fn plays_one_session_at_a_time_with_one_worker(rt: HostRuntime) -> Result<(), Fail> {
-    let job = nine_sessions(rt.alloc())?;
+    let job = nine_sessions(&rt, rt.alloc())?;
     let gate = WaitsFor::new(1, 1000);
     let end = replay(&rt, rt.alloc(), &job, 1, &gate);
     assert!(rt; matches!(end, Err(ReplayFault::GateClosed)));
@@ -160,7 +181,7 @@ fn misses_each_item<R: Threads + Wait + Sync>(
 
 #[test]
 fn misses_each_item_that_may_not_pass(rt: HostRuntime) -> Result<(), Fail> {
-    let job = nine_sessions(rt.alloc())?;
+    let job = nine_sessions(&rt, rt.alloc())?;
     for session in 0..job.len() {
         let items = frames(rt.alloc(), job.case(session))?.len();
         assert!(rt; misses_each_item(&rt, rt.alloc(), &job, session, items));

@@ -5,8 +5,9 @@ use pz_job::job::prepare;
 use pz_record::order::Order;
 use pz_replay::gate::Gate;
 use pz_session::job::Job;
-use std::alloc::Global;
+use std::alloc::{AllocError, Global};
 use std::test::Fail;
+use std::thread::Threads;
 
 /// A walk of two steps against a wall, which passes.
 pub(crate) const WALK: &str =
@@ -23,10 +24,31 @@ pub(crate) const LONG: &str =
 /// A source that is refused.
 pub(crate) const REFUSED: &str = r#"["refused",["",[3],"background:0,\n"]]"#;
 
-/// The job of a file of sessions. It promises nothing, so that what calls it needn't prove over the meaning of a source.
-pub(crate) fn job_of(alloc: Global, text: &str) -> Result<Job, Fail> {
+/// The job of a file of sessions, whose sources so many threads read. It promises nothing, so that what calls it needn't prove over the meaning of a source.
+pub(crate) fn job_of<R: Threads + Sync>(
+    rt: &R,
+    alloc: Global,
+    text: &str,
+    workers: usize,
+) -> Result<Job, Fail> {
     let entries = read_sessions(alloc, text).map_err(|_| "no sessions")?;
-    Ok(prepare(alloc, entries, Order::Rows)?)
+    Ok(prepare(rt, alloc, entries, Order::Rows, workers)?)
+}
+
+/// A file of so many sessions, each with a source of its own: of three, one has no rules, one has one, and one has a rule with a fault.
+pub(crate) fn many_sources(alloc: Global, count: usize) -> Result<String, AllocError> {
+    let rules = ["", "[ > Player | Wall ] -> [ Player | Wall ]", "[ Player"];
+    let mut text = String::from_str(alloc, "[")?;
+    for number in 0..count {
+        let comma = if number == 0 { "" } else { "," };
+        let rule = rules[number % 3];
+        text.push_str(comma)?;
+        text.push_str(format!(in alloc;
+            r#"["walk",["title walk {number}\nOBJECTS\nBackground .\nblack\nPlayer p\nwhite\nWall #\ngrey\nLEGEND\nCOLLISIONLAYERS\nBackground\nPlayer, Wall\nRULES\n{rule}\nLEVELS\n#p.#\n",[3,3],"background wall:0,background:1,background player:2,0,\n"]]"#
+        )?.as_str())?;
+    }
+    text.push_str("]")?;
+    Ok(text)
 }
 
 /// Closed to one item of one session.

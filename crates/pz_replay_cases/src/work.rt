@@ -11,11 +11,12 @@ use pz_session::job::Job;
 use std::alloc::{AllocError, Global};
 use std::sync::Wait;
 use std::test::Fail;
+use std::thread::Threads;
 
 /// Two walks, each of three frames and its close.
-fn walks(alloc: Global) -> Result<Job, Fail> {
+fn walks<R: Threads + Sync>(rt: &R, alloc: Global) -> Result<Job, Fail> {
     let text = format!(in alloc; "[{WALK},{WALK}]")?;
-    job_of(alloc, text.as_str())
+    job_of(rt, alloc, text.as_str(), 2)
 }
 
 /// What was taken from a lane.
@@ -46,13 +47,13 @@ fn take_all(alloc: Global, taker: &mut Taker, all: &mut SentAll) -> Result<Vec<T
 }
 
 /// How a worker ends that plays two walks, and what it sends; another may have claimed the first.
-fn played<R: Wait, G: Gate>(
+fn played<R: Threads + Wait + Sync, G: Gate>(
     rt: &R,
     alloc: Global,
     is_claimed: bool,
     gate: &G,
 ) -> Result<(End, Vec<Taken>), Fail> {
-    let job = walks(alloc)?;
+    let job = walks(rt, alloc)?;
     let (claims, maker) = Claims::new(alloc, job.len())?;
     let (maker, other) = claims.split(maker);
     let (_, seat) = claims.split(maker);

@@ -54,7 +54,7 @@ fn record<T: Threads + Wait + Sync>(
     ensures shown { IfOk result (λ shown. shown ≡ shown_of settings.order entries.items) }
     ensures refused { IfErr result (λ failure. (failure ≡ Failure.Memory) ⊎ (failure ≡ Failure.LaneLost)) }
 {
-    let job = prepare(alloc, entries, settings.order)?;
+    let job = prepare(rt, alloc, entries, settings.order, settings.workers)?;
     match replay(rt, alloc, &job, settings.workers, &Always) {
         Ok(recording) => Ok(recording),
         Err(ReplayFault::Memory) => Err(Failure::Memory),
