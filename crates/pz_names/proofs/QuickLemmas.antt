@@ -1,12 +1,12 @@
 -- What allows fewer rounds: rounds that change nothing, and names on a circle, which have no value.
-use Rattle.std.proofs.Common.{◌≡◌, ◌≢◌, ℕ, ◌+◌, zero, suc, Bool, true, false, ◌||◌, List, [], ◌∷◌, ◌++◌, length, refl, ap, subst, ◌∙◌, arith}
+use Rattle.std.proofs.Common.{◌≡◌, ◌≢◌, ℕ, zero, suc, Bool, true, false, ◌||◌, List, [], ◌∷◌, ◌++◌, length, refl, ap, subst, ◌∙◌}
 use Rattle.std.specs.Prelude.{Option, Some, None, option_and_then, slice_get, ◌==◌}
 use Rattle.std.proofs.lemmas.Bool.{eqb-true}
 use Rattle.std.specs.Option.{option_map_or}
 use Rattle.std.specs.List.{list_any}
 use Rattle.pz_names.proofs.ChainLemmas.{leads_from_reaches}
 use Rattle.pz_names.specs.Cycles.{is_on_cycle, IsChain, LeadsTo}
-use Rattle.pz_names.specs.Denotation.{value_at, denotation_next, denotation_of, gathered, with_mentions}
+use Rattle.pz_names.specs.Denotation.{value_at, denotation_of, gathered, with_mentions}
 use Rattle.pz_names.specs.Meaning.{parts_of, parts_at}
 use Rattle.pz_names.specs.declared.meaning.Meaning.{Meaning}
 use Rattle.pz_names.specs.declared.meaning.Meaning.TheVariants.{Itself, Same, AllOf, AnyOf}

@@ -1,5 +1,5 @@
 -- OBJECTS: its objects, and the names that they have.
-use Rattle.std.specs.Prelude.{ℕ, zero, suc, ◌-◌, Bool, true, false, not, ◌&&◌, ◌||◌, ◌==◌, if◌then◌else◌, nat_lt, nat_le, List, [], ◌∷◌, ◌++◌, length, drop, map, Option, Some, None, Result, Ok, All, ◌<◌}
+use Rattle.std.specs.Prelude.{ℕ, zero, suc, ◌-◌, Bool, false, not, ◌&&◌, ◌||◌, ◌==◌, if◌then◌else◌, nat_lt, nat_le, List, [], ◌∷◌, ◌++◌, length, drop, map, Option, Some, None, Result, Ok, All, ◌<◌}
 use Rattle.std.specs.List.{flat_map, list_all}
 use Rattle.std.specs.Char.{is_ascii_digit, is_whitespace}
 use Rattle.pz_base.specs.Fault.{first_fault, unless}
@@ -23,27 +23,26 @@ object_names objects = flat_map (λ line. line.names) objects
 abbrev pub is_blank : Line → Bool
 is_blank line = list_all is_whitespace line.text
 
--- digits and dots alone
-abbrev pub are_pixels : List ℕ → Bool
-are_pixels [] = true
-are_pixels (c ∷ cs) = (c == 46 || is_ascii_digit c) && are_pixels cs
+-- a digit or a dot
+abbrev pub is_pixel : ℕ → Bool
+is_pixel c = c == 46 || is_ascii_digit c
 
+-- digits and dots alone
 abbrev pub is_sprite_row : Line → Bool
-is_sprite_row line = not (is_blank line) && are_pixels line.text
+is_sprite_row line = not (is_blank line) && list_all is_pixel line.text
 
 -- the sprite rows at the front, of which no more than so many are taken
 abbrev pub sprite_rows : ℕ → List Line → List Line
 sprite_rows most [] = []
 sprite_rows most (line ∷ lines) = if is_sprite_row line && nat_lt 0 most then line ∷ sprite_rows (most - 1) lines else []
 
--- each of the rows has five digits or dots
-abbrev pub are_wide : List Line → Bool
-are_wide [] = true
-are_wide (row ∷ rows) = length row.text == 5 && are_wide rows
+-- five digits or dots
+abbrev pub is_wide : Line → Bool
+is_wide row = length row.text == 5
 
 -- none or five rows, of five digits or dots each
 abbrev pub is_sprite : List Line → Bool
-is_sprite rows = length rows == 0 || (length rows == 5 && are_wide rows)
+is_sprite rows = length rows == 0 || (length rows == 5 && list_all is_wide rows)
 
 -- The lines behind a name line are as they should be: the line of colours, of any words, stands directly behind it, and
 -- then a sprite.

@@ -18,19 +18,39 @@ use pz_text::words::names_of;
 use std::alloc::{AllocError, Global};
 
 /// The right side of a line of LEGEND: a name alone, names joined by `and`, or names joined by `or`.
-#[derive(Drop)]
 pub enum Said {
     Same(Name),
     AllOf(Listed<Name>),
     AnyOf(Listed<Name>),
 }
 
+impl Drop for Said {
+    fn drop(self) {
+        match self {
+            Said::Same(name) => drop(name),
+            Said::AllOf(parts) => drop(parts),
+            Said::AnyOf(parts) => drop(parts),
+        }
+    }
+}
+
 /// A line of LEGEND: its number, the name that it defines, and what it says of it.
-#[derive(Drop)]
 pub struct Definition {
     pub number: u32,
     pub name: Name,
     pub said: Said,
+}
+
+impl Drop for Definition {
+    fn drop(self) {
+        let Definition {
+            number: _,
+            name,
+            said,
+        } = self;
+        drop(name);
+        drop(said);
+    }
 }
 
 fn equals_sign(characters: &[char]) -> Option<usize>

@@ -13,12 +13,21 @@ use std::alloc::{AllocError, Global};
 
 /// What a line says of its name: that it is the object at a place, of which the first name has a number, or what it stands for,
 /// by the numbers of other names.
-#[derive(Drop)]
 pub enum Meaning {
     Itself(usize, usize),
     Same(usize),
     AllOf(Listed<usize>),
     AnyOf(Listed<usize>),
+}
+
+impl Drop for Meaning {
+    fn drop(self) {
+        match self {
+            Meaning::Itself(_, _) | Meaning::Same(_) => {}
+            Meaning::AllOf(parts) => drop(parts),
+            Meaning::AnyOf(parts) => drop(parts),
+        }
+    }
 }
 
 impl Meaning {

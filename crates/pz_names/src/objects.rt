@@ -1,9 +1,10 @@
 //! OBJECTS: its objects, and the names that they have.
 
 ghost use Rattle.std.specs.Prelude.{◌≡◌, ◌≢◌, ◌≤◌, ◌++◌, ◌∷◌, [], ℕ, suc, length, map, option_to_list, IfOk, IfErr, IfSome, OnOk, Ok, Err, Some, None, false, All};
+ghost use Rattle.std.specs.List.{list_all};
 ghost use Rattle.pz_base.specs.Fault.{first_fault};
 ghost use Rattle.pz_base.specs.declared.fault.Code.TheVariants as code;
-ghost use Rattle.pz_names.specs.Objects.{object_names, is_blank, are_pixels, is_sprite_row, sprite_rows, are_wide, is_sprite, is_whole, behind_paragraph, paragraph_of, paragraphs_within, paragraphs_of, name_line_of, has_repeat, paragraph_at, misnamed, misnames, objects_of, IsNamed};
+ghost use Rattle.pz_names.specs.Objects.{object_names, is_blank, is_pixel, is_sprite_row, sprite_rows, is_wide, is_sprite, is_whole, behind_paragraph, paragraph_of, paragraphs_within, paragraphs_of, name_line_of, has_repeat, paragraph_at, misnamed, misnames, objects_of, IsNamed};
 
 use crate::name_line::NameLine;
 use pz_base::fault::{Code, SourceFault};
@@ -37,17 +38,16 @@ pub fn is_blank(line: &Line) -> bool
     line.text.items().iter().all(|c| c.is_whitespace())
 }
 
-fn are_pixels(text: &[char]) -> bool
-    ensures { result ≡ are_pixels text.now }
+fn is_pixel(c: char) -> bool
+    ensures { result ≡ is_pixel c }
 {
-    let mut rest = text;
-    while let Some((c, others)) = rest.split_first() {
-        if *c != '.' && !c.is_ascii_digit() {
-            return false;
-        }
-        rest = others;
-    }
-    true
+    c == '.' || c.is_ascii_digit()
+}
+
+fn are_pixels(text: &[char]) -> bool
+    ensures { result ≡ list_all is_pixel text.now }
+{
+    text.iter().all(|c| is_pixel(*c))
 }
 
 fn is_sprite_row(line: &Line) -> bool
@@ -75,17 +75,16 @@ fn is_sprite(rows: &[Line]) -> bool
     rows.is_empty() || rows.len() == 5 && are_wide(rows)
 }
 
-fn are_wide(rows: &[Line]) -> bool
-    ensures { result ≡ are_wide rows.now }
+fn is_wide(row: &Line) -> bool
+    ensures { result ≡ is_wide row.now }
 {
-    let mut rest = rows;
-    while let Some((row, others)) = rest.split_first() {
-        if row.text.items().len() != 5 {
-            return false;
-        }
-        rest = others;
-    }
-    true
+    row.text.items().len() == 5
+}
+
+fn are_wide(rows: &[Line]) -> bool
+    ensures { result ≡ list_all is_wide rows.now }
+{
+    rows.iter().all(|row| is_wide(row))
 }
 
 /// Whether the lines behind a name line begin with colours, and then with no sprite or a whole one.

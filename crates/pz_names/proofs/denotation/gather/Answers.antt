@@ -1,4 +1,7 @@
-use Rattle.std.proofs.Common.{◌≡◌, ◌+◌, ap, sym, ◌∙◌, drop}
+use Rattle.std.proofs.Common.{◌≡◌, ◌<◌, ◌+◌, length, refl, ap, sym, ◌∙◌, drop, arith}
+use Rattle.std.specs.Prelude.{option_and_then}
+use Rattle.std.proofs.lemmas.List.{at_drop_more, drop_all}
+use Rattle.pz_game.specs.declared.denotation.Denotation.{Denotation}
 use Rattle.pz_names.specs.Denotation.{with_mentions, gathered, known_at}
 use Rattle.pz_names.proofs.MemberLemmas.{gathered-step}
 use Rattle.pz_names.proofs.denotation.gather.Goals as goal
@@ -17,3 +20,22 @@ loop-part-preserved c =
           ∙ (gathered-step known mentions parts i d c.loop-part-test.true (sym c.in-Some.ensures) ∙ c.loop-part.invariant.gathered);
       marked = c.in_ok-add_mentions.ensures.marked;
     }
+
+pub loop-part-init : goal.loop-part-init
+loop-part-init c = record { gathered = refl; marked = c.requires }
+
+pub returns-in_default : goal.returns-in_default
+returns-in_default c =
+    let parts = c.args.parts.now in
+    let i = c.loop-part.part-index in
+    let known = known_at c.args.known.now in
+    let mentions = c.loop-part.mentions.items in
+    let in_range : i < length parts = omega arith in
+    sym c.loop-part.invariant.gathered
+    ∙ (at_drop_more (gathered known mentions) parts i 0 in_range
+    ∙ ap (option_and_then (λ (d : Denotation). gathered known (with_mentions mentions d.members) (drop (i + 1) parts))) (sym c.in_default.ensures))
+
+pub returns : goal.returns
+returns c =
+    sym c.loop-part.invariant.gathered
+    ∙ ap (gathered (known_at c.args.known.now) c.loop-part.mentions.items) (drop_all c.loop-part.part-index c.args.parts.now c.loop-part-test.false)
