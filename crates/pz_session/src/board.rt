@@ -117,8 +117,13 @@ fn opened(alloc: Global, game: &Game, entry: usize) -> Result<(Level, Level), Al
     ensures target { IfOk result (λ levels. levels.1.grid ≡ loaded game.now entry) }
 {
     let level = Level::load(alloc, game, entry)?;
-    let target = level.copy()?;
-    Ok((level, target))
+    match level.copy() {
+        Ok(target) => Ok((level, target)),
+        Err(fault) => {
+            drop(level);
+            Err(fault)
+        }
+    }
 }
 
 impl<'a> Board<'a> {
