@@ -63,8 +63,10 @@ pub last_lane : (before after inboxes rest : List Inbox) (inbox : Inbox) (lane :
 last_lane before after inboxes rest inbox lane o same is =
     snoc_last (map lane_of rest) (map lane_of before) (lane_of inbox) (lane_of o.0) (sym (map-append lane_of rest (inbox ∷ [])) ∙ ap (map lane_of) (sym is) ∙ same ∙ ap (map lane_of) o.1 ∙ map-append lane_of before (o.0 ∷ [])) ∙ o.4
 
-pub moved_worked : (a b : Numbers) (job other : List Case) (l m : LaneId) (w : Worked) → a ≡ b → job ≡ other → l ≡ m → IsWorked a (sessions_of job) l w → IsWorked b (sessions_of other) m w
-moved_worked a b job other l m w p q r h = subst (λ (x : Numbers × List Case × LaneId). IsWorked x.0 (sessions_of x.1) x.2 w) (λ i. (p i, q i, r i)) h
+pub moved_worked : (a b : Numbers) (job other : List Case) (l sender m : LaneId) (w : Worked) → a ≡ b → job ≡ other → l ≡ sender → m ≡ sender → IsWorked a (sessions_of job) l w → IsWorked b (sessions_of other) m w
+moved_worked a b job other l sender m w p q r s h =
+    let same : l ≡ m = r ∙ sym s in
+    subst (λ (x : Numbers × List Case × LaneId). IsWorked x.0 (sessions_of x.1) x.2 w) (λ i. (p i, q i, same i)) h
 
 pub none_left : (job : List Case) (m : Makes) (left : ℕ) (inboxes : List Inbox) (kept_then : Option (List (List Item))) (out : Result (Makes × List (List Item)) ReplayFault) → left ≡ 0
     → IfOk out (λ p. (p.0 ≡ m) × Gathered (map taken_of inboxes) p.1 × IfSome kept_then (λ r. length p.1 ≡ length r) × IsSome kept_then) → IfSome kept_then (λ r. length r ≡ length job) → IfOk out (λ p. IsDone (sessions_of job) m left inboxes p.0 p.1)

@@ -1,4 +1,4 @@
--- A inbox that took a last message took all.
+-- An inbox that took a last message took all.
 use Rattle.std.proofs.Common.{◌≡◌, ℕ, List, [], ◌∷◌, ◌++◌, Some, None, Option, IfSome, IsSome, sym, ap, ◌∙◌, append_assoc}
 use Rattle.std.proofs.lemmas.List.{append-nil}
 use Rattle.pz_session.specs.declared.item.Item.{Item}

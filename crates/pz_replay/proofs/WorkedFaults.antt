@@ -1,5 +1,5 @@
 -- Small cases of the faults, worked by hand.
-use Rattle.std.proofs.Common.{◌≡◌, List, [], Option, Some, None, refl}
+use Rattle.std.proofs.Common.{◌≡◌, Some, None, refl}
 use Rattle.pz_replay.specs.Faults.{first_fault, fault_at}
 use Rattle.pz_replay.specs.Lane.{All}
 use Rattle.pz_replay.specs.declared.fault.ReplayFault.TheVariants.{Memory, Workers, GateClosed, LaneLost}

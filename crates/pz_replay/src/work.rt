@@ -17,6 +17,15 @@ use pz_session::run::Run;
 use std::alloc::Global;
 use std::sync::Wait;
 
+/// What a worker is given beside its seat and its lane: the table at which it claims, the job, and the gate that it asks.
+#[derive(Drop)]
+pub struct Duty<'a, G> {
+    pub alloc: Global,
+    pub claims: &'a Claims,
+    pub job: &'a Job,
+    pub gate: &'a G,
+}
+
 /// What a worker hands back.
 #[derive(Drop)]
 pub struct Worked {
@@ -40,23 +49,19 @@ fn send<R: Wait>(rt: &R, sender: &mut Sender, message: Message)
     unreachable!()
 }
 
-/// Sends the items of a session, or its first ones: as far as there is memory to play it and the gate lets them pass.
-fn play<R: Wait, G: Gate>(
+/// Sends the items that are still to come in a run, or the first of them: as far as there is memory to play on and the gate lets them pass.
+fn send_items<R: Wait, G: Gate>(
     rt: &R,
-    alloc: Global,
     sender: &mut Sender,
     session: usize,
-    case: &Case,
+    run: &mut Run<'_>,
     gate: &G,
 ) -> Result<(), End>
-    ensures whole { OnOk result (sender.new ≡ record sender.old { sent = sender.old.sent ++ messages_of session (items_of case.now) }) }
-    ensures part { IfErr result (λ _. (count : ℕ) × (sender.new ≡ record sender.old { sent = sender.old.sent ++ take count (messages_of session (items_of case.now)) })) }
+    ensures whole { OnOk result (sender.new ≡ record sender.old { sent = sender.old.sent ++ messages_of session run.old.items }) }
+    ensures part { IfErr result (λ _. (count : ℕ) × (sender.new ≡ record sender.old { sent = sender.old.sent ++ take count (messages_of session run.old.items) })) }
     ensures broken { IfErr result (λ end. end ≢ Finished) }
     ensures opened { G.lets_all_pass gate.now → IfErr result (λ end. end ≢ GateClosed) }
 {
-    let Ok(mut run) = Run::new(alloc, case) else {
-        return Err(End::Memory);
-    };
     let mut number: u64 = 0;
     'items: for _ in rt.forever() {
         match run.next() {
@@ -74,6 +79,25 @@ fn play<R: Wait, G: Gate>(
     unreachable!()
 }
 
+/// Sends the items of a session, or its first ones. The run is made here and lent to the loop, so that the ways out of the loop drop none.
+fn play<R: Wait, G: Gate>(
+    rt: &R,
+    duty: &Duty<'_, G>,
+    sender: &mut Sender,
+    session: usize,
+    case: &Case,
+) -> Result<(), End>
+    ensures whole { OnOk result (sender.new ≡ record sender.old { sent = sender.old.sent ++ messages_of session (items_of case.now) }) }
+    ensures part { IfErr result (λ _. (count : ℕ) × (sender.new ≡ record sender.old { sent = sender.old.sent ++ take count (messages_of session (items_of case.now)) })) }
+    ensures broken { IfErr result (λ end. end ≢ Finished) }
+    ensures opened { G.lets_all_pass duty.now.gate.now → IfErr result (λ end. end ≢ GateClosed) }
+{
+    let Ok(mut run) = Run::new(duty.alloc, case) else {
+        return Err(End::Memory);
+    };
+    send_items(rt, sender, session, &mut run, duty.gate)
+}
+
 /// Sends the last message, and hands back what the worker has.
 fn end_work<R: Wait>(rt: &R, sender: Sender, end: End, ended: Option<Ended>) -> Worked
     ensures end { result.end ≡ end }
@@ -87,29 +111,21 @@ fn end_work<R: Wait>(rt: &R, sender: Sender, end: End, ended: Option<Ended>) -> 
 }
 
 /// A worker's whole run, on a seat that holds nothing and a lane on which nothing was sent.
-pub fn work<R: Wait, G: Gate>(
-    rt: &R,
-    alloc: Global,
-    claims: &Claims,
-    seat: Seat,
-    sender: Sender,
-    job: &Job,
-    gate: &G,
-) -> Worked
-    requires seat { (seat.of ≡ claims.now) × (seat.numbers ≡ []) }
+pub fn work<R: Wait, G: Gate>(rt: &R, duty: &Duty<'_, G>, seat: Seat, sender: Sender) -> Worked
+    requires seat { (seat.of ≡ duty.now.claims.now) × (seat.numbers ≡ []) }
     requires sender { sender.sent ≡ [] }
-    requires job { claims.now.total ≡ length job.now }
-    ensures worked { IsWorked claims.now (sessions_of job.now) sender.lane result }
-    ensures opened { G.lets_all_pass gate.now → result.end ≢ GateClosed }
+    requires job { duty.now.claims.now.total ≡ length duty.now.job.now }
+    ensures worked { IsWorked duty.now.claims.now (sessions_of duty.now.job.now) sender.lane result }
+    ensures opened { G.lets_all_pass duty.now.gate.now → result.end ≢ GateClosed }
 {
     let mut seat = seat;
     let mut sender = sender;
     for _ in rt.forever() {
-        match claims.claim(seat) {
+        match duty.claims.claim(seat) {
             Claimed::Got(same, session) => {
                 seat = same;
-                let case = job.case(session);
-                if let Err(end) = play(rt, alloc, &mut sender, session, case, gate) {
+                let case = duty.job.case(session);
+                if let Err(end) = play(rt, duty, &mut sender, session, case) {
                     return end_work(rt, sender, end, None);
                 }
             }

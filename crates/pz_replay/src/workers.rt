@@ -13,7 +13,7 @@ use crate::fault::ReplayFault;
 use crate::gate::Gate;
 use crate::lane::{End, Sender, SentAll, lane};
 use crate::recorder::{Inbox, Sessions, record};
-use crate::work::{Worked, work};
+use crate::work::{Duty, Worked, work};
 use pz_claims::{Claims, Ended, Maker, Seat};
 use pz_session::job::Job;
 use std::alloc::Global;
@@ -70,7 +70,19 @@ fn start<'s, 'e, R: Threads + Wait + Sync, G: Gate + Sync>(
             task,
             move ||
                 requires { (seat.of ≡ claims.now) × (seat.numbers ≡ []) × (sender.sent ≡ []) × (claims.now.total ≡ length job.now) }
-            { work(rt, alloc, claims, seat, sender, job, gate) },
+            {
+                work(
+                    rt,
+                    &Duty {
+                        alloc,
+                        claims,
+                        job,
+                        gate,
+                    },
+                    seat,
+                    sender,
+                )
+            },
         )
         .ok()
 }

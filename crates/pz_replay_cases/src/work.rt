@@ -6,7 +6,7 @@ use crate::sessions::{ClosedTo, WALK, job_of};
 use pz_claims::Claims;
 use pz_replay::gate::{Always, Gate};
 use pz_replay::lane::{End, Message, SentAll, Taker, lane};
-use pz_replay::work::work;
+use pz_replay::work::{Duty, work};
 use pz_session::job::Job;
 use std::alloc::{AllocError, Global};
 use std::sync::Wait;
@@ -61,7 +61,13 @@ fn played<R: Threads + Wait + Sync, G: Gate>(
         let _ = claims.claim(other);
     }
     let (sender, mut taker) = lane(alloc, 16)?;
-    let worked = work(rt, alloc, &claims, seat, sender, &job, gate);
+    let duty = Duty {
+        alloc,
+        claims: &claims,
+        job: &job,
+        gate,
+    };
+    let worked = work(rt, &duty, seat, sender);
     let mut all = worked.sent.ok_or("the taker is there")?;
     Ok((worked.end, take_all(alloc, &mut taker, &mut all)?))
 }

@@ -4,6 +4,7 @@ pub mod Player
 pub mod FirstLevel
 pub mod Turn
 pub mod Board
+pub mod Inside
 pub mod Rulebook
 pub mod Plan
 pub mod Case

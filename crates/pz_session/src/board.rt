@@ -52,36 +52,15 @@ pub struct Board<'a> {
 }
 
 impl<'a> Model for Board<'a> {
-    ghost use Rattle.std.specs.Prelude.{◌≡◌, option_map};
-    ghost use Rattle.pz_session.specs.Board.{State, IsOneGame};
+    ghost use Rattle.pz_session.specs.Board.{State};
 
     ghost Value = { State };
 
-    ghost view = { λ b. record {
-      game = b.game.now;
-      program = b.program.now;
-      order = b.order;
-      recorded = b.recorded.now;
-      entry = b.entry;
-      level = b.level.grid;
-      target = b.target.grid;
-      past = b.past;
-      before = option_map (λ level. level.grid) b.before;
-      is_over = b.is_over;
-    } };
+    ghost use Rattle.pz_session.specs.Inside.{state_in, IsKept};
 
-    ghost invariant = { λ b. IsOneGame (record {
-      game = b.game.now;
-      program = b.program.now;
-      order = b.order;
-      recorded = b.recorded.now;
-      entry = b.entry;
-      level = b.level.grid;
-      target = b.target.grid;
-      past = b.past;
-      before = option_map (λ level. level.grid) b.before;
-      is_over = b.is_over;
-    }) × ((b.texts.table.game ≡ b.game.now) × (b.texts.order ≡ b.order)) };
+    ghost view = { state_in };
+
+    ghost invariant = { IsKept };
 }
 
 /// Written out, so that where a board goes out of scope one call stands for the ways through all its fields.
@@ -117,8 +96,13 @@ fn opened(alloc: Global, game: &Game, entry: usize) -> Result<(Level, Level), Al
     ensures target { IfOk result (λ levels. levels.1.grid ≡ loaded game.now entry) }
 {
     let level = Level::load(alloc, game, entry)?;
-    let target = level.copy()?;
-    Ok((level, target))
+    match level.copy() {
+        Ok(target) => Ok((level, target)),
+        Err(fault) => {
+            drop(level);
+            Err(fault)
+        }
+    }
 }
 
 impl<'a> Board<'a> {

@@ -4,8 +4,8 @@ use Rattle.pz_replay.proofs.work.work.Given as goal
 
 abbrev pub invariant-loop : goal.invariant-loop
 invariant-loop g l = record {
-  table : l.seat.of ≡ l.claims;
-  below : All (λ number. number < l.claims.total) l.seat.numbers;
+  table : l.seat.of ≡ l.duty.claims.now;
+  below : All (λ number. number < l.duty.claims.now.total) l.seat.numbers;
   lane : l.sender.lane ≡ l.initial.sender.lane;
-  sent : l.sender.sent ≡ messages_for (sessions_of l.job) l.seat.numbers;
+  sent : l.sender.sent ≡ messages_for (sessions_of l.duty.job.now) l.seat.numbers;
 }

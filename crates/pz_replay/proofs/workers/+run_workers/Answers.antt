@@ -1,4 +1,4 @@
-use Rattle.std.proofs.Common.{Some, sym, ◌∙◌, arith}
+use Rattle.std.proofs.Common.{Some, arith}
 use Rattle.std.proofs.lemmas.List.Elements.{All-pop}
 use Rattle.pz_replay.specs.Sent.{sessions_of}
 use Rattle.pz_replay.specs.Recorded.{IsHonest, HasEnded}
@@ -16,7 +16,8 @@ pub settle-requires-clause-worked : goal.settle-requires-clause-worked
 settle-requires-clause-worked g t c =
     let e = c.in-Some-start.ensures in
     let lane = last_lane c.args.inboxes.now.items c.open_lane.new.inboxes.items c.run_workers-below.new.inboxes.items c.pop-2.new.self.items c.in-Some-pop.inbox c.in-Some.sender.lane c.in-Some.ensures.some.1 c.run_workers-below.ensures.lanes c.in-Some-pop.ensures.items in
-    moved_worked _ _ _ _ _ _ _ e.0 e.1 (e.3 ∙ sym lane) c.join-worked.ensures.0
+    let promise = c.in-Some-start.worker.promise in
+    moved_worked promise.claims.now c.args.shared.now.claims.now promise.job.now c.args.shared.now.job.now promise.lane.value.lane c.in-Some.sender.lane c.in-Some-pop.inbox.taker.lane c.join-worked.result e.0 e.1 e.3 lane c.join-worked.ensures.0
 
 pub returns-clause-ended : goal.returns-clause-ended
 returns-clause-ended g t c =

@@ -1,18 +1,17 @@
 use Rattle.std.proofs.Common.{◌++◌, ◌∷◌, [], length, ap, ◌∙◌, sym, append_assoc}
-use Rattle.pz_session.specs.Case.{items_of}
 use Rattle.pz_replay.proofs.Sending.{first_messages, sends_more}
-use Rattle.pz_replay.proofs.work.play.Goals as goal
+use Rattle.pz_replay.proofs.work.send_items.Goals as goal
 
 pub returns-then-not-pass-clause-part : goal.returns-then-not-pass-clause-part
 returns-then-not-pass-clause-part g c =
     let shown = c.items.invariant.0 in
-    let first = first_messages c.args.session shown c.items.run.items (items_of c.args.case.now) c.items.invariant.1 in
+    let first = first_messages c.args.session shown c.items.run.items c.args.run.now.items c.items.invariant.1 in
     (length shown, rw (← first) c.items.invariant.2)
 
 pub returns-in-Err-clause-part : goal.returns-in-Err-clause-part
 returns-in-Err-clause-part g c =
     let shown = c.items.invariant.0 in
-    let first = first_messages c.args.session shown c.items.run.items (items_of c.args.case.now) c.items.invariant.1 in
+    let first = first_messages c.args.session shown c.items.run.items c.args.run.now.items c.items.invariant.1 in
     (length shown, rw (← first) c.items.invariant.2)
 
 pub items-preserved : goal.items-preserved

@@ -1,8 +1,0 @@
-use Rattle.std.proofs.Common.{◌≡◌, ◌++◌, List}
-use Rattle.pz_session.specs.declared.item.Item.{Item}
-use Rattle.pz_session.specs.Case.{items_of}
-use Rattle.pz_replay.specs.Sent.{messages_of}
-use Rattle.pz_replay.proofs.work.play.Given as goal
-
-abbrev pub invariant-items : goal.invariant-items
-invariant-items g l = (shown : List Item) × (shown ++ l.run.items ≡ items_of l.fn.case) × (l.sender ≡ record l.initial.sender { sent = l.initial.sender.sent ++ messages_of l.session shown })
