@@ -143,9 +143,9 @@ fn moves_the_player(rt: HostRuntime) -> Result<(), Fail> {
 /// The level as it is loaded, pushed and moved, kept one after another.
 fn kept(alloc: Global, game: &Game) -> Result<Past, Fail> {
     let mut past = Past::new(alloc);
-    past.push(loaded(alloc, game)?)?;
-    past.push(pushed(alloc, game)?)?;
-    past.push(moved(alloc, game)?)?;
+    past.push(&loaded(alloc, game)?)?;
+    past.push(&pushed(alloc, game)?)?;
+    past.push(&moved(alloc, game)?)?;
     Ok(past)
 }
 

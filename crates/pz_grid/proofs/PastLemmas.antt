@@ -9,16 +9,6 @@ use Rattle.pz_grid.specs.Past.{given_back, Leads, AreWays, IsPast}
 newest_first : (before now : List Older) (way : Older) → now ≡ before ++ way ∷ [] → reverse now ≡ way ∷ reverse before
 newest_first before now way e = ap reverse e ∙ reverse-append before (way ∷ [])
 
-pub ways_more : (before now : List Older) (way : Older) (grid : Grid) (last : BareState) (newest : Option BareState) → now ≡ before ++ way ∷ [] → newest ≡ Some last → IsPast newest (reverse before) → Leads way grid last.grid → given_back way grid ≡ last.grid → AreWays (reverse now) grid
-ways_more before now way grid last newest e is ways leads given =
-    let held : AreWays (reverse before) last.grid = subst (λ (n : Option BareState). IsPast n (reverse before)) is ways in
-    subst (λ (all : List Older). AreWays all grid) (sym (newest_first before now way e)) (subst (Leads way grid) (sym given) leads, subst (AreWays (reverse before)) (sym given) held)
-
-pub ways_none : (ways : List Older) (grid : Grid) (newest : Option BareState) → newest ≡ None → IsPast newest ways → AreWays ways grid
-ways_none ways grid newest is none =
-    let e : ways ≡ [] = subst (λ (n : Option BareState). IsPast n ways) is none in
-    subst (λ (all : List Older). AreWays all grid) (sym e) tt
-
 pub ways_fewer : (before now : List Older) (way : Older) (last : BareState) (newest : Option BareState) → before ≡ now ++ way ∷ [] → newest ≡ Some last → IsPast newest (reverse before) → Leads way last.grid (given_back way last.grid) × AreWays (reverse now) (given_back way last.grid)
 ways_fewer before now way last newest e is ways =
     subst (λ (all : List Older). AreWays all last.grid) (newest_first now before way e) (subst (λ (n : Option BareState). IsPast n (reverse before)) is ways)

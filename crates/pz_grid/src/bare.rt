@@ -1,6 +1,6 @@
 //! A level without its marks, in as many words a cell as its game needs: each call goes to the sheet that has it.
 
-ghost use Rattle.std.specs.Prelude.{◌≡◌, ℕ, ◌<◌, ◌≤◌, ◌↔◌, IsTrue, true, map, length, slice_index, All, IfOk, IfSome, Some, None, MatchOption};
+ghost use Rattle.std.specs.Prelude.{◌≡◌, ℕ, ◌<◌, ◌≤◌, ◌↔◌, IsTrue, true, map, length, slice_index, All, IfOk, IfSome, OnOk, OnErr, Some, None, MatchOption};
 ghost use Rattle.std.specs.List.{list_any, list_all};
 ghost use Rattle.pz_sets.specs.Sets.{member};
 ghost use Rattle.pz_sets.specs.declared.set.TheConstants.{CAPACITY};
@@ -83,6 +83,22 @@ impl BareLevel {
             Sized::Large(sheet) => Sized::Large(sheet.copy()?),
         };
         Ok(BareLevel { sheet })
+    }
+
+    /// Becomes the same as another, in the memory that it has if that is enough. Err: memory was refused, and it is as it was.
+    pub(crate) fn copy_from(&mut self, other: &BareLevel) -> Result<(), AllocError>
+        ensures copied { OnOk result (self.new.grid ≡ other.now.grid) }
+        ensures kept { OnErr result (self.new.grid ≡ self.old.grid) }
+    {
+        match (&mut self.sheet, &other.sheet) {
+            (Sized::Small(sheet), Sized::Small(other)) => sheet.copy_from(other),
+            (Sized::Middle(sheet), Sized::Middle(other)) => sheet.copy_from(other),
+            (Sized::Large(sheet), Sized::Large(other)) => sheet.copy_from(other),
+            _ => {
+                *self = other.copy()?;
+                Ok(())
+            }
+        }
     }
 
     pub(crate) fn equals(&self, other: &BareLevel) -> bool

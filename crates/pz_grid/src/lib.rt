@@ -27,11 +27,13 @@ mod pushing;
 pub mod rewriting;
 pub mod rule_laws;
 mod sameness;
+mod seen;
 
 use bare::BareLevel;
 pub use movement::resolve;
 pub use past::Past;
 pub use pushing::push_players;
+pub use seen::SeenLevel;
 
 /// A level: what stands in its cells, and its marks: for each row, for each column and for the whole a set of objects that holds at least
 /// those that stand there.

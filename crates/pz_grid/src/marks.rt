@@ -1,6 +1,6 @@
 //! The objects that each row and each column of a level may have.
 
-ghost use Rattle.std.specs.Prelude.{◌≡◌, ◌≤◌, ℕ, ◌<◌, ◌&&◌, ◌||◌, Bool, All, IfOk, true, length, nat_eq, Option, IfSome, [], ◌∷◌};
+ghost use Rattle.std.specs.Prelude.{◌≡◌, ◌≤◌, ℕ, ◌<◌, ◌&&◌, ◌||◌, Bool, All, IfOk, OnOk, true, length, nat_eq, Option, IfSome, [], ◌∷◌};
 ghost use Rattle.pz_sets.specs.Sets.{member};
 ghost use Rattle.pz_sets.specs.declared.set.TheConstants.{CAPACITY};
 ghost use Rattle.pz_sheet.specs.Grid.{IsLawful};
@@ -23,6 +23,23 @@ impl Level {
         ensures exact { IfOk result IsExact }
     {
         Level::marked(*self.row_marks.allocator(), self.bare.copy()?)
+    }
+
+    /// Becomes the same as another, each set exactly what stands in its line: in the memory that it has, where both are of one size. Err:
+    /// memory was refused.
+    pub fn copy_from(&mut self, other: &Level) -> Result<(), AllocError>
+        ensures copied { OnOk result (self.new.grid ≡ other.now.grid) }
+        ensures exact { OnOk result (IsExact self.new) }
+    {
+        if !self.bare.same_size(&other.bare) {
+            *self = other.copy()?;
+            return Ok(());
+        }
+        self.bare.copy_from(&other.bare)?;
+        mark_rows(&self.bare, &mut self.row_marks);
+        mark_columns(&self.bare, &mut self.column_marks);
+        self.level_marks = all_of(&self.row_marks);
+        Ok(())
     }
 
     /// A level with its marks, each set exactly what stands in its line. Err: memory was refused.

@@ -21,7 +21,7 @@ pub(crate) enum Older {
 
 impl BareLevel {
     /// Whether both are of one size and over the same layers.
-    fn same_size(&self, other: &BareLevel) -> bool
+    pub(crate) fn same_size(&self, other: &BareLevel) -> bool
         ensures { IsTrue result ↔ SameSize self.now.grid other.now.grid }
     {
         match (&self.sheet, &other.sheet) {

@@ -1,6 +1,7 @@
 //! The past of a level.
 
-ghost use Rattle.std.specs.Prelude.{◌≡◌, List, [], ◌∷◌, IfOk, OnOk, OnErr, MatchOption, drop};
+ghost use Rattle.std.specs.Prelude.{◌≡◌, ◌<◌, List, [], ◌∷◌, ◌++◌, IfOk, OnOk, OnErr, MatchOption, drop, vec_len, vec_capacity};
+ghost use Rattle.pz_grid.specs.Past.{given_back, Leads};
 ghost use Rattle.pz_sheet.specs.Grid.{Grid};
 
 use crate::Level;
@@ -49,16 +50,18 @@ impl Past {
     }
 
     /// One more level, the newest. Err: memory was refused, and there is none more.
-    pub fn push(&mut self, level: Level) -> Result<(), AllocError>
-        ensures pushed { OnOk result (self.new ≡ level.grid ∷ self.old) }
+    pub fn push(&mut self, level: &Level) -> Result<(), AllocError>
+        ensures pushed { OnOk result (self.new ≡ level.now.grid ∷ self.old) }
         ensures kept { OnErr result (self.new ≡ self.old) }
     {
-        let Level { bare, .. } = level;
-        if let Some(last) = &self.newest {
-            let way = bare.way_to(*self.before.allocator(), last)?;
-            self.before.push(way)?;
+        // (nothing is refused any more once the newest is another)
+        self.before.reserve(1)?;
+        if let Some(newest) = &mut self.newest {
+            let way = go_on(*self.before.allocator(), newest, &level.bare)?;
+            put_last(&mut self.before, way);
+            return Ok(());
         }
-        self.newest = Some(bare);
+        self.newest = Some(level.bare.copy()?);
         Ok(())
     }
 
@@ -97,5 +100,29 @@ impl Past {
                 None => unreachable!(),
             },
         }
+    }
+}
+
+/// Puts a newer level in the place of one, in the memory that this has if that is enough, and gives the way back. Err: memory was refused, and it is
+/// as it was.
+fn go_on(alloc: Global, level: &mut BareLevel, newer: &BareLevel) -> Result<Older, AllocError>
+    ensures newer { OnOk result (level.new.grid ≡ newer.now.grid) }
+    ensures kept { OnErr result (level.new.grid ≡ level.old.grid) }
+    ensures leads { IfOk result (λ way. Leads way newer.now.grid level.old.grid) }
+    ensures given { IfOk result (λ way. given_back way newer.now.grid ≡ level.old.grid) }
+{
+    let way = newer.way_to(alloc, level)?;
+    level.copy_from(newer)?;
+    Ok(way)
+}
+
+/// Puts a way behind others, for which there is room.
+fn put_last(ways: &mut Vec<Older>, way: Older)
+    requires { vec_len ways.old < vec_capacity ways.old }
+    ensures { ways.new.items ≡ ways.old.items ++ way ∷ [] }
+{
+    match ways.push(way) {
+        Ok(()) => {}
+        Err(_) => unreachable!(),
     }
 }

@@ -4,6 +4,6 @@ pub mod Ordered
 pub mod Rows
 pub mod Sets
 pub mod WorkedRecords
-pub mod CellTexts
+pub mod Changing
 pub mod LabelTexts
 pub mod Walking

@@ -1,11 +1,12 @@
 -- The sets of a level's cells, one after the other.
-use Rattle.std.proofs.Common.{◌≡◌, ℕ, Bool, suc, ◌+◌, ◌*◌, ◌<◌, ◌≤◌, ◌&&◌, List, [], ◌∷◌, length, drop, get_or, map, true, false, refl, ap, sym, ◌∙◌, arith}
+use Rattle.std.proofs.Common.{◌≡◌, ℕ, Bool, suc, ◌+◌, ◌*◌, ◌<◌, ◌≤◌, ◌&&◌, List, [], ◌∷◌, length, drop, get_or, true, false, refl, ap, sym, ◌∙◌, arith}
 use Rattle.std.proofs.lemmas.List.{length-map, get_or-map, drop_more, drop_all}
 use Rattle.std.proofs.lemmas.List.FromFn.{length-map-range_with_len, get_or-map-range_with_len}
 use Rattle.pz_game.specs.declared.game.GameParts.{GameParts}
 use Rattle.pz_sheet.specs.Grid.{Grid}
 use Rattle.pz_record.specs.declared.order.Order.{Order}
 use Rattle.pz_record.specs.CellNames.{set_of, same_set}
+use Rattle.pz_record.specs.Labels.{texts_in}
 use Rattle.pz_record.specs.Order.{position_of, column_of, row_of, cells_in}
 use Rattle.pz_record.specs.LevelNames.{standing_names, sets_in}
 use Rattle.pz_record.specs.LevelText.{joined}
@@ -60,10 +61,6 @@ same_end game order grid recorded k h size =
     let here : length (sets_in game order grid) ≤ k = rw (length-sets_in game order grid) h in
     let there : length recorded ≤ k = rw size h in
     rw (drop_all k (sets_in game order grid) here, drop_all k recorded there) refl
-
--- the texts of the cells
-abbrev pub texts_in : GameParts → Order → Grid → List (List ℕ)
-texts_in game order grid = map joined (sets_in game order grid)
 
 pub length-texts_in : (game : GameParts) (order : Order) (grid : Grid) → length (texts_in game order grid) ≡ grid.width * grid.height
 length-texts_in game order grid = length-map (sets_in game order grid) joined ∙ length-sets_in game order grid

@@ -1,5 +1,5 @@
 -- The positions of a level's cells, one after the other.
-use Rattle.std.proofs.Common.{◌≡◌, ℕ, ◌+◌, ◌*◌, ◌/◌, ◌%◌, ◌<◌, List, [], ◌∷◌, Bool, false, cond, nat_eq, ap, sym, ◌∙◌, arith}
+use Rattle.std.proofs.Common.{◌≡◌, ℕ, ◌+◌, ◌*◌, ◌/◌, ◌%◌, ◌<◌, List, [], ◌∷◌, Bool, false, cond, nat_eq, ap, ◌∙◌, arith}
 use Rattle.std.proofs.lemmas.Bool.{eqb-true, false_from_ne_true}
 use Rattle.std.proofs.Math.Nat.{mod-lt, div-lt_iff_lt-mul}
 use Rattle.std.proofs.lemmas.Nat.{div-add-mod', div-mul-add, mod-mul-add}
@@ -14,39 +14,6 @@ pub in_line : (k w : ℕ) → k % w + 1 < w → ((k + 1) % w ≡ k % w + 1) × (
 in_line k w h =
     let split : k + 1 ≡ k / w * w + (k % w + 1) = omega (arith, div-add-mod' k w) in
     (ap (λ n. n % w) split ∙ mod-mul-add (k / w) w (k % w + 1) h, ap (λ n. n / w) split ∙ div-mul-add (k / w) w (k % w + 1) h)
-
--- the first number of the next line
-pub past_line : (k w : ℕ) → k % w + 1 ≡ w → ((k + 1) % w ≡ 0) × ((k + 1) / w ≡ k / w + 1)
-past_line k w h =
-    let some : 0 < w = omega (arith, h) in
-    let more : (k / w + 1) * w ≡ k / w * w + w = omega arith in
-    let split : k + 1 ≡ (k / w + 1) * w + 0 = omega (arith, more, div-add-mod' k w, h) in
-    (ap (λ n. n % w) split ∙ mod-mul-add (k / w + 1) w 0 some, ap (λ n. n / w) split ∙ div-mul-add (k / w + 1) w 0 some)
-
--- the position behind a position, by the cases of the order
-pub right_of : (order : Order) (grid : Grid) (k x y : ℕ) → order ≡ Rows → x + 1 < grid.width → IsAt order grid k x y → IsAt order grid (k + 1) (x + 1) y
-right_of Rows grid k x y is more at =
-    let next = in_line k grid.width (omega (arith, at.column, more)) in
-    record { column = ap (λ n. n + 1) at.column ∙ sym next.0; row = at.row ∙ sym next.1 }
-right_of Columns grid k x y is more at = cc
-
-pub row_below : (order : Order) (grid : Grid) (k x y : ℕ) → order ≡ Rows → x + 1 ≡ grid.width → IsAt order grid k x y → IsAt order grid (k + 1) 0 (y + 1)
-row_below Rows grid k x y is end at =
-    let next = past_line k grid.width (omega (arith, at.column, end)) in
-    record { column = sym next.0; row = ap (λ n. n + 1) at.row ∙ sym next.1 }
-row_below Columns grid k x y is end at = cc
-
-pub below : (order : Order) (grid : Grid) (k x y : ℕ) → order ≡ Columns → y + 1 < grid.height → IsAt order grid k x y → IsAt order grid (k + 1) x (y + 1)
-below Columns grid k x y is more at =
-    let next = in_line k grid.height (omega (arith, at.row, more)) in
-    record { column = at.column ∙ sym next.1; row = ap (λ n. n + 1) at.row ∙ sym next.0 }
-below Rows grid k x y is more at = cc
-
-pub next_column : (order : Order) (grid : Grid) (k x y : ℕ) → order ≡ Columns → y + 1 ≡ grid.height → IsAt order grid k x y → IsAt order grid (k + 1) (x + 1) 0
-next_column Columns grid k x y is end at =
-    let next = past_line k grid.height (omega (arith, at.row, end)) in
-    record { column = ap (λ n. n + 1) at.column ∙ sym next.1; row = sym next.0 }
-next_column Rows grid k x y is end at = cc
 
 -- a number of a cell stands on the map
 pub on_map : (order : Order) (grid : Grid) (k x y : ℕ) → k < grid.width * grid.height → 0 < grid.width → 0 < grid.height → IsAt order grid k x y → (x < grid.width) × (y < grid.height)

@@ -23,9 +23,9 @@ text_at texts label = slice_index_or texts label []
 abbrev pub set_text : List (List ℕ) → List ℕ → List ℕ
 set_text names objects = joined (set_of (chosen_from (member objects) 0 names))
 
--- the text of the cell of a number
-abbrev pub text_of_cell : GameParts → Order → Grid → ℕ → List ℕ
-text_of_cell game order grid number = slice_index_or (map joined (sets_in game order grid)) number []
+-- the texts of the cells of a level, in an order
+abbrev pub texts_in : GameParts → Order → Grid → List (List ℕ)
+texts_in game order grid = map joined (sets_in game order grid)
 
 -- a set of objects has the text of this label
 abbrev pub IsLabelOf : List (List ℕ) → List (List ℕ) → List ℕ → ℕ → Type 0

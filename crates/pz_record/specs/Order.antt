@@ -1,5 +1,5 @@
 -- The cells of a level in an order.
-use Rattle.std.specs.Prelude.{◌≡◌, ℕ, ◌*◌, ◌/◌, ◌%◌, List, map}
+use Rattle.std.specs.Prelude.{◌≡◌, ℕ, ◌+◌, ◌*◌, ◌/◌, ◌%◌, List, map}
 use Rattle.std.specs.List.{range_with_len}
 use Rattle.pz_sheet.specs.Grid.{Grid}
 use Rattle.pz_record.specs.declared.order.Order.{Order}
@@ -17,6 +17,11 @@ row_of Columns grid k = k % grid.height
 -- the column and the row of the cell of a number
 abbrev pub position_of : Order → Grid → ℕ → ℕ × ℕ
 position_of order grid k = (column_of order grid k, row_of order grid k)
+
+-- the number of the cell in this column and this row
+abbrev pub number_of : Order → Grid → ℕ → ℕ → ℕ
+number_of Rows grid x y = y * grid.width + x
+number_of Columns grid x y = x * grid.height + y
 
 -- the cell of a number stands in this column and this row
 pub record IsAt (order : Order) (grid : Grid) (number x y : ℕ) : Type 0 where

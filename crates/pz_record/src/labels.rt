@@ -5,7 +5,6 @@ ghost use Rattle.pz_base.specs.NameSet.{is_name_of, number_in};
 ghost use Rattle.pz_record.specs.Labels.{AreDistinct, text_at};
 ghost use Rattle.pz_record.specs.LevelText.{line_end, text_of_cells};
 
-use crate::labelled_set::LabelledSet;
 use crate::numerals::write_number;
 use indexmap::IndexSet;
 use std::alloc::{AllocError, Global};
@@ -126,19 +125,19 @@ pub(crate) fn write_labels(
     text: &mut String,
     numbers: &mut Vec<Option<usize>>,
     texts: &KnownTexts,
-    cells: &[LabelledSet],
+    labels: &[usize],
     width: usize,
 ) -> Result<(), AllocError>
     requires wide { 0 < width }
-    requires within { All (λ cell. cell.label < length texts.now) cells.now }
-    ensures { OnOk result (string_bytes text.new ≡ text_of_cells width (map (λ cell. text_at texts.now cell.label) cells.now)) }
+    requires within { All (λ label. label < length texts.now) labels.now }
+    ensures { OnOk result (string_bytes text.new ≡ text_of_cells width (map (text_at texts.now) labels.now)) }
 {
     text.clear();
     clear_numbers(numbers, texts.len())?;
     let mut count = 0;
     let mut column = 0;
-    for cell in cells {
-        let label = cell.label;
+    for cell in labels {
+        let label = *cell;
         match numbers[label] {
             Some(number) => write_number(text, number)?,
             None => {

@@ -2,6 +2,7 @@
 //! the level at its end, which is compared.
 #![tactic(auto)]
 
+mod cell_labels;
 pub mod cell_names;
 pub mod equality;
 pub mod input;

@@ -25,6 +25,7 @@ fn write_large(text: &mut String, number: usize) -> Result<(), AllocError>
 }
 
 /// Writes a number. Nearly all have a digit or two: these are put behind the text one by one.
+#[inline(always)]
 fn write_decimal(text: &mut String, number: usize) -> Result<(), AllocError>
     ensures { OnOk result (string_bytes text.new ≡ string_bytes text.old ++ decimal number) }
 {
@@ -42,6 +43,7 @@ fn write_decimal(text: &mut String, number: usize) -> Result<(), AllocError>
 }
 
 /// Writes a number and a comma.
+#[inline(always)]
 pub(crate) fn write_number(text: &mut String, number: usize) -> Result<(), AllocError>
     ensures { OnOk result (string_bytes text.new ≡ string_bytes text.old ++ (decimal number ++ 44 ∷ [])) }
 {

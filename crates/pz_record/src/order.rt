@@ -1,7 +1,7 @@
 //! The order of a level's cells.
 
-ghost use Rattle.std.specs.Prelude.{◌≡◌, ℕ, ◌+◌, ◌*◌, ◌<◌};
-ghost use Rattle.pz_record.specs.Order.{column_of, row_of, IsAt};
+ghost use Rattle.std.specs.Prelude.{◌≡◌, ◌*◌, ◌<◌};
+ghost use Rattle.pz_record.specs.Order.{column_of, row_of, number_of};
 
 use pz_grid::Level;
 
@@ -24,17 +24,14 @@ pub(crate) fn position(order: Order, level: &Level, number: u32) -> (u32, u32)
     }
 }
 
-/// The position behind a position of the map: where it is the last, one off the map. To walk so is faster than to divide for each cell.
-pub(crate) fn next_position(order: Order, level: &Level, x: u32, y: u32) -> (u32, u32)
+/// The number of the cell at a position of the map.
+pub(crate) fn number_at(order: Order, level: &Level, x: u32, y: u32) -> usize
     requires x_in { x < level.now.grid.width }
     requires y_in { y < level.now.grid.height }
-    ensures { (number : ℕ) → IsAt order level.now.grid number x y → IsAt order level.now.grid (number + 1) result.0 result.1 }
+    ensures { result ≡ number_of order level.now.grid x y }
 {
-    let (width, height) = (level.width(), level.height());
     match order {
-        Order::Rows if x + 1 < width => (x + 1, y),
-        Order::Rows => (0, y + 1),
-        Order::Columns if y + 1 < height => (x, y + 1),
-        Order::Columns => (x + 1, 0),
+        Order::Rows => y as usize * level.width() as usize + x as usize,
+        Order::Columns => x as usize * level.height() as usize + y as usize,
     }
 }

@@ -4,7 +4,6 @@ ghost use Rattle.std.specs.Prelude.{◌≡◌, ◌<◌, [], length, map, All, On
 ghost use Rattle.pz_record.specs.Labels.{text_at};
 ghost use Rattle.pz_record.specs.LevelText.{text_of_cells};
 
-use crate::labelled_set::LabelledSet;
 use crate::labels::{KnownTexts, write_labels};
 use std::alloc::{AllocError, Global};
 use std::marker::Model;
@@ -46,14 +45,14 @@ impl TextRoom {
     pub fn write(
         &mut self,
         texts: &KnownTexts,
-        cells: &[LabelledSet],
+        labels: &[usize],
         width: usize,
     ) -> Result<(), AllocError>
         requires wide { 0 < width }
-        requires within { All (λ cell. cell.label < length texts.now) cells.now }
-        ensures { OnOk result (self.new ≡ text_of_cells width (map (λ cell. text_at texts.now cell.label) cells.now)) }
+        requires within { All (λ label. label < length texts.now) labels.now }
+        ensures { OnOk result (self.new ≡ text_of_cells width (map (text_at texts.now) labels.now)) }
     {
-        write_labels(&mut self.text, &mut self.numbers, texts, cells, width)?;
+        write_labels(&mut self.text, &mut self.numbers, texts, labels, width)?;
         Ok(())
     }
 }

@@ -28,14 +28,15 @@ use pz_record::order::Order;
 use pz_record::recorded::Recorded;
 use pz_record::text_writer::TextWriter;
 use pz_turn::outcome::StepFault;
-use pz_turn::step::{StepEnd, step};
+use pz_turn::step::{StepEnd, step_in};
 use pz_turn::win::won;
 use std::alloc::{AllocError, Global};
 use std::marker::Model;
 use std::mem::replace;
 
 /// A session between two links: the entry of LEVELS that is played, its level, the target of a restart, the levels that an undo
-/// takes back, the level before an input until that input's chain is over, and whether play is over.
+/// takes back, the level before an input until that input's chain is over, and whether play is over. A spare level is room for the next step,
+/// whatever stands there.
 pub struct Board<'a> {
     alloc: Global,
     game: &'a Game,
@@ -47,6 +48,7 @@ pub struct Board<'a> {
     target: Level,
     past: Past,
     before: Option<Level>,
+    spare: Option<Level>,
     is_over: bool,
     texts: TextWriter<'a>,
 }
@@ -77,6 +79,7 @@ impl Drop for Board<'_> {
             target,
             past,
             before,
+            spare,
             is_over: _,
             texts,
         } = self;
@@ -84,6 +87,7 @@ impl Drop for Board<'_> {
         drop(target);
         drop(past);
         drop(before);
+        drop(spare);
         drop(texts);
     }
 }
@@ -134,6 +138,7 @@ impl<'a> Board<'a> {
             target,
             past: Past::new(alloc),
             before: None,
+            spare: None,
             is_over: false,
             texts: TextWriter::new(alloc, game, order),
         })
@@ -314,12 +319,20 @@ impl<'a> Board<'a> {
         self.reach(kind, commands, changed)
     }
 
+    /// Sets a level aside that is of no more use, for the next step.
+    fn set_aside(&mut self, level: Level)
+        ensures { self.new ≡ self.old }
+    {
+        put(&mut self.spare, Some(level));
+    }
+
     /// Puts another level in the place of this one.
     fn go_to(&mut self, level: Level)
         requires { IsOfGame self.old.game level.grid }
         ensures { self.new ≡ at_level level.grid self.old }
     {
-        put(&mut self.level, level);
+        let before = replace(&mut self.level, level);
+        put(&mut self.spare, Some(before));
     }
 
     /// Puts another level in the place of this one, which is kept for the past until the chain is over.
@@ -333,13 +346,22 @@ impl<'a> Board<'a> {
 
     /// A step from the level, which leads to another level of its game, and to the same where it is cancelled. The level itself stays
     /// as it is.
-    fn turn(&self, input: Option<Dir>) -> Result<StepEnd, StepFault>
-        ensures end { IfOk result (λ end. step_of self.now.game self.now.program self.now.level input ≡ Ok (record { level = end.level.grid; commands = end.commands; changed = end.changed })) }
-        ensures cancelled { IfOk result (λ end. has end.commands cancel ≡ true → end.level.grid ≡ self.now.level) }
-        ensures game { IfOk result (λ end. IsOfGame self.now.game end.level.grid) }
-        ensures fault { IfErr result (λ fault. fault ≢ Memory → step_of self.now.game self.now.program self.now.level input ≡ Err fault) }
+    fn turn(&mut self, input: Option<Dir>) -> Result<StepEnd, StepFault>
+        ensures end { IfOk result (λ end. step_of self.old.game self.old.program self.old.level input ≡ Ok (record { level = end.level.grid; commands = end.commands; changed = end.changed })) }
+        ensures cancelled { IfOk result (λ end. has end.commands cancel ≡ true → end.level.grid ≡ self.old.level) }
+        ensures game { IfOk result (λ end. IsOfGame self.old.game end.level.grid) }
+        ensures fault { IfErr result (λ fault. fault ≢ Memory → step_of self.old.game self.old.program self.old.level input ≡ Err fault) }
+        ensures same { self.new ≡ self.old }
     {
-        step(self.alloc, self.game, self.program, &self.level, input)
+        let spare = self.spare.take();
+        step_in(
+            self.alloc,
+            self.game,
+            self.program,
+            &self.level,
+            spare,
+            input,
+        )
     }
 
     /// A press plays a step.
@@ -365,7 +387,7 @@ impl<'a> Board<'a> {
     {
         let end = self.turn(None)?;
         if is_idle(&end) {
-            drop(end);
+            self.set_aside(end.level);
             return Ok(Shown {
                 first: None,
                 second: None,
@@ -452,9 +474,9 @@ impl<'a> Board<'a> {
     {
         if let Some(before) = self.before.take() {
             if !before.same(&self.level) {
-                return self.past.push(before);
+                self.past.push(&before)?;
             }
-            drop(before);
+            self.spare = Some(before);
         }
         Ok(())
     }

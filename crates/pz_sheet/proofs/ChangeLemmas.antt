@@ -14,8 +14,10 @@ use Rattle.pz_cells.proofs.SameLemmas.{same_cell_is, same_cell_self}
 use Rattle.pz_sheet.specs.declared.changes.Change.{Change}
 use Rattle.pz_sheet.specs.Changes.{CellChange, changed_from, changed_cells, change_seen, with_cell, restored}
 use Rattle.pz_sheet.specs.Grid.{Grid, IsLawful, SameSize}
-use Rattle.pz_sheet.specs.Seen.{seen, IsSound}
+use Rattle.pz_sheet.specs.Presence.{cell_of}
+use Rattle.pz_sheet.specs.Seen.{seen, grid_of, IsSound}
 use Rattle.pz_sheet.proofs.SameLemmas.{AreAlike, seen_alike, alike_seen}
+use Rattle.pz_sheet.proofs.SheetLemmas.{seen_within, seen_at, sound_at}
 
 -- ---- cells put back
 abbrev put_back : List (List (Option Piece)) → CellChange → List (List (Option Piece))
@@ -76,7 +78,7 @@ left_from N depth layers cells older index = changed_from index (map (seen N dep
 
 module _ (N depth : ℕ) (layers : List ℕ) (low : All (λ l. l < depth) layers) where
   -- the words tell what is seen
-  test_is : (cell other : Cell N) (r : Bool) → IsSound N layers cell → IsSound N layers other → (IsTrue r ↔ AreAlike N cell other) → same_cell (seen N depth layers cell) (seen N depth layers other) ≡ r
+  pub test_is : (cell other : Cell N) (r : Bool) → IsSound N layers cell → IsSound N layers other → (IsTrue r ↔ AreAlike N cell other) → same_cell (seen N depth layers cell) (seen N depth layers other) ≡ r
   test_is cell other true sound sound_other decides =
       ap (same_cell (seen N depth layers cell)) (sym (seen_alike N depth layers cell other sound sound_other (decides.0 refl))) ∙ same_cell_self (seen N depth layers cell)
   test_is cell other false sound sound_other decides =
@@ -141,3 +143,49 @@ small_change (suc (suc zero)) h = omega arith
 small_change (suc (suc (suc zero))) h = omega arith
 small_change (suc (suc (suc (suc zero)))) h = omega arith
 small_change (suc (suc (suc (suc (suc n))))) h = absurd (omega (arith, h))
+
+-- ---- one cell of two levels of one size
+pub as_long : (wa ha wb hb na nb : ℕ) → wa ≡ wb → ha ≡ hb → na ≡ wa * ha → nb ≡ wb * hb → na ≡ nb
+as_long wa ha wb hb na nb width height a b = a ∙ (ap (λ (w : ℕ). w * ha) width ∙ (ap (λ (h : ℕ). wb * h) height ∙ sym b))
+
+-- two levels in words, and a number of a cell of both
+pub record AreBoth (N wa ha da : ℕ) (la : List ℕ) (ca : List (Cell N)) (wb hb db : ℕ) (lb : List ℕ) (cb : List (Cell N)) (grid other : Grid) (index : ℕ) : Type 0 where
+  pub size : SameSize grid other
+  pub is : grid_of N wa ha da la ca ≡ grid
+  pub is_other : grid_of N wb hb db lb cb ≡ other
+  pub covers : length ca ≡ wa * ha
+  pub covers_other : length cb ≡ wb * hb
+  pub sound : All (IsSound N la) ca
+  pub sound_other : All (IsSound N lb) cb
+  pub within : index < length grid.cells
+
+module _ (N wa ha da : ℕ) (la : List ℕ) (ca : List (Cell N)) (wb hb db : ℕ) (lb : List ℕ) (cb : List (Cell N)) (grid other : Grid) (index : ℕ) (a : AreBoth N wa ha da la ca wb hb db lb cb grid other index) where
+  pub in_first : index < length ca
+  in_first = seen_within N wa ha da la ca grid index a.is a.within
+
+  pub in_second : index < length cb
+  in_second =
+      let width : wa ≡ wb = ap (λ (g : Grid). g.width) a.is ∙ (sym a.size.width ∙ sym (ap (λ (g : Grid). g.width) a.is_other)) in
+      let height : ha ≡ hb = ap (λ (g : Grid). g.height) a.is ∙ (sym a.size.height ∙ sym (ap (λ (g : Grid). g.height) a.is_other)) in
+      omega (arith, in_first, as_long wa ha wb hb (length ca) (length cb) width height a.covers a.covers_other)
+
+  over_layers : la ≡ lb
+  over_layers = ap (λ (g : Grid). g.layers) a.is ∙ (sym a.size.layers ∙ sym (ap (λ (g : Grid). g.layers) a.is_other))
+
+  over_depth : da ≡ db
+  over_depth = ap (λ (g : Grid). g.depth) a.is ∙ (sym a.size.depth ∙ sym (ap (λ (g : Grid). g.depth) a.is_other))
+
+  -- the other's cell is of the first one's game
+  pub sound_there : (y : Cell N) → y ≡ get_or cb index y → IsSound N la y
+  sound_there y is_y = subst (λ (l : List ℕ). IsSound N l y) (sym over_layers) (sound_at N lb cb index y a.sound_other in_second is_y)
+
+  -- and is seen so as in the other
+  pub seen_there : (y : Cell N) → y ≡ get_or cb index y → seen N da la y ≡ cell_of other index
+  seen_there y is_y =
+      ap (λ (d : ℕ). seen N d la y) over_depth ∙ (ap (λ (l : List ℕ). seen N db l y) over_layers ∙ seen_at N wb hb db lb cb other index y a.is_other in_second is_y)
+
+  -- the words tell whether both are the same
+  pub same_there : (x y : Cell N) (r : Bool) → All (λ l. l < da) la → x ≡ get_or ca index x → y ≡ get_or cb index y → (IsTrue r ↔ AreAlike N x y) → r ≡ same_cell (cell_of grid index) (cell_of other index)
+  same_there x y r low is_x is_y decides =
+      sym (test_is N da la low x y r (sound_at N la ca index x a.sound in_first is_x) (sound_there y is_y) decides)
+      ∙ (ap (λ (cell : List (Option Piece)). same_cell cell (seen N da la y)) (seen_at N wa ha da la ca grid index x a.is in_first is_x) ∙ ap (same_cell (cell_of grid index)) (seen_there y is_y))

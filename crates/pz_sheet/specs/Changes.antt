@@ -1,9 +1,10 @@
 -- The cells in which an older level differs from another of its size, and the level with these cells put back.
-use Rattle.std.specs.Prelude.{ℕ, ◌+◌, ◌<◌, List, [], ◌∷◌, Option, length, map, fold, slice_set, if◌then◌else◌}
+use Rattle.std.specs.Prelude.{ℕ, ◌+◌, ◌<◌, List, [], ◌∷◌, Option, Bool, not, length, map, fold, slice_set, if◌then◌else◌}
 use Rattle.pz_cells.specs.declared.piece.Piece.{Piece}
 use Rattle.pz_cells.specs.Sameness.{same_cell}
 use Rattle.pz_sheet.specs.declared.changes.Change.{Change}
 use Rattle.pz_sheet.specs.Grid.{Grid}
+use Rattle.pz_sheet.specs.Presence.{cell_of}
 use Rattle.pz_sheet.specs.Seen.{seen, IsSound}
 
 -- what a change says: the number of a cell, and what stood there
@@ -41,3 +42,11 @@ with_cell grid change = record grid { cells = slice_set grid.cells change.number
 -- the level with these cells put back
 abbrev pub restored : List CellChange → Grid → Grid
 restored changes grid = fold with_cell grid changes
+
+-- two levels differ in the cell of a number
+abbrev pub differ_in : Grid → Grid → ℕ → Bool
+differ_in grid other number = not (same_cell (cell_of grid number) (cell_of other number))
+
+-- what stands in the cell of a number
+abbrev pub cell_there : Grid → ℕ → CellChange
+cell_there grid number = record { number = number; cell = cell_of grid number }

@@ -1,8 +1,11 @@
 //! The cells in which a level differs from an older one, and the way back to that.
 
 ghost use Rattle.std.specs.Prelude.{◌≡◌, ◌≤◌, ◌<◌, ◌+◌, ◌++◌, All, IfOk, OnOk, OnErr, length, map, drop};
-ghost use Rattle.pz_sheet.specs.Changes.{changed_from, changed_cells, change_seen, changes_seen, IsChangeOf, with_cell, restored};
+ghost use Rattle.pz_cells.specs.Sameness.{same_cell};
+ghost use Rattle.pz_sheet.specs.Changes.{changed_from, changed_cells, change_seen, changes_seen, IsChangeOf, with_cell, restored, differ_in, cell_there};
 ghost use Rattle.pz_sheet.specs.Grid.{SameSize};
+ghost use Rattle.pz_sheet.specs.Presence.{cell_of};
+ghost use Rattle.pz_sheet.specs.Searching.{IsNext};
 ghost use Rattle.pz_sheet.specs.Seen.{seen, IsSound};
 
 use crate::Sheet;
@@ -47,6 +50,40 @@ impl<const N: usize> Sheet<N> {
         self.cells[change.index] = change.cell;
         self.notes.note(change.index, &change.cell);
         self.planes.note_at(change.index, &before, &change.cell);
+    }
+
+    /// Whether another level of the same size has the same in the cell of a number.
+    fn is_same_in(&self, other: &Sheet<N>, index: usize) -> bool
+        requires size { SameSize self.now.grid other.now.grid }
+        requires within { index < length self.now.grid.cells }
+        ensures { result ≡ same_cell (cell_of self.now.grid index) (cell_of other.now.grid index) }
+    {
+        self.cells[index].same(&other.cells[index])
+    }
+
+    /// The number of the first cell from one on in which another level of the same size differs.
+    pub fn next_change(&self, other: &Sheet<N>, from: usize) -> Option<usize>
+        requires size { SameSize self.now.grid other.now.grid }
+        ensures { IsNext (differ_in self.now.grid other.now.grid) from (length self.now.grid.cells) result }
+    {
+        for index in from..self.cell_count() {
+            if !self.is_same_in(other, index) {
+                return Some(index);
+            }
+        }
+        None
+    }
+
+    /// Puts the cell of a number of another level of the same size in the place of its own.
+    pub fn take_cell(&mut self, other: &Sheet<N>, index: usize)
+        requires size { SameSize self.old.grid other.now.grid }
+        requires within { index < length self.old.grid.cells }
+        ensures { self.new.grid ≡ with_cell self.old.grid (cell_there other.now.grid index) }
+    {
+        // (brings the proof what the level is)
+        let _ = &self.cells;
+        let cell = other.cells[index];
+        self.take_change(&Change { index, cell });
     }
 }
 

@@ -31,17 +31,29 @@ pub const COMBINATION_LIMIT: u64 = 1_048_576;
 /// So many cells have at most `MATCH_LIMIT` places of a row, one for each cell and gap: a gap spans fewer than `MAX_SIDE` cells.
 const FEW_CELLS: u32 = 4_096;
 
+/// The stop of a search is a stop of the step.
+impl From<GridFault> for StepFault {
+    ghost use Rattle.std.specs.Prelude.{◌≡◌};
+    ghost use Rattle.pz_turn.specs.Instance.{stop_of};
+
+    ghost from_gives = { λ fault stop. stop ≡ stop_of fault };
+
+    fn from(fault: GridFault) -> StepFault {
+        match fault {
+            GridFault::Memory => StepFault::Memory,
+            GridFault::MatchLimit => StepFault::MatchLimit,
+        }
+    }
+}
+
 /// The places of a row, unless there are too many.
 fn search(alloc: Global, level: &Level, row: &Row, dir: Dir) -> Result<Listed<Place>, StepFault>
     requires of_game { IsRowOf level.now.grid.layers row.now }
     ensures found { IfOk result (λ found. found_or_stop (searched level.now.grid row.now dir) ≡ Ok found) }
     ensures fault { IfErr result (λ fault. fault ≢ Memory → found_or_stop (searched level.now.grid row.now dir) ≡ Err fault) }
 {
-    match places(alloc, level, row, dir) {
-        Ok(found) => Ok(Listed::new(found)),
-        Err(GridFault::Memory) => Err(StepFault::Memory),
-        Err(GridFault::MatchLimit) => Err(StepFault::MatchLimit),
-    }
+    let found = places(alloc, level, row, dir)?;
+    Ok(Listed::new(found))
 }
 
 /// Whether a level has so few cells that no row has too many places there, however far its gap spans.

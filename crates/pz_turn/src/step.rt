@@ -83,14 +83,42 @@ fn copy_of(level: &Level) -> Result<Level, StepFault>
     }
 }
 
+/// A spare level, which becomes a copy of the level.
+fn renewed(level: &Level, spare: Level) -> Result<Level, StepFault>
+    ensures copied { IfOk result (λ copy. copy.grid ≡ level.now.grid) }
+    ensures fault { IfErr result (λ fault. fault ≡ Memory) }
+{
+    let mut copy = spare;
+    match copy.copy_from(level) {
+        Ok(()) => Ok(copy),
+        Err(_) => Err(StepFault::Memory),
+    }
+}
+
+/// A copy of the level, in a spare one if there is one.
+fn copy_in(level: &Level, spare: Option<Level>) -> Result<Level, StepFault>
+    ensures copied { IfOk result (λ copy. copy.grid ≡ level.now.grid) }
+    ensures fault { IfErr result (λ fault. fault ≡ Memory) }
+{
+    match spare {
+        Some(spare) => renewed(level, spare),
+        None => copy_of(level),
+    }
+}
+
 /// A copy of the level, with the input given to the player.
-fn with_input(game: &Game, level: &Level, input: Option<Dir>) -> Result<Level, StepFault>
+fn with_input(
+    game: &Game,
+    level: &Level,
+    spare: Option<Level>,
+    input: Option<Dir>,
+) -> Result<Level, StepFault>
     requires level_of { IsOfGame game.now level.now.grid }
     ensures given { IfOk result (λ copy. copy.grid ≡ given_input (players_of game.now) input level.now.grid) }
     ensures size { IfOk result (λ copy. SameSize level.now.grid copy.grid) }
     ensures fault { IfErr result (λ fault. fault ≡ Memory) }
 {
-    match copy_of(level) {
+    match copy_in(level, spare) {
         Ok(mut copy) => {
             match input {
                 Some(dir) => push_players(game, &mut copy, dir),
@@ -169,7 +197,7 @@ fn end_of(before: &Level, after: Level, commands: Commands) -> Result<StepEnd, S
     // (brings the proof the law of both levels)
     let _ = (before.width(), after.width());
     if commands.contains(Commands::CANCEL) {
-        match copy_of(before) {
+        match renewed(before, after) {
             Ok(level) => Ok(StepEnd {
                 level,
                 commands,
@@ -185,6 +213,28 @@ fn end_of(before: &Level, after: Level, commands: Commands) -> Result<StepEnd, S
             changed,
         })
     }
+}
+
+/// A step as `step` plays it, in a level that is lent for it, if there is one: whatever stands there is written over.
+pub fn step_in(
+    alloc: Global,
+    game: &Game,
+    program: &Program,
+    level: &Level,
+    spare: Option<Level>,
+    input: Option<Dir>,
+) -> Result<StepEnd, StepFault>
+    requires level_of { IsOfGame game.now level.now.grid }
+    requires program_of { IsProgramOf game.now.layers program.now }
+    ensures end { IfOk result (λ end. step_of game.now program.now level.now.grid input ≡ Ok (record { level = end.level.grid; commands = end.commands; changed = end.changed })) }
+    ensures size { IfOk result (λ end. SameSize level.now.grid end.level.grid) }
+    ensures lawful { IfOk result (λ end. IsLawful end.level.grid) }
+    ensures fault { IfErr result (λ fault. fault ≢ Memory → step_of game.now program.now level.now.grid input ≡ Err fault) }
+{
+    let mut work = with_input(game, level, spare, input)?;
+    let given = run_rules(alloc, game, &mut work, program)?;
+    let cancelled = must_cancel(game, input, level, &work);
+    end_of(level, work, with_cancel(cancelled, given.commands))
 }
 
 /// A step of a game from a level, with an input or none. Where a rule gives CANCEL, or the player had to move and hasn't, the end
@@ -204,8 +254,5 @@ pub fn step(
     ensures lawful { IfOk result (λ end. IsLawful end.level.grid) }
     ensures fault { IfErr result (λ fault. fault ≢ Memory → step_of game.now program.now level.now.grid input ≡ Err fault) }
 {
-    let mut work = with_input(game, level, input)?;
-    let given = run_rules(alloc, game, &mut work, program)?;
-    let cancelled = must_cancel(game, input, level, &work);
-    end_of(level, work, with_cancel(cancelled, given.commands))
+    step_in(alloc, game, program, level, None, input)
 }

@@ -1,9 +1,8 @@
 use Rattle.std.proofs.Common.{rules, ◌≡◌, ◌<◌, ◌++◌, ◌∷◌, [], length, decimal, string_bytes, ℕ, ◌+◌, ◌%◌, ◌≤◌, List, Vec, Global, Option, None, Some, get_or, take, map, refl, replicate, slice_set, ap, ap₂, sym, ◌∙◌, subst, arith}
 use Rattle.std.proofs.Math.Nat.{mod-lt, mod-eq_of_lt}
-use Rattle.std.proofs.lemmas.List.{get_or-map, length-map}
+use Rattle.std.proofs.lemmas.List.{get_or-map, get_or_default, length-map}
 use Rattle.std.proofs.lemmas.List.Elements.{All-get_or}
 use Rattle.pz_base.specs.NameSet.{number_in}
-use Rattle.pz_record.specs.declared.labelled_set.LabelledSet.{LabelledSet}
 use Rattle.pz_record.specs.Labels.{text_at}
 use Rattle.pz_record.specs.LevelText.{known_of, piece, with_cell}
 use Rattle.pz_record.proofs.KnownCells.{cell_written, cell_known}
@@ -24,19 +23,18 @@ loop-cell-init c = record {
 pub loop-cell-preserved : goal.loop-cell-preserved
 loop-cell-preserved c =
     let texts = c.args.texts.now in
-    let items = c.args.cells.now in
-    let text : LabelledSet → List ℕ = λ cell. text_at texts cell.label in
+    let items = c.args.labels.now in
+    let text : ℕ → List ℕ = text_at texts in
     let cells = map text items in
     let k = c.loop-cell.cell-index in
-    let seen : LabelledSet = c.cell-item.result in
-    let label = seen.label in
+    let label : ℕ = get_or items k 0 in
     let cell = text_at texts label in
     let known = known_of (take k cells) in
     let here : k < length items = c.loop-cell-test.true in
-    let is : seen ≡ get_or items k seen = c.cell-item.is in
-    let P : LabelledSet → Type 0 = λ s. s.label < length texts in
-    let within : label < length texts = subst P (sym is) (All-get_or P items k seen here c.requires.within) in
-    let item : get_or cells k [] ≡ cell = get_or-map text items k seen [] here ∙ ap text (sym is) in
+    let is : label ≡ get_or items k label = get_or_default items k 0 label here in
+    let P : ℕ → Type 0 = λ l. l < length texts in
+    let within : label < length texts = subst P (sym is) (All-get_or P items k label here c.requires.within) in
+    let item : get_or cells k [] ≡ cell = get_or-map text items k label [] here ∙ ap text (sym is) in
     let found : c.index.result.now ≡ number_in known cell =
     c.index.ensures ∙ ap (λ l. get_or l label c.index.result.now) c.loop-cell.invariant.numbers ∙ get_or-map (number_in known) texts label [] c.index.result.now within in
     let after : (string_bytes c.match-index.text ≡ string_bytes c.loop-cell.text ++ piece known cell)

@@ -7,9 +7,9 @@ use Rattle.pz_record.proofs.labels.write_labels.Given as goal
 
 abbrev pub invariant-loop-cell : goal.invariant-loop-cell
 invariant-loop-cell l = record {
-  text : string_bytes l.text ≡ text_to l.width (map (λ cell. text_at l.texts cell.label) l.cells) l.cell-index;
-  numbers : l.numbers.items ≡ map (number_in (known_of (take l.cell-index (map (λ cell. text_at l.texts cell.label) l.cells)))) l.texts;
-  count : l.count ≡ length (known_of (take l.cell-index (map (λ cell. text_at l.texts cell.label) l.cells)));
+  text : string_bytes l.text ≡ text_to l.width (map (text_at l.texts) l.labels) l.cell-index;
+  numbers : l.numbers.items ≡ map (number_in (known_of (take l.cell-index (map (text_at l.texts) l.labels)))) l.texts;
+  count : l.count ≡ length (known_of (take l.cell-index (map (text_at l.texts) l.labels)));
   few : l.count ≤ l.cell-index;
   column : l.column ≡ l.cell-index % l.width;
   within : l.column < l.width;

@@ -7,4 +7,4 @@ use Rattle.pz_session.proofs.board.Board.turn.Goals as goal
 
 pub returns-clause-cancelled : goal.returns-clause-cancelled
 returns-clause-cancelled c =
-    subst (λ (s : State). IfOk c.step.result (λ end. has end.commands cancel ≡ true → end.level.grid ≡ s.level)) c.self.view_is (stays_cancelled _ _ _ _ _ c.step.ensures.end)
+    subst (λ (s : State). IfOk c.step_in.result (λ end. has end.commands cancel ≡ true → end.level.grid ≡ s.level)) c.self.view_is (stays_cancelled _ _ _ _ _ c.step_in.ensures.end)

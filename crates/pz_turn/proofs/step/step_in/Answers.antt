@@ -3,7 +3,7 @@ use Rattle.std.proofs.lemmas.Result.{err_from_is_err_and, IfOk-weaker}
 use Rattle.pz_game.specs.declared.commands.Commands.{Commands}
 use Rattle.pz_turn.specs.Step.{ended, with_cancel}
 use Rattle.pz_turn.proofs.Stepping.{step_stops, step_ends}
-use Rattle.pz_turn.proofs.step.step.Goals as goal
+use Rattle.pz_turn.proofs.step.step_in.Goals as goal
 
 pub returns-in_err-given-clause-fault : goal.returns-in_err-given-clause-fault
 returns-in_err-given-clause-fault c =
