@@ -1,6 +1,6 @@
 -- Hashes of instances: numbers that equal instances share, and few unequal ones do.
-use Rattle.std.specs.Prelude.{ℕ, ◌+◌, ◌*◌, ◌/◌, ◌%◌, ◌^◌, List, fold}
-use Rattle.std.specs.Int.RustNames.{bit_and, bit_or, bit_xor}
+use Rattle.std.specs.Prelude.{ℕ, ◌+◌, ◌*◌, ◌/◌, ◌%◌, ◌^◌, List, [], ◌∷◌, fold, if◌then◌else◌}
+use Rattle.std.specs.Int.RustNames.{bit_xor}
 use Rattle.pz_game.specs.declared.direction.Dir.{Dir}
 use Rattle.pz_game.specs.declared.direction.Dir.TheVariants.{Up, Down, Left, Right, Action}
 use Rattle.pz_instances.specs.declared.hashes.TheConstants.{SPREADER}
@@ -8,6 +8,7 @@ use Rattle.pz_game.specs.declared.pattern.Word.{Word}
 use Rattle.pz_game.specs.declared.pattern.Word.TheVariants.{Present, Still, Toward, Absent}
 use Rattle.pz_game.specs.declared.pattern.Item.{Item}
 use Rattle.pz_game.specs.declared.instance.Instance.{Instance}
+use Rattle.pz_instances.specs.Equal.{has_item}
 use Rattle.pz_game.specs.Pattern.{RuleRow}
 
 abbrev pub direction_number : Dir → ℕ
@@ -33,16 +34,13 @@ spread number = spread_once (bit_xor (spread_once number) (spread_once number / 
 unfoldable pub item_hash : Item → ℕ
 item_hash item = spread ((item.object * 8 % 2 ^ 64 + word_number item.word) % 2 ^ 64)
 
--- some of the bits of a word, a quarter of them
-unfoldable pub item_bits : Item → ℕ
-item_bits item = let hash = item_hash item in bit_and hash (spread hash)
-
--- the bits of all items: they tell neither the order of the items nor how often one stands there
-unfoldable pub cell_bits : List Item → ℕ
-cell_bits items = fold (λ bits item. bit_or bits (item_bits item)) 0 items
+-- of an item that stands in a cell more than once, one counts
+abbrev pub cell_hash : List Item → ℕ
+cell_hash [] = 0
+cell_hash (x ∷ xs) = if has_item xs x then cell_hash xs else bit_xor (item_hash x) (cell_hash xs)
 
 unfoldable pub with_cell : ℕ → List Item → ℕ
-with_cell hash cell = spread_once (bit_xor hash (cell_bits cell))
+with_cell hash cell = spread_once (bit_xor hash (cell_hash cell))
 
 unfoldable pub with_row : ℕ → RuleRow → ℕ
 with_row hash row = fold with_cell hash row.cells

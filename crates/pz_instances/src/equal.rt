@@ -25,7 +25,7 @@ fn same_item(a: &Item, b: &Item) -> bool
 
 /// Whether an item is among those of a cell.
 #[tactic(auto, unfolding(crate::specs::Equal::has_item))]
-fn has_item(items: &[Item], item: &Item) -> bool
+pub fn has_item(items: &[Item], item: &Item) -> bool
     ensures { result ≡ has_item items.now item.now }
 {
     items.iter().any(|x| same_item(x, item))

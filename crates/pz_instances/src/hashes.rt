@@ -1,8 +1,9 @@
 //! Hashes of instances: equal instances have the same hash, and few unequal ones do.
 
 ghost use Rattle.std.specs.Prelude.{◌≡◌, fold};
-ghost use Rattle.pz_instances.specs.Hashes.{direction_number, word_number, spread, item_hash, item_bits, cell_bits, with_cell, with_row, hash_of};
+ghost use Rattle.pz_instances.specs.Hashes.{direction_number, word_number, spread, item_hash, cell_hash, with_cell, with_row, hash_of};
 
+use crate::equal::has_item;
 use pz_game::direction::Dir;
 use pz_game::instance::Instance;
 use pz_game::pattern::{Item, Pattern, Row, Word};
@@ -54,21 +55,19 @@ pub fn item_hash(item: &Item) -> u64
     )
 }
 
-/// Some bits for an item, a quarter of a word's.
-#[tactic(auto, unfolding(crate::specs::Hashes::item_bits))]
-fn item_bits(item: &Item) -> u64
-    ensures { result ≡ item_bits item.now }
+/// The hash of a cell: it doesn't tell the order of the items, nor how often one stands there.
+fn cell_hash(items: &[Item]) -> u64
+    ensures { result ≡ cell_hash items.now }
 {
-    let hash = item_hash(item);
-    hash & spread(hash)
-}
-
-/// The bits of a cell's items: they tell neither the order of the items nor how often one stands there.
-#[tactic(auto, unfolding(crate::specs::Hashes::cell_bits))]
-fn cell_bits(items: &[Item]) -> u64
-    ensures { result ≡ cell_bits items.now }
-{
-    items.iter().fold(0, |bits, item| bits | item_bits(item))
+    let mut hash = 0;
+    let mut rest = items;
+    while let Some((item, others)) = rest.split_first() {
+        if !has_item(others, item) {
+            hash ^= item_hash(item);
+        }
+        rest = others;
+    }
+    hash
 }
 
 /// The hash of some cells, and of one more behind them.
@@ -76,7 +75,7 @@ fn cell_bits(items: &[Item]) -> u64
 fn with_cell(hash: u64, cell: &Pattern) -> u64
     ensures { result ≡ with_cell hash cell.now }
 {
-    (hash ^ cell_bits(cell.items())).wrapping_mul(SPREADER)
+    (hash ^ cell_hash(cell.items())).wrapping_mul(SPREADER)
 }
 
 #[tactic(auto, unfolding(crate::specs::Hashes::with_row))]

@@ -1,4 +1,4 @@
-use Rattle.std.proofs.Common.{◌≡◌, length, ap, sym, ◌∙◌}
+use Rattle.std.proofs.Common.{length, ap, sym, ◌∙◌}
 use Rattle.std.specs.List.{list_all, zip}
 use Rattle.pz_instances.specs.Equal.{same_cell, same_row}
 use Rattle.pz_instances.proofs.EqualLemmas.{pointwise-zip}
