@@ -52,11 +52,11 @@ module _ (N width height depth : ℕ) (layers : List ℕ) (sets : List (List ℕ
       let met = met_all depth layers cell.objects cell.movement pattern s.layered (s.sound at (no_cell N) there) are (ap (λ places. pattern_holds places pattern) here ∙ holds) in
       met.present item.object (list_any_at (λ (it : Item). names it.word && nat_eq it.object item.object) pattern k other within (ap (λ (b : Bool). b && nat_eq item.object item.object) named ∙ eq-eqb item.object item.object refl))
 
-  noted_in_row : (x y : ℕ) → x < width → y < height → x < 128 → (pattern : List Item) → AreOf layers pattern → pattern_holds (cell_at grid x y) pattern ≡ true → MayHold planes.rows y x pattern
+  pub noted_in_row : (x y : ℕ) → x < width → y < height → x < 128 → (pattern : List Item) → AreOf layers pattern → pattern_holds (cell_at grid x y) pattern ≡ true → MayHold planes.rows y x pattern
   noted_in_row x y x_in y_in small pattern are holds k other within named =
       (p.there x y (no_cell N) x_in y_in (get_or pattern k other).object (stands_here x y x_in y_in pattern are holds k other within named)).row small
 
-  noted_in_column : (x y : ℕ) → x < width → y < height → y < 128 → (pattern : List Item) → AreOf layers pattern → pattern_holds (cell_at grid x y) pattern ≡ true → MayHold planes.columns x y pattern
+  pub noted_in_column : (x y : ℕ) → x < width → y < height → y < 128 → (pattern : List Item) → AreOf layers pattern → pattern_holds (cell_at grid x y) pattern ≡ true → MayHold planes.columns x y pattern
   noted_in_column x y x_in y_in small pattern are holds k other within named =
       (p.there x y (no_cell N) x_in y_in (get_or pattern k other).object (stands_here x y x_in y_in pattern are holds k other within named)).column small
 

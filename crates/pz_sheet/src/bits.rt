@@ -39,6 +39,14 @@ pub(crate) fn back(set: u128, steps: usize) -> u128
     set << steps
 }
 
+/// Whether a position is in the set.
+pub(crate) fn has(set: u128, at: u32) -> bool
+    requires { at < 128 }
+    ensures { result ≡ in_word set at }
+{
+    set >> at & 1 == 1
+}
+
 /// The first position of a set from one on and below an end.
 pub(crate) fn next(set: u128, from: u32, end: u32) -> Option<u32>
     requires { end ≤ 128 }
