@@ -9,10 +9,10 @@ index-requires-2 g c =
       size = c.requires.size;
       is = ap (λ (s : BareState). s.grid) c.self.view_is;
       is_other = ap (λ (s : BareState). s.grid) c.other.view_is;
-      covers = c.self.invariant.covers;
-      covers_other = c.other.invariant.covers;
-      sound = c.self.invariant.sound;
-      sound_other = c.other.invariant.sound;
+      covers = c.self.invariant.stored.covers;
+      covers_other = c.other.invariant.stored.covers;
+      sound = c.self.invariant.stored.sound;
+      sound_other = c.other.invariant.stored.sound;
       within = c.requires.within;
     } in
     omega (arith, in_second _ _ _ _ _ _ _ _ _ _ _ _ _ _ both)
@@ -23,10 +23,10 @@ returns g c =
       size = c.requires.size;
       is = ap (λ (s : BareState). s.grid) c.self.view_is;
       is_other = ap (λ (s : BareState). s.grid) c.other.view_is;
-      covers = c.self.invariant.covers;
-      covers_other = c.other.invariant.covers;
-      sound = c.self.invariant.sound;
-      sound_other = c.other.invariant.sound;
+      covers = c.self.invariant.stored.covers;
+      covers_other = c.other.invariant.stored.covers;
+      sound = c.self.invariant.stored.sound;
+      sound_other = c.other.invariant.stored.sound;
       within = c.requires.within;
     } in
-    same_there _ _ _ _ _ _ _ _ _ _ _ _ _ _ both c.index.result.now c.index-2.result.now c.same.result c.self.invariant.layered c.index.ensures c.index-2.ensures c.same.ensures
+    same_there _ _ _ _ _ _ _ _ _ _ _ _ _ _ both c.index.result.now c.index-2.result.now c.same.result c.self.invariant.stored.layered c.index.ensures c.index-2.ensures c.same.ensures

@@ -12,10 +12,10 @@ index-cell-requires g c =
       size = c.requires.size;
       is = ap (λ (s : BareState). s.grid) c.self.view_is;
       is_other = ap (λ (s : BareState). s.grid) c.other.view_is;
-      covers = c.self.invariant.covers;
-      covers_other = c.other.invariant.covers;
-      sound = c.self.invariant.sound;
-      sound_other = c.other.invariant.sound;
+      covers = c.self.invariant.stored.covers;
+      covers_other = c.other.invariant.stored.covers;
+      sound = c.self.invariant.stored.sound;
+      sound_other = c.other.invariant.stored.sound;
       within = c.requires.within;
     } in
     omega (arith, in_second _ _ _ _ _ _ _ _ _ _ _ _ _ _ both)
@@ -26,14 +26,14 @@ take_change-requires g c =
       size = c.requires.size;
       is = ap (λ (s : BareState). s.grid) c.self.view_is;
       is_other = ap (λ (s : BareState). s.grid) c.other.view_is;
-      covers = c.self.invariant.covers;
-      covers_other = c.other.invariant.covers;
-      sound = c.self.invariant.sound;
-      sound_other = c.other.invariant.sound;
+      covers = c.self.invariant.stored.covers;
+      covers_other = c.other.invariant.stored.covers;
+      sound = c.self.invariant.stored.sound;
+      sound_other = c.other.invariant.stored.sound;
       within = c.requires.within;
     } in
     let e = ap (λ (s : BareState). s.grid) c.self.view_is in
-    (omega arith, (small_change _ c.self.invariant.short, record { within = c.requires.within; sound = subst (λ (grid : Grid). IsSound g.row.N grid.layers c.index-cell.result.now) e (sound_there _ _ _ _ _ _ _ _ _ _ _ _ _ _ both c.index-cell.result.now c.index-cell.ensures) }))
+    (omega arith, (small_change _ c.self.invariant.stored.short, record { within = c.requires.within; sound = subst (λ (grid : Grid). IsSound g.row.N grid.layers c.index-cell.result.now) e (sound_there _ _ _ _ _ _ _ _ _ _ _ _ _ _ both c.index-cell.result.now c.index-cell.ensures) }))
 
 pub returns : goal.returns
 returns g c =
@@ -41,10 +41,10 @@ returns g c =
       size = c.requires.size;
       is = ap (λ (s : BareState). s.grid) c.self.view_is;
       is_other = ap (λ (s : BareState). s.grid) c.other.view_is;
-      covers = c.self.invariant.covers;
-      covers_other = c.other.invariant.covers;
-      sound = c.self.invariant.sound;
-      sound_other = c.other.invariant.sound;
+      covers = c.self.invariant.stored.covers;
+      covers_other = c.other.invariant.stored.covers;
+      sound = c.self.invariant.stored.sound;
+      sound_other = c.other.invariant.stored.sound;
       within = c.requires.within;
     } in
     let e = ap (λ (s : BareState). s.grid) c.self.view_is in
