@@ -15,7 +15,7 @@ use Rattle.pz_grid.specs.Places.{position_of, still_matches}
 use Rattle.pz_grid.specs.Rewriting.{Rewriting, in_rewrite, rewritten_at, rewritten_along, rewritten_row, rewritten}
 use Rattle.pz_cells.specs.Rewriting.{rewritten_cell}
 use Rattle.pz_cells.specs.Sameness.{same_cell}
-use Rattle.pz_grid.proofs.SameLemmas.{same_cell_is}
+use Rattle.pz_cells.proofs.SameLemmas.{same_cell_is}
 use Rattle.pz_turn.specs.declared.outcome.StepFault.{StepFault}
 use Rattle.pz_turn.specs.Combinations.{combinations}
 use Rattle.pz_turn.specs.declared.outcome.Given.{Given}
