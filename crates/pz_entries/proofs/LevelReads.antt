@@ -16,7 +16,7 @@ use Rattle.pz_record.specs.LevelNames.{chosen_from, standing_names, sets_in}
 use Rattle.pz_record.specs.LevelText.{joined, text_of_cells, HasNoComma}
 use Rattle.pz_entries.specs.Reading.{reading, plain}
 use Rattle.pz_entries.proofs.Joining.{AreGameNames, set_reads}
-use Rattle.pz_record.proofs.Ordered.{texts_in}
+use Rattle.pz_record.specs.Labels.{texts_in}
 use Rattle.pz_entries.proofs.RoundTrip.{round_trip, all_append}
 use Rattle.pz_record.proofs.Sets.{all_of}
 

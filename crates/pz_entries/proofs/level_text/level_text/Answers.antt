@@ -3,7 +3,8 @@ use Rattle.pz_record.specs.LevelText.{text_of_level}
 use Rattle.pz_record.specs.Labels.{WriterView}
 use Rattle.pz_entries.specs.Reading.{reading}
 use Rattle.pz_entries.proofs.LevelReads.{level_reads}
-use Rattle.pz_record.proofs.Ordered.{texts_in, length-texts_in}
+use Rattle.pz_record.specs.Labels.{texts_in}
+use Rattle.pz_record.proofs.Ordered.{length-texts_in}
 use Rattle.pz_entries.proofs.level_text.level_text.Goals as goal
 
 pub returns-clause-reads_back : goal.returns-clause-reads_back
