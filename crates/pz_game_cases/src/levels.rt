@@ -140,12 +140,19 @@ fn moves_the_player(rt: HostRuntime) -> Result<(), Fail> {
     Ok(())
 }
 
+/// Keeps a level, which goes by a call.
+fn keep(past: &mut Past, level: Level) -> Result<(), Fail> {
+    let kept = past.push(&level);
+    drop(level);
+    Ok(kept?)
+}
+
 /// The level as it is loaded, pushed and moved, kept one after another.
 fn kept(alloc: Global, game: &Game) -> Result<Past, Fail> {
     let mut past = Past::new(alloc);
-    past.push(&loaded(alloc, game)?)?;
-    past.push(&pushed(alloc, game)?)?;
-    past.push(&moved(alloc, game)?)?;
+    keep(&mut past, loaded(alloc, game)?)?;
+    keep(&mut past, pushed(alloc, game)?)?;
+    keep(&mut past, moved(alloc, game)?)?;
     Ok(past)
 }
 
