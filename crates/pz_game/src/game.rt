@@ -17,7 +17,6 @@ use std::marker::Model;
 /// What a game is made of: the names of its objects, in the order of OBJECTS; all its names, in the order of first mention, and what
 /// each denotes; the collision layer of each object, and the number of layers; the lines of RULES and WINCONDITIONS; the entries of
 /// LEVELS; and its options.
-#[derive(Drop)]
 pub struct GameParts {
     pub objects: Listed<Name>,
     pub names: NameSet,
@@ -28,6 +27,30 @@ pub struct GameParts {
     pub wins: Listed<WinLine>,
     pub levels: Listed<LevelEntry>,
     pub options: Options,
+}
+
+/// Written out, so that each place where one goes out of scope is one call.
+impl Drop for GameParts {
+    fn drop(self) {
+        let GameParts {
+            objects,
+            names,
+            values,
+            layers,
+            depth: _,
+            rules,
+            wins,
+            levels,
+            options: _,
+        } = self;
+        drop(objects);
+        drop(names);
+        drop(values);
+        drop(layers);
+        drop(rules);
+        drop(wins);
+        drop(levels);
+    }
 }
 
 /// A game, which contracts see as its parts.

@@ -10,12 +10,25 @@ use pz_base::listed::Listed;
 
 /// A rule for one direction and one choice of members and words: its rows, scanned for in one direction, and the commands
 /// that it gives.
-#[derive(Drop)]
 pub struct Instance {
     pub scan: Dir,
     pub left: Rows,
     pub right: Rows,
     pub commands: Commands,
+}
+
+/// Written out, so that each place where one goes out of scope is one call.
+impl Drop for Instance {
+    fn drop(self) {
+        let Instance {
+            scan: _,
+            left,
+            right,
+            commands: _,
+        } = self;
+        drop(left);
+        drop(right);
+    }
 }
 
 /// Groups that are run together to rest.
@@ -32,10 +45,18 @@ pub enum Block {
 pub type Blocks = Listed<Block>;
 
 /// What a game's rules are: the blocks before the movement and those after it.
-#[derive(Drop)]
 pub struct Program {
     pub early: Blocks,
     pub late: Blocks,
+}
+
+/// Written out, so that each place where one goes out of scope is one call.
+impl Drop for Program {
+    fn drop(self) {
+        let Program { early, late } = self;
+        drop(early);
+        drop(late);
+    }
 }
 
 impl Program {

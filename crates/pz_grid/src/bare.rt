@@ -27,11 +27,21 @@ use std::alloc::{AllocError, Global};
 use std::marker::Model;
 
 /// The cells of a level: of a game of up to 128 objects and 25 layers, of up to 256 and 50, or of more.
-#[derive(Drop)]
 pub(crate) enum Sized {
     Small(Sheet<1>),
     Middle(Sheet<2>),
     Large(Sheet<4>),
+}
+
+/// Written out, as for a sheet.
+impl Drop for Sized {
+    fn drop(self) {
+        match self {
+            Sized::Small(sheet) => drop(sheet),
+            Sized::Middle(sheet) => drop(sheet),
+            Sized::Large(sheet) => drop(sheet),
+        }
+    }
 }
 
 /// A level without its marks.

@@ -37,12 +37,26 @@ pub use seen::SeenLevel;
 
 /// A level: what stands in its cells, and its marks: for each row, for each column and for the whole a set of objects that holds at least
 /// those that stand there.
-#[derive(Drop)]
 pub struct Level {
     bare: BareLevel,
     row_marks: Vec<NumberSet>,
     column_marks: Vec<NumberSet>,
     level_marks: NumberSet,
+}
+
+/// Written out, as for a sheet.
+impl Drop for Level {
+    fn drop(self) {
+        let Level {
+            bare,
+            row_marks,
+            column_marks,
+            level_marks: _,
+        } = self;
+        drop(bare);
+        drop(row_marks);
+        drop(column_marks);
+    }
 }
 
 impl Model for Level {

@@ -12,10 +12,18 @@ use std::marker::Model;
 
 /// Levels that were, to be taken back from the newest to the oldest. The newest is kept whole, and of each before it only the cells in
 /// which it differs from the one after it.
-#[derive(Drop)]
 pub struct Past {
     newest: Option<BareLevel>,
     before: Vec<Older>,
+}
+
+/// Written out, so that each place where one goes out of scope is one call.
+impl Drop for Past {
+    fn drop(self) {
+        let Past { newest, before } = self;
+        drop(newest);
+        drop(before);
+    }
 }
 
 impl Model for Past {

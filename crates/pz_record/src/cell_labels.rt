@@ -17,12 +17,25 @@ use std::alloc::{AllocError, Global};
 use std::marker::Model;
 
 /// The labels of the cells of the last level in an order, and the texts of the sets that were met.
-#[derive(Drop)]
 pub(crate) struct CellLabels<'a> {
     alloc: Global,
     order: Order,
     table: LabelTable<'a>,
     labels: Vec<usize>,
+}
+
+/// Written out, so that each place where one goes out of scope is one call.
+impl Drop for CellLabels<'_> {
+    fn drop(self) {
+        let CellLabels {
+            alloc: _,
+            order: _,
+            table,
+            labels,
+        } = self;
+        drop(table);
+        drop(labels);
+    }
 }
 
 impl<'a> Model for CellLabels<'a> {

@@ -17,12 +17,26 @@ use std::marker::Model;
 
 /// The texts of the sets of a game's objects that were met. Where a set stands among the known ones is a hint: it is looked at
 /// before it is believed.
-#[derive(Drop)]
 pub(crate) struct LabelTable<'a> {
     game: &'a Game,
     texts: KnownTexts,
     known: Vec<LabelledSet>,
     places: HashMap<NumberSet, usize>,
+}
+
+/// Written out, so that each place where one goes out of scope is one call.
+impl Drop for LabelTable<'_> {
+    fn drop(self) {
+        let LabelTable {
+            game: _,
+            texts,
+            known,
+            places,
+        } = self;
+        drop(texts);
+        drop(known);
+        drop(places);
+    }
 }
 
 impl<'a> Model for LabelTable<'a> {

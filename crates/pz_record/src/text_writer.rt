@@ -17,13 +17,28 @@ use std::marker::Model;
 /// Writes the texts of the levels of a game, its cells in an order. It remembers what it met: the sets of objects, the last level as it was
 /// seen, and its text. So only the cells that changed since are looked at, and the text of a level of which no cell changed is copied. The
 /// room has that text if `last` has the width of its level.
-#[derive(Drop)]
 pub struct TextWriter<'a> {
     alloc: Global,
     cells: CellLabels<'a>,
     seen: Option<SeenLevel>,
     room: TextRoom,
     last: Option<u32>,
+}
+
+/// Written out, so that each place where one goes out of scope is one call.
+impl Drop for TextWriter<'_> {
+    fn drop(self) {
+        let TextWriter {
+            alloc: _,
+            cells,
+            seen,
+            room,
+            last: _,
+        } = self;
+        drop(cells);
+        drop(seen);
+        drop(room);
+    }
 }
 
 impl<'a> Model for TextWriter<'a> {

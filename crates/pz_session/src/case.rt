@@ -5,8 +5,16 @@ use crate::plan::Plan;
 use pz_base::text::Text;
 
 /// A session of a job: its name, and what is needed to play it, or why it is refused.
-#[derive(Drop)]
 pub struct Case {
     pub name: Text,
     pub plan: Result<Plan, Refusal>,
+}
+
+/// Written out, so that each place where one goes out of scope is one call.
+impl Drop for Case {
+    fn drop(self) {
+        let Case { name, plan } = self;
+        drop(name);
+        drop(plan);
+    }
 }

@@ -17,13 +17,28 @@ use std::sync::Arc;
 
 /// A session that can be played: its game with its rules, which the sessions of one source share, the number of the entry of
 /// LEVELS at which it starts, its inputs, and its recorded level with the order of that level's cells.
-#[derive(Drop)]
 pub struct Plan {
     rulebook: Arc<Rulebook>,
     first: usize,
     inputs: Inputs,
     recorded: Recorded,
     order: Order,
+}
+
+/// Written out, so that each place where one goes out of scope is one call.
+impl Drop for Plan {
+    fn drop(self) {
+        let Plan {
+            rulebook,
+            first: _,
+            inputs,
+            recorded,
+            order: _,
+        } = self;
+        drop(rulebook);
+        drop(inputs);
+        drop(recorded);
+    }
 }
 
 impl Model for Plan {

@@ -8,10 +8,18 @@ use pz_base::text::Text;
 use std::marker::Model;
 
 /// What one session showed: its name and its items, the close among them.
-#[derive(Drop)]
 pub struct Record {
     pub name: Text,
     pub items: Listed<Item>,
+}
+
+/// Written out, so that each place where one goes out of scope is one call.
+impl Drop for Record {
+    fn drop(self) {
+        let Record { name, items } = self;
+        drop(name);
+        drop(items);
+    }
 }
 
 /// What every session of a job showed, by session number.

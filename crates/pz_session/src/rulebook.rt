@@ -10,10 +10,18 @@ use std::marker::Model;
 use std::sync::Arc;
 
 /// A game and the program of its rules. The sessions of one source share it, and games with the same program share that.
-#[derive(Drop)]
 pub struct Rulebook {
     game: Game,
     program: Arc<Program>,
+}
+
+/// Written out, so that each place where one goes out of scope is one call.
+impl Drop for Rulebook {
+    fn drop(self) {
+        let Rulebook { game, program } = self;
+        drop(game);
+        drop(program);
+    }
 }
 
 impl Model for Rulebook {

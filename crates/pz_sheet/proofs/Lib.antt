@@ -12,3 +12,7 @@ pub mod HoldingLemmas
 pub mod BitLemmas
 pub mod PlaneLemmas
 pub mod StartLemmas
+pub mod ArriveLemmas
+pub mod CopyLemmas
+pub mod NoteLemmas
+pub mod NextLemmas

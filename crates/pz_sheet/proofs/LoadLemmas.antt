@@ -84,3 +84,8 @@ stored_drawn N game drawing width height depth layers layers_read sets cells not
 } where
   long : length layers ≡ length game.layers
   long = ap length is_layers
+
+-- the objects of a level as it is drawn are those of its game
+pub of_game_read : (N count : ℕ) (layers : List ℕ) (cells cells_read : List (Cell N)) → count ≡ length layers → cells_read ≡ cells → All (IsSound N layers) cells → All (λ (cell : Cell N). (object : ℕ) → member cell.objects object ≡ true → object < count) cells_read
+of_game_read N count layers cells cells_read is same sound =
+    subst (All (λ (cell : Cell N). (object : ℕ) → member cell.objects object ≡ true → object < count)) (sym same) (λ k d within object e. omega (arith, (sound k d within).of_game object e, is))

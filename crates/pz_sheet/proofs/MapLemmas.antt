@@ -1,5 +1,5 @@
 -- The cells of a level in words are changed one by one.
-use Rattle.std.proofs.Common.{◌≡◌, ℕ, ◌+◌, ◌<◌, ◌≤◌, List, [], ◌∷◌, ◌++◌, Option, Some, None, Bool, true, false, map, set, take, drop, length, get_or, ap, sym, ◌∙◌, refl, subst, arith, length-append, length-drop, length-take}
+use Rattle.std.proofs.Common.{◌≡◌, ℕ, ◌+◌, ◌*◌, ◌<◌, ◌≤◌, List, [], ◌∷◌, ◌++◌, Option, Some, None, Bool, true, false, map, set, take, drop, length, get_or, ap, sym, ◌∙◌, refl, subst, arith, length-append, length-drop, length-take}
 use Rattle.std.proofs.lemmas.List.{length-map, get_or-map, map-set, take_all, drop_all}
 use Rattle.std.proofs.lemmas.List.Edits.{map_over_more}
 use Rattle.std.proofs.lemmas.List.Elements.{All-set}
@@ -95,3 +95,17 @@ sound_read N layers layers_read cells same sound = subst (λ (all : List ℕ). A
 pub noted_read : (N width height wide high : ℕ) (notes : HeadingSets) (cells cells_read : List (Cell N)) → wide ≡ width → high ≡ height → cells_read ≡ cells → AreNoted N wide high notes cells_read → AreNoted N width height notes cells
 noted_read N width height wide high notes cells cells_read is_width is_height same noted =
     subst (λ (w : ℕ). AreNoted N w height notes cells) is_width (subst (λ (h : ℕ). AreNoted N wide h notes cells) is_height (subst (AreNoted N wide high notes) same noted))
+
+-- the number of a cell is one of those whose headings are noted
+pub noted_within : (N width height at : ℕ) (notes : HeadingSets) (cells : List (Cell N)) → AreNoted N width height notes cells → length cells ≡ width * height → at < length cells → at < length notes.columns * length notes.rows
+noted_within N width height at notes cells noted covers within =
+    let product : length notes.columns * length notes.rows ≡ width * height = ap (λ (w : ℕ). w * length notes.rows) noted.column_count ∙ ap (λ (h : ℕ). width * h) noted.row_count in
+    omega (arith, within, covers, product)
+
+pub noted_covers : (N width height count : ℕ) (notes : HeadingSets) (cells : List (Cell N)) → AreNoted N width height notes cells → count ≡ width * height → count ≡ length notes.columns * length notes.rows
+noted_covers N width height count notes cells noted covers =
+    covers ∙ sym (ap (λ (w : ℕ). w * length notes.rows) noted.column_count ∙ ap (λ (h : ℕ). width * h) noted.row_count)
+
+pub all_mapped_long : (N depth : ℕ) (layers : List ℕ) (f : List (Option Piece) → List (Option Piece)) (old new : List (Cell N)) → AreMapped N depth layers f old new → length new ≡ length old
+all_mapped_long N depth layers f old new mapped =
+    sym (length-map new (seen N depth layers)) ∙ (ap length mapped.cells ∙ (length-map (map (seen N depth layers) old) f ∙ length-map old (seen N depth layers)))

@@ -3,6 +3,10 @@
 ghost use Rattle.std.specs.Prelude.{◌≡◌, ◌≤◌, length, vec_capacity, IfOk, OnOk, OnErr};
 
 use crate::Sheet;
+use crate::notes::Notes;
+use crate::planes::Planes;
+use pz_cells::cell::Cell;
+use pz_sets::set::NumberSet;
 use std::alloc::AllocError;
 
 impl<const N: usize> Sheet<N> {
@@ -34,11 +38,15 @@ impl<const N: usize> Sheet<N> {
         ensures copied { OnOk result (self.new.grid ≡ other.now.grid) }
         ensures kept { OnErr result (self.new.grid ≡ self.old.grid) }
     {
-        make_room(&mut self.layers, other.layers.len())?;
-        make_room(&mut self.sets, other.sets.len())?;
-        make_room(&mut self.cells, other.cells.len())?;
-        let planes = other.planes.copy()?;
-        self.notes.copy_from(&other.notes)?;
+        make_rooms(
+            &mut self.layers,
+            &mut self.sets,
+            &mut self.cells,
+            other.layers.len(),
+            other.sets.len(),
+            other.cells.len(),
+        )?;
+        let planes = renew(&mut self.notes, &other.notes, &other.planes)?;
         self.planes = planes;
         self.width = other.width;
         self.height = other.height;
@@ -48,6 +56,36 @@ impl<const N: usize> Sheet<N> {
         refill(&mut self.cells, &other.cells);
         Ok(())
     }
+}
+
+/// Makes room in each list for so many items in all. Err: memory was refused.
+fn make_rooms<const N: usize>(
+    layers: &mut Vec<usize>,
+    sets: &mut Vec<NumberSet>,
+    cells: &mut Vec<Cell<N>>,
+    layer_count: usize,
+    set_count: usize,
+    cell_count: usize,
+) -> Result<(), AllocError>
+    ensures layers { layers.new.items ≡ layers.old.items }
+    ensures sets { sets.new.items ≡ sets.old.items }
+    ensures cells { cells.new.items ≡ cells.old.items }
+    ensures room { OnOk result ((layer_count ≤ vec_capacity layers.new) × (set_count ≤ vec_capacity sets.new) × (cell_count ≤ vec_capacity cells.new)) }
+{
+    make_room(layers, layer_count)?;
+    make_room(sets, set_count)?;
+    make_room(cells, cell_count)
+}
+
+/// Makes notes the same as others, and copies what is noted of the objects. Err: memory was refused, and the notes are as they were.
+fn renew(notes: &mut Notes, other: &Notes, planes: &Planes) -> Result<Planes, AllocError>
+    ensures planes { IfOk result (λ copy. copy ≡ planes.now) }
+    ensures copied { OnOk result (notes.new ≡ other.now) }
+    ensures kept { OnErr result (notes.new ≡ notes.old) }
+{
+    let copy = planes.copy()?;
+    notes.copy_from(other)?;
+    Ok(copy)
 }
 
 /// Makes room for so many items in all. Err: memory was refused.

@@ -29,7 +29,6 @@ mod searching;
 
 /// The cells of a level, in `N` words for the objects and `N` for their headings, with the sets of the objects of the game's layers, and
 /// what is noted of where the cells head and where the objects stand.
-#[derive(Drop)]
 pub struct Sheet<const N: usize> {
     width: u32,
     height: u32,
@@ -39,6 +38,27 @@ pub struct Sheet<const N: usize> {
     cells: Vec<Cell<N>>,
     notes: Notes,
     planes: Planes,
+}
+
+/// Written out, so that each place where a sheet goes out of scope is one call, and not the ways through all its fields.
+impl<const N: usize> Drop for Sheet<N> {
+    fn drop(self) {
+        let Sheet {
+            width: _,
+            height: _,
+            depth: _,
+            layers,
+            sets,
+            cells,
+            notes,
+            planes,
+        } = self;
+        drop(layers);
+        drop(sets);
+        drop(cells);
+        drop(notes);
+        drop(planes);
+    }
 }
 
 impl<const N: usize> Model for Sheet<N> {

@@ -33,10 +33,8 @@ impl<const N: usize> Sheet<N> {
         let cells = glyph_cells(alloc, game, &sets, drawing.cells())?;
         let width = drawing.width();
         let height = drawing.height();
-        let mut notes = Notes::empty(alloc, width as usize, height as usize)?;
-        notes.renew(&cells);
-        let mut planes = Planes::empty(alloc, layers.len(), width as usize, height as usize)?;
-        planes.note_all(&cells);
+        let notes = Notes::of(alloc, width as usize, height as usize, &cells)?;
+        let planes = Planes::of(alloc, layers.len(), width as usize, height as usize, &cells)?;
         Ok(Sheet {
             width,
             height,

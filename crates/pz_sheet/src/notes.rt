@@ -11,11 +11,23 @@ use std::alloc::{AllocError, Global};
 use std::marker::Model;
 
 /// At least the headings of all cells of a level, of those of each row and of those of each column.
-#[derive(Drop)]
 pub(crate) struct Notes {
     whole: NumberSet,
     rows: Vec<NumberSet>,
     columns: Vec<NumberSet>,
+}
+
+/// Written out, as for a sheet.
+impl Drop for Notes {
+    fn drop(self) {
+        let Notes {
+            whole: _,
+            rows,
+            columns,
+        } = self;
+        drop(rows);
+        drop(columns);
+    }
 }
 
 impl Model for Notes {
@@ -28,7 +40,7 @@ impl Model for Notes {
 
 impl Notes {
     /// No headings at all. Err: memory was refused.
-    pub(crate) fn empty(alloc: Global, width: usize, height: usize) -> Result<Notes, AllocError>
+    fn empty(alloc: Global, width: usize, height: usize) -> Result<Notes, AllocError>
         ensures rows { IfOk result (λ notes. length notes.rows ≡ height) }
         ensures columns { IfOk result (λ notes. length notes.columns ≡ width) }
     {
@@ -39,6 +51,22 @@ impl Notes {
             rows,
             columns,
         })
+    }
+
+    /// Where these cells head. Err: memory was refused.
+    pub(crate) fn of<const N: usize>(
+        alloc: Global,
+        width: usize,
+        height: usize,
+        cells: &[Cell<N>],
+    ) -> Result<Notes, AllocError>
+        requires short { N ≤ 4 }
+        requires covers { length cells.now ≡ width * height }
+        ensures { IfOk result (λ notes. AreNoted N width height notes cells.now) }
+    {
+        let mut notes = Notes::empty(alloc, width, height)?;
+        notes.renew(cells);
+        Ok(notes)
     }
 
     /// The headings of all cells.

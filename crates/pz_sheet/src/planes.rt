@@ -4,7 +4,7 @@ ghost use Rattle.std.specs.Prelude.{◌≡◌, ℕ, ◌+◌, ◌*◌, ◌/◌, �
 ghost use Rattle.pz_game.specs.declared.limits.TheConstants.{MAX_OBJECTS, MAX_SIDE};
 ghost use Rattle.pz_game.specs.Items.{names};
 ghost use Rattle.pz_sets.specs.Sets.{in_word, member};
-ghost use Rattle.pz_sheet.specs.Planes.{LineSets, PlaneSets, stands_in, IsKept, AreKept, every, but, IsInside, IsKnown, AreKnown, IsThere, AreThere, AreAllThere, HaveSameLines, IsFor, AreItemsOf, MayHold, MayRunAhead, MayRunBack};
+ghost use Rattle.pz_sheet.specs.Planes.{LineSets, PlaneSets, stands_in, IsKept, AreKept, every, but, IsInside, IsKnown, AreKnown, IsThere, AreThere, AreAllThere, HaveSameLines, IsFor, ArePlaced, AreItemsOf, MayHold, MayRunAhead, MayRunBack};
 
 use crate::bits;
 use pz_cells::cell::Cell;
@@ -35,10 +35,18 @@ impl Model for LinePlanes {
 
 /// The same by rows and by columns. What is noted is exact where each change of a cell is noted; that it is at least what stands there is
 /// all that a search needs.
-#[derive(Drop)]
 pub(crate) struct Planes {
     rows: LinePlanes,
     columns: LinePlanes,
+}
+
+/// Written out, as for a sheet.
+impl Drop for Planes {
+    fn drop(self) {
+        let Planes { rows, columns } = self;
+        drop(rows);
+        drop(columns);
+    }
 }
 
 impl Model for Planes {
@@ -63,6 +71,13 @@ impl LinePlanes {
             count,
             words,
         })
+    }
+
+    /// The number of lines.
+    fn count(&self) -> usize
+        ensures { result ≡ self.now.count }
+    {
+        self.count
     }
 
     /// The number of the word of an object and a line.
@@ -172,7 +187,7 @@ impl LinePlanes {
 
 impl Planes {
     /// Nothing is noted. Err: memory was refused.
-    pub(crate) fn empty(
+    fn empty(
         alloc: Global,
         objects: usize,
         width: usize,
@@ -186,6 +201,27 @@ impl Planes {
         let rows = LinePlanes::empty(alloc, objects, height)?;
         let columns = LinePlanes::empty(alloc, objects, width)?;
         Ok(Planes { rows, columns })
+    }
+
+    /// The objects of these cells are noted. Err: memory was refused.
+    pub(crate) fn of<const N: usize>(
+        alloc: Global,
+        objects: usize,
+        width: usize,
+        height: usize,
+        cells: &[Cell<N>],
+    ) -> Result<Planes, AllocError>
+        requires few { objects ≤ MAX_OBJECTS }
+        requires narrow { width ≤ MAX_SIDE }
+        requires low { height ≤ MAX_SIDE }
+        requires short { N ≤ 4 }
+        requires covers { length cells.now ≡ width * height }
+        requires of_game { All (λ cell. (object : ℕ) → member cell.objects object ≡ true → object < objects) cells.now }
+        ensures { IfOk result (λ planes. ArePlaced N objects width height planes cells.now) }
+    {
+        let mut planes = Planes::empty(alloc, objects, width, height)?;
+        planes.note_all(cells);
+        Ok(planes)
     }
 
     /// The columns of each row at which objects stand.
@@ -299,7 +335,7 @@ impl Planes {
         ensures there { AreThere self.new (index % self.old.columns.count) (index / self.old.columns.count) after.now.objects }
         ensures kept { AreKept self.old self.new (index % self.old.columns.count) (index / self.old.columns.count) (member after.now.objects) }
     {
-        let width = self.columns.count;
+        let width = self.columns.count();
         self.note(index % width, index / width, before, after);
     }
 
@@ -311,7 +347,7 @@ impl Planes {
         ensures there { AreThere self.new (index % self.old.columns.count) (index / self.old.columns.count) cell.now.objects }
         ensures kept { AreKept self.old self.new (index % self.old.columns.count) (index / self.old.columns.count) every }
     {
-        let width = self.columns.count;
+        let width = self.columns.count();
         self.arrive(index % width, index / width, &cell.objects);
     }
 

@@ -1,32 +1,78 @@
-use Rattle.std.proofs.Common.{◌≡◌, ℕ, List, length, ◌∙◌, ap, sym, map, subst}
+use Rattle.std.proofs.Common.{◌≡◌, ◌<◌, ℕ, List, length, ◌∙◌, ap, sym, arith, map, refl, subst}
 use Rattle.std.specs.List.{All}
 use Rattle.pz_cells.specs.declared.cell.Cell.{Cell}
 use Rattle.pz_sheet.specs.Loading.{glyph_cell}
-use Rattle.pz_sheet.specs.Planes.{AreKnown, AreAllThere, IsFor}
-use Rattle.pz_sheet.proofs.SheetLemmas.{small_cell}
+use Rattle.pz_sheet.specs.Planes.{ArePlaced}
+use Rattle.pz_sheet.proofs.SheetLemmas.{small_cell, IsTable}
 use Rattle.pz_sheet.proofs.MapLemmas.{noted_read}
-use Rattle.pz_sheet.proofs.LoadLemmas.{stored_drawn, drawn_covers}
-use Rattle.pz_sheet.proofs.PlaneLemmas.{covers_all, all_known, placed_all}
+use Rattle.pz_sheet.proofs.LoadLemmas.{stored_drawn, drawn_covers, of_game_read}
 use Rattle.pz_sheet.proofs.Sheet.drawn.Goals as goal
 
-pub note_all-requires : goal.note_all-requires
-note_all-requires g c =
+pub glyph_cells-requires : goal.glyph_cells-requires
+glyph_cells-requires g c =
+    let game = c.args.game.now in
+    let sets = c.deref.result.now in
+    let read : IsTable c.layers-2.result.now sets = subst (λ (all : List (List ℕ)). IsTable c.layers-2.result.now all) (sym c.deref.ensures.value) c.in_ok-sets.ensures.table in (
+      small_cell _ c.requires.short,
+      (
+        c.requires.short,
+        (
+          c.requires.room,
+          (
+            c.requires.movement_room,
+            (
+              c.deref.ensures.len ∙ (c.in_ok-sets.sets.ok.0 ∙ (c.in_ok-sets.ensures.deep ∙ c.depth.ensures.depth)),
+              (
+                subst (λ (all : List ℕ). IsTable all sets) c.layers-2.ensures.layers read,
+                subst (All (λ (number : ℕ). number < length game.values)) (sym c.cells.ensures.cells) c.requires.numbers,
+              ),
+            ),
+          ),
+        ),
+      ),
+    )
+
+pub layer_sets-requires : goal.layer_sets-requires
+layer_sets-requires g c =
+    let lawful = c.layers-2.ensures.game in
+    omega (arith, ap (λ (all : List ℕ). length all) c.layers-2.ensures.layers, lawful.laid, lawful.few)
+
+pub of-requires : goal.of-requires
+of-requires g c =
+    let width = c.width-width.result in
+    let height = c.height-height.result in
+    let cells = c.in_ok-cells.cells.items in
+    let covers = drawn_covers g.row.N c.args.game.now c.args.drawing.now width height cells c.cells.ensures.drawing c.width-width.ensures.width c.height-height.ensures.height
+    (record { sound = c.in_ok-cells.ensures.sound; cells_are = c.in_ok-cells.ensures.cells ∙ ap (map (glyph_cell c.args.game.now)) c.cells.ensures.cells }) in
+    (small_cell _ c.requires.short, (c.requires.short, ap (λ (all : List (Cell g.row.N)). length all) c.deref-2.ensures.value ∙ covers))
+
+pub of-requires-2 : goal.of-requires-2
+of-requires-2 g c =
     let game = c.args.game.now in
     let width = c.width-width.result in
     let height = c.height-height.result in
     let cells = c.in_ok-cells.cells.items in
-    let planes = c.in_ok-planes.planes in
+    let lawful = c.layers.ensures.game in
+    let size = c.cells.ensures.drawing.size in
     let long : c.len.result ≡ length game.layers = c.len.ensures ∙ c.in_ok-layers.layers.ok.0 ∙ ap (λ (all : List ℕ). length all) (c.in_ok-layers.ensures.items ∙ c.layers.ensures.layers) in
-    let fits : IsFor (length game.layers) width height planes = subst (λ (count : ℕ). IsFor count width height planes) long c.in_ok-planes.ensures in
     let covers = drawn_covers g.row.N game c.args.drawing.now width height cells c.cells.ensures.drawing c.width-width.ensures.width c.height-height.ensures.height
     (record { sound = c.in_ok-cells.ensures.sound; cells_are = c.in_ok-cells.ensures.cells ∙ ap (map (glyph_cell game)) c.cells.ensures.cells }) in
     let is = c.deref-3.ensures.value in (
       small_cell _ c.requires.short,
       (
-        c.requires.short,
+        omega (arith, long, lawful.laid, lawful.few),
         (
-          covers_all _ width height _ planes fits (ap (λ (all : List (Cell g.row.N)). length all) is ∙ covers),
-          subst (λ (all : List (Cell g.row.N)). All (λ cell. AreKnown planes cell.objects) all) (sym is) (all_known _ game.layers width height planes cells fits c.in_ok-cells.ensures.sound),
+          omega (arith, c.width-width.ensures.width, size.narrow),
+          (
+            omega (arith, c.height-height.ensures.height, size.low),
+            (
+              c.requires.short,
+              (
+                ap (λ (all : List (Cell g.row.N)). length all) is ∙ covers,
+                of_game_read g.row.N c.len.result game.layers cells c.deref-3.result.now long is c.in_ok-cells.ensures.sound,
+              ),
+            ),
+          ),
         ),
       ),
     )
@@ -38,13 +84,14 @@ invariant_of-result g c =
     let height = c.height-height.result in
     let layers = c.in_ok-layers.layers.items in
     let cells = c.in_ok-cells.cells.items in
+    let notes = c.in_ok-notes.notes in
     let planes = c.in_ok-planes.planes in
-    let fits : IsFor (length layers) width height planes = subst (λ (count : ℕ). IsFor count width height planes) (c.len.ensures ∙ c.in_ok-layers.layers.ok.0) c.in_ok-planes.ensures in
     record {
-      stored = stored_drawn g.row.N game c.args.drawing.now c.width-width.result c.height-height.result c.depth-2.result c.in_ok-layers.layers.items c.layers-2.result.now c.in_ok-sets.sets.items c.in_ok-cells.cells.items c.renew.new.self
+      stored = stored_drawn g.row.N game c.args.drawing.now width height c.depth-2.result layers c.layers-2.result.now c.in_ok-sets.sets.items cells notes
           c.layers.ensures.game c.cells.ensures.drawing c.requires.short c.requires.room c.requires.movement_room
           c.width-width.ensures.width c.height-height.ensures.height c.depth-2.ensures.depth (c.in_ok-layers.ensures.items ∙ c.layers.ensures.layers) c.layers-2.ensures.layers (c.in_ok-sets.ensures.deep ∙ c.depth.ensures.depth) c.in_ok-sets.ensures.table
           (record { sound = c.in_ok-cells.ensures.sound; cells_are = c.in_ok-cells.ensures.cells ∙ ap (map (glyph_cell game)) c.cells.ensures.cells })
-          (noted_read g.row.N c.width-width.result c.height-height.result _ _ c.renew.new.self c.in_ok-cells.cells.items c.deref-2.result.now c.in_ok-notes.ensures.columns c.in_ok-notes.ensures.rows c.deref-2.ensures.value c.renew.ensures);
-      placed = placed_all _ (length layers) width height planes c.note_all.new.self cells fits c.note_all.ensures.size (subst (AreAllThere g.row.N planes.columns.count planes.rows.count c.note_all.new.self) c.deref-3.ensures.value c.note_all.ensures.there);
+          (noted_read g.row.N width height width height notes cells c.deref-2.result.now refl refl c.deref-2.ensures.value c.in_ok-notes.ensures);
+      placed = subst (λ (count : ℕ). ArePlaced g.row.N count width height planes cells) (c.len.ensures ∙ c.in_ok-layers.layers.ok.0)
+          (subst (λ (all : List (Cell g.row.N)). ArePlaced g.row.N c.len.result width height planes all) c.deref-3.ensures.value c.in_ok-planes.ensures);
     }

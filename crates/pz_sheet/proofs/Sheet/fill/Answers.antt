@@ -1,13 +1,15 @@
-use Rattle.std.proofs.Common.{◌≡◌, ◌<◌, ℕ, List, Some, length, arith, ap, sym, ◌∙◌, subst}
+use Rattle.std.proofs.Common.{◌≡◌, ◌<◌, ℕ, List, Option, Some, length, arith, ap, sym, ◌∙◌, subst}
 use Rattle.std.specs.List.{All}
 use Rattle.pz_cells.specs.declared.cell.Cell.{Cell}
+use Rattle.pz_cells.specs.declared.piece.Piece.{Piece}
 use Rattle.pz_cells.specs.Cell.{IsOnLayer}
 use Rattle.pz_sheet.specs.Grid.{Grid, BareState}
-use Rattle.pz_sheet.specs.Loading.{filled_cell}
+use Rattle.pz_sheet.specs.Loading.{filled_cell, filled}
 use Rattle.pz_sheet.specs.Planes.{AreKnown, AreAllThere}
+use Rattle.pz_sheet.specs.Seen.{grid_of}
 use Rattle.pz_sheet.proofs.PlaneLemmas.{covers_all, all_known, placed_all}
 use Rattle.pz_sheet.proofs.SheetLemmas.{small_cell, set_read, lawful_seen}
-use Rattle.pz_sheet.proofs.MapLemmas.{stored_mapped, mapped_read, sound_read, noted_read}
+use Rattle.pz_sheet.proofs.MapLemmas.{stored_mapped, mapped_read, sound_read, noted_read, noted_covers, all_mapped_long}
 use Rattle.pz_sheet.proofs.Sheet.fill.Goals as goal
 
 pub fill_cells-requires : goal.fill_cells-requires
@@ -78,3 +80,19 @@ invariant_of-self g c =
 
 pub returns-clause-lawful : goal.returns-clause-lawful
 returns-clause-lawful g c = lawful_seen _ _ _ _ _ _ _ _ (invariant_of-self g c).stored
+
+pub renew-requires : goal.renew-requires
+renew-requires g c =
+    let a = c.self.inside in
+    let stored = c.self.invariant.stored in
+    let cells = c.fill_cells.new.cells.items in
+    let mapped = mapped_read _ a.depth a.layers.items c.deref.result.now (filled_cell c.args.layer c.args.piece) a.cells.items cells c.deref.ensures.value c.fill_cells.ensures in
+    let long = all_mapped_long g.row.N a.depth a.layers.items (filled_cell c.args.layer c.args.piece) a.cells.items cells mapped in
+    (small_cell _ stored.short, (stored.short, noted_covers _ a.width a.height _ a.notes a.cells.items stored.noted (ap (λ (all : List (Cell g.row.N)). length all) c.deref-2.ensures.value ∙ (long ∙ stored.covers))))
+
+pub returns-clause-filled : goal.returns-clause-filled
+returns-clause-filled g c =
+    let a = c.self.inside in
+    let mapped = mapped_read _ a.depth a.layers.items c.deref.result.now (filled_cell c.args.layer c.args.piece) a.cells.items c.fill_cells.new.cells.items c.deref.ensures.value c.fill_cells.ensures in
+    ap (λ (cells : List (List (Option Piece))). record (grid_of g.row.N a.width a.height a.depth a.layers.items a.cells.items) { cells = cells }) mapped.cells
+    ∙ ap (λ (s : BareState). filled c.args.layer c.args.piece s.grid) c.self.view_is

@@ -5,6 +5,7 @@ use Rattle.pz_sheet.specs.Grid.{Grid, BareState}
 use Rattle.pz_sheet.specs.Pushing.{pushed_place, pushed_at}
 use Rattle.pz_sheet.proofs.PlaneLemmas.{within_at, known_of, there_at, placed_at}
 use Rattle.pz_sheet.proofs.SheetLemmas.{seen_within, sound_at, small_cell, stored_set, grid_set}
+use Rattle.pz_sheet.proofs.MapLemmas.{noted_within}
 use Rattle.pz_sheet.proofs.Sheet.push_in.Goals as goal
 
 pub push_cell-requires : goal.push_cell-requires
@@ -78,3 +79,11 @@ returns g c =
     let seen_new = ap (λ (layers : List ℕ). cell_of a.depth layers new.objects new.movement) (sym same) ∙ c.push_cell.ensures.cell ∙ ap (λ (layers : List ℕ). map (pushed_place c.args.players.now c.args.dir) (cell_of a.depth layers old.objects old.movement)) same in
     grid_set _ a.width a.height a.depth a.layers.items a.cells.items c.args.index c.args.index old new (map (pushed_place c.args.players.now c.args.dir)) within refl c.index_mut-cell.ensures.value seen_new
     ∙ ap (λ (grid : Grid). pushed_at c.args.players.now c.args.dir c.args.index grid) e
+
+pub note-requires : goal.note-requires
+note-requires g c =
+    let a = c.self.inside in
+    let e = ap (λ (s : BareState). s.grid) c.self.view_is in
+    let stored = c.self.invariant.stored in
+    let within = seen_within _ _ _ a.depth a.layers.items a.cells.items _ c.args.index e c.requires in
+    (small_cell _ stored.short, (stored.short, noted_within _ a.width a.height c.args.index a.notes a.cells.items stored.noted stored.covers within))

@@ -5,6 +5,7 @@ use Rattle.pz_cells.specs.Shown.{AreLawful}
 use Rattle.pz_sheet.specs.Grid.{Grid, BareState, IsLawful, place_at, with_place}
 use Rattle.pz_sheet.proofs.PlaneLemmas.{inside_of, known_of, there_of, placed_set}
 use Rattle.pz_sheet.proofs.SheetLemmas.{seen_within, sound_at, small_cell, set_read, place_again, lawful_seen, stored_set, grid_set, sound_changed, seen_changed, placed_there}
+use Rattle.pz_sheet.proofs.MapLemmas.{noted_within}
 use Rattle.pz_sheet.proofs.Sheet.put.Goals as goal
 
 pub place-here-requires : goal.place-here-requires
@@ -130,3 +131,11 @@ returns-clause-there g c =
     let within : at < length grid.cells = omega (arith, c.index-index.ensures.within, c.index-index.ensures.index) in
     ap (λ (next : Grid). place_at next c.args.x c.args.y c.args.layer) (returns-clause-put g c)
     ∙ placed_there grid c.args.x c.args.y c.args.layer c.args.place within (omega (arith, (lawful.stacked at [] within).deep, c.requires.layer_in))
+
+pub note-requires : goal.note-requires
+note-requires g c =
+    let a = c.self.inside in
+    let e = ap (λ (s : BareState). s.grid) c.self.view_is in
+    let stored = c.self.invariant.stored in
+    let within = seen_within _ _ _ a.depth a.layers.items a.cells.items _ c.index-index.result e c.index-index.ensures.within in
+    (small_cell _ stored.short, (stored.short, noted_within _ a.width a.height c.index-index.result a.notes a.cells.items stored.noted stored.covers within))

@@ -7,6 +7,7 @@ use Rattle.pz_sheet.specs.Grid.{Grid, BareState}
 use Rattle.pz_sheet.specs.Rewriting.{with_rewritten}
 use Rattle.pz_sheet.proofs.PlaneLemmas.{inside_of, known_of, there_of, placed_set}
 use Rattle.pz_sheet.proofs.SheetLemmas.{IsTable, seen_within, sound_at, small_cell, stored_set, grid_set}
+use Rattle.pz_sheet.proofs.MapLemmas.{noted_within}
 use Rattle.pz_sheet.proofs.Sheet.rewrite.Goals as goal
 
 pub rewrite-changed-requires : goal.rewrite-changed-requires
@@ -113,3 +114,11 @@ returns-clause-level g c =
     grid_set _ a.width a.height a.depth a.layers.items a.cells.items at (c.args.y * a.width + c.args.x) old new (rewritten_cell left right) within number c.index_mut-cell.ensures.value
     (subst (λ (layers : List ℕ). cell_of a.depth layers new.objects new.movement ≡ rewritten_cell left right (cell_of a.depth layers old.objects old.movement)) c.deref.ensures.value c.rewrite-changed.ensures.cell)
     ∙ ap (λ (grid : Grid). with_rewritten grid c.args.x c.args.y left right) e
+
+pub note-requires : goal.note-requires
+note-requires g c =
+    let a = c.self.inside in
+    let e = ap (λ (s : BareState). s.grid) c.self.view_is in
+    let stored = c.self.invariant.stored in
+    let within = seen_within _ _ _ a.depth a.layers.items a.cells.items _ c.index-index.result e c.index-index.ensures.within in
+    (small_cell _ stored.short, (stored.short, noted_within _ a.width a.height c.index-index.result a.notes a.cells.items stored.noted stored.covers within))

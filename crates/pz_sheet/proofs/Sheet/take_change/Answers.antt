@@ -6,6 +6,7 @@ use Rattle.pz_sheet.specs.Grid.{Grid, BareState}
 use Rattle.pz_sheet.specs.Seen.{seen, grid_of, IsSound}
 use Rattle.pz_sheet.proofs.PlaneLemmas.{within_at, known_of, there_at, placed_at}
 use Rattle.pz_sheet.proofs.SheetLemmas.{seen_within, sound_at, small_cell, stored_set}
+use Rattle.pz_sheet.proofs.MapLemmas.{noted_within}
 use Rattle.pz_sheet.proofs.Sheet.take_change.Goals as goal
 
 pub note_at-requires : goal.note_at-requires
@@ -55,3 +56,11 @@ returns g c =
     let e = ap (λ (s : BareState). s.grid) c.self.view_is in
     ap (λ (cells : List (List (Option Piece))). record (grid_of g.row.N a.width a.height a.depth a.layers.items a.cells.items) { cells = cells }) (map-set (seen g.row.N a.depth a.layers.items) a.cells.items change.index change.cell)
     ∙ ap (λ (grid : Grid). with_cell grid (change_seen g.row.N grid.depth grid.layers change)) e
+
+pub note-requires : goal.note-requires
+note-requires g c =
+    let a = c.self.inside in
+    let e = ap (λ (s : BareState). s.grid) c.self.view_is in
+    let stored = c.self.invariant.stored in
+    let within = seen_within _ _ _ a.depth a.layers.items a.cells.items _ c.args.change.now.index e c.requires.within in
+    (small_cell _ stored.short, (stored.short, noted_within _ a.width a.height c.args.change.now.index a.notes a.cells.items stored.noted stored.covers within))

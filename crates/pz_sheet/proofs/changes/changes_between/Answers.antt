@@ -1,5 +1,6 @@
 use Rattle.std.proofs.Common.{ap, ◌∙◌}
 use Rattle.pz_sheet.proofs.ChangeLemmas.{AreRead, found_same, found_more}
+use Rattle.pz_sheet.proofs.SheetLemmas.{small_cell}
 use Rattle.pz_sheet.proofs.changes.changes_between.Goals as goal
 use Rattle.pz_sheet.proofs.changes.changes_between.Goals.{then-not-same+in_ok-push, else-not-same}
 
@@ -22,3 +23,9 @@ loop-index-preserved g c =
       | then-not-same+in_ok-push w ↦ found_more g.row.N a.depth a.layers.now a.cells.now a.older.now c.loop-index.index x y c.same.result c.loop-index.changes.items c.if-not-same.changes.items read w.if-not-same.true (ap (λ v. v.items) w.changes-is ∙ w.in_ok-push.ensures.items) c.loop-index.invariant
       | else-not-same w ↦ found_same g.row.N a.depth a.layers.now a.cells.now a.older.now c.loop-index.index x y c.same.result c.loop-index.changes.items c.if-not-same.changes.items read w.if-not-same.false (ap (λ v. v.items) w.changes-is) c.loop-index.invariant
     ]
+
+pub same-requires : goal.same-requires
+same-requires g c = small_cell _ c.requires.short
+
+pub returns-clause-within : goal.returns-clause-within
+returns-clause-within g c = c.loop-index.invariant.within

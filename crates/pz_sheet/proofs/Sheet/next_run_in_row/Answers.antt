@@ -1,0 +1,31 @@
+use Rattle.std.proofs.Common.{arith, sym, ◌∙◌}
+use Rattle.pz_sets.specs.Sets.{in_word}
+use Rattle.pz_sheet.specs.Runs.{runs_in_row}
+use Rattle.pz_sheet.proofs.NextLemmas.{none_before, none_more}
+use Rattle.pz_sheet.proofs.Sheet.next_run_in_row.Goals as goal
+
+pub returns-then-runs_from : goal.returns-then-runs_from
+returns-then-runs_from g c =
+    let end = c.width-in-starts.ensures.width in
+    let found = c.in-Some.ensures in
+    let i = c.starts.invariant in (
+      omega (arith, i.from, found.0),
+      omega (arith, found.1, end),
+      sym c.runs_from.ensures ∙ c.if-runs_from.true,
+      none_before (runs_in_row c.args.self.now.grid c.args.dir c.args.y c.args.patterns.now) (in_word c.starts_in_row-starts.result) c.args.from c.starts.x c.in-Some.start c.args.self.now.grid.width c.starts_in_row-starts.ensures (omega (arith, found.1, end)) found.3 i.none,
+    )
+
+pub starts-preserved : goal.starts-preserved
+starts-preserved g c =
+    let end = c.width-in-starts.ensures.width in
+    let found = c.in-Some.ensures in
+    let i = c.starts.invariant in
+    record {
+      from = omega (arith, i.from, found.0);
+      none = none_more (runs_in_row c.args.self.now.grid c.args.dir c.args.y c.args.patterns.now) (in_word c.starts_in_row-starts.result) c.args.from c.starts.x c.in-Some.start c.args.self.now.grid.width c.starts_in_row-starts.ensures (omega (arith, found.1, end)) found.3 (sym c.runs_from.ensures ∙ c.if-runs_from.false) i.none;
+    }
+
+pub returns : goal.returns
+returns g c = λ number low high.
+    none_before (runs_in_row c.args.self.now.grid c.args.dir c.args.y c.args.patterns.now) (in_word c.starts_in_row-starts.result) c.args.from c.starts.x c.args.self.now.grid.width c.args.self.now.grid.width c.starts_in_row-starts.ensures (omega arith)
+    (λ k late below. c.in_default.ensures k late (omega (arith, below, c.width-in-starts.ensures.width))) c.starts.invariant.none number low high

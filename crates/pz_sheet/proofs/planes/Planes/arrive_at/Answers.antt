@@ -1,0 +1,24 @@
+use Rattle.std.proofs.Common.{◌≡◌, ℕ, ◌/◌, ◌%◌, ap, ◌∙◌, subst}
+use Rattle.pz_sheet.specs.Planes.{PlaneSets, AreThere, AreKept, every}
+use Rattle.pz_sheet.proofs.ArriveLemmas.{inside_at, wide_at}
+use Rattle.pz_sheet.proofs.planes.Planes.arrive_at.Goals as goal
+
+pub nonzero_rem-index : goal.nonzero_rem-index
+nonzero_rem-index g c = wide_at c.args.self.now c.args.index c.count-width.result (c.count-width.ensures ∙ ap (λ (p : PlaneSets). p.columns.count) c.self.view_is) c.requires.within
+
+pub nonzero_div-index : goal.nonzero_div-index
+nonzero_div-index g c = wide_at c.args.self.now c.args.index c.count-width.result (c.count-width.ensures ∙ ap (λ (p : PlaneSets). p.columns.count) c.self.view_is) c.requires.within
+
+pub arrive-requires-clause-inside : goal.arrive-requires-clause-inside
+arrive-requires-clause-inside g c = inside_at c.args.self.now c.args.index c.count-width.result (c.count-width.ensures ∙ ap (λ (p : PlaneSets). p.columns.count) c.self.view_is) c.requires.within
+
+pub arrive-requires-clause-known : goal.arrive-requires-clause-known
+arrive-requires-clause-known g c = c.requires.known
+
+pub returns : goal.returns
+returns g c =
+    let width : c.count-width.result ≡ c.args.self.now.columns.count = c.count-width.ensures ∙ ap (λ (p : PlaneSets). p.columns.count) c.self.view_is in
+    record {
+      there = subst (λ (w : ℕ). AreThere c.arrive.new.self (c.args.index % w) (c.args.index / w) c.args.cell.now.objects) width c.arrive.ensures.there;
+      kept = subst (λ (w : ℕ). AreKept c.args.self.now c.arrive.new.self (c.args.index % w) (c.args.index / w) every) width c.arrive.ensures.kept;
+    }
