@@ -17,7 +17,7 @@ use std::alloc::{AllocError, Global};
 
 /// A recorded session: its name, the text of its source, its inputs, the level at its end, and the index of the entry of LEVELS
 /// at which it starts, messages counted.
-#[derive(Drop, Debug)]
+#[derive(Drop)]
 pub struct Entry {
     pub name: Text,
     pub source: Text,

@@ -12,7 +12,7 @@ pub enum Kind {
 
 /// What a name denotes: its kind, its members by their places among the game's objects in the order of first mention, and the
 /// number of the name that it goes back to (a synonym has that of the name that it stands for).
-#[derive(Drop, Debug)]
+#[derive(Drop)]
 pub struct Denotation {
     pub kind: Kind,
     pub members: Listed<usize>,

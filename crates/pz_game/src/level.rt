@@ -7,7 +7,7 @@ use pz_base::listed::Listed;
 use std::marker::Model;
 
 /// A level as its rows draw it: for each cell, row by row, the number of the name that its glyph is.
-#[derive(Drop, Debug)]
+#[derive(Drop)]
 pub struct DrawnLevel {
     width: u32,
     height: u32,
@@ -60,7 +60,7 @@ impl DrawnLevel {
 }
 
 /// An entry of LEVELS: a message, which is not played, or a level.
-#[derive(Drop, Debug)]
+#[derive(Drop)]
 pub enum LevelEntry {
     Message,
     Level(DrawnLevel),

@@ -18,7 +18,7 @@ use pz_sets::set::{CAPACITY, NumberSet};
 /// What the items of a cell say. Of a left cell: the objects that must be present and absent, the directions that layers must and must not
 /// head in, and the layers of which it tells a movement. Of a right cell: the layers on which it places something (as numbers, and with all their
 /// directions), the objects that it places, the layers whose movement it ends, and the directions that it begins.
-#[derive(Clone, Copy, Debug)]
+#[derive(Clone, Copy)]
 pub struct Masks {
     pub present: NumberSet,
     pub absent: NumberSet,

@@ -13,7 +13,7 @@ use std::marker::Model;
 use std::sync::Arc;
 
 /// What an item says of its object: it is there, however it moves; it is there and still; it is there and moves so; it isn't there.
-#[derive(Clone, Copy, PartialEq, Eq, Debug)]
+#[derive(Clone, Copy, PartialEq, Eq)]
 pub enum Word {
     Present,
     Still,
@@ -22,7 +22,7 @@ pub enum Word {
 }
 
 /// An object, with its layer, and what is said of it.
-#[derive(Clone, Copy, PartialEq, Eq, Debug)]
+#[derive(Clone, Copy, PartialEq, Eq)]
 pub struct Item {
     pub object: usize,
     pub layer: usize,
@@ -30,7 +30,7 @@ pub struct Item {
 }
 
 /// The items of a cell, with what they say as sets.
-#[derive(Drop, Debug)]
+#[derive(Drop)]
 struct Contents {
     items: Vec<Item>,
     masks: Masks,
@@ -38,7 +38,7 @@ struct Contents {
 
 /// A cell of a rule's row, with its items as sets: it holds where all its items hold. Equal cells may share their contents, of which
 /// the rules of a game have few different ones.
-#[derive(Drop, Debug)]
+#[derive(Drop)]
 pub struct Pattern {
     contents: Arc<Contents>,
 }
@@ -88,7 +88,7 @@ impl Pattern {
 }
 
 /// A row of a rule, with the objects that its cells name as present and the directions in which they ask these to head. Its gap, if it has one, stands before the cell of that number.
-#[derive(Drop, Debug)]
+#[derive(Drop)]
 pub struct Row {
     cells: Vec<Pattern>,
     gap_at: Option<u32>,

@@ -1,7 +1,7 @@
 //! The lines of WINCONDITIONS, with names as numbers.
 
 /// How many cells a win line speaks of.
-#[derive(Clone, Copy, Debug, PartialEq, Eq)]
+#[derive(Clone, Copy, PartialEq, Eq)]
 pub enum Quantifier {
     All,
     Some,
@@ -9,7 +9,7 @@ pub enum Quantifier {
 }
 
 /// A line of WINCONDITIONS: what it is about and, where it has `on`, what that is to be on, as numbers of names.
-#[derive(Clone, Copy, Debug, PartialEq, Eq)]
+#[derive(Clone, Copy)]
 pub struct WinLine {
     pub quantifier: Quantifier,
     pub subject: usize,

@@ -8,7 +8,7 @@ use std::collections::BTreeSet;
 use std::marker::Model;
 
 /// The names of a cell, each once, which contracts see as their list in the order of their bytes.
-#[derive(Drop, Debug)]
+#[derive(Drop)]
 pub struct CellNames {
     names: BTreeSet<Vec<u8>>,
 }

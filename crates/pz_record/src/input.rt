@@ -14,7 +14,7 @@ pub fn inputs_are_limited()
 {}
 
 /// An input of a session: a direction or the action is pressed, the last change is undone, the level is restarted, or time passes.
-#[derive(Clone, Copy, Debug, PartialEq, Eq)]
+#[derive(Clone, Copy, PartialEq, Eq)]
 pub enum Input {
     Press(Dir),
     Undo,
@@ -23,7 +23,7 @@ pub enum Input {
 }
 
 /// The inputs of a session, at most `MOST_INPUTS`, which contracts see as their list.
-#[derive(Drop, Debug)]
+#[derive(Drop)]
 pub struct Inputs {
     items: Vec<Input>,
 }

@@ -7,7 +7,7 @@ use std::marker::Model;
 
 /// The level at the end of a recorded session: contracts see the names of each cell, in the order of the cells.
 /// Cells with the same names share them, so that a level takes no more room than its text.
-#[derive(Drop, Debug)]
+#[derive(Drop)]
 pub struct Recorded {
     sets: Vec<CellNames>,
     cells: Vec<usize>,
