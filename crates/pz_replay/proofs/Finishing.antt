@@ -1,5 +1,5 @@
 -- Once all workers are joined, each session's items are recorded.
-use Rattle.std.proofs.Common.{◌≡◌, ℕ, List, [], ◌∷◌, ◌++◌, map, length, Result, Ok, Err, IfOk, refl, sym, ap, ◌∙◌, subst, arith}
+use Rattle.std.proofs.Common.{◌≡◌, ℕ, ◌<◌, ◌≤◌, List, [], ◌∷◌, ◌++◌, map, length, Result, Ok, Err, IfOk, IsErr, ◌⊎◌, inl, inr, ⊎_elim, refl, sym, ap, ◌∙◌, subst, arith}
 use Rattle.std.proofs.lemmas.List.{length-map}
 use Rattle.pz_claims.specs.Holders.{Numbers, Makes}
 use Rattle.pz_claims.specs.Rule.{times, once_below}
@@ -12,6 +12,7 @@ use Rattle.pz_replay.specs.Recorded.{Gathered, taken_of, lane_of}
 use Rattle.pz_replay.specs.Workers.{IsDone, IsAll}
 use Rattle.pz_replay.specs.declared.recorder.Inbox.{Inbox}
 use Rattle.pz_replay.specs.declared.fault.ReplayFault.{ReplayFault}
+use Rattle.pz_replay.specs.declared.fault.ReplayFault.TheVariants.{Workers, GateClosed}
 use Rattle.pz_replay.proofs.Completing.{complete}
 
 no_inbox : (inboxes : List Inbox) → map lane_of inboxes ≡ [] → map taken_of inboxes ≡ []
@@ -36,3 +37,35 @@ finishes job claims workers m inboxes (Ok p) none of made joined numbers total d
           let d : once_below k claims.total ≡ once_below k (length sessions) = ap (once_below k) many in
           omega arith)),
     )
+
+-- the number of workers is refused
+pub few_or_many : (workers most : ℕ) → (workers ≡ 0) ⊎ ((workers ≡ 0 → ⊥) × (most < workers)) → (workers ≡ 0) ⊎ (most < workers)
+few_or_many workers most either = ⊎_elim (λ (e : workers ≡ 0). inl e) (λ (h : (workers ≡ 0 → ⊥) × (most < workers)). inr h.1) either
+
+-- or it isn't, and so no such fault is answered
+pub no_refusal : {A : Type 0} (workers most : ℕ) (out : Result A ReplayFault) → (workers ≡ 0 → ⊥) → workers ≤ most → (out ≡ Err Workers → ⊥)
+    → (out ≡ Err Workers → (workers ≡ 0) ⊎ (most < workers)) × ((workers ≡ 0) ⊎ (most < workers) → out ≡ Err Workers)
+no_refusal workers most out some few other =
+    (λ e. absurd (other e), λ either. absurd (⊎_elim (λ (e : workers ≡ 0). some e) (λ (h : most < workers). over workers most few h) either))
+  where
+    over : (w m : ℕ) → w ≤ m → m < w → ⊥
+    over w m h k = absurd (omega arith)
+
+-- the fault of the workers is handed on
+pub no_answer : {A E : Type 0} (P : A → Type 0) (out : Result A E) → IsErr out → IfOk out P
+no_answer P (Ok x) h = absurd (cc)
+no_answer P (Err f) h = tt
+
+pub passed_on : {A B : Type 0} (fault e f : ReplayFault) (all : Result A ReplayFault) (out : Result B ReplayFault) → all ≡ Err e → out ≡ Err f → f ≡ e → (all ≡ Err fault → ⊥) → out ≡ Err fault → ⊥
+passed_on fault e f all out was now same other is =
+    let here : e ≡ fault = cc in
+    other (was ∙ ap Err here)
+
+pub some_made : (made workers : ℕ) → made ≡ workers → (workers ≡ 0 → ⊥) → 0 < made
+some_made made workers is some = positive made (λ none. some (sym is ∙ none))
+  where
+    positive : (n : ℕ) → (n ≡ 0 → ⊥) → 0 < n
+    positive n h = grind arith
+
+pub answered : {A : Type 0} (made : A) (fault : ReplayFault) → Ok made ≡ Err fault → ⊥
+answered made fault e = cc

@@ -1,26 +1,29 @@
 -- What a worker more adds to what the workers below it make.
-use Rattle.std.proofs.Common.{◌≡◌, ℕ, zero, suc, ◌+◌, ◌-◌, ◌<◌, List, [], ◌∷◌, ◌++◌, map, length, get_or, cond, Some, None, Option, Result, Ok, Err, All, IfSome, IsSome, IfOk, IsOk, refl, sym, ap, ◌∙◌, subst, arith}
+use Rattle.std.proofs.Common.{◌≡◌, ℕ, zero, suc, ◌+◌, ◌-◌, ◌<◌, ◌≤◌, List, [], ◌∷◌, ◌++◌, map, length, get_or, cond, drop, take, Some, None, Option, Result, Ok, Err, All, IfSome, IfNone, IsSome, IfOk, IfErr, IsOk, ◌⊎◌, refl, sym, ap, ◌∙◌, subst, ⊎_elim, arith}
 use Rattle.std.specs.Prelude.{sum_by, ◌==◌}
-use Rattle.std.proofs.lemmas.List.{append-nil, length-map, map-append}
-use Rattle.std.proofs.lemmas.List.Elements.{All-append}
+use Rattle.std.proofs.lemmas.List.{append-nil, length-append, length-map, map-append, take_at}
+use Rattle.std.proofs.lemmas.List.Elements.{All-append, All-pop}
 use Rattle.std.proofs.lemmas.List.Sums.{sum_by-cons, sum_by-append}
 use Rattle.std.proofs.Math.Seq.{append_snoc}
 use Rattle.pz_claims.specs.Holders.{Numbers, Makes}
 use Rattle.pz_claims.specs.Rule.{times}
+use Rattle.pz_claims.specs.declared.limits.TheConstants.{MOST_SEATS}
 use Rattle.pz_session.specs.declared.item.Item.{Item}
 use Rattle.pz_session.specs.declared.case.Case.{Case}
 use Rattle.pz_replay.specs.Lane.{LaneId}
 use Rattle.pz_replay.specs.declared.lane.End.{End}
+use Rattle.pz_replay.specs.declared.lane.End.TheVariants.{GateClosed as gate_closed}
 use Rattle.pz_replay.specs.declared.lane.Message.{Message}
 use Rattle.pz_replay.specs.declared.lane.Message.TheVariants.{Last}
 use Rattle.pz_replay.specs.Sent.{sent_for, sessions_of}
 use Rattle.pz_session.specs.Case.{items_of}
-use Rattle.pz_replay.specs.Recorded.{of_session, Gathered, taken_of, lane_of, IsHonest, IsRecorded}
+use Rattle.pz_replay.specs.Recorded.{of_session, Gathered, taken_of, lane_of, HasEnded, IsAsLong, IsHonest, IsRecorded}
 use Rattle.pz_replay.specs.Worked.{IsWorked}
 use Rattle.pz_replay.specs.Workers.{IsDone, IsSettled, IsOpened}
 use Rattle.pz_replay.specs.declared.recorder.Inbox.{Inbox}
 use Rattle.pz_replay.specs.declared.work.Worked.{Worked}
 use Rattle.pz_replay.specs.declared.fault.ReplayFault.{ReplayFault}
+use Rattle.pz_replay.specs.declared.fault.ReplayFault.TheVariants.{Memory, Workers, GateClosed}
 
 get_or_snoc : (ts : List (List Message)) (j : ℕ) → get_or (ts ++ [] ∷ []) j [] ≡ get_or ts j []
 get_or_snoc [] zero = refl
@@ -116,3 +119,108 @@ pub settles : (sessions : List (List Item)) (m m1 : Makes) (left : ℕ) (inboxes
 settles sessions m m1 left inboxes rest inbox below (Err f) first some_left is done settled fine = tt
 settles sessions m m1 left inboxes rest inbox (Err f) (Ok p) first some_left is done settled fine = absurd (cc)
 settles sessions m m1 left inboxes rest inbox (Ok q) (Ok p) first some_left is done settled fine = one_more sessions m m1 left inboxes rest inbox q p first some_left is done settled
+
+-- where no lane was opened, the inboxes are as they were
+pub unopened : {X : Type 0} (out : Option X) (before after : List Inbox) → out ≡ None → IfNone out (after ≡ before) → after ≡ before
+unopened out before after is same = subst (λ o. IfNone o (after ≡ before)) is same
+
+pub recorded_as : (before after : List Inbox) (r : Option (List (List Item))) → after ≡ before → IsRecorded before r → IsRecorded after r
+recorded_as before after r same h = subst (λ (ds : List Inbox). IsRecorded ds r) (sym same) h
+
+-- where the inbox that was opened is taken off again, they are so too
+pub taken_off : (before after popped : List Inbox) (lane : LaneId) (many : ℕ) → IsOpened before after lane → many ≡ length after → popped ≡ take (many - 1) after → popped ≡ before
+taken_off before after popped lane many o counted is =
+    is ∙ ap (λ (n : ℕ). take (n - 1) after) counted ∙ ap (λ (ds : List Inbox). take (length ds - 1) ds) o.1 ∙ take_at before (o.0 ∷ []) (length (before ++ o.0 ∷ []) - 1) (omega (arith, length-append before (o.0 ∷ [])))
+
+snoc_front : {X : Type 0} (xs ys : List X) (x y : X) → xs ++ x ∷ [] ≡ ys ++ y ∷ [] → xs ≡ ys
+snoc_front [] [] x y e = refl
+snoc_front [] (z ∷ []) x y e = absurd (cc)
+snoc_front [] (z ∷ w ∷ ys) x y e = absurd (cc)
+snoc_front (z ∷ []) [] x y e = absurd (cc)
+snoc_front (z ∷ w ∷ xs) [] x y e = absurd (cc)
+snoc_front (z ∷ xs) (w ∷ ys) x y e =
+    let t : xs ++ x ∷ [] ≡ ys ++ y ∷ [] = cc in
+    let front : xs ≡ ys = snoc_front xs ys x y t in
+    let first : z ≡ w = cc in
+    cc
+
+-- the lanes below the one that was opened are those of before
+pub lanes_left : (before after inboxes rest : List Inbox) (inbox : Inbox) (lane : LaneId) → IsOpened before after lane → map lane_of inboxes ≡ map lane_of after → inboxes ≡ rest ++ inbox ∷ [] → map lane_of rest ≡ map lane_of before
+lanes_left before after inboxes rest inbox lane o same is =
+    snoc_front (map lane_of rest) (map lane_of before) (lane_of inbox) (lane_of o.0) (sym (map-append lane_of rest (inbox ∷ [])) ∙ ap (map lane_of) (sym is) ∙ same ∙ ap (map lane_of) o.1 ∙ map-append lane_of before (o.0 ∷ []))
+
+pub one_fewer : (made left : ℕ) → made + left ≤ MOST_SEATS → (left ≡ 0 → ⊥) → made < MOST_SEATS
+one_fewer made zero few some_left = absurd (some_left refl)
+one_fewer made (suc left) few some_left = omega arith
+
+pub some_left : (left : ℕ) → (left ≡ 0 → ⊥) → 1 ≤ left
+some_left zero h = absurd (h refl)
+some_left (suc left) h = omega arith
+
+-- the maker of the workers that are left
+pub moved_maker : (claims : Numbers) (m m1 : Makes) (left : ℕ) → m1 ≡ record m { made = m.made + 1 } → (m.of ≡ claims) × (m.made + left ≤ MOST_SEATS) → (left ≡ 0 → ⊥) → (m1.of ≡ claims) × (m1.made + (left - 1) ≤ MOST_SEATS)
+moved_maker claims m m1 zero first h some = absurd (some refl)
+moved_maker claims m m1 (suc left) first h some = (
+  ap (λ (n : Makes). n.of) first ∙ h.0,
+  (let made : m1.made ≡ m.made + 1 = ap (λ (n : Makes). n.made) first in let few : m.made + suc left ≤ MOST_SEATS = h.1 in omega arith),
+)
+
+pub made_of : (sessions : List (List Item)) (claims : Numbers) (m m1 : Makes) (left : ℕ) (inboxes : List Inbox) (below : Result (Makes × List (List Item)) ReplayFault) → m1 ≡ record m { made = m.made + 1 } → m.of ≡ claims
+    → IfOk below (λ q. IsDone sessions m1 left inboxes q.0 q.1) → IfOk below (λ q. q.0.of ≡ claims)
+made_of sessions claims m m1 left inboxes (Err f) first of done = tt
+made_of sessions claims m m1 left inboxes (Ok q) first of done = done.1.3 ∙ ap (λ (n : Makes). n.of) first ∙ of
+
+-- what is known of all inboxes is known of the last, and of the others
+pub last_ended : (inboxes rest : List Inbox) (inbox : Inbox) → inboxes ≡ rest ++ inbox ∷ [] → All IsHonest inboxes × All HasEnded inboxes → IsHonest inbox × HasEnded inbox
+last_ended inboxes rest inbox is h = ((All-pop IsHonest inboxes rest (Some inbox) is h.0).1, (All-pop HasEnded inboxes rest (Some inbox) is h.1).1)
+
+pub others_ended : (inboxes rest : List Inbox) (inbox : Inbox) → inboxes ≡ rest ++ inbox ∷ [] → All IsHonest inboxes × All HasEnded inboxes → All IsHonest rest × All HasEnded rest
+others_ended inboxes rest inbox is h = ((All-pop IsHonest inboxes rest (Some inbox) is h.0).0, (All-pop HasEnded inboxes rest (Some inbox) is h.1).0)
+
+-- a refusal by want of memory is no other
+only_memory : {A : Type 0} (fault : ReplayFault) → (fault ≡ Memory → ⊥) → (out : Result A ReplayFault) → IfErr out (λ f. f ≡ Memory) → out ≡ Err fault → ⊥
+only_memory fault other out h is = other (subst (λ o. IfErr o (λ f. f ≡ Memory)) is h)
+
+pub not_workers : {A : Type 0} (out : Result A ReplayFault) → IfErr out (λ f. f ≡ Memory) → out ≡ Err Workers → ⊥
+not_workers out h is = only_memory Workers (λ (e : Workers ≡ Memory). cc) out h is
+
+pub not_closed : {A : Type 0} (out : Result A ReplayFault) → IfErr out (λ f. f ≡ Memory) → out ≡ Err GateClosed → ⊥
+not_closed out h is = only_memory GateClosed (λ (e : GateClosed ≡ Memory). cc) out h is
+
+-- a gate that lets all pass was not closed to the worker, nor to those below it
+pub still_open : {D : Type 0} (Lets : D → Type 0) (theirs ours : D) (worked : Worked) (below out : Result (Makes × List (List Item)) ReplayFault) → theirs ≡ ours
+    → (Lets theirs → worked.end ≡ gate_closed → ⊥) → (Lets ours → below ≡ Err GateClosed → ⊥) → IfErr out (λ fault. fault ≡ GateClosed → (worked.end ≡ gate_closed) ⊎ (below ≡ Err GateClosed)) → Lets ours → out ≡ Err GateClosed → ⊥
+still_open Lets theirs ours worked below out same mine others opened lets is =
+    ⊎_elim
+    (λ (e : worked.end ≡ gate_closed). mine (subst Lets (sym same) lets) e)
+    (λ (e : below ≡ Err GateClosed). others lets e)
+    (subst (λ (o : Result (Makes × List (List Item)) ReplayFault). IfErr o (λ fault. fault ≡ GateClosed → (worked.end ≡ gate_closed) ⊎ (below ≡ Err GateClosed))) is opened refl)
+
+-- what was lent to the recorder, and came back as it is now, is all that there is
+pub all_back : (many : ℕ) (old lent new : List Inbox) → many ≡ length old → lent ≡ old → map lane_of new ≡ map lane_of lent → take many (new ++ drop (length new) old) ≡ new
+all_back many old lent new counted same lanes =
+    let long : length new ≡ length old = sym (length-map new lane_of) ∙ ap length lanes ∙ length-map lent lane_of ∙ ap length same in
+    take_at new (drop (length new) old) many (long ∙ sym counted)
+
+pub ended_as : (before after : List Inbox) → after ≡ before → All IsHonest before → All HasEnded before → All IsHonest after × All HasEnded after
+ended_as before after same honest ended = subst (λ (ds : List Inbox). All IsHonest ds × All HasEnded ds) (sym same) (honest, ended)
+
+pub gathered_as : (before after : List Inbox) (was now : Option (List (List Item))) (r : List (List Item)) → after ≡ before → now ≡ Some r → IsRecorded before now → IsAsLong was now
+    → Gathered (map taken_of after) r × IfSome was (λ s. length r ≡ length s) × IsSome was
+gathered_as before after was now r same is h long = (
+  subst (λ (ds : List Inbox). Gathered (map taken_of ds) r) (sym same) (subst (λ (o : Option (List (List Item))). IfSome o (Gathered (map taken_of before))) is h.gathered),
+  as_long.0,
+  as_long.1,
+)
+  where
+    as_long : IsAsLong was (Some r)
+    as_long = subst (λ (o : Option (List (List Item))). IsAsLong was o) is long
+
+-- an inbox is there, since one was opened
+pub one_there : (before after inboxes : List Inbox) (lane : LaneId) → IsOpened before after lane → map lane_of inboxes ≡ map lane_of after → length inboxes ≡ 0 → ⊥
+one_there before after inboxes lane o same none =
+    let long : length inboxes ≡ length after = sym (length-map inboxes lane_of) ∙ ap length same ∙ length-map after lane_of in
+    not_zero (length (before ++ o.0 ∷ [])) (length before) (length-append before (o.0 ∷ [])) (sym (ap length o.1) ∙ sym long ∙ none)
+  where
+    not_zero : (n k : ℕ) → n ≡ k + 1 → n ≡ 0 → ⊥
+    not_zero n k e z = absurd (omega arith)

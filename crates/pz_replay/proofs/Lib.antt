@@ -1,3 +1,4 @@
+pub mod Blank
 pub mod Completing
 pub mod Joining
 pub mod Finishing

@@ -1,11 +1,11 @@
 -- Lists of messages, and what they say of a worker that broke off.
-use Rattle.std.proofs.Common.{true≢false, ◌≡◌, ◌≢◌, ◌<◌, ◌+◌, ℕ, List, [], ◌∷◌, ◌++◌, All, IfSome, None, length, take, refl, sym, ap, ◌∙◌, append_assoc}
+use Rattle.std.proofs.Common.{true≢false, ◌≡◌, ◌≢◌, ◌<◌, ◌+◌, ℕ, List, [], ◌∷◌, ◌++◌, All, IfSome, None, IsSome, length, take, refl, sym, ap, ◌∙◌, subst, append_assoc, arith}
 use Rattle.std.proofs.Math.Seq.{take-append-add}
 use Rattle.std.proofs.lemmas.List.{append-nil, get_or-map, length-map, map-append, take_at}
 use Rattle.std.proofs.lemmas.List.Elements.{All-push}
 use Rattle.std.proofs.lemmas.Option.{IfSome_then, get_or_from_slice_get, slice_get_within}
 use Rattle.std.specs.Prelude.{Some, slice_get}
-use Rattle.pz_claims.specs.Holders.{Holding, Numbers}
+use Rattle.pz_claims.specs.Holders.{Ending, Holding, Numbers}
 use Rattle.pz_session.specs.Case.{items_of}
 use Rattle.pz_session.specs.declared.case.Case.{Case}
 use Rattle.pz_session.specs.declared.item.Item.{Item}
@@ -13,7 +13,7 @@ use Rattle.pz_replay.specs.Lane.{LaneId, Sends}
 use Rattle.pz_replay.specs.Sent.{items_at, messages_of, messages_for, sessions_of}
 use Rattle.pz_replay.specs.Worked.{IsWorked}
 use Rattle.pz_replay.specs.declared.lane.End.{End}
-use Rattle.pz_replay.specs.declared.lane.End.TheVariants.{Finished}
+use Rattle.pz_replay.specs.declared.lane.End.TheVariants.{Finished, Memory, GateClosed}
 use Rattle.pz_replay.specs.declared.lane.Message.{Message}
 use Rattle.pz_replay.specs.declared.lane.Message.TheVariants as messages
 use Rattle.pz_replay.specs.declared.work.Worked.{Worked}
@@ -24,6 +24,27 @@ first_messages session shown rest items whole =
     sym (ap (λ xs. take (length shown) (messages_of session xs)) (sym whole)
     ∙ (ap (λ (ms : List Message). take (length shown) ms) (map-append (messages.Item session) shown rest)
     ∙ take_at (messages_of session shown) (messages_of session rest) (length shown) (length-map shown (messages.Item session))))
+
+-- nothing was sent yet
+pub nothing_sent : (session : ℕ) (start : Sends) → start ≡ record start { sent = start.sent ++ messages_of session [] }
+nothing_sent session start = ap (λ (ms : List Message). record start { sent = ms }) (sym (append-nil start.sent))
+
+-- no item is left: all were sent
+pub all_sent : (session : ℕ) (start now : Sends) (shown rest items : List Item) → rest ≡ [] → shown ++ rest ≡ items → now ≡ record start { sent = start.sent ++ messages_of session shown } → now ≡ record start { sent = start.sent ++ messages_of session items }
+all_sent session start now shown rest items none whole so_far =
+    so_far ∙ ap (λ (xs : List Item). record start { sent = start.sent ++ messages_of session xs }) (sym (append-nil shown) ∙ ap (λ (xs : List Item). shown ++ xs) (sym none) ∙ whole)
+
+pub memory_is_not_finished : Memory ≡ Finished → ⊥
+memory_is_not_finished e = cc
+
+pub memory_is_not_closed : Memory ≡ GateClosed → ⊥
+memory_is_not_closed e = cc
+
+pub closed_is_not_finished : GateClosed ≡ Finished → ⊥
+closed_is_not_finished e = cc
+
+pub finished_is_not_closed : (end : End) → end ≡ Finished → end ≡ GateClosed → ⊥
+finished_is_not_closed end is other = cc
 
 -- one item more was sent
 pub sends_more : (session : ℕ) (start before after : Sends) (shown : List Item) (item : Item)
@@ -82,4 +103,29 @@ breaks_off claims job lane seat same number count case before after end worked t
             count = length (messages_for (sessions_of job) seat.numbers) + count;
             sends = ap (λ a. a.sent) is ∙ rw (ends, part, so_far, claimed, take_of (sessions_of job) seat.numbers number count, items_at_case job number case there) refl;
           });
+    }
+
+none_below : (n : ℕ) (numbers : List ℕ) → numbers ≡ [] → All (λ k. k < n) numbers
+none_below n [] e = λ k d within. absurd (omega arith)
+none_below n (number ∷ numbers) e = absurd (cc)
+
+-- a worker begins with nothing
+pub begins : (claims : Numbers) (job : List Case) (seat : Holding) (sent : List Message) → seat.numbers ≡ [] → sent ≡ [] → All (λ k. k < claims.total) seat.numbers × (sent ≡ messages_for (sessions_of job) seat.numbers)
+begins claims job seat sent none nothing = (none_below claims.total seat.numbers none, nothing ∙ sym (ap (messages_for (sessions_of job)) none))
+
+pub case_there : (claims : Numbers) (job : List Case) (seat : Holding) (number : ℕ) → number < seat.of.total → seat.of ≡ claims → claims.total ≡ length job → number < length job
+case_there claims job seat number within table whole = subst (λ n. number < n) (ap (λ (c : Numbers). c.total) table ∙ whole) within
+
+-- a worker that finds no number left has sent all
+pub ends_whole : (claims : Numbers) (job : List Case) (lane : LaneId) (seat : Holding) (ended : Ending) (before : Sends) (worked : Worked)
+    → seat.of ≡ claims → before.lane ≡ lane → before.sent ≡ messages_for (sessions_of job) seat.numbers → ended.of ≡ seat.of → ended.numbers ≡ seat.numbers
+    → worked.end ≡ Finished → worked.ended ≡ Some ended → IfSome worked.sent (λ all. all ≡ record { lane = before.lane; sent = before.sent ++ messages.Last Finished ∷ [] })
+    → IsWorked claims (sessions_of job) lane worked
+ends_whole claims job lane seat ended before worked table here so_far of numbers ends some sent =
+    record {
+      token = IfSome_then worked.sent sent (λ all is. ap (λ a. a.lane) is ∙ here);
+      seat = λ _. rw some refl;
+      finished = λ _. ends;
+      sends = rw some (of ∙ table, IfSome_then worked.sent sent (λ all is. ap (λ a. a.sent) is ∙ rw (so_far, numbers) refl));
+      breaks = λ other. absurd (other ends);
     }

@@ -73,3 +73,10 @@ more_ended inboxes i b here mine others j d h =
     dite (ℕ_discrete j i)
     (λ e. subst HasEnded (sym (ap (λ (k : ℕ). get_or (set inboxes i b) k d) e ∙ get_or-set_same inboxes i b d here)) mine)
     (λ ne. subst HasEnded (sym (get_or-set_other inboxes i j b d ne)) (others j d (omega arith)))
+
+-- without a round, all is as it was; and rounds come one after the other
+pub stays_so : (inboxes : List Inbox) (r : Option (List (List Item))) → GoesOn inboxes inboxes r r
+stays_so inboxes r = record { same = refl; long = long_same r r refl }
+
+pub goes_further : (first then now : List Inbox) (o r s : Option (List (List Item))) → GoesOn first then o r → GoesOn then now r s → GoesOn first now o s
+goes_further first then now o r s before after = record { same = after.same ∙ before.same; long = long_then o r s before.long after.long }

@@ -90,7 +90,10 @@ pub fn replay_with<'a, R: Threads + Wait + Sync, G: Gate + Sync>(
     );
     let (maker, sessions) = all?;
     claims.close(maker);
-    named(alloc, job, sessions).map_err(|_| ReplayFault::Memory)
+    match named(alloc, job, sessions) {
+        Ok(recording) => Ok(recording),
+        Err(_) => Err(ReplayFault::Memory),
+    }
 }
 
 /// What every session of a job shows, by session number, played by so many workers.

@@ -67,6 +67,8 @@ fn send_items<R: Wait, G: Gate>(
         match run.next() {
             Ok(Some(item)) => {
                 if !gate.pass(session, number) {
+                    // (a call: where the scope ended, the ways through an item would be written out)
+                    drop(item);
                     return Err(End::GateClosed);
                 }
                 send(rt, sender, Message::Item(session, item));

@@ -1,5 +1,5 @@
-use Rattle.std.proofs.Common.{◌++◌, ◌∷◌, [], length, ap, ◌∙◌, sym, append_assoc}
-use Rattle.pz_replay.proofs.Sending.{first_messages, sends_more}
+use Rattle.std.proofs.Common.{refl, ◌++◌, ◌∷◌, [], length, ap, ◌∙◌, sym, append_assoc}
+use Rattle.pz_replay.proofs.Sending.{all_sent, closed_is_not_finished, first_messages, memory_is_not_closed, memory_is_not_finished, nothing_sent, sends_more}
 use Rattle.pz_replay.proofs.work.send_items.Goals as goal
 
 pub returns-then-not-pass-clause-part : goal.returns-then-not-pass-clause-part
@@ -23,3 +23,20 @@ items-preserved g c =
       append_assoc shown (item ∷ []) c.next-in-items.new.self.items ∙ (ap (λ xs. shown ++ xs) (sym yields.item.2) ∙ c.items.invariant.1),
       sends_more c.args.session c.args.sender.now c.items.sender c.send.new.sender shown item c.items.invariant.2 c.send.ensures,
     )
+
+pub items-init : goal.items-init
+items-init g c = ([], refl, nothing_sent c.args.session c.args.sender.now)
+
+pub returns-then-not-pass-clause-broken : goal.returns-then-not-pass-clause-broken
+returns-then-not-pass-clause-broken g c = closed_is_not_finished
+
+pub returns-in-Ok-None-clause-whole : goal.returns-in-Ok-None-clause-whole
+returns-in-Ok-None-clause-whole g c =
+    let none = rw c.in-Ok-None.field-0-is at c.in-Ok-None.ensures in
+    all_sent c.args.session c.args.sender.now c.items.sender c.items.invariant.0 c.items.run.items c.args.run.now.items none.item.2.0 c.items.invariant.1 c.items.invariant.2
+
+pub returns-in-Err-clause-broken : goal.returns-in-Err-clause-broken
+returns-in-Err-clause-broken g c = memory_is_not_finished
+
+pub returns-in-Err-clause-opened : goal.returns-in-Err-clause-opened
+returns-in-Err-clause-opened g c = λ _. memory_is_not_closed

@@ -1,4 +1,5 @@
-use Rattle.pz_replay.proofs.Sending.{below_more, breaks_off, session_more}
+use Rattle.std.proofs.Common.{refl, sym, ◌∙◌}
+use Rattle.pz_replay.proofs.Sending.{begins, below_more, breaks_off, case_there, ends_whole, finished_is_not_closed, session_more}
 use Rattle.pz_replay.proofs.work.work.Goals as goal
 
 pub returns-in-Err-clause-worked : goal.returns-in-Err-clause-worked
@@ -18,3 +19,26 @@ loop-preserved g c =
       sent = session_more c.args.duty.now.job.now c.loop.seat c.in-Got.same c.in-Got.session c.case-case.result.now c.loop.sender c.play.new.sender
           c.in-Got.ensures.2 c.case-case.ensures loop.sent c.in_default.ensures.whole;
     }
+
+pub loop-init : goal.loop-init
+loop-init g c =
+    let start = begins c.args.duty.now.claims.now c.args.duty.now.job.now c.args.seat c.args.sender.sent c.requires.seat.1 c.requires.sender in
+    record { table = c.requires.seat.0; below = start.0; lane = refl; sent = start.1 }
+
+pub claim-requires : goal.claim-requires
+claim-requires g c = c.loop.invariant.table
+
+pub case-case-requires : goal.case-case-requires
+case-case-requires g c = case_there c.args.duty.now.claims.now c.args.duty.now.job.now c.loop.seat c.in-Got.session c.in-Got.ensures.0 c.loop.invariant.table c.requires.job
+
+pub returns-in-Err-clause-opened : goal.returns-in-Err-clause-opened
+returns-in-Err-clause-opened g c = λ lets is. c.in-Err.ensures.opened lets (sym c.end_work.ensures.end ∙ is)
+
+pub returns-in-Done-clause-worked : goal.returns-in-Done-clause-worked
+returns-in-Done-clause-worked g c =
+    let loop = c.loop.invariant in
+    ends_whole c.args.duty.now.claims.now c.args.duty.now.job.now c.args.sender.lane c.loop.seat c.in-Done.ended c.loop.sender c.end_work-in-Done.result loop.table loop.lane loop.sent c.in-Done.ensures.0 c.in-Done.ensures.1
+    c.end_work-in-Done.ensures.end c.end_work-in-Done.ensures.ended c.end_work-in-Done.ensures.sent
+
+pub returns-in-Done-clause-opened : goal.returns-in-Done-clause-opened
+returns-in-Done-clause-opened g c = λ _. finished_is_not_closed c.end_work-in-Done.result.end c.end_work-in-Done.ensures.end

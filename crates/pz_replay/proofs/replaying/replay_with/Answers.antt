@@ -1,0 +1,62 @@
+use Rattle.std.proofs.Common.{refl, sym, ◌∙◌, Ok, Err}
+use Rattle.std.proofs.lemmas.Result.{err_from_is_err_and}
+use Rattle.pz_replay.specs.declared.fault.ReplayFault.TheVariants.{Memory, Workers, GateClosed}
+use Rattle.pz_replay.specs.declared.replaying.TheConstants.{MOST_WORKERS}
+use Rattle.pz_replay.proofs.Finishing.{answered, few_or_many, no_answer, no_refusal, passed_on, some_made}
+use Rattle.pz_replay.proofs.Joining.{not_closed, not_workers}
+use Rattle.pz_replay.proofs.replaying.replay_with.Goals as goal
+
+pub returns-then-workers-eq0-clause-workers : goal.returns-then-workers-eq0-clause-workers
+returns-then-workers-eq0-clause-workers g c = (λ _. few_or_many c.args.workers MOST_WORKERS c.then-workers-eq0.either, λ _. refl)
+
+pub returns-in_default-clause-workers : goal.returns-in_default-clause-workers
+returns-in_default-clause-workers g c = no_refusal c.args.workers MOST_WORKERS (Err Memory) c.if-workers-eq0.false c.if-workers-gt-MOST_WORKERS.false (not_workers (Err Memory) refl)
+
+pub returns-in_default-clause-opened : goal.returns-in_default-clause-opened
+returns-in_default-clause-opened g c = λ _. not_closed (Err Memory) refl
+
+pub new-requires : goal.new-requires
+new-requires g c = c.len-2.ensures.few
+
+pub returns-in_default-new-clause-workers : goal.returns-in_default-new-clause-workers
+returns-in_default-new-clause-workers g c = no_refusal c.args.workers MOST_WORKERS (Err Memory) c.if-workers-eq0.false c.if-workers-gt-MOST_WORKERS.false (not_workers (Err Memory) refl)
+
+pub returns-in_default-new-clause-opened : goal.returns-in_default-new-clause-opened
+returns-in_default-new-clause-opened g c = λ _. not_closed (Err Memory) refl
+
+pub returns-in_err-maker-clause-workers : goal.returns-in_err-maker-clause-workers
+returns-in_err-maker-clause-workers g c =
+    let gives = err_from_is_err_and c.from_residual.result c.from_residual.ensures.1 in
+    no_refusal c.args.workers MOST_WORKERS c.from_residual.result c.if-workers-eq0.false c.if-workers-gt-MOST_WORKERS.false (passed_on Workers c.in_err-maker.field-0.0 gives.0 c.scoped-all.result c.from_residual.result c.in_err-maker.was gives.1 gives.2 c.scoped-all.ensures.1.2)
+
+pub returns-in_err-maker-clause-recording : goal.returns-in_err-maker-clause-recording
+returns-in_err-maker-clause-recording g c = no_answer _ c.from_residual.result c.from_residual.ensures.0
+
+pub returns-in_err-maker-clause-opened : goal.returns-in_err-maker-clause-opened
+returns-in_err-maker-clause-opened g c =
+    let gives = err_from_is_err_and c.from_residual.result c.from_residual.ensures.1 in
+    λ lets. passed_on GateClosed c.in_err-maker.field-0.0 gives.0 c.scoped-all.result c.from_residual.result c.in_err-maker.was gives.1 gives.2 (c.scoped-all.ensures.1.1 lets)
+
+pub close-requires-clause-table : goal.close-requires-clause-table
+close-requires-clause-table g c = c.in_ok-maker.ensures.1.0.0
+
+pub close-requires-clause-joined : goal.close-requires-clause-joined
+close-requires-clause-joined g c = c.in_ok-maker.ensures.1.0.2 ∙ sym c.in_ok-maker.ensures.1.0.1
+
+pub named-requires : goal.named-requires
+named-requires g c = c.in_ok-maker.ensures.1.0.3 (c.close.ensures.once (some_made c.in_ok-maker.maker.made c.args.workers c.in_ok-maker.ensures.1.0.1 c.if-workers-eq0.false))
+
+pub returns-in-Ok-named-clause-workers : goal.returns-in-Ok-named-clause-workers
+returns-in-Ok-named-clause-workers g c = no_refusal c.args.workers MOST_WORKERS (Ok c.in-Ok-named.recording) c.if-workers-eq0.false c.if-workers-gt-MOST_WORKERS.false (answered c.in-Ok-named.recording Workers)
+
+pub returns-in-Ok-named-clause-recording : goal.returns-in-Ok-named-clause-recording
+returns-in-Ok-named-clause-recording g c = c.in-Ok-named.ensures
+
+pub returns-in-Ok-named-clause-opened : goal.returns-in-Ok-named-clause-opened
+returns-in-Ok-named-clause-opened g c = λ _. answered c.in-Ok-named.recording GateClosed
+
+pub returns-in-Err-clause-workers : goal.returns-in-Err-clause-workers
+returns-in-Err-clause-workers g c = no_refusal c.args.workers MOST_WORKERS (Err Memory) c.if-workers-eq0.false c.if-workers-gt-MOST_WORKERS.false (not_workers (Err Memory) refl)
+
+pub returns-in-Err-clause-opened : goal.returns-in-Err-clause-opened
+returns-in-Err-clause-opened g c = λ _. not_closed (Err Memory) refl
