@@ -11,23 +11,24 @@ use json::Writer;
 use pz_session::item::{Frame, Item, Verdict};
 use std::alloc::{AllocError, Global};
 
-/// Writes a text in quotation marks.
-fn quote(lines: Vec<u8>, text: &str) -> Result<Vec<u8>, AllocError>
-    ensures { IfOk result (λ written. written.items ≡ lines.items ++ quoted text.now) }
+/// A text in quotation marks, in room of its own: a writer clears what room it has before it writes, and lines have much.
+fn in_quotes(alloc: Global, text: &str) -> Result<Vec<u8>, AllocError>
+    ensures { IfOk result (λ written. written.items ≡ quoted text.now) }
 {
-    let mut writer = Writer::new(lines);
+    // (the end of a line takes two bytes)
+    let room = Vec::with_capacity(alloc, text.len() + text.len() / 8 + 16)?;
+    let mut writer = Writer::new(room);
     writer.string(text)?;
     Ok(writer.into_inner())
 }
 
 /// Writes a key, with what stands before it, and its text.
-fn put_text(lines: Vec<u8>, key: &[u8], text: &str) -> Result<Vec<u8>, AllocError>
-    ensures { IfOk result (λ written. written.items ≡ lines.items ++ (key.now ++ quoted text.now)) }
+fn put_text(lines: &mut Vec<u8>, key: &[u8], text: &str) -> Result<(), AllocError>
+    ensures { OnOk result (lines.new.items ≡ lines.old.items ++ (key.now ++ quoted text.now)) }
 {
-    let mut lines = lines;
+    let written = in_quotes(*lines.allocator(), text)?;
     lines.extend_from_slice(key)?;
-    let written = quote(lines, text)?;
-    Ok(written)
+    lines.extend_from_slice(&written)
 }
 
 /// Writes a key, with what stands before it, and its number.
@@ -53,23 +54,22 @@ fn write_frame(
     let mut lines = lines;
     put_number(&mut lines, b"{\"at\":", at)?;
     put_number(&mut lines, b",\"frame\":", number)?;
-    let kinded = put_text(lines, b",\"kind\":", kind_name(frame.kind))?;
-    let mut levelled = put_text(kinded, b",\"level\":", frame.level_text.as_str())?;
-    put_number(&mut levelled, b",\"session\":", session)?;
-    levelled.extend_from_slice(b"}\n")?;
-    Ok(levelled)
+    put_text(&mut lines, b",\"kind\":", kind_name(frame.kind))?;
+    put_text(&mut lines, b",\"level\":", frame.level_text.as_str())?;
+    put_number(&mut lines, b",\"session\":", session)?;
+    lines.extend_from_slice(b"}\n")?;
+    Ok(lines)
 }
 
 /// Writes the cause of a close, where it has one.
-fn put_cause(alloc: Global, lines: Vec<u8>, verdict: Verdict) -> Result<Vec<u8>, AllocError>
-    ensures { IfOk result (λ written. written.items ≡ lines.items ++ with_cause (cause_name verdict)) }
+fn put_cause(alloc: Global, lines: &mut Vec<u8>, verdict: Verdict) -> Result<(), AllocError>
+    ensures { OnOk result (lines.new.items ≡ lines.old.items ++ with_cause (cause_name verdict)) }
 {
     match cause_name(alloc, verdict)? {
-        None => Ok(lines),
+        None => Ok(()),
         Some(cause) => {
-            let mut caused = put_text(lines, b"\"cause\":", cause.as_str())?;
-            caused.extend_from_slice(b",")?;
-            Ok(caused)
+            put_text(lines, b"\"cause\":", cause.as_str())?;
+            lines.extend_from_slice(b",")
         }
     }
 }
@@ -85,15 +85,15 @@ fn write_close(
 ) -> Result<Vec<u8>, AllocError>
     ensures { IfOk result (λ written. written.items ≡ lines.items ++ close_line session name.now frames verdict) }
 {
-    let mut lines = lines;
-    lines.extend_from_slice(b"{")?;
-    let caused = put_cause(alloc, lines, verdict)?;
-    let mut closed = put_text(caused, b"\"close\":", close_name(verdict))?;
+    let mut closed = lines;
+    closed.extend_from_slice(b"{")?;
+    put_cause(alloc, &mut closed, verdict)?;
+    put_text(&mut closed, b"\"close\":", close_name(verdict))?;
     put_number(&mut closed, b",\"frames\":", frames)?;
-    let mut named = put_text(closed, b",\"name\":", name)?;
-    put_number(&mut named, b",\"session\":", session)?;
-    named.extend_from_slice(b"}\n")?;
-    Ok(named)
+    put_text(&mut closed, b",\"name\":", name)?;
+    put_number(&mut closed, b",\"session\":", session)?;
+    closed.extend_from_slice(b"}\n")?;
+    Ok(closed)
 }
 
 /// How many of the items are frames.
