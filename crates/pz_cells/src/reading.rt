@@ -31,13 +31,6 @@ impl<const N: usize> Cell<N> {
         NumberSet::from_words(&self.objects)
     }
 
-    /// Whether these objects stand in the cell, and no others.
-    pub fn has_exactly(&self, objects: &NumberSet) -> bool
-        ensures { IsTrue result ↔ AreSame self.now.objects objects.now }
-    {
-        words::same(&self.objects, objects.words())
-    }
-
     /// Where the objects of each layer head.
     pub fn heading_set(&self) -> NumberSet
         requires short { N ≤ 4 }

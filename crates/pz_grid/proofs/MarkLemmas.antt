@@ -2,8 +2,9 @@
 use Rattle.std.proofs.Common.{◌≡◌, ◌⊎◌, inl, inr, ℕ, zero, suc, ◌+◌, ◌*◌, ◌<◌, ◌≤◌, List, [], ◌∷◌, Option, Some, None, Bool, true, false, cond, ◌&&◌, ◌||◌, nat_eq, length, get_or, set, map, arith, ap, sym, ◌∙◌, refl, subst, eq-eqb}
 use Rattle.std.specs.Prelude.{is_some}
 use Rattle.std.specs.List.{list_any, range_with_len}
-use Rattle.std.proofs.lemmas.Bool.{cases_eq, cases_lt, cases_order, eqb-true, or_cases, or_left, or_right}
+use Rattle.std.proofs.lemmas.Bool.{cases_eq, ne_eqb, cases_lt, cases_order, eqb-true, or_cases, or_left, or_right}
 use Rattle.std.proofs.lemmas.Nat.{mul-add-lt}
+use Rattle.std.proofs.lemmas.Grind.{get_or-set_at}
 use Rattle.std.proofs.lemmas.List.{length-set, get_or_past, get_or-set_same, get_or-set_other}
 use Rattle.pz_sets.specs.Sets.{member}
 use Rattle.pz_game.specs.declared.direction.Dir.{Dir}
@@ -18,7 +19,7 @@ use Rattle.pz_sheet.specs.Pushing.{pushed_place, pushed, is_one_of}
 use Rattle.pz_game.specs.Items.{names, names_object, forbids_object, placed_on, is_on, tells_of}
 use Rattle.pz_cells.specs.Rewriting.{kept, replaced, rewritten_place, rewritten_cell}
 use Rattle.pz_sheet.specs.Rewriting.{with_rewritten}
-use Rattle.pz_grid.specs.Marks.{is_marked, IsMarked, IsMarkedAt}
+use Rattle.pz_grid.specs.Marks.{is_marked, IsMarked, IsMarkedAt, IsMore}
 
 -- ---- a test over numbers
 pub any_in : (p : ℕ → Bool) (a n k : ℕ) → a ≤ k → k < a + n → p k ≡ true → list_any p (range_with_len a n) ≡ true
@@ -281,3 +282,21 @@ marked_mark state x y new_row new_column new_level added x_in y_in row column le
     | inr (_, is) ↦ level object ∙ or_left _ _ (eq-eqb object added is)
   ];
 }
+
+turned : (a b : ℕ) → nat_eq a b ≡ nat_eq b a
+turned a b = elim (cases_eq a b) [
+  | inl same ↦ eq-eqb a b same ∙ sym (eq-eqb b a (sym same))
+  | inr differs ↦ ne_eqb a b differs ∙ sym (ne_eqb b a (λ same. differs (sym same)))
+]
+
+-- sets of lines with an object more in one
+pub more_in_line : (marks : List (List ℕ)) (line : ℕ) (new : List ℕ) (added : ℕ) → line < length marks → IsOneMore marks line new added → IsMore marks (set marks line new) line (nat_eq added)
+more_in_line marks line new added within more other object = elim (cases_eq other line) [
+  | inl same ↦ ap (λ (m : List ℕ). member m object) (get_or-set_at marks line other new [] same within)
+      ∙ (more object
+      ∙ (ap (λ (b : Bool). b || member (get_or marks line []) object) (turned object added)
+      ∙ (ap (λ (k : ℕ). nat_eq added object || member (get_or marks k []) object) (sym same)
+      ∙ ap (λ (b : Bool). (b && nat_eq added object) || member (get_or marks other []) object) (sym (eq-eqb other line same)))))
+  | inr differs ↦ ap (λ (m : List ℕ). member m object) (get_or-set_other marks line other new [] differs)
+      ∙ ap (λ (b : Bool). (b && nat_eq added object) || member (get_or marks other []) object) (sym (ne_eqb other line differs))
+]

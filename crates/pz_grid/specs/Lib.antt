@@ -1,10 +1,8 @@
 pub mod Bare
 pub mod Movement
 pub mod Loading
-pub mod Laws
 pub mod Places
 pub mod Rewriting
-pub mod RuleLaws
 pub mod Marks
 pub mod Staying
 pub mod Admitted

@@ -186,16 +186,6 @@ impl BareLevel {
         }
     }
 
-    pub(crate) fn holds_exactly(&self, x: u32, y: u32, objects: &NumberSet) -> bool
-        ensures { IsTrue result ↔ ((object : ℕ) → member objects.now object ≡ stands self.now.grid x y object) }
-    {
-        match &self.sheet {
-            Sized::Small(sheet) => sheet.holds_exactly(x, y, objects),
-            Sized::Middle(sheet) => sheet.holds_exactly(x, y, objects),
-            Sized::Large(sheet) => sheet.holds_exactly(x, y, objects),
-        }
-    }
-
     pub(crate) fn piece(&self, x: u32, y: u32, object: usize) -> Option<Piece>
         ensures { MatchOption result (standing_at self.now.grid x y object ≡ None) (λ piece. standing_at self.now.grid x y object ≡ Some piece.heading) }
     {

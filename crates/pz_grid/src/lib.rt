@@ -1,7 +1,7 @@
 //! Levels of a game: loaded, read, compared, matched, rewritten, pushed and moved.
 #![tactic(auto)]
 
-ghost use Rattle.std.specs.Prelude.{◌≡◌, ◌+◌, ◌*◌, ◌<◌, ℕ, ◌↔◌, IsTrue, length, Some, None, MatchOption, IfOk};
+ghost use Rattle.std.specs.Prelude.{◌≡◌, ◌+◌, ◌*◌, ◌<◌, ℕ, length, Some, None, MatchOption, IfOk};
 ghost use Rattle.pz_sets.specs.Sets.{member};
 ghost use Rattle.pz_sheet.specs.Grid.{IsLawful};
 ghost use Rattle.pz_grid.specs.Marks.{IsMarked};
@@ -15,7 +15,6 @@ use std::marker::Model;
 mod admitted;
 mod bare;
 mod headed;
-pub mod laws;
 mod loading;
 mod marks;
 mod movement;
@@ -25,7 +24,6 @@ pub mod places;
 mod presence;
 mod pushing;
 pub mod rewriting;
-pub mod rule_laws;
 mod sameness;
 mod seen;
 
@@ -107,13 +105,6 @@ impl Level {
         ensures { (object : ℕ) → member result object ≡ stands self.now.grid x y object }
     {
         self.bare.objects_at(x, y)
-    }
-
-    /// Whether these objects stand at the position, and no others: off the map, none do.
-    pub fn holds_exactly(&self, x: u32, y: u32, objects: &NumberSet) -> bool
-        ensures { IsTrue result ↔ ((object : ℕ) → member objects.now object ≡ stands self.now.grid x y object) }
-    {
-        self.bare.holds_exactly(x, y, objects)
     }
 
     /// Where the object at the position heads; None: it is still, or not there.

@@ -1,6 +1,6 @@
 //! What gives back an older level from the one after it.
 
-ghost use Rattle.std.specs.Prelude.{◌≡◌, ◌↔◌, IsTrue, IfOk, All};
+ghost use Rattle.std.specs.Prelude.{◌≡◌, ◌↔◌, IsTrue, IfOk, OnOk, OnErr, All};
 ghost use Rattle.pz_grid.specs.Past.{given_back, Leads, IsFor};
 ghost use Rattle.pz_sheet.specs.Changes.{changes_seen, IsChangeOf, restored};
 ghost use Rattle.pz_sheet.specs.Grid.{SameSize};
@@ -32,28 +32,33 @@ impl BareLevel {
         }
     }
 
-    /// What gives an older level back from this one. Err: memory was refused.
-    pub(crate) fn way_to(&self, alloc: Global, older: &BareLevel) -> Result<Older, AllocError>
-        ensures leads { IfOk result (λ way. Leads way self.now.grid older.now.grid) }
-        ensures given { IfOk result (λ way. given_back way self.now.grid ≡ older.now.grid) }
+    /// Becomes a newer level, and gives the way back. Err: memory was refused, and it is as it was.
+    pub(crate) fn go_on(&mut self, alloc: Global, newer: &BareLevel) -> Result<Older, AllocError>
+        ensures newer { OnOk result (self.new.grid ≡ newer.now.grid) }
+        ensures kept { OnErr result (self.new.grid ≡ self.old.grid) }
+        ensures leads { IfOk result (λ way. Leads way newer.now.grid self.old.grid) }
+        ensures given { IfOk result (λ way. given_back way newer.now.grid ≡ self.old.grid) }
     {
-        if self.same_size(older) {
-            return self.changes_to(older);
+        if newer.same_size(self) {
+            return self.change_to(newer);
         }
-        let whole = Box::new(alloc, older.copy()?)?;
+        let whole = Box::new(alloc, self.copy()?)?;
+        self.copy_from(newer)?;
         Ok(Older::Whole(whole))
     }
 
-    /// What gives an older level of the same size back. Err: memory was refused.
-    fn changes_to(&self, older: &BareLevel) -> Result<Older, AllocError>
-        requires size { SameSize self.now.grid older.now.grid }
-        ensures leads { IfOk result (λ way. Leads way self.now.grid older.now.grid) }
-        ensures given { IfOk result (λ way. given_back way self.now.grid ≡ older.now.grid) }
+    /// Becomes a newer level of the same size, and gives the way back. Err: memory was refused, and it is as it was.
+    fn change_to(&mut self, newer: &BareLevel) -> Result<Older, AllocError>
+        requires size { SameSize newer.now.grid self.old.grid }
+        ensures newer { OnOk result (self.new.grid ≡ newer.now.grid) }
+        ensures kept { OnErr result (self.new.grid ≡ self.old.grid) }
+        ensures leads { IfOk result (λ way. Leads way newer.now.grid self.old.grid) }
+        ensures given { IfOk result (λ way. given_back way newer.now.grid ≡ self.old.grid) }
     {
-        let way = match (&self.sheet, &older.sheet) {
-            (Sized::Small(sheet), Sized::Small(old)) => Older::Small(sheet.changes_to(old)?),
-            (Sized::Middle(sheet), Sized::Middle(old)) => Older::Middle(sheet.changes_to(old)?),
-            (Sized::Large(sheet), Sized::Large(old)) => Older::Large(sheet.changes_to(old)?),
+        let way = match (&mut self.sheet, &newer.sheet) {
+            (Sized::Small(sheet), Sized::Small(newer)) => Older::Small(sheet.go_on(newer)?),
+            (Sized::Middle(sheet), Sized::Middle(newer)) => Older::Middle(sheet.go_on(newer)?),
+            (Sized::Large(sheet), Sized::Large(newer)) => Older::Large(sheet.go_on(newer)?),
             _ => unreachable!(),
         };
         Ok(way)

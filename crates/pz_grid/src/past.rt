@@ -1,8 +1,6 @@
 //! The past of a level.
 
 ghost use Rattle.std.specs.Prelude.{◌≡◌, ◌<◌, List, [], ◌∷◌, ◌++◌, IfOk, OnOk, OnErr, MatchOption, drop, vec_len, vec_capacity};
-ghost use Rattle.pz_grid.specs.Past.{given_back, Leads};
-ghost use Rattle.pz_sheet.specs.Grid.{Grid};
 
 use crate::Level;
 use crate::bare::BareLevel;
@@ -65,7 +63,7 @@ impl Past {
         // (nothing is refused any more once the newest is another)
         self.before.reserve(1)?;
         if let Some(newest) = &mut self.newest {
-            let way = go_on(*self.before.allocator(), newest, &level.bare)?;
+            let way = newest.go_on(*self.before.allocator(), &level.bare)?;
             put_last(&mut self.before, way);
             return Ok(());
         }
@@ -109,19 +107,6 @@ impl Past {
             },
         }
     }
-}
-
-/// Puts a newer level in the place of one, in the memory that this has if that is enough, and gives the way back. Err: memory was refused, and it is
-/// as it was.
-fn go_on(alloc: Global, level: &mut BareLevel, newer: &BareLevel) -> Result<Older, AllocError>
-    ensures newer { OnOk result (level.new.grid ≡ newer.now.grid) }
-    ensures kept { OnErr result (level.new.grid ≡ level.old.grid) }
-    ensures leads { IfOk result (λ way. Leads way newer.now.grid level.old.grid) }
-    ensures given { IfOk result (λ way. given_back way newer.now.grid ≡ level.old.grid) }
-{
-    let way = newer.way_to(alloc, level)?;
-    level.copy_from(newer)?;
-    Ok(way)
 }
 
 /// Puts a way behind others, for which there is room.

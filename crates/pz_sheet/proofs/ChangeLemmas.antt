@@ -27,7 +27,7 @@ restored_cells : (changes : List CellChange) (grid : Grid) → restored changes 
 restored_cells [] grid = refl
 restored_cells (change ∷ changes) grid = restored_cells changes (with_cell grid change)
 
-shift : {X : Type 0} (front : List X) (x : X) (rest : List X) → (front ++ x ∷ []) ++ rest ≡ front ++ x ∷ rest
+pub shift : {X : Type 0} (front : List X) (x : X) (rest : List X) → (front ++ x ∷ []) ++ rest ≡ front ++ x ∷ rest
 shift [] x rest = refl
 shift (y ∷ front) x rest = ap (λ l. y ∷ l) (shift front x rest)
 

@@ -15,4 +15,5 @@ pub mod StartLemmas
 pub mod ArriveLemmas
 pub mod CopyLemmas
 pub mod NoteLemmas
+pub mod NewerLemmas
 pub mod NextLemmas

@@ -80,6 +80,11 @@ pub record HaveSameLines (old new : PlaneSets) : Type 0 where
   pub column_objects : new.columns.objects ≡ old.columns.objects
   pub column_count : new.columns.count ≡ old.columns.count
 
+-- there are as many words in one as in another, for each object and each line
+pub record HasRoomOf (sets other : LineSets) : Type 0 where
+  pub objects : sets.objects ≡ other.objects
+  pub count : sets.count ≡ other.count
+
 -- sets for so many objects, for each row and for each column
 pub record IsFor (objects width height : ℕ) (planes : PlaneSets) : Type 0 where
   pub row_objects : planes.rows.objects ≡ objects

@@ -20,8 +20,37 @@ pub struct Change<const N: usize> {
 }
 
 impl<const N: usize> Sheet<N> {
+    /// Becomes a newer level of the same size, and gives what leads back: the cells in which it was another, and no other. Err: memory was refused,
+    /// and it is as it was.
+    pub fn go_on(&mut self, newer: &Sheet<N>) -> Result<Vec<Change<N>>, AllocError>
+        requires size { SameSize newer.now.grid self.old.grid }
+        ensures newer { OnOk result (self.new.grid ≡ newer.now.grid) }
+        ensures kept { OnErr result (self.new.grid ≡ self.old.grid) }
+        ensures changes { IfOk result (λ changes. changes_seen N newer.now.grid changes.items ≡ changed_cells newer.now.grid self.old.grid) }
+        ensures of_level { IfOk result (λ changes. All (IsChangeOf N newer.now.grid) changes.items) }
+        ensures way_back { IfOk result (λ changes. restored (changes_seen N newer.now.grid changes.items) newer.now.grid ≡ self.old.grid) }
+    {
+        let changes = newer.changes_to(self)?;
+        self.catch_up(newer, &changes);
+        Ok(changes)
+    }
+
+    /// Puts the cells of a newer level in the place of its own, where the way back from that says that they differ.
+    fn catch_up(&mut self, newer: &Sheet<N>, way: &[Change<N>])
+        requires size { SameSize newer.now.grid self.old.grid }
+        requires changes { changes_seen N newer.now.grid way.now ≡ changed_cells newer.now.grid self.old.grid }
+        requires of_level { All (IsChangeOf N newer.now.grid) way.now }
+        ensures { self.new.grid ≡ newer.now.grid }
+    {
+        // (brings the proof the law of both levels)
+        let _ = (self.width(), newer.width());
+        for change in way {
+            self.take_cell(newer, change.index);
+        }
+    }
+
     /// What gives an older level of the same size back: the cells in which that differs, and no other. Err: memory was refused.
-    pub fn changes_to(&self, older: &Sheet<N>) -> Result<Vec<Change<N>>, AllocError>
+    fn changes_to(&self, older: &Sheet<N>) -> Result<Vec<Change<N>>, AllocError>
         requires size { SameSize self.now.grid older.now.grid }
         ensures changes { IfOk result (λ changes. changes_seen N self.now.grid changes.items ≡ changed_cells self.now.grid older.now.grid) }
         ensures of_level { IfOk result (λ changes. All (IsChangeOf N self.now.grid) changes.items) }

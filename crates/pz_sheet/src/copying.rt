@@ -46,8 +46,12 @@ impl<const N: usize> Sheet<N> {
             other.sets.len(),
             other.cells.len(),
         )?;
-        let planes = renew(&mut self.notes, &other.notes, &other.planes)?;
-        self.planes = planes;
+        renew(
+            &mut self.notes,
+            &mut self.planes,
+            &other.notes,
+            &other.planes,
+        )?;
         self.width = other.width;
         self.height = other.height;
         self.depth = other.depth;
@@ -77,15 +81,27 @@ fn make_rooms<const N: usize>(
     make_room(cells, cell_count)
 }
 
-/// Makes notes the same as others, and copies what is noted of the objects. Err: memory was refused, and the notes are as they were.
-fn renew(notes: &mut Notes, other: &Notes, planes: &Planes) -> Result<Planes, AllocError>
-    ensures planes { IfOk result (λ copy. copy ≡ planes.now) }
-    ensures copied { OnOk result (notes.new ≡ other.now) }
-    ensures kept { OnErr result (notes.new ≡ notes.old) }
+/// Makes what is noted the same as elsewhere, in the memory that it has if that is enough. Err: more was refused, and it is as it was.
+fn renew(
+    notes: &mut Notes,
+    planes: &mut Planes,
+    other_notes: &Notes,
+    other_planes: &Planes,
+) -> Result<(), AllocError>
+    ensures notes { OnOk result (notes.new ≡ other_notes.now) }
+    ensures planes { OnOk result (planes.new ≡ other_planes.now) }
+    ensures notes_kept { OnErr result (notes.new ≡ notes.old) }
+    ensures planes_kept { OnErr result (planes.new ≡ planes.old) }
 {
-    let copy = planes.copy()?;
-    notes.copy_from(other)?;
-    Ok(copy)
+    if planes.has_room_of(other_planes) {
+        notes.copy_from(other_notes)?;
+        planes.overwrite(other_planes);
+        return Ok(());
+    }
+    let copy = other_planes.copy()?;
+    notes.copy_from(other_notes)?;
+    *planes = copy;
+    Ok(())
 }
 
 /// Makes room for so many items in all. Err: memory was refused.

@@ -4,7 +4,7 @@ ghost use Rattle.std.specs.Prelude.{◌≡◌, ℕ, ◌+◌, ◌*◌, ◌/◌, �
 ghost use Rattle.pz_game.specs.declared.limits.TheConstants.{MAX_OBJECTS, MAX_SIDE};
 ghost use Rattle.pz_game.specs.Items.{names};
 ghost use Rattle.pz_sets.specs.Sets.{in_word, member};
-ghost use Rattle.pz_sheet.specs.Planes.{LineSets, PlaneSets, stands_in, IsKept, AreKept, every, but, IsInside, IsKnown, AreKnown, IsThere, AreThere, AreAllThere, HaveSameLines, IsFor, ArePlaced, AreItemsOf, MayHold, MayRunAhead, MayRunBack};
+ghost use Rattle.pz_sheet.specs.Planes.{LineSets, PlaneSets, stands_in, IsKept, AreKept, every, but, IsInside, IsKnown, AreKnown, IsThere, AreThere, AreAllThere, HaveSameLines, HasRoomOf, IsFor, ArePlaced, AreItemsOf, MayHold, MayRunAhead, MayRunBack};
 
 use crate::bits;
 use pz_cells::cell::Cell;
@@ -169,6 +169,21 @@ impl LinePlanes {
             starts = bits::both(starts, bits::back(places, index));
         }
         starts
+    }
+
+    /// Whether another has as many objects and lines, so that its notes fit in this one's memory.
+    fn has_room_of(&self, other: &LinePlanes) -> bool
+        ensures { result ≡ true → HasRoomOf self.now other.now }
+    {
+        self.objects == other.objects && self.count == other.count
+    }
+
+    /// Becomes the same as another of as many objects and lines.
+    fn overwrite(&mut self, other: &LinePlanes)
+        requires { HasRoomOf self.old other.now }
+        ensures { self.new ≡ other.now }
+    {
+        self.words.copy_from_slice(&other.words);
     }
 
     /// The same once more. Err: memory was refused.
@@ -362,6 +377,23 @@ impl Planes {
         for index in 0..cells.len() {
             self.arrive_at(index, &cells[index]);
         }
+    }
+
+    /// Whether another has as many objects and lines, so that its notes fit in this one's memory.
+    pub(crate) fn has_room_of(&self, other: &Planes) -> bool
+        ensures { result ≡ true → HasRoomOf self.now.rows other.now.rows × HasRoomOf self.now.columns other.now.columns }
+    {
+        self.rows.has_room_of(&other.rows) && self.columns.has_room_of(&other.columns)
+    }
+
+    /// Becomes the same as another of as many objects and lines.
+    pub(crate) fn overwrite(&mut self, other: &Planes)
+        requires rows { HasRoomOf self.old.rows other.now.rows }
+        requires columns { HasRoomOf self.old.columns other.now.columns }
+        ensures { self.new ≡ other.now }
+    {
+        self.rows.overwrite(&other.rows);
+        self.columns.overwrite(&other.columns);
     }
 
     /// The same once more. Err: memory was refused.

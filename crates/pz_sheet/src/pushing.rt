@@ -40,6 +40,8 @@ impl<const N: usize> Sheet<N> {
         self.push_in(index, players, dir);
     }
 
+    /// The same where one of them stands there. (Out of the loop over all cells, which is faster without it.)
+    #[inline(never)]
     fn push_in(&mut self, index: usize, players: &[usize], dir: Dir)
         requires { index < length self.old.grid.cells }
         ensures { self.new.grid ≡ pushed_at players.now dir index self.old.grid }

@@ -1,6 +1,6 @@
 //! Which objects stand in a cell.
 
-ghost use Rattle.std.specs.Prelude.{◌≡◌, ◌<◌, ℕ, ◌↔◌, IsTrue, length, Some, None, MatchOption};
+ghost use Rattle.std.specs.Prelude.{◌≡◌, ◌<◌, ℕ, length, Some, None, MatchOption};
 ghost use Rattle.pz_sets.specs.Sets.{member};
 ghost use Rattle.pz_sheet.specs.Presence.{is_in, cell_of};
 ghost use Rattle.pz_sheet.specs.Standing.{standing_at, stands};
@@ -8,7 +8,6 @@ ghost use Rattle.pz_sheet.specs.Standing.{standing_at, stands};
 use crate::Sheet;
 use pz_cells::piece::Piece;
 use pz_sets::set::NumberSet;
-use pz_sets::words;
 
 impl<const N: usize> Sheet<N> {
     /// The objects that stand at the position: off the map, none.
@@ -19,17 +18,6 @@ impl<const N: usize> Sheet<N> {
             self.cells[self.index(x, y)].object_set()
         } else {
             NumberSet::empty()
-        }
-    }
-
-    /// Whether these objects stand at the position, and no others: off the map, none do.
-    pub fn holds_exactly(&self, x: u32, y: u32, objects: &NumberSet) -> bool
-        ensures { IsTrue result ↔ ((object : ℕ) → member objects.now object ≡ stands self.now.grid x y object) }
-    {
-        if x < self.width && y < self.height {
-            self.cells[self.index(x, y)].has_exactly(objects)
-        } else {
-            words::is_empty(objects.words())
         }
     }
 

@@ -19,17 +19,17 @@ returns-in_err-make_rooms-clause-kept g c =
     let kept = c.make_rooms.ensures in
     on_fault c.from_residual.result _ (grid_same g.row.N a.width a.height a.depth _ _ _ _ kept.layers kept.cells ∙ ap (λ (s : BareState). s.grid) c.self.view_is)
 
-pub invariant_of-self-in_err-planes : goal.invariant_of-self-in_err-planes
-invariant_of-self-in_err-planes g c =
+pub invariant_of-self-in_err-renew : goal.invariant_of-self-in_err-renew
+invariant_of-self-in_err-renew g c =
     let a = c.self.inside in
     let kept = c.make_rooms.ensures in
-    sheet_same g.row.N a.width a.height a.depth _ _ _ _ _ _ _ _ _ _ kept.layers kept.sets kept.cells c.in_err-planes.ensures.kept refl c.self.invariant
+    sheet_same g.row.N a.width a.height a.depth _ _ _ _ _ _ _ _ _ _ kept.layers kept.sets kept.cells c.in_err-renew.ensures.notes_kept c.in_err-renew.ensures.planes_kept c.self.invariant
 
-pub returns-in_err-planes-clause-kept : goal.returns-in_err-planes-clause-kept
-returns-in_err-planes-clause-kept g c =
+pub returns-in_err-renew-clause-kept : goal.returns-in_err-renew-clause-kept
+returns-in_err-renew-clause-kept g c =
     let a = c.self.inside in
     let kept = c.make_rooms.ensures in
-    on_fault c.from_residual-in_err-planes.result _ (grid_same g.row.N a.width a.height a.depth _ _ _ _ kept.layers kept.cells ∙ ap (λ (s : BareState). s.grid) c.self.view_is)
+    on_fault c.from_residual-in_err-renew.result _ (grid_same g.row.N a.width a.height a.depth _ _ _ _ kept.layers kept.cells ∙ ap (λ (s : BareState). s.grid) c.self.view_is)
 
 pub refill-requires : goal.refill-requires
 refill-requires g c = omega (arith, c.in_ok-make_rooms.ensures.room.0, c.len.ensures, c.deref.ensures.len)
@@ -44,7 +44,7 @@ pub invariant_of-self-2 : goal.invariant_of-self-2
 invariant_of-self-2 g c =
     let b = c.other.inside in
     sheet_same g.row.N b.width b.height b.depth b.layers.items _ b.sets.items _ b.cells.items _ b.notes _ b.planes _ (c.refill.ensures ∙ c.deref.ensures.value) (c.refill-2.ensures ∙ c.deref-2.ensures.value) (c.refill-3.ensures ∙ c.deref-3.ensures.value)
-    c.in_ok-planes.ensures.copied c.in_ok-planes.ensures.planes c.other.invariant
+    c.in_ok-renew.ensures.notes c.in_ok-renew.ensures.planes c.other.invariant
 
 pub returns-clause-copied : goal.returns-clause-copied
 returns-clause-copied g c =

@@ -1,1 +1,0 @@
--- Movement keeps the size of a level.

@@ -1,0 +1,7 @@
+pub mod LawfulLemmas
+pub mod RewritingLemmas
+pub mod StandingLemmas
+pub mod Rows
+pub mod WorkedPlaces
+pub mod WorkedMarks
+pub mod WorkedLevels

@@ -1,0 +1,68 @@
+-- A level with the cells of a newer one put where changes that lead back from that say that they differ is the newer one.
+use Rattle.std.proofs.Common.{◌≡◌, ℕ, ◌+◌, ◌*◌, ◌<◌, List, [], ◌∷◌, ◌++◌, Option, Bool, true, false, cond, set, length, get_or, ap, sym, ◌∙◌, refl, arith}
+use Rattle.std.specs.Prelude.{fold}
+use Rattle.std.proofs.lemmas.List.{length-append}
+use Rattle.std.proofs.Math.Seq.{set-append_seam}
+use Rattle.pz_cells.specs.declared.piece.Piece.{Piece}
+use Rattle.pz_cells.specs.Sameness.{same_cell}
+use Rattle.pz_cells.proofs.SameLemmas.{same_cell_is}
+use Rattle.pz_sheet.specs.declared.changes.Change.{Change}
+use Rattle.pz_sheet.specs.Changes.{CellChange, changed_from, changed_cells, changes_seen, with_cell, cell_there}
+use Rattle.pz_sheet.specs.Grid.{Grid, IsLawful, SameSize}
+use Rattle.pz_sheet.proofs.ChangeLemmas.{shift}
+
+-- cells of a newer level put where changes say
+abbrev pub taken : (N : ℕ) → Grid → List (Change N) → Grid → Grid
+taken N newer changes grid = fold (λ g change. with_cell g (cell_there newer change.index)) grid changes
+
+abbrev put_there : List (List (Option Piece)) → List (List (Option Piece)) → CellChange → List (List (Option Piece))
+put_there all cells change = set cells change.number (get_or all change.number [])
+
+at_seam : (front : List (List (Option Piece))) (cell : List (Option Piece)) (rest : List (List (Option Piece))) → get_or (front ++ cell ∷ rest) (length front) [] ≡ cell
+at_seam [] cell rest = refl
+at_seam (x ∷ front) cell rest = at_seam front cell rest
+
+-- behind a front that is one longer
+next : (front : List (List (Option Piece))) (cell : List (Option Piece)) (newer older : List (List (Option Piece))) → fold (put_there ((front ++ cell ∷ []) ++ newer)) ((front ++ cell ∷ []) ++ older) (changed_from (length (front ++ cell ∷ [])) newer older) ≡ (front ++ cell ∷ []) ++ newer
+    → fold (put_there (front ++ cell ∷ newer)) (front ++ cell ∷ older) (changed_from (length front + 1) newer older) ≡ front ++ cell ∷ newer
+next front cell newer older e =
+    let longer : length front + 1 ≡ length (front ++ cell ∷ []) = sym (length-append front (cell ∷ [])) in
+    ap (λ (all : List (List (Option Piece))). fold (put_there all) (front ++ cell ∷ older) (changed_from (length front + 1) newer older)) (sym (shift front cell newer))
+    ∙ (ap (λ (all : List (List (Option Piece))). fold (put_there ((front ++ cell ∷ []) ++ newer)) all (changed_from (length front + 1) newer older)) (sym (shift front cell older))
+    ∙ (ap (λ (n : ℕ). fold (put_there ((front ++ cell ∷ []) ++ newer)) ((front ++ cell ∷ []) ++ older) (changed_from n newer older)) longer ∙ (e ∙ shift front cell newer)))
+
+by_test : (front : List (List (Option Piece))) (cell old : List (Option Piece)) (newer older : List (List (Option Piece))) (b : Bool) → same_cell cell old ≡ b
+    → fold (put_there (front ++ cell ∷ newer)) (front ++ cell ∷ older) (changed_from (length front + 1) newer older) ≡ front ++ cell ∷ newer
+    → fold (put_there (front ++ cell ∷ newer)) (front ++ old ∷ older) (cond b (changed_from (length front + 1) newer older) (record { number = length front; cell = old } ∷ changed_from (length front + 1) newer older)) ≡ front ++ cell ∷ newer
+by_test front cell old newer older true same e =
+    ap (λ (x : List (Option Piece)). fold (put_there (front ++ cell ∷ newer)) (front ++ x ∷ older) (changed_from (length front + 1) newer older)) (sym (same_cell_is cell old same)) ∙ e
+by_test front cell old newer older false other e =
+    ap (λ (x : List (Option Piece)). fold (put_there (front ++ cell ∷ newer)) (set (front ++ old ∷ older) (length front) x) (changed_from (length front + 1) newer older)) (at_seam front cell newer)
+    ∙ (ap (λ (all : List (List (Option Piece))). fold (put_there (front ++ cell ∷ newer)) all (changed_from (length front + 1) newer older)) (set-append_seam front old older cell) ∙ e)
+
+-- behind a front that is the newer one's already
+forth_from : (front newer older : List (List (Option Piece))) → length newer ≡ length older → fold (put_there (front ++ newer)) (front ++ older) (changed_from (length front) newer older) ≡ front ++ newer
+forth_from front [] [] long = refl
+forth_from front [] (old ∷ older) long = absurd (omega (arith, long))
+forth_from front (cell ∷ newer) [] long = absurd (omega (arith, long))
+forth_from front (cell ∷ newer) (old ∷ older) long =
+    by_test front cell old newer older (same_cell cell old) refl (next front cell newer older (forth_from (front ++ cell ∷ []) newer older (omega (arith, long))))
+
+-- the same said of cells and of levels
+taken_cells : (N : ℕ) (newer : Grid) (changes : List (Change N)) (grid : Grid) → taken N newer changes grid ≡ record grid { cells = fold (put_there newer.cells) grid.cells (changes_seen N newer changes) }
+taken_cells N newer [] grid = refl
+taken_cells N newer (change ∷ changes) grid = taken_cells N newer changes (with_cell grid (cell_there newer change.index))
+
+pub as_many : (newer grid : Grid) → SameSize newer grid → IsLawful newer → IsLawful grid → length newer.cells ≡ length grid.cells
+as_many newer grid size lawful lawful_older =
+    lawful.covers ∙ (ap (λ (w : ℕ). w * newer.height) (sym size.width) ∙ (ap (λ (h : ℕ). grid.width * h) (sym size.height) ∙ sym lawful_older.covers))
+
+pub all_taken : (N : ℕ) (newer grid : Grid) (changes : List (Change N)) → SameSize newer grid → IsLawful newer → IsLawful grid → changes_seen N newer changes ≡ changed_cells newer grid → taken N newer changes grid ≡ newer
+all_taken N newer grid changes size lawful lawful_older e =
+    let long : length newer.cells ≡ length grid.cells = as_many newer grid size lawful lawful_older in
+    let cells : fold (put_there newer.cells) grid.cells (changes_seen N newer changes) ≡ newer.cells =
+    ap (λ (l : List CellChange). fold (put_there newer.cells) grid.cells l) e ∙ forth_from [] newer.cells grid.cells long in
+    taken_cells N newer changes grid ∙ (λ i. record { width = size.width i; height = size.height i; depth = size.depth i; layers = size.layers i; cells = cells i })
+
+pub size_back : (newer grid : Grid) → SameSize newer grid → SameSize grid newer
+size_back newer grid size = record { width = sym size.width; height = sym size.height; depth = sym size.depth; layers = sym size.layers }
