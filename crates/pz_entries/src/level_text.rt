@@ -26,6 +26,6 @@ pub fn level_text(
     let _objects = game.objects();
     let _height = level.height();
     let mut writer = TextWriter::new(alloc, game, order);
-    let text = writer.write(level)?;
+    let text = writer.write_plain(level)?;
     Ok(text)
 }

@@ -7,28 +7,25 @@ ghost use Rattle.pz_lines.specs.Naming.{cause_name};
 
 use crate::naming::{cause_name, close_name, kind_name};
 use itoa::Buffer;
-use json::Writer;
+use pz_record::quoted::QuotedText;
 use pz_session::item::{Frame, Item, Verdict};
 use std::alloc::{AllocError, Global};
 
-/// A text in quotation marks, in room of its own: a writer clears what room it has before it writes, and lines have much.
-fn in_quotes(alloc: Global, text: &str) -> Result<Vec<u8>, AllocError>
-    ensures { IfOk result (λ written. written.items ≡ quoted text.now) }
+/// Writes a key, with what stands before it, and its text, as it is kept.
+fn put_quoted(lines: &mut Vec<u8>, key: &[u8], text: &QuotedText) -> Result<(), AllocError>
+    ensures { OnOk result (lines.new.items ≡ lines.old.items ++ (key.now ++ quoted text.now)) }
 {
-    // (the end of a line takes two bytes)
-    let room = Vec::with_capacity(alloc, text.len() + text.len() / 8 + 16)?;
-    let mut writer = Writer::new(room);
-    writer.string(text)?;
-    Ok(writer.into_inner())
+    lines.extend_from_slice(key)?;
+    lines.extend_from_slice(text.as_json())
 }
 
-/// Writes a key, with what stands before it, and its text.
+/// Writes a key, with what stands before it, and its text, which is quoted in room of its own: a writer of JSON clears what room it has
+/// before it writes, and lines have much.
 fn put_text(lines: &mut Vec<u8>, key: &[u8], text: &str) -> Result<(), AllocError>
     ensures { OnOk result (lines.new.items ≡ lines.old.items ++ (key.now ++ quoted text.now)) }
 {
-    let written = in_quotes(*lines.allocator(), text)?;
-    lines.extend_from_slice(key)?;
-    lines.extend_from_slice(&written)
+    let text = QuotedText::of_str(*lines.allocator(), text)?;
+    put_quoted(lines, key, &text)
 }
 
 /// Writes a key, with what stands before it, and its number.
@@ -55,7 +52,7 @@ fn write_frame(
     put_number(&mut lines, b"{\"at\":", at)?;
     put_number(&mut lines, b",\"frame\":", number)?;
     put_text(&mut lines, b",\"kind\":", kind_name(frame.kind))?;
-    put_text(&mut lines, b",\"level\":", frame.level_text.as_str())?;
+    put_quoted(&mut lines, b",\"level\":", &frame.level_text)?;
     put_number(&mut lines, b",\"session\":", session)?;
     lines.extend_from_slice(b"}\n")?;
     Ok(lines)

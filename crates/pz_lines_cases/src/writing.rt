@@ -5,6 +5,7 @@ use pz_base::text::Text;
 use pz_lines::fault::{Cause, WriteFault};
 use pz_lines::output::Output;
 use pz_lines::writing::write_recording;
+use pz_record::quoted::QuotedText;
 use pz_session::item::{Frame, FrameKind, Item, Verdict};
 use pz_session::recording::{Record, Recording};
 use std::alloc::{AllocError, Global};
@@ -53,7 +54,7 @@ impl Write for Full {
 }
 
 fn frame(alloc: Global, number: u64, kind: FrameKind, level: &str) -> Result<Item, AllocError> {
-    let level_text = Text::of_str(alloc, level)?;
+    let level_text = QuotedText::of_str(alloc, level)?;
     Ok(Item::Frame {
         number,
         at: number,

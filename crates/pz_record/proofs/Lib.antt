@@ -7,3 +7,4 @@ pub mod WorkedRecords
 pub mod Changing
 pub mod LabelTexts
 pub mod Walking
+pub mod Quoting

@@ -13,6 +13,7 @@ mod level_names;
 pub mod limits;
 mod numerals;
 pub mod order;
+pub mod quoted;
 pub mod recorded;
 mod text_room;
 pub mod text_writer;

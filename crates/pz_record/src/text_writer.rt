@@ -2,11 +2,12 @@
 
 ghost use Rattle.std.specs.Prelude.{◌≡◌, ◌<◌, [], IfOk, IfSome, OnOk};
 ghost use Rattle.pz_sheet.specs.Grid.{SameSize};
-ghost use Rattle.pz_record.specs.Labels.{texts_in};
+ghost use Rattle.pz_record.specs.Labels.{IsTextOf, texts_in};
 ghost use Rattle.pz_record.specs.LevelText.{text_of_cells, text_of_level};
 
 use crate::cell_labels::CellLabels;
 use crate::order::Order;
+use crate::quoted::QuotedText;
 use crate::text_room::TextRoom;
 use pz_base::text::Text;
 use pz_game::game::Game;
@@ -15,8 +16,8 @@ use std::alloc::{AllocError, Global};
 use std::marker::Model;
 
 /// Writes the texts of the levels of a game, its cells in an order. It remembers what it met: the sets of objects, the last level as it was
-/// seen, and its text. So only the cells that changed since are looked at, and the text of a level of which no cell changed is copied. The
-/// room has that text if `last` has the width of its level.
+/// seen, and its text. So only the cells that changed since are looked at, and the text of a level of which no cell changed isn't made again.
+/// The room has that text if `last` has the width of its level.
 pub struct TextWriter<'a> {
     alloc: Global,
     cells: CellLabels<'a>,
@@ -50,6 +51,30 @@ impl<'a> Model for TextWriter<'a> {
     ghost view = { λ t. t.cells };
 
     ghost invariant = { λ t. IfSome t.seen (λ seen. t.cells.cells ≡ texts_in t.cells.table.game t.cells.order seen.grid) × IfSome t.last (λ width. IsTextOf t.cells.cells width t.room) };
+}
+
+/// Writes the text of cells into the room, where it isn't there yet: it stays there, and what is handed out is a copy, since a recording
+/// keeps it.
+fn fill(
+    room: &mut TextRoom,
+    last: &mut Option<u32>,
+    cells: &CellLabels<'_>,
+    width: u32,
+) -> Result<(), AllocError>
+    requires wide { 0 < width }
+    requires known { IfSome last.old (λ width. IsTextOf cells.now.cells width room.old) }
+    ensures text { OnOk result (room.new ≡ text_of_cells width cells.now.cells) }
+    ensures known { IfSome last.new (λ width. IsTextOf cells.now.cells width room.new) }
+{
+    match *last {
+        Some(kept) if kept == width => Ok(()),
+        _ => {
+            *last = None;
+            room.write(cells.texts(), cells.labels(), width as usize)?;
+            *last = Some(width);
+            Ok(())
+        }
+    }
 }
 
 impl<'a> TextWriter<'a> {
@@ -110,50 +135,30 @@ impl<'a> TextWriter<'a> {
         }
     }
 
-    /// The last text once more, where the cells are still those that it was made of.
-    fn last_text(&self, width: u32) -> Result<Option<Text>, AllocError>
-        ensures { IfOk result (λ answer. IfSome answer (λ text. text ≡ text_of_cells width self.now.cells)) }
-    {
-        match self.last {
-            Some(last) if last == width => {
-                let text = Text::of_str(self.alloc, self.room.text())?;
-                Ok(Some(text))
-            }
-            _ => Ok(None),
-        }
-    }
-
-    /// The text of the cells that were looked at last, which stays in the room: what is handed out is a copy without room to spare, since
-    /// a recording keeps it.
-    fn write_anew(&mut self, width: u32) -> Result<Text, AllocError>
-        requires { 0 < width }
-        ensures text { IfOk result (λ text. text ≡ text_of_cells width self.old.cells) }
-        ensures same { self.new ≡ self.old }
-    {
-        self.last = None;
-        let labels = self.cells.labels();
-        self.room.write(self.cells.texts(), labels, width as usize)?;
-        self.last = Some(width);
-        let text = Text::of_str(self.alloc, self.room.text())?;
-        Ok(text)
-    }
-
-    /// The text of a level: for each cell, in this order, the names of its objects, sorted by their bytes, and the next number from
+    /// The text of a level, quoted: for each cell, in this order, the names of its objects, sorted by their bytes, and the next number from
     /// 0, or where an earlier cell has the same names that number; a line break after as many cells as the level is wide.
     #[tactic(auto, unfolding(crate::specs::LevelText::text_of_level))]
-    pub fn write(&mut self, level: &Level) -> Result<Text, AllocError>
+    pub fn write(&mut self, level: &Level) -> Result<QuotedText, AllocError>
         ensures text { IfOk result (λ text. text ≡ text_of_level self.old.table.game self.old.order level.now.grid) }
         ensures game { self.new.table.game ≡ self.old.table.game }
         ensures order { self.new.order ≡ self.old.order }
     {
         self.look_over(level)?;
-        let width = level.width();
-        match self.last_text(width)? {
-            Some(text) => Ok(text),
-            None => {
-                let text = self.write_anew(width)?;
-                Ok(text)
-            }
-        }
+        fill(&mut self.room, &mut self.last, &self.cells, level.width())?;
+        let text = QuotedText::of_str(self.alloc, self.room.text())?;
+        Ok(text)
+    }
+
+    /// The same text, not quoted, for who reads it again.
+    #[tactic(auto, unfolding(crate::specs::LevelText::text_of_level))]
+    pub fn write_plain(&mut self, level: &Level) -> Result<Text, AllocError>
+        ensures text { IfOk result (λ text. text ≡ text_of_level self.old.table.game self.old.order level.now.grid) }
+        ensures game { self.new.table.game ≡ self.old.table.game }
+        ensures order { self.new.order ≡ self.old.order }
+    {
+        self.look_over(level)?;
+        fill(&mut self.room, &mut self.last, &self.cells, level.width())?;
+        let text = Text::of_str(self.alloc, self.room.text())?;
+        Ok(text)
     }
 }

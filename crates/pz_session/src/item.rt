@@ -1,7 +1,7 @@
 //! What a session shows: its frames, and its close.
 
 use pz_base::fault::SourceFault;
-use pz_base::text::Text;
+use pz_record::quoted::QuotedText;
 
 /// Why a frame is shown.
 #[derive(Clone, Copy)]
@@ -22,11 +22,11 @@ pub enum FrameKind {
     Over,
 }
 
-/// A level that is shown, in the order of the job.
+/// A level that is shown, in the order of the job. Its text is kept in the form in which it is written.
 #[derive(Drop)]
 pub struct Frame {
     pub kind: FrameKind,
-    pub level_text: Text,
+    pub level_text: QuotedText,
 }
 
 /// Why a session stopped before all of its inputs were played.
