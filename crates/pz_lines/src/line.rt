@@ -5,18 +5,25 @@ ghost use Rattle.json.specs.Print.{quoted};
 ghost use Rattle.pz_lines.specs.Lines.{frame_count, frame_line, close_line, item_line, with_cause};
 ghost use Rattle.pz_lines.specs.Naming.{cause_name};
 
-use crate::naming::{cause_name, close_name, kind_name};
+use crate::naming::{cause_name, close_name, quoted_kind};
 use itoa::Buffer;
 use pz_record::quoted::QuotedText;
 use pz_session::item::{Frame, Item, Verdict};
 use std::alloc::{AllocError, Global};
 
+/// Writes a key, with what stands before it, and its value, as it is written.
+fn put_json(lines: &mut Vec<u8>, key: &[u8], value: &[u8]) -> Result<(), AllocError>
+    ensures { OnOk result (lines.new.items ≡ lines.old.items ++ (key.now ++ value.now)) }
+{
+    lines.extend_from_slice(key)?;
+    lines.extend_from_slice(value)
+}
+
 /// Writes a key, with what stands before it, and its text, as it is kept.
 fn put_quoted(lines: &mut Vec<u8>, key: &[u8], text: &QuotedText) -> Result<(), AllocError>
     ensures { OnOk result (lines.new.items ≡ lines.old.items ++ (key.now ++ quoted text.now)) }
 {
-    lines.extend_from_slice(key)?;
-    lines.extend_from_slice(text.as_json())
+    put_json(lines, key, text.as_json())
 }
 
 /// Writes a key, with what stands before it, and its text, which is quoted in room of its own: a writer of JSON clears what room it has
@@ -51,7 +58,7 @@ fn write_frame(
     let mut lines = lines;
     put_number(&mut lines, b"{\"at\":", at)?;
     put_number(&mut lines, b",\"frame\":", number)?;
-    put_text(&mut lines, b",\"kind\":", kind_name(frame.kind))?;
+    put_json(&mut lines, b",\"kind\":", quoted_kind(frame.kind))?;
     put_quoted(&mut lines, b",\"level\":", &frame.level_text)?;
     put_number(&mut lines, b",\"session\":", session)?;
     lines.extend_from_slice(b"}\n")?;

@@ -1,24 +1,26 @@
 //! What the lines of a recording call the kinds of frames, the closes and their causes.
 
 ghost use Rattle.std.specs.Prelude.{◌≡◌, ◌++◌, IfOk, codes, decimal, option_map, string_bytes};
+ghost use Rattle.json.specs.Print.{quoted};
 ghost use Rattle.pz_lines.specs.Naming.{kind_name, code_name, stop_name, refusal_name, close_name, cause_name};
 
 use pz_base::fault::Code;
 use pz_session::item::{FrameKind, Refusal, Stop, Verdict};
 use std::alloc::{AllocError, Global};
 
-#[tactic(auto, unfolding(crate::specs::Naming::kind_name))]
-pub(crate) fn kind_name(kind: FrameKind) -> &'static str
-    ensures { result.now ≡ kind_name kind }
+/// The name of a kind of frames as a JSON string, as it is written: there is one in each line.
+#[tactic(auto, unfolding(crate::specs::Naming::kind_name, json::specs::Print::escape_byte))]
+pub(crate) fn quoted_kind(kind: FrameKind) -> &'static [u8]
+    ensures { result.now ≡ quoted (kind_name kind) }
 {
     match kind {
-        FrameKind::Start => "start",
-        FrameKind::Move => "move",
-        FrameKind::Tick => "tick",
-        FrameKind::Undo => "undo",
-        FrameKind::Restart => "restart",
-        FrameKind::Load => "load",
-        FrameKind::Over => "over",
+        FrameKind::Start => b"\"start\"",
+        FrameKind::Move => b"\"move\"",
+        FrameKind::Tick => b"\"tick\"",
+        FrameKind::Undo => b"\"undo\"",
+        FrameKind::Restart => b"\"restart\"",
+        FrameKind::Load => b"\"load\"",
+        FrameKind::Over => b"\"over\"",
     }
 }
 

@@ -10,7 +10,7 @@ unfolding frame_line
 returns c =
     let one = c.in_ok-put_number.ensures in
     let two = c.in_ok-put_number-2.ensures ∙ ap (λ l. l ++ (codes ",\"frame\":" ++ decimal c.args.number)) one in
-    let three = c.in_ok-put_text.ensures ∙ ap₂ (λ l k. l ++ (codes ",\"kind\":" ++ quoted k)) two c.kind_name.ensures in
+    let three = c.in_ok-put_json.ensures ∙ ap₂ (λ l k. l ++ (codes ",\"kind\":" ++ k)) two c.quoted_kind.ensures in
     let four = c.in_ok-put_quoted.ensures ∙ ap (λ l. l ++ (codes ",\"level\":" ++ quoted c.args.frame.now.level_text)) three in
     let five = c.in_ok-put_number-3.ensures ∙ ap (λ l. l ++ (codes ",\"session\":" ++ decimal c.args.session)) four in
     c.in_ok-extend_from_slice.ensures.items ∙ ap (λ l. l ++ codes "}\n") five
