@@ -12,7 +12,7 @@ use Rattle.pz_replay.specs.Recorded.{Gathered, taken_of, lane_of}
 use Rattle.pz_replay.specs.Workers.{IsDone, IsAll}
 use Rattle.pz_replay.specs.declared.recorder.Inbox.{Inbox}
 use Rattle.pz_replay.specs.declared.fault.ReplayFault.{ReplayFault}
-use Rattle.pz_replay.specs.declared.fault.ReplayFault.TheVariants.{Workers, GateClosed}
+use Rattle.pz_replay.specs.declared.fault.ReplayFault.TheVariants.{Workers}
 use Rattle.pz_replay.proofs.Completing.{complete}
 
 no_inbox : (inboxes : List Inbox) → map lane_of inboxes ≡ [] → map taken_of inboxes ≡ []

@@ -46,7 +46,17 @@ fn named(alloc: Global, job: &Job, sessions: Sessions) -> Result<Recording, Allo
     Ok(Recording::new(records))
 }
 
-/// What every session of a job shows, by session number. So many workers play the sessions, each over a lane that holds `capacity` messages.
+/// How many workers are started: no more than there are sessions, but one.
+fn crew_for(workers: usize, sessions: usize) -> usize
+    requires { 1 ≤ workers }
+    ensures some { 1 ≤ result }
+    ensures few { result ≤ workers }
+{
+    workers.min(sessions).max(1)
+}
+
+/// What every session of a job shows, by session number. At most so many workers play the sessions, each over a lane that holds `capacity`
+/// messages: none is started for which there is no session.
 pub fn replay_with<'a, R: Threads + Wait + Sync, G: Gate + Sync>(
     rt: &'a R,
     alloc: Global,
@@ -70,12 +80,13 @@ pub fn replay_with<'a, R: Threads + Wait + Sync, G: Gate + Sync>(
         return Err(ReplayFault::Memory);
     };
     let table = &claims;
+    let crew = crew_for(workers, job.len());
     let all = thread::scope(
         thread::scope_env(),
         rt,
         |scope| -> Result<(Maker, Sessions), ReplayFault>
-            requires { (1 ≤ capacity) × (1 ≤ workers) × (workers ≤ MOST_WORKERS) × (maker.of ≡ table.now) × (maker.made ≡ 0) × (maker.joined ≡ 0) × (maker.numbers ≡ []) × (table.now.total ≡ length job.now) × (blank ≡ replicate (length job.now) []) }
-            ensures { IfOk result (λ made. IsAll (sessions_of job.entry.now) table.entry.now workers made.0 made.1) × (G.lets_all_pass gate.entry.now → result ≢ Err ReplayFault.GateClosed) × (result ≢ Err ReplayFault.Workers) }
+            requires { (1 ≤ capacity) × (1 ≤ crew) × (crew ≤ MOST_WORKERS) × (maker.of ≡ table.now) × (maker.made ≡ 0) × (maker.joined ≡ 0) × (maker.numbers ≡ []) × (table.now.total ≡ length job.now) × (blank ≡ replicate (length job.now) []) }
+            ensures { IfOk result (λ made. IsAll (sessions_of job.entry.now) table.entry.now crew made.0 made.1) × (G.lets_all_pass gate.entry.now → result ≢ Err ReplayFault.GateClosed) × (result ≢ Err ReplayFault.Workers) }
         {
             let shared = Shared {
                 rt,
@@ -85,7 +96,7 @@ pub fn replay_with<'a, R: Threads + Wait + Sync, G: Gate + Sync>(
                 gate,
                 capacity,
             };
-            all_started(scope, &shared, maker, workers, blank)
+            all_started(scope, &shared, maker, crew, blank)
         },
     );
     let (maker, sessions) = all?;

@@ -1,4 +1,4 @@
-use Rattle.std.proofs.Common.{refl, sym, ◌∙◌, Ok, Err}
+use Rattle.std.proofs.Common.{refl, sym, ◌∙◌, Ok, Err, arith}
 use Rattle.std.proofs.lemmas.Result.{err_from_is_err_and}
 use Rattle.pz_replay.specs.declared.fault.ReplayFault.TheVariants.{Memory, Workers, GateClosed}
 use Rattle.pz_replay.specs.declared.replaying.TheConstants.{MOST_WORKERS}
@@ -44,7 +44,8 @@ pub close-requires-clause-joined : goal.close-requires-clause-joined
 close-requires-clause-joined g c = c.in_ok-maker.ensures.1.0.2 ∙ sym c.in_ok-maker.ensures.1.0.1
 
 pub named-requires : goal.named-requires
-named-requires g c = c.in_ok-maker.ensures.1.0.3 (c.close.ensures.once (some_made c.in_ok-maker.maker.made c.args.workers c.in_ok-maker.ensures.1.0.1 c.if-workers-eq0.false))
+named-requires g c =
+    c.in_ok-maker.ensures.1.0.3 (c.close.ensures.once (some_made c.in_ok-maker.maker.made c.crew_for-crew.result c.in_ok-maker.ensures.1.0.1 (λ none. absurd (omega (arith, c.crew_for-crew.ensures.some, none)))))
 
 pub returns-in-Ok-named-clause-workers : goal.returns-in-Ok-named-clause-workers
 returns-in-Ok-named-clause-workers g c = no_refusal c.args.workers MOST_WORKERS (Ok c.in-Ok-named.recording) c.if-workers-eq0.false c.if-workers-gt-MOST_WORKERS.false (answered c.in-Ok-named.recording Workers)
