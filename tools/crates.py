@@ -4,13 +4,19 @@ import re
 from pathlib import Path
 
 
-def read_crates(top):
-    """The crates of crates.txt, each with those of them that it names."""
+def read_uses(top):
+    """The crates of crates.txt, each with all that it names: crates, and libraries of the kit."""
     named = {}
     for line in (top / "crates.txt").read_text(encoding="utf-8").splitlines():
         name, mark, uses = line.partition("#")[0].partition(":")
         if mark:
             named[name.split()[0]] = uses.split()
+    return named
+
+
+def read_crates(top):
+    """The crates of crates.txt, each with those of them that it names."""
+    named = read_uses(top)
     return {name: [use for use in uses if use in named] for name, uses in named.items()}
 
 

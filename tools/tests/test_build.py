@@ -33,8 +33,8 @@ class Build(OnSmallCrates):
         self.write("crates/low/src/lib.rt", CRATE.replace("    number\n", "    0\n"))
         answer = run(self.tool, "high")
         self.assertEqual((answer.status, answer.out), (1, ""))
-        self.assertIn("high is not proved and built; the log is", answer.errors)
-        self.assertIn("low NOT PROVED", (self.room / "crates/high/out/build.log").read_text(encoding="utf-8"))
+        self.assertIn("low is not proved; the log is", answer.errors)
+        self.assertIn("logic=not-proved", (self.room / "crates/low/out/build.log").read_text(encoding="utf-8"))
 
     def test_a_crate_that_is_no_program_is_told(self):
         for name in ("low", "none"):
