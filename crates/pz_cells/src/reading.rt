@@ -85,6 +85,11 @@ impl<const N: usize> Cell<N> {
     pub fn same(&self, other: &Cell<N>) -> bool
         ensures { IsTrue result ↔ (AreSame self.now.objects other.now.objects × AreSame self.now.movement other.now.movement) }
     {
-        words::same(&self.objects, &other.objects) && words::same(&self.movement, &other.movement)
+        words::both_same(
+            &self.objects,
+            &other.objects,
+            &self.movement,
+            &other.movement,
+        )
     }
 }

@@ -86,6 +86,15 @@ pub fn same(word: u128, other: u128) -> bool
     word == other
 }
 
+/// Whether two words are the same, and two others too: one test of all four.
+pub fn both_same(word: u128, other: u128, second: u128, second_other: u128) -> bool
+    ensures { IsTrue result ↔ (((bit : ℕ) → bit < 128 → in_word word bit ≡ in_word other bit) × ((bit : ℕ) → bit < 128 → in_word second bit ≡ in_word second_other bit)) }
+{
+    let first_differing = differing(word, other);
+    let second_differing = differing(second, second_other);
+    is_empty(union(first_differing, second_differing))
+}
+
 /// The lowest bit of a word that has one.
 pub fn lowest(word: u128) -> usize
     requires { 0 < word }

@@ -1,0 +1,35 @@
+use Rattle.std.proofs.Common.{◌≡◌, ℕ, Bool, true, false, not, cond, ◌||◌, refl, ap₂, sym, ◌∙◌}
+use Rattle.pz_sets.specs.Sets.{in_word}
+use Rattle.pz_sets.proofs.word.both_same.Goals as goal
+
+-- neither pair of bits differs
+alike : (a b c d : Bool) → (cond a (not b) b || cond c (not d) d) ≡ false → (a ≡ b) × (c ≡ d)
+alike true true true true e = (refl, refl)
+alike true true false false e = (refl, refl)
+alike false false true true e = (refl, refl)
+alike false false false false e = (refl, refl)
+alike true false c d e = cc
+alike false true c d e = cc
+alike true true true false e = cc
+alike true true false true e = cc
+alike false false true false e = cc
+alike false false false true e = cc
+
+nothing : (a b c d : Bool) → a ≡ b → c ≡ d → (cond a (not b) b || cond c (not d) d) ≡ false
+nothing a b c d e f = rw (e, f) (none b d)
+  where
+    none : (b d : Bool) → (cond b (not b) b || cond d (not d) d) ≡ false
+    none true true = refl
+    none true false = refl
+    none false true = refl
+    none false false = refl
+
+pub returns : goal.returns
+returns c =
+    let is = λ (bit : ℕ). c.union.ensures bit ∙ ap₂ (λ a b. a || b) (c.differing-first_differing.ensures bit) (c.differing-second_differing.ensures bit) in (
+      λ t. (
+        λ bit low. (alike (in_word c.args.word bit) (in_word c.args.other bit) (in_word c.args.second bit) (in_word c.args.second_other bit) (sym (is bit) ∙ c.is_empty.ensures.0 t bit low)).0,
+        λ bit low. (alike (in_word c.args.word bit) (in_word c.args.other bit) (in_word c.args.second bit) (in_word c.args.second_other bit) (sym (is bit) ∙ c.is_empty.ensures.0 t bit low)).1,
+      ),
+      λ h. c.is_empty.ensures.1 (λ bit low. is bit ∙ nothing (in_word c.args.word bit) (in_word c.args.other bit) (in_word c.args.second bit) (in_word c.args.second_other bit) (h.0 bit low) (h.1 bit low)),
+    )
