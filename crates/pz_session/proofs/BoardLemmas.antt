@@ -18,7 +18,9 @@ use Rattle.pz_turn.specs.Step.{given_input, must_cancel, with_cancel, ended, ste
 use Rattle.pz_session.specs.declared.item.FrameKind.{FrameKind}
 use Rattle.pz_session.specs.declared.item.FrameKind.TheVariants.{Move, Tick}
 use Rattle.pz_session.specs.declared.item.Stop.{Stop}
-use Rattle.pz_session.specs.Chain.{Link}
+use Rattle.pz_session.specs.declared.chain.Shown.{Shown}
+use Rattle.pz_session.specs.declared.chain.PlayFault.{PlayFault}
+use Rattle.pz_session.specs.Chain.{Link, GivesLink}
 use Rattle.pz_session.specs.Turn.{is_idle}
 use Rattle.pz_session.specs.Board.{State, at_level, showing_end, restarted, reached_link, effect, keeping, idle, pressed_to, press_link, ticked_to, tick_link}
 
@@ -77,22 +79,24 @@ abbrev ok_link : Link State → Result (Link State) Stop
 ok_link link = Ok link
 
 -- a press whose step ends on a level that took the place of the one before it, which is kept
-pub pressed : (dir : Dir) (state next : State) (end : Outcome Grid) (link : Result (Link State) Stop) → step_of state.game state.program state.level (Some dir) ≡ Ok end → (has end.commands cancel ≡ true → end.level ≡ state.level)
-    → next ≡ at_level end.level (keeping state) → ok_link (effect Move next (record { level = next.level; commands = end.commands; changed = end.changed })) ≡ link → press_link dir state ≡ link
+pub pressed : (dir : Dir) (state next after : State) (end : Outcome Grid) (result : Result Shown PlayFault) → step_of state.game state.program state.level (Some dir) ≡ Ok end → (has end.commands cancel ≡ true → end.level ≡ state.level)
+    → next ≡ at_level end.level (keeping state) → GivesLink (ok_link (effect Move next (record { level = next.level; commands = end.commands; changed = end.changed }))) after result → GivesLink (press_link dir state) after result
 unfolding press_link
-pressed dir state next end link stepped same is given =
+pressed dir state next after end result stepped same is given =
+    let link : press_link dir state ≡ ok_link (effect Move next (record { level = next.level; commands = end.commands; changed = end.changed })) =
     ap (pressed_to state) stepped
     ∙ ap ok_link (sym (effect_moved Move (keeping state) end same))
-    ∙ ap (λ (there : State). ok_link (effect Move there (record { level = there.level; commands = end.commands; changed = end.changed }))) (sym is)
-    ∙ given
+    ∙ ap (λ (there : State). ok_link (effect Move there (record { level = there.level; commands = end.commands; changed = end.changed }))) (sym is) in
+    subst (λ (l : Result (Link State) Stop). GivesLink l after result) (sym link) given
 
 -- a tick that isn't idle, whose step ends on a level that took the place of the one before it
-pub ticked : (state next : State) (end : Outcome Grid) (link : Result (Link State) Stop) → step_of state.game state.program state.level None ≡ Ok end → is_idle end ≡ false → (has end.commands cancel ≡ true → end.level ≡ state.level)
-    → next ≡ at_level end.level state → ok_link (effect Tick next (record { level = next.level; commands = end.commands; changed = end.changed })) ≡ link → tick_link state ≡ link
+pub ticked : (state next after : State) (end : Outcome Grid) (result : Result Shown PlayFault) → step_of state.game state.program state.level None ≡ Ok end → is_idle end ≡ false → (has end.commands cancel ≡ true → end.level ≡ state.level)
+    → next ≡ at_level end.level state → GivesLink (ok_link (effect Tick next (record { level = next.level; commands = end.commands; changed = end.changed }))) after result → GivesLink (tick_link state) after result
 unfolding tick_link
-ticked state next end link stepped busy same is given =
+ticked state next after end result stepped busy same is given =
+    let link : tick_link state ≡ ok_link (effect Tick next (record { level = next.level; commands = end.commands; changed = end.changed })) =
     ap (ticked_to state) stepped
     ∙ ap (λ (b : Bool). ok_link (cond b (idle state) (effect Tick state end))) busy
     ∙ ap ok_link (sym (effect_moved Tick state end same))
-    ∙ ap (λ (there : State). ok_link (effect Tick there (record { level = there.level; commands = end.commands; changed = end.changed }))) (sym is)
-    ∙ given
+    ∙ ap (λ (there : State). ok_link (effect Tick there (record { level = there.level; commands = end.commands; changed = end.changed }))) (sym is) in
+    subst (λ (l : Result (Link State) Stop). GivesLink l after result) (sym link) given

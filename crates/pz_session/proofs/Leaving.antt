@@ -42,9 +42,9 @@ left-at p first second e f =
     ∙ ap (λ o. left_in p.phase p.number (option_to_list first ++ option_to_list o) p.taken (drop p.taken p.inputs) p.board) f
 
 -- a frame that was numbered comes before what is left
-pub left-numbered : (p q : Player) (frame : Frame) (shown : Item) → shown ≡ item.Frame p.number p.taken frame → q ≡ record p { number = p.number + 1 }
-    → item.Frame p.number p.taken frame ∷ left_in p.phase (p.number + 1) (pending p) p.taken (drop p.taken p.inputs) p.board ≡ shown ∷ left q
-left-numbered p q frame shown is after = ap₂ (λ i l. i ∷ l) (sym is) (ap left (sym after))
+pub left-numbered : (p : Player) (frame : Frame) (shown : Item) (next : ℕ) → shown ≡ item.Frame p.number p.taken frame → next ≡ p.number + 1
+    → item.Frame p.number p.taken frame ∷ left_in p.phase (p.number + 1) (pending p) p.taken (drop p.taken p.inputs) p.board ≡ shown ∷ left (record p { number = next })
+left-numbered p frame shown next is after = ap₂ (λ i n. i ∷ left_in p.phase n (pending p) p.taken (drop p.taken p.inputs) p.board) (sym is) (sym after)
 
 -- no link is needed: with nothing pending, the phase says so
 pub ready-in : (p : Player) → is_waiting p ≡ false → p.first ≡ None → p.second ≡ None → is_waiting_in p.phase p.taken p.inputs ≡ false

@@ -14,7 +14,7 @@ ghost use Rattle.pz_session.specs.FirstLevel.{level_from};
 use crate::chain::{PlayFault, Shown};
 use crate::first_level::level_after;
 use crate::item::{Frame, FrameKind, Verdict};
-use crate::place::put;
+use crate::place::{put_aside, put_before, put_copy};
 use crate::turn::is_idle;
 use bitflags::Flags;
 use pz_game::commands::Commands;
@@ -32,7 +32,6 @@ use pz_turn::step::{StepEnd, step_in};
 use pz_turn::win::won;
 use std::alloc::{AllocError, Global};
 use std::marker::Model;
-use std::mem::replace;
 
 /// A session between two links: the entry of LEVELS that is played, its level, the target of a restart, the levels that an undo
 /// takes back, the level before an input until that input's chain is over, and whether play is over. A spare level is room for the next step,
@@ -75,20 +74,16 @@ impl Drop for Board<'_> {
             order: _,
             recorded: _,
             entry: _,
-            level,
-            target,
-            past,
+            level: _level,
+            target: _target,
+            past: _past,
             before,
             spare,
             is_over: _,
-            texts,
+            texts: _texts,
         } = self;
-        drop(level);
-        drop(target);
-        drop(past);
         drop(before);
         drop(spare);
-        drop(texts);
     }
 }
 
@@ -102,10 +97,7 @@ fn opened(alloc: Global, game: &Game, entry: usize) -> Result<(Level, Level), Al
     let level = Level::load(alloc, game, entry)?;
     match level.copy() {
         Ok(target) => Ok((level, target)),
-        Err(fault) => {
-            drop(level);
-            Err(fault)
-        }
+        Err(fault) => Err(fault),
     }
 }
 
@@ -126,22 +118,24 @@ impl<'a> Board<'a> {
         requires program_of { IsProgramOf game.now.layers program.now }
         ensures { IfOk result (λ board. board ≡ loaded_at game.now program.now order recorded.now entry) }
     {
-        let (level, target) = opened(alloc, game, entry)?;
-        Ok(Board {
-            alloc,
-            game,
-            program,
-            order,
-            recorded,
-            entry,
-            level,
-            target,
-            past: Past::new(alloc),
-            before: None,
-            spare: None,
-            is_over: false,
-            texts: TextWriter::new(alloc, game, order),
-        })
+        match opened(alloc, game, entry) {
+            Ok((level, target)) => Ok(Board {
+                alloc,
+                game,
+                program,
+                order,
+                recorded,
+                entry,
+                level,
+                target,
+                past: Past::new(alloc),
+                before: None,
+                spare: None,
+                is_over: false,
+                texts: TextWriter::new(alloc, game, order),
+            }),
+            Err(fault) => Err(fault),
+        }
     }
 
     /// Whether a tick follows each load and each restart.
@@ -162,8 +156,8 @@ impl<'a> Board<'a> {
     }
 
     /// Shows the level, and whether one more tick follows.
-    fn show(&mut self, kind: FrameKind, goes_on: bool) -> Result<Shown, AllocError>
-        ensures { IfOk result (λ shown. GivesLink (Ok (showing kind self.old goes_on)) self.new (Ok shown)) }
+    fn show(&mut self, kind: FrameKind, goes_on: bool) -> Result<Shown, PlayFault>
+        ensures { GivesLink (Ok (showing kind self.old goes_on)) self.new result }
     {
         let frame = self.frame(kind)?;
         Ok(Shown {
@@ -175,29 +169,21 @@ impl<'a> Board<'a> {
 
     /// The start of a session shows its level.
     #[tactic(auto, unfolding(crate::specs::Board::start_link))]
-    pub fn start(&mut self) -> Result<Shown, AllocError>
-        ensures { IfOk result (λ shown. GivesLink (Ok (start_link self.old)) self.new (Ok shown)) }
+    pub fn start(&mut self) -> Result<Shown, PlayFault>
+        ensures { GivesLink (Ok (start_link self.old)) self.new result }
     {
         let goes_on = self.ticks_at_start();
         self.show(FrameKind::Start, goes_on)
     }
 
-    /// Shows the level, which is the target again.
-    fn show_target(&mut self) -> Result<Shown, AllocError>
-        ensures { IfOk result (λ shown. GivesLink (Ok (showing FrameKind.Restart self.old (ticks_at_start self.old))) self.new (Ok shown)) }
-    {
-        let goes_on = self.ticks_at_start();
-        self.show(FrameKind::Restart, goes_on)
-    }
-
     /// The level is the target again.
     #[tactic(auto, unfolding(crate::specs::Board::restarted))]
-    fn restart(&mut self) -> Result<Shown, AllocError>
-        ensures { IfOk result (λ shown. GivesLink (Ok (restarted self.old)) self.new (Ok shown)) }
+    fn restart(&mut self) -> Result<Shown, PlayFault>
+        ensures { GivesLink (Ok (restarted self.old)) self.new result }
     {
-        let level = self.target.copy()?;
-        put(&mut self.level, level);
-        self.show_target()
+        put_copy(&mut self.level, &self.target)?;
+        let goes_on = self.ticks_at_start();
+        self.show(FrameKind::Restart, goes_on)
     }
 
     /// The level of an entry, as it is loaded: it is the target, and there is no past.
@@ -208,52 +194,37 @@ impl<'a> Board<'a> {
     {
         let (level, target) = opened(self.alloc, self.game, next)?;
         self.entry = next;
-        put(&mut self.level, level);
-        put(&mut self.target, target);
+        self.level = level;
+        self.target = target;
         self.past.clear();
-        put(&mut self.before, None);
+        self.before = None;
         self.is_over = false;
         Ok(())
     }
 
-    /// A level is loaded, and shown.
-    fn load_next(&mut self, next: usize) -> Result<Frame, AllocError>
-        requires playable { is_playable (entry_at self.old.game next) ≡ true }
-        requires within { next < length self.old.game.levels }
-        ensures frame { IfOk result (λ frame. frame ≡ frame_of self.new FrameKind.Load) }
-        ensures loaded { OnOk result (self.new ≡ loaded_at self.old.game self.old.program self.old.order self.old.recorded next) }
-    {
-        self.enter(next)?;
-        self.frame(FrameKind::Load)
-    }
-
-    /// Behind the frame of the step that wins the last level, play is over.
-    fn finish(&mut self, won: Frame) -> Shown
-        ensures { GivesLink (Ok (ending won self.old)) self.new (Ok result) }
-    {
-        self.is_over = true;
-        Shown {
-            first: Some(won),
-            second: None,
-            goes_on: false,
-        }
-    }
-
     /// Behind the frame of the step that wins, the next level is loaded, or play is over.
     #[tactic(auto, unfolding(crate::specs::Board::won_link))]
-    fn win(&mut self, won: Frame) -> Result<Shown, AllocError>
-        ensures { IfOk result (λ shown. GivesLink (Ok (won_link won self.old (level_from self.old.game (self.old.entry + 1)))) self.new (Ok shown)) }
+    fn win(&mut self, won: Frame) -> Result<Shown, PlayFault>
+        ensures { GivesLink (Ok (won_link won self.old (level_from self.old.game (self.old.entry + 1)))) self.new result }
     {
         match level_after(self.game, self.entry) {
             Some(next) => {
-                let frame = self.load_next(next)?;
+                self.enter(next)?;
+                let frame = self.frame(FrameKind::Load)?;
                 Ok(Shown {
                     first: Some(won),
                     second: Some(frame),
                     goes_on: self.ticks_at_start(),
                 })
             }
-            None => Ok(self.finish(won)),
+            None => {
+                self.is_over = true;
+                Ok(Shown {
+                    first: Some(won),
+                    second: None,
+                    goes_on: false,
+                })
+            }
         }
     }
 
@@ -262,8 +233,7 @@ impl<'a> Board<'a> {
         ensures { OnOk result (self.new ≡ record self.old { target = if has commands checkpoint then self.old.level else self.old.target }) }
     {
         if commands.contains(Commands::CHECKPOINT) {
-            let target = self.level.copy()?;
-            put(&mut self.target, target);
+            put_copy(&mut self.target, &self.level)?;
         }
         Ok(())
     }
@@ -275,8 +245,8 @@ impl<'a> Board<'a> {
         kind: FrameKind,
         commands: Commands,
         changed: bool,
-    ) -> Result<Shown, AllocError>
-        ensures { IfOk result (λ shown. GivesLink (Ok (kept_link kind commands changed self.old)) self.new (Ok shown)) }
+    ) -> Result<Shown, PlayFault>
+        ensures { GivesLink (Ok (kept_link kind commands changed self.old)) self.new result }
     {
         self.set_target(commands)?;
         let goes_on = commands.contains(Commands::AGAIN) && changed;
@@ -290,8 +260,8 @@ impl<'a> Board<'a> {
         kind: FrameKind,
         commands: Commands,
         changed: bool,
-    ) -> Result<Shown, AllocError>
-        ensures { IfOk result (λ shown. GivesLink (Ok (reached_link kind commands changed self.old)) self.new (Ok shown)) }
+    ) -> Result<Shown, PlayFault>
+        ensures { GivesLink (Ok (reached_link kind commands changed self.old)) self.new result }
     {
         if commands.contains(Commands::WIN) || won(self.game, &self.level) {
             let frame = self.frame(kind)?;
@@ -307,8 +277,8 @@ impl<'a> Board<'a> {
         kind: FrameKind,
         commands: Commands,
         changed: bool,
-    ) -> Result<Shown, AllocError>
-        ensures { IfOk result (λ shown. GivesLink (Ok (effect kind self.old (record { level = self.old.level; commands = commands; changed = changed }))) self.new (Ok shown)) }
+    ) -> Result<Shown, PlayFault>
+        ensures { GivesLink (Ok (effect kind self.old (record { level = self.old.level; commands = commands; changed = changed }))) self.new result }
     {
         if commands.contains(Commands::CANCEL) {
             return self.show(kind, false);
@@ -319,29 +289,12 @@ impl<'a> Board<'a> {
         self.reach(kind, commands, changed)
     }
 
-    /// Sets a level aside that is of no more use, for the next step.
-    fn set_aside(&mut self, level: Level)
-        ensures { self.new ≡ self.old }
-    {
-        put(&mut self.spare, Some(level));
-    }
-
-    /// Puts another level in the place of this one.
-    fn go_to(&mut self, level: Level)
-        requires { IsOfGame self.old.game level.grid }
-        ensures { self.new ≡ at_level level.grid self.old }
-    {
-        let before = replace(&mut self.level, level);
-        put(&mut self.spare, Some(before));
-    }
-
     /// Puts another level in the place of this one, which is kept for the past until the chain is over.
     fn leave_for(&mut self, level: Level)
         requires { IsOfGame self.old.game level.grid }
         ensures { self.new ≡ at_level level.grid (keeping self.old) }
     {
-        let before = replace(&mut self.level, level);
-        put(&mut self.before, Some(before));
+        put_before(&mut self.level, level, &mut self.before);
     }
 
     /// A step from the level, which leads to another level of its game, and to the same where it is cancelled. The level itself stays
@@ -376,18 +329,17 @@ impl<'a> Board<'a> {
             changed,
         } = end;
         self.leave_for(level);
-        let shown = self.take(FrameKind::Move, commands, changed)?;
-        Ok(shown)
+        self.take(FrameKind::Move, commands, changed)
     }
 
     /// A tick plays a step without a direction.
     #[tactic(auto, unfolding(crate::specs::Board::tick_link))]
-    fn pass_time(&mut self) -> Result<Shown, PlayFault>
+    pub fn tick(&mut self) -> Result<Shown, PlayFault>
         ensures { GivesLink (tick_link self.old) self.new result }
     {
         let end = self.turn(None)?;
         if is_idle(&end) {
-            self.set_aside(end.level);
+            put_aside(&mut self.spare, end.level);
             return Ok(Shown {
                 first: None,
                 second: None,
@@ -399,9 +351,8 @@ impl<'a> Board<'a> {
             commands,
             changed,
         } = end;
-        self.go_to(level);
-        let shown = self.take(FrameKind::Tick, commands, changed)?;
-        Ok(shown)
+        put_before(&mut self.level, level, &mut self.spare);
+        self.take(FrameKind::Tick, commands, changed)
     }
 
     /// Takes the last of the past, if there is one.
@@ -409,14 +360,14 @@ impl<'a> Board<'a> {
         ensures { OnOk result (self.new ≡ undone self.old self.old.past) }
     {
         if let Some(level) = self.past.pop()? {
-            put(&mut self.level, level);
+            self.level = level;
         }
         Ok(())
     }
 
     #[tactic(auto, unfolding(crate::specs::Board::undo_link))]
-    fn undo(&mut self) -> Result<Shown, AllocError>
-        ensures { IfOk result (λ shown. GivesLink (Ok (undo_link self.old)) self.new (Ok shown)) }
+    fn undo(&mut self) -> Result<Shown, PlayFault>
+        ensures { GivesLink (Ok (undo_link self.old)) self.new result }
     {
         self.step_back()?;
         self.show(FrameKind::Undo, false)
@@ -424,18 +375,19 @@ impl<'a> Board<'a> {
 
     /// A restart input.
     #[tactic(auto, unfolding(crate::specs::Board::restarted))]
-    fn start_again(&mut self) -> Result<Shown, AllocError>
-        ensures { IfOk result (λ shown. GivesLink (Ok (restarted (keeping self.old))) self.new (Ok shown)) }
+    fn start_again(&mut self) -> Result<Shown, PlayFault>
+        ensures { GivesLink (Ok (restarted (keeping self.old))) self.new result }
     {
         let target = self.target.copy()?;
         self.leave_for(target);
-        self.show_target()
+        let goes_on = self.ticks_at_start();
+        self.show(FrameKind::Restart, goes_on)
     }
 }
 
 /// What a player asks of its board. Each call leaves the state that its link leaves.
 impl<'a> Board<'a> {
-    ghost use Rattle.pz_session.specs.Board.{begun, settled, tick_link, verdict_of};
+    ghost use Rattle.pz_session.specs.Board.{begun, settled, verdict_of};
 
     /// The first link of an input.
     #[tactic(auto, unfolding(crate::specs::Board::begun))]
@@ -443,28 +395,14 @@ impl<'a> Board<'a> {
         ensures { GivesLink (begun input self.old) self.new result }
     {
         if self.is_over {
-            let shown = self.show(FrameKind::Over, false)?;
-            return Ok(shown);
+            return self.show(FrameKind::Over, false);
         }
         match input {
             Input::Press(dir) => self.press(dir),
-            Input::Undo => {
-                let shown = self.undo()?;
-                Ok(shown)
-            }
-            Input::Restart => {
-                let shown = self.start_again()?;
-                Ok(shown)
-            }
-            Input::Tick => self.pass_time(),
+            Input::Undo => self.undo(),
+            Input::Restart => self.start_again(),
+            Input::Tick => self.tick(),
         }
-    }
-
-    /// A tick.
-    pub fn tick(&mut self) -> Result<Shown, PlayFault>
-        ensures { GivesLink (tick_link self.old) self.new result }
-    {
-        self.pass_time()
     }
 
     /// What is done once an input with its whole chain is over.
@@ -476,7 +414,7 @@ impl<'a> Board<'a> {
             if !before.same(&self.level) {
                 self.past.push(&before)?;
             }
-            self.spare = Some(before);
+            put_aside(&mut self.spare, before);
         }
         Ok(())
     }

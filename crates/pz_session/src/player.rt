@@ -35,9 +35,23 @@ fn ticks_after(input: Input) -> u64
     }
 }
 
+/// A frame as the item of the next number, where so many inputs were taken.
+fn numbered(next: &mut u64, taken: u64, frame: Frame) -> Item
+    requires { next.old + 1 < 2 ^ 64 }
+    ensures item { result ≡ Item.Frame next.old taken frame }
+    ensures after { next.new ≡ next.old + 1 }
+{
+    let number = *next;
+    *next += 1;
+    Item::Frame {
+        number,
+        at: taken,
+        frame,
+    }
+}
+
 /// A session in play: its board, the inputs with how many were taken, the frames that are still to be handed out, what comes
 /// after them, and the number of the next frame.
-#[derive(Drop)]
 pub struct Player<'a> {
     pub board: Board<'a>,
     pub inputs: Tape<'a>,
@@ -46,6 +60,23 @@ pub struct Player<'a> {
     pub second: Option<Frame>,
     pub phase: Phase,
     pub number: u64,
+}
+
+/// Written out, as for a board.
+impl Drop for Player<'_> {
+    fn drop(self) {
+        let Player {
+            board: _board,
+            inputs: _,
+            taken: _,
+            first,
+            second,
+            phase: _,
+            number: _,
+        } = self;
+        drop(first);
+        drop(second);
+    }
 }
 
 /// The phase after a link, which settles the board where the chain is over.
@@ -72,8 +103,6 @@ impl<'a> Player<'a> {
         ensures left { IfOk result (λ player. left player ≡ left_with MOST_TICKS 0 0 inputs.entry (Ok (start_link board.entry))) }
         ensures number { IfOk result (λ player. player.number ≡ 0) }
     {
-        let mut board = board;
-        let shown = board.start()?;
         let mut player = Player {
             board,
             inputs,
@@ -83,8 +112,11 @@ impl<'a> Player<'a> {
             phase: Phase::Between,
             number: 0,
         };
-        player.take_link(Ok(shown), MOST_TICKS)?;
-        Ok(player)
+        let outcome = player.board.start();
+        match player.take_link(outcome, MOST_TICKS) {
+            Ok(()) => Ok(player),
+            Err(fault) => Err(fault),
+        }
     }
 
     /// Whether a link has to be played before there is an item.
@@ -100,21 +132,6 @@ impl<'a> Player<'a> {
             }
     }
 
-    /// A frame as the item of the next number.
-    fn numbered(&mut self, frame: Frame) -> Item
-        requires { self.old.number + 1 < 2 ^ 64 }
-        ensures item { result ≡ Item.Frame self.old.number self.old.taken frame }
-        ensures after { self.new ≡ record self.old { number = self.old.number + 1 } }
-    {
-        let number = self.number;
-        self.number += 1;
-        Item::Frame {
-            number,
-            at: self.taken,
-            frame,
-        }
-    }
-
     /// The next item, where no link has to be played before it.
     fn take_item(&mut self) -> Option<Item>
         requires ready { is_waiting self.old ≡ false }
@@ -124,10 +141,10 @@ impl<'a> Player<'a> {
         ensures number { MatchOption result (self.new.number ≡ self.old.number) (λ _. self.new.number ≤ self.old.number + 1) }
     {
         if let Some(frame) = self.first.take() {
-            return Some(self.numbered(frame));
+            return Some(numbered(&mut self.number, self.taken, frame));
         }
         if let Some(frame) = self.second.take() {
-            return Some(self.numbered(frame));
+            return Some(numbered(&mut self.number, self.taken, frame));
         }
         let close = match self.phase {
             Phase::Closed => return None,

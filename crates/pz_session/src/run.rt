@@ -7,7 +7,6 @@ ghost use Rattle.pz_session.specs.Player.{left};
 use crate::board::Board;
 use crate::case::Case;
 use crate::item::{Item, Verdict};
-use crate::place::put;
 use crate::plan::Plan;
 use crate::player::Player;
 use crate::stage::Stage;
@@ -23,8 +22,7 @@ pub struct Run<'a> {
 /// Written out, as for a board.
 impl Drop for Run<'_> {
     fn drop(self) {
-        let Run { stage } = self;
-        drop(stage);
+        let Run { stage: _stage } = self;
     }
 }
 
@@ -57,8 +55,10 @@ fn play(alloc: Global, plan: &Plan) -> Result<Player<'_>, AllocError>
     ensures items { IfOk result (λ player. left player ≡ played_items plan.now) }
     ensures room { IfOk result (λ player. player.number + length (left player) < 2 ^ 63) }
 {
-    let board = board_of(alloc, plan)?;
-    Player::start(board, Tape::new(plan.inputs().items()))
+    match board_of(alloc, plan) {
+        Ok(board) => Player::start(board, Tape::new(plan.inputs().items())),
+        Err(fault) => Err(fault),
+    }
 }
 
 impl<'a> Run<'a> {
@@ -70,11 +70,17 @@ impl<'a> Run<'a> {
         ensures items { IfOk result (λ run. run.items ≡ items_of case.now) }
         ensures healthy { IfOk result (λ run. run.has_failed ≡ false) }
     {
-        let stage = match &case.plan {
-            Err(refusal) => Stage::Refused(Some(*refusal)),
-            Ok(plan) => Stage::Playing(play(alloc, plan)?),
-        };
-        Ok(Run { stage })
+        match &case.plan {
+            Err(refusal) => Ok(Run {
+                stage: Stage::Refused(Some(*refusal)),
+            }),
+            Ok(plan) => match play(alloc, plan) {
+                Ok(player) => Ok(Run {
+                    stage: Stage::Playing(player),
+                }),
+                Err(fault) => Err(fault),
+            },
+        }
     }
 
     /// The next item; none after the close. Once memory was refused it is refused for good.
@@ -88,7 +94,7 @@ impl<'a> Run<'a> {
             Stage::Playing(player) => match player.next() {
                 Ok(item) => Ok(item),
                 Err(fault) => {
-                    put(&mut self.stage, Stage::Failed);
+                    self.stage = Stage::Failed;
                     Err(fault)
                 }
             },
@@ -116,20 +122,12 @@ fn take_next(run: &mut Run<'_>, items: &mut Vec<Item>) -> Result<bool, AllocErro
     }
 }
 
-/// Puts all items that are still to come behind those that were taken.
-fn take_all(run: &mut Run<'_>, items: &mut Vec<Item>) -> Result<(), AllocError>
-    ensures { OnOk result (items.new.items ≡ items.old.items ++ run.old.items) }
-{
-    'items: while take_next(run, items)? {}
-    Ok(())
-}
-
 /// All items that are still to come.
 fn left_in(alloc: Global, run: &mut Run<'_>) -> Result<Vec<Item>, AllocError>
     ensures { IfOk result (λ items. items.items ≡ run.old.items) }
 {
     let mut items = Vec::new(alloc);
-    take_all(run, &mut items)?;
+    'items: while take_next(run, &mut items)? {}
     Ok(items)
 }
 

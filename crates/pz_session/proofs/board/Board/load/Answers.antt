@@ -10,10 +10,10 @@ invariant_of-result c = (
   record {
     program = c.requires.program_of;
     entry = c.requires.within;
-    level = loaded_of_game c.args.game.now c.args.entry c.in_ok-level.level.grid c.in_ok-level.ensures.level;
-    target = loaded_of_game c.args.game.now c.args.entry c.in_ok-level.target.grid c.in_ok-level.ensures.target;
+    level = loaded_of_game c.args.game.now c.args.entry c.in-Ok.level.grid c.in-Ok.ensures.level;
+    target = loaded_of_game c.args.game.now c.args.entry c.in-Ok.target.grid c.in-Ok.ensures.target;
     past = All-same (IsOfGame c.args.game.now) c.new.result [] c.new.ensures (All-nil (IsOfGame c.args.game.now));
     before = tt;
   },
-  (ap (λ (t : WriterView). t.table.game) c.new-2.ensures, ap (λ (t : WriterView). t.order) c.new-2.ensures),
+  (ap (λ (t : WriterView). t.table.game) c.new-in-Ok.ensures, ap (λ (t : WriterView). t.order) c.new-in-Ok.ensures),
 )

@@ -9,7 +9,7 @@ invariant_of-self-in-Some c =
       record {
         program = old.program;
         entry = old.entry;
-        level = rw c.put.ensures past.0;
+        level = past.0;
         target = old.target;
         past = past.1;
         before = old.before;

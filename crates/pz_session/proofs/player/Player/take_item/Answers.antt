@@ -12,7 +12,7 @@ returns-in-Some-clause-item c =
     let e = sym c.take.ensures.value ∙ c.in-Some.is in
     left-at p _ p.second e refl ∙ left-first p.phase p.number frame (Some frame) _ p.taken _ p.board refl
     ∙ ap (λ l. item.Frame p.number p.taken frame ∷ l) (sym (left-at (record p { first = c.take.new.self; number = p.number + 1 }) None p.second c.take.ensures.after refl))
-    ∙ left-numbered (record p { first = c.take.new.self }) c.numbered.new.self frame c.numbered.result c.numbered.ensures.item c.numbered.ensures.after
+    ∙ left-numbered (record p { first = c.take.new.self }) frame c.numbered.result c.numbered.new.next c.numbered.ensures.item c.numbered.ensures.after
 
 pub returns-in-Some-take-clause-item : goal.returns-in-Some-take-clause-item
 returns-in-Some-take-clause-item c =
@@ -23,7 +23,7 @@ returns-in-Some-take-clause-item c =
     let f = sym c.take-2.ensures.value ∙ c.in-Some-take.is in
     left-at p None _ e f ∙ left-first p.phase p.number frame (Some frame) [] p.taken _ p.board refl
     ∙ ap (λ l. item.Frame p.number p.taken frame ∷ l) (sym (left-at (record shown { number = p.number + 1 }) None None c.take.ensures.after c.take-2.ensures.after))
-    ∙ left-numbered shown c.numbered-in-Some-take.new.self frame c.numbered-in-Some-take.result c.numbered-in-Some-take.ensures.item c.numbered-in-Some-take.ensures.after
+    ∙ left-numbered shown frame c.numbered-in-Some-take.result c.numbered-in-Some-take.new.next c.numbered-in-Some-take.ensures.item c.numbered-in-Some-take.ensures.after
 
 pub returns-in-Closed-clause-item : goal.returns-in-Closed-clause-item
 returns-in-Closed-clause-item c =
