@@ -7,7 +7,7 @@ use Rattle.pz_cells.specs.declared.piece.Piece.{Piece}
 use Rattle.pz_cells.specs.Cell.{still_piece, still_place}
 use Rattle.pz_sheet.specs.Presence.{is_in, in_row, in_column}
 use Rattle.pz_sheet.specs.Grid.{Grid, LevelState, place_at, with_place}
-use Rattle.pz_grid.specs.Movement.{in_pass, spot, heading_goal}
+use Rattle.pz_grid.specs.Movement.{in_pass, spot, heading_goal, moved_to, move_place, move_at, Leaves}
 use Rattle.pz_sheet.specs.Movement.{stilled}
 use Rattle.pz_game.specs.Items.{names, names_object}
 use Rattle.pz_grid.specs.Marks.{is_marked, IsMore, IsWidened, IsWidenedBy}
@@ -88,6 +88,13 @@ moves_piece old lifted marked new x y layer piece next_x next_y here goes x_in y
         })
       ];
     }
+
+-- the same of the pass: what leaves its spot moves
+pub moves_pass : (old lifted marked new : Grid) (moved : Bool) (x y layer : ℕ) (piece : Piece) (next_x next_y : ℕ) → Leaves old (spot x y layer) piece (next_x, next_y)
+    → lifted ≡ with_place old x y layer None → marked ≡ lifted → new ≡ with_place marked next_x next_y layer (Some (still_piece piece.object)) → in_pass new true ≡ move_at (in_pass old moved) (spot x y layer)
+moves_pass old lifted marked new moved x y layer piece next_x next_y leaves g1 g2 g3 =
+    ap (λ (g : Grid). in_pass g true) (g3 ∙ ap (λ (g : Grid). with_place g next_x next_y layer (Some (still_piece piece.object))) (g2 ∙ g1))
+    ∙ sym (ap (move_place (in_pass old moved) (spot x y layer)) leaves.there ∙ ap (moved_to (in_pass old moved) (spot x y layer) piece) leaves.goes)
 
 -- what stands still is there once all is stilled
 still_is_in : (cells : List (List (Option Piece))) (index layer object : ℕ) → IsStill cells index layer object → is_in (get_or (map (map still_place) cells) index []) object ≡ true

@@ -1,7 +1,7 @@
 -- A past with one more level, and with one less.
-use Rattle.std.proofs.Common.{◌≡◌, List, [], ◌∷◌, ◌++◌, Option, Some, None, reverse, ap, sym, ◌∙◌, subst}
+use Rattle.std.proofs.Common.{◌≡◌, List, [], ◌∷◌, ◌++◌, Option, Some, reverse, ap, ◌∙◌, subst}
 use Rattle.std.proofs.lemmas.List.{reverse-append}
-use Rattle.pz_sheet.specs.Grid.{Grid, BareState}
+use Rattle.pz_sheet.specs.Grid.{BareState}
 use Rattle.pz_grid.specs.declared.older.Older.{Older}
 use Rattle.pz_grid.specs.Past.{given_back, Leads, AreWays, IsPast}
 

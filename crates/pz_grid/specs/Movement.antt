@@ -1,12 +1,13 @@
 -- The movement of a step. A pass goes column by column, from the top, and in a cell layer by layer: what heads somewhere moves
 -- one cell on if its target is on the map and free on its layer, and is still from then on. Passes repeat until one moves
 -- nothing; then all are still. The action moves nothing.
-use Rattle.std.specs.Prelude.{ℕ, zero, suc, ◌+◌, ◌-◌, List, map, fold, Bool, true, false, Option, Some, None, nat_lt, if◌then◌else◌}
+use Rattle.std.specs.Prelude.{◌≡◌, ◌<◌, ℕ, zero, suc, ◌+◌, ◌-◌, List, map, fold, Bool, true, false, Option, Some, None, nat_lt, if◌then◌else◌}
 use Rattle.std.specs.List.{flat_map, range_with_len, sum_by}
 use Rattle.pz_game.specs.declared.direction.Dir.{Dir}
 use Rattle.pz_game.specs.declared.direction.Dir.TheVariants.{Up, Down, Left, Right, Action}
 use Rattle.pz_cells.specs.declared.piece.Piece.{Piece}
-use Rattle.pz_cells.specs.Cell.{still_piece}
+use Rattle.pz_cells.specs.Cell.{IsOnLayer, still_piece}
+use Rattle.pz_sets.specs.declared.set.TheConstants.{CAPACITY}
 use Rattle.pz_sheet.specs.Grid.{Grid, place_at, with_place}
 use Rattle.pz_sheet.specs.Movement.{stilled}
 
@@ -62,6 +63,19 @@ move_place pass spot (Some piece) = moved_to pass spot piece (heading_goal pass.
 -- what stands at a spot moves, if it can
 abbrev pub move_at : Pass → Spot → Pass
 move_at pass spot = move_place pass spot (place_at pass.grid spot.x spot.y spot.layer)
+
+-- what stands at a spot stays there
+abbrev pub Stays : Grid → Spot → Type 0
+Stays grid spot = (moved : Bool) → move_at (in_pass grid moved) spot ≡ in_pass grid moved
+
+-- a piece leaves a spot for a position
+pub record Leaves (grid : Grid) (spot : Spot) (piece : Piece) (goal : ℕ × ℕ) : Type 0 where
+  pub there : place_at grid spot.x spot.y spot.layer ≡ Some piece
+  pub goes : heading_goal grid spot piece.heading ≡ Some goal
+  pub x_in : goal.0 < grid.width
+  pub y_in : goal.1 < grid.height
+  pub on_layer : IsOnLayer grid.layers spot.layer (Some piece)
+  pub low : piece.object < CAPACITY
 
 abbrev pub spots_at : ℕ → ℕ → ℕ → List Spot
 spots_at depth x y = map (spot x y) (range_with_len 0 depth)

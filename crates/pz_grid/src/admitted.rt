@@ -9,12 +9,13 @@ ghost use Rattle.pz_grid.specs.Places.{line_count, places};
 ghost use Rattle.pz_game.specs.declared.direction.Dir.{Dir};
 
 use crate::Level;
-use crate::bare::BareLevel;
+use crate::bare::{BareLevel, Sized};
 use pz_game::direction::Dir;
 use pz_game::masks::names;
 use pz_game::pattern::{Item, Pattern, Row};
 use pz_sets::set::NumberSet;
 use pz_sets::words::has_subset;
+use pz_sheet::Sheet;
 
 /// Whether a set has an item's object, if the item names it as present.
 fn marks_item(marks: &NumberSet, item: Item) -> bool
@@ -117,8 +118,21 @@ fn may_head(bare: &BareLevel, row: &Row, dir: Dir, line: u32) -> bool
     requires line_in { line < line_count bare.now.grid dir }
     ensures none { result ≡ false → StartsNowhere bare.now.grid row.now dir line }
 {
+    match &bare.sheet {
+        Sized::Small(sheet) => line_may_head(sheet, row, dir, line),
+        Sized::Middle(sheet) => line_may_head(sheet, row, dir, line),
+        Sized::Large(sheet) => line_may_head(sheet, row, dir, line),
+    }
+}
+
+/// The same in a sheet.
+fn line_may_head<const N: usize>(sheet: &Sheet<N>, row: &Row, dir: Dir, line: u32) -> bool
+    requires of_game { IsRowOf sheet.now.grid.layers row.now }
+    requires line_in { line < line_count sheet.now.grid dir }
+    ensures none { result ≡ false → StartsNowhere sheet.now.grid row.now dir line }
+{
     match dir {
-        Dir::Up | Dir::Down => bare.may_hold_in_column(line, row),
-        Dir::Left | Dir::Right | Dir::Action => bare.may_hold_in_row(line, row),
+        Dir::Up | Dir::Down => sheet.may_hold_in_column(line, row),
+        Dir::Left | Dir::Right | Dir::Action => sheet.may_hold_in_row(line, row),
     }
 }

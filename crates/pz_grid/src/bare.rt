@@ -62,27 +62,6 @@ impl Model for BareLevel {
 }
 
 impl BareLevel {
-    /// The level as it is drawn, before the background is laid. Err: memory was refused.
-    pub(crate) fn drawn(
-        alloc: Global,
-        game: &Game,
-        drawing: &DrawnLevel,
-    ) -> Result<BareLevel, AllocError>
-        requires { All (λ number. number < length game.now.values) drawing.now.cells }
-        ensures { IfOk result (λ bare. bare.grid ≡ drawn game.now drawing.now) }
-    {
-        let objects = game.layers().len();
-        let depth = game.depth();
-        let sheet = if objects <= 128 && depth <= 25 {
-            Sized::Small(Sheet::drawn(alloc, game, drawing)?)
-        } else if objects <= 256 && depth <= 50 {
-            Sized::Middle(Sheet::drawn(alloc, game, drawing)?)
-        } else {
-            Sized::Large(Sheet::drawn(alloc, game, drawing)?)
-        };
-        Ok(BareLevel { sheet })
-    }
-
     /// The same cells once more. Err: memory was refused.
     pub(crate) fn copy(&self) -> Result<BareLevel, AllocError>
         ensures copied { IfOk result (λ bare. bare.grid ≡ self.now.grid) }
@@ -196,22 +175,6 @@ impl BareLevel {
         }
     }
 
-    /// What stands on a layer of a position of the map.
-    pub(crate) fn place(&self, x: u32, y: u32, layer: usize) -> Option<Piece>
-        requires x_in { x < self.now.grid.width }
-        requires y_in { y < self.now.grid.height }
-        requires layer_in { layer < self.now.grid.depth }
-        ensures place { result ≡ place_at self.now.grid x y layer }
-        ensures on_layer { IsOnLayer self.now.grid.layers layer result }
-        ensures low { IfSome result (λ piece. piece.object < CAPACITY) }
-    {
-        match &self.sheet {
-            Sized::Small(sheet) => sheet.place(x, y, layer),
-            Sized::Middle(sheet) => sheet.place(x, y, layer),
-            Sized::Large(sheet) => sheet.place(x, y, layer),
-        }
-    }
-
     /// Puts a piece, or nothing, on a layer of a position of the map.
     pub(crate) fn put(&mut self, x: u32, y: u32, layer: usize, place: Option<Piece>)
         requires x_in { x < self.old.grid.width }
@@ -237,126 +200,6 @@ impl BareLevel {
             Sized::Small(sheet) => sheet.may_hold(row),
             Sized::Middle(sheet) => sheet.may_hold(row),
             Sized::Large(sheet) => sheet.may_hold(row),
-        }
-    }
-
-    /// Whether something may head in a row of the map as the cells of a rule's row ask: true where each of them holds somewhere in it.
-    pub(crate) fn may_hold_in_row(&self, y: u32, row: &Row) -> bool
-        requires y_in { y < self.now.grid.height }
-        requires of_game { IsRowOf self.now.grid.layers row.now }
-        ensures { All (HoldsInRow self.now.grid y) row.now.cells → result ≡ true }
-    {
-        match &self.sheet {
-            Sized::Small(sheet) => sheet.may_hold_in_row(y, row),
-            Sized::Middle(sheet) => sheet.may_hold_in_row(y, row),
-            Sized::Large(sheet) => sheet.may_hold_in_row(y, row),
-        }
-    }
-
-    /// Whether something may head in a column of the map as the cells of a rule's row ask: true where each of them holds somewhere in it.
-    pub(crate) fn may_hold_in_column(&self, x: u32, row: &Row) -> bool
-        requires x_in { x < self.now.grid.width }
-        requires of_game { IsRowOf self.now.grid.layers row.now }
-        ensures { All (HoldsInColumn self.now.grid x) row.now.cells → result ≡ true }
-    {
-        match &self.sheet {
-            Sized::Small(sheet) => sheet.may_hold_in_column(x, row),
-            Sized::Middle(sheet) => sheet.may_hold_in_column(x, row),
-            Sized::Large(sheet) => sheet.may_hold_in_column(x, row),
-        }
-    }
-
-    /// The first column from one on in which a rule's cell holds in a row of the map.
-    pub(crate) fn next_in_row(&self, y: u32, from: u32, pattern: &Pattern) -> Option<u32>
-        requires y_in { y < self.now.grid.height }
-        requires of_game { AreOf self.now.grid.layers pattern.now }
-        ensures { IsNext (holds_in_row self.now.grid y pattern.now) from self.now.grid.width result }
-    {
-        match &self.sheet {
-            Sized::Small(sheet) => sheet.next_in_row(y, from, pattern),
-            Sized::Middle(sheet) => sheet.next_in_row(y, from, pattern),
-            Sized::Large(sheet) => sheet.next_in_row(y, from, pattern),
-        }
-    }
-
-    /// The first row from one on in which a rule's cell holds in a column of the map.
-    pub(crate) fn next_in_column(&self, x: u32, from: u32, pattern: &Pattern) -> Option<u32>
-        requires x_in { x < self.now.grid.width }
-        requires of_game { AreOf self.now.grid.layers pattern.now }
-        ensures { IsNext (holds_in_column self.now.grid x pattern.now) from self.now.grid.height result }
-    {
-        match &self.sheet {
-            Sized::Small(sheet) => sheet.next_in_column(x, from, pattern),
-            Sized::Middle(sheet) => sheet.next_in_column(x, from, pattern),
-            Sized::Large(sheet) => sheet.next_in_column(x, from, pattern),
-        }
-    }
-
-    /// The last column before an end in which a rule's cell holds in a row of the map.
-    pub(crate) fn last_in_row(&self, y: u32, end: u32, pattern: &Pattern) -> Option<u32>
-        requires y_in { y < self.now.grid.height }
-        requires end_in { end ≤ self.now.grid.width }
-        requires of_game { AreOf self.now.grid.layers pattern.now }
-        ensures { IsLast (holds_in_row self.now.grid y pattern.now) end result }
-    {
-        match &self.sheet {
-            Sized::Small(sheet) => sheet.last_in_row(y, end, pattern),
-            Sized::Middle(sheet) => sheet.last_in_row(y, end, pattern),
-            Sized::Large(sheet) => sheet.last_in_row(y, end, pattern),
-        }
-    }
-
-    /// The last row before an end in which a rule's cell holds in a column of the map.
-    pub(crate) fn last_in_column(&self, x: u32, end: u32, pattern: &Pattern) -> Option<u32>
-        requires x_in { x < self.now.grid.width }
-        requires end_in { end ≤ self.now.grid.height }
-        requires of_game { AreOf self.now.grid.layers pattern.now }
-        ensures { IsLast (holds_in_column self.now.grid x pattern.now) end result }
-    {
-        match &self.sheet {
-            Sized::Small(sheet) => sheet.last_in_column(x, end, pattern),
-            Sized::Middle(sheet) => sheet.last_in_column(x, end, pattern),
-            Sized::Large(sheet) => sheet.last_in_column(x, end, pattern),
-        }
-    }
-
-    /// The first column from one on from which rules' cells hold in a row of the map.
-    pub(crate) fn next_run_in_row(
-        &self,
-        dir: Dir,
-        y: u32,
-        from: u32,
-        patterns: &[Pattern],
-    ) -> Option<u32>
-        requires some { 0 < length patterns.now }
-        requires y_in { y < self.now.grid.height }
-        requires of_game { All (AreOf self.now.grid.layers) patterns.now }
-        ensures { IsNext (runs_in_row self.now.grid dir y patterns.now) from self.now.grid.width result }
-    {
-        match &self.sheet {
-            Sized::Small(sheet) => sheet.next_run_in_row(dir, y, from, patterns),
-            Sized::Middle(sheet) => sheet.next_run_in_row(dir, y, from, patterns),
-            Sized::Large(sheet) => sheet.next_run_in_row(dir, y, from, patterns),
-        }
-    }
-
-    /// The first row from one on from which rules' cells hold in a column of the map.
-    pub(crate) fn next_run_in_column(
-        &self,
-        dir: Dir,
-        x: u32,
-        from: u32,
-        patterns: &[Pattern],
-    ) -> Option<u32>
-        requires some { 0 < length patterns.now }
-        requires x_in { x < self.now.grid.width }
-        requires of_game { All (AreOf self.now.grid.layers) patterns.now }
-        ensures { IsNext (runs_in_column self.now.grid dir x patterns.now) from self.now.grid.height result }
-    {
-        match &self.sheet {
-            Sized::Small(sheet) => sheet.next_run_in_column(dir, x, from, patterns),
-            Sized::Middle(sheet) => sheet.next_run_in_column(dir, x, from, patterns),
-            Sized::Large(sheet) => sheet.next_run_in_column(dir, x, from, patterns),
         }
     }
 
@@ -413,20 +256,6 @@ impl BareLevel {
         }
     }
 
-    /// Puts a piece on a layer of each cell where nothing stands there.
-    pub(crate) fn fill(&mut self, layer: usize, piece: Piece)
-        requires layer_in { layer < self.old.grid.depth }
-        requires on_layer { (piece.object < length self.old.grid.layers) × (slice_index self.old.grid.layers piece.object ≡ layer) }
-        ensures filled { self.new.grid ≡ filled layer piece self.old.grid }
-        ensures lawful { IsLawful self.new.grid }
-    {
-        match &mut self.sheet {
-            Sized::Small(sheet) => sheet.fill(layer, piece),
-            Sized::Middle(sheet) => sheet.fill(layer, piece),
-            Sized::Large(sheet) => sheet.fill(layer, piece),
-        }
-    }
-
     /// The objects that stand in a row of the map.
     pub(crate) fn row_objects(&self, y: u32) -> NumberSet
         requires { y < self.now.grid.height }
@@ -448,20 +277,6 @@ impl BareLevel {
             Sized::Small(sheet) => sheet.column_objects(x),
             Sized::Middle(sheet) => sheet.column_objects(x),
             Sized::Large(sheet) => sheet.column_objects(x),
-        }
-    }
-
-    /// Whether what stands on a layer of a position of the map heads nowhere.
-    pub(crate) fn is_layer_still(&self, x: u32, y: u32, layer: usize) -> bool
-        requires x_in { x < self.now.grid.width }
-        requires y_in { y < self.now.grid.height }
-        requires layer_in { layer < self.now.grid.depth }
-        ensures { result ≡ true → place_at self.now.grid x y layer ≡ still_place (place_at self.now.grid x y layer) }
-    {
-        match &self.sheet {
-            Sized::Small(sheet) => sheet.is_layer_still(x, y, layer),
-            Sized::Middle(sheet) => sheet.is_layer_still(x, y, layer),
-            Sized::Large(sheet) => sheet.is_layer_still(x, y, layer),
         }
     }
 

@@ -1,20 +1,21 @@
 // The movement of pieces that head somewhere.
 
-ghost use Rattle.std.specs.Prelude.{◌≡◌, ℕ, ◌<◌, IfSome, fold, map, nat_eq, true};
+ghost use Rattle.std.specs.Prelude.{◌≡◌, ℕ, ◌<◌, IfSome, MatchOption, fold, map, nat_eq, true};
 ghost use Rattle.pz_cells.specs.Cell.{IsOnLayer, still_place};
 ghost use Rattle.pz_sets.specs.declared.set.TheConstants.{CAPACITY};
 ghost use Rattle.pz_sheet.specs.Grid.{cell_at, IsLawful, IsOfGame, SameSize, place_at, with_place};
 ghost use Rattle.pz_sheet.specs.Presence.{in_row, in_column};
 ghost use Rattle.pz_grid.specs.Marks.{IsMarked, IsMarkedAt, IsWidened};
 ghost use Rattle.pz_grid.specs.Staying.{IsMove};
-ghost use Rattle.pz_grid.specs.Movement.{neighbour, heading_goal, spot, in_pass, move_at, spots_at, spots_in, pass_of, moving, settle, resolved};
+ghost use Rattle.pz_grid.specs.Movement.{neighbour, heading_goal, spot, in_pass, move_at, spots_at, spots_in, pass_of, moving, settle, resolved, Stays, Leaves};
 ghost use Rattle.pz_sheet.specs.Movement.{stilled};
 
 use crate::Level;
-use crate::bare::BareLevel;
+use crate::bare::{BareLevel, Sized};
 use pz_cells::piece::Piece;
 use pz_game::direction::Dir;
 use pz_game::game::Game;
+use pz_sheet::Sheet;
 
 /// Moves every piece that heads somewhere as far as the passes of a step's movement take it, and stills all.
 pub fn resolve(game: &Game, level: &mut Level)
@@ -31,41 +32,85 @@ pub fn resolve(game: &Game, level: &mut Level)
     level.still_all();
 }
 
-impl BareLevel {
-    /// The next position in a direction, on the map.
-    fn neighbour(&self, dir: Dir, x: u32, y: u32) -> Option<(u32, u32)>
-        requires x_in { x < self.now.grid.width }
-        requires y_in { y < self.now.grid.height }
-        ensures next { result ≡ neighbour self.now.grid dir x y }
-        ensures on_map { IfSome result (λ next. (next.0 < self.now.grid.width) × (next.1 < self.now.grid.height)) }
-    {
-        let (width, height) = (self.width(), self.height());
-        match dir {
-            Dir::Up if y > 0 => Some((x, y - 1)),
-            Dir::Down if y + 1 < height => Some((x, y + 1)),
-            Dir::Left if x > 0 => Some((x - 1, y)),
-            Dir::Right if x + 1 < width => Some((x + 1, y)),
-            _ => None,
-        }
+/// The next position in a direction, on the map.
+fn neighbour<const N: usize>(sheet: &Sheet<N>, dir: Dir, x: u32, y: u32) -> Option<(u32, u32)>
+    requires x_in { x < sheet.now.grid.width }
+    requires y_in { y < sheet.now.grid.height }
+    ensures next { result ≡ neighbour sheet.now.grid dir x y }
+    ensures on_map { IfSome result (λ next. (next.0 < sheet.now.grid.width) × (next.1 < sheet.now.grid.height)) }
+{
+    let (width, height) = (sheet.width(), sheet.height());
+    match dir {
+        Dir::Up if y > 0 => Some((x, y - 1)),
+        Dir::Down if y + 1 < height => Some((x, y + 1)),
+        Dir::Left if x > 0 => Some((x - 1, y)),
+        Dir::Right if x + 1 < width => Some((x + 1, y)),
+        _ => None,
     }
+}
 
-    /// Where a piece that heads there goes, if that is free on its layer.
-    fn goal(&self, x: u32, y: u32, layer: usize, heading: Option<Dir>) -> Option<(u32, u32)>
+/// Where a piece that heads there goes, if that is free on its layer.
+fn goal<const N: usize>(
+    sheet: &Sheet<N>,
+    x: u32,
+    y: u32,
+    layer: usize,
+    heading: Option<Dir>,
+) -> Option<(u32, u32)>
+    requires x_in { x < sheet.now.grid.width }
+    requires y_in { y < sheet.now.grid.height }
+    requires layer_in { layer < sheet.now.grid.depth }
+    ensures goal { result ≡ heading_goal sheet.now.grid (spot x y layer) heading }
+    ensures on_map { IfSome result (λ next. (next.0 < sheet.now.grid.width) × (next.1 < sheet.now.grid.height)) }
+{
+    match heading {
+        None => None,
+        Some(dir) => match neighbour(sheet, dir, x, y) {
+            None => None,
+            Some((next_x, next_y)) => match sheet.place(next_x, next_y, layer) {
+                None => Some((next_x, next_y)),
+                Some(_) => None,
+            },
+        },
+    }
+}
+
+/// The piece that leaves a layer of a position of the map, and where it goes, if one does.
+fn leaving<const N: usize>(
+    sheet: &Sheet<N>,
+    x: u32,
+    y: u32,
+    layer: usize,
+) -> Option<(Piece, (u32, u32))>
+    requires x_in { x < sheet.now.grid.width }
+    requires y_in { y < sheet.now.grid.height }
+    requires layer_in { layer < sheet.now.grid.depth }
+    ensures { MatchOption result (Stays sheet.now.grid (spot x y layer)) (λ leaves. Leaves sheet.now.grid (spot x y layer) leaves.0 leaves.1) }
+{
+    if sheet.is_layer_still(x, y, layer) {
+        return None;
+    }
+    match sheet.place(x, y, layer) {
+        None => None,
+        Some(piece) => match goal(sheet, x, y, layer, piece.heading) {
+            None => None,
+            Some(next) => Some((piece, next)),
+        },
+    }
+}
+
+impl BareLevel {
+    /// The piece that leaves a layer of a position of the map, and where it goes, if one does.
+    fn leaving(&self, x: u32, y: u32, layer: usize) -> Option<(Piece, (u32, u32))>
         requires x_in { x < self.now.grid.width }
         requires y_in { y < self.now.grid.height }
         requires layer_in { layer < self.now.grid.depth }
-        ensures goal { result ≡ heading_goal self.now.grid (spot x y layer) heading }
-        ensures on_map { IfSome result (λ next. (next.0 < self.now.grid.width) × (next.1 < self.now.grid.height)) }
+        ensures { MatchOption result (Stays self.now.grid (spot x y layer)) (λ leaves. Leaves self.now.grid (spot x y layer) leaves.0 leaves.1) }
     {
-        match heading {
-            None => None,
-            Some(dir) => match self.neighbour(dir, x, y) {
-                None => None,
-                Some((next_x, next_y)) => match self.place(next_x, next_y, layer) {
-                    None => Some((next_x, next_y)),
-                    Some(_) => None,
-                },
-            },
+        match &self.sheet {
+            Sized::Small(sheet) => leaving(sheet, x, y, layer),
+            Sized::Middle(sheet) => leaving(sheet, x, y, layer),
+            Sized::Large(sheet) => leaving(sheet, x, y, layer),
         }
     }
 }
@@ -77,25 +122,14 @@ impl Level {
         self.bare.depth()
     }
 
-    fn place(&self, x: u32, y: u32, layer: usize) -> Option<Piece>
+    /// The piece that leaves a layer of a position of the map, and where it goes, if one does.
+    fn leaving(&self, x: u32, y: u32, layer: usize) -> Option<(Piece, (u32, u32))>
         requires x_in { x < self.now.grid.width }
         requires y_in { y < self.now.grid.height }
         requires layer_in { layer < self.now.grid.depth }
-        ensures place { result ≡ place_at self.now.grid x y layer }
-        ensures on_layer { IsOnLayer self.now.grid.layers layer result }
-        ensures low { IfSome result (λ piece. piece.object < CAPACITY) }
+        ensures { MatchOption result (Stays self.now.grid (spot x y layer)) (λ leaves. Leaves self.now.grid (spot x y layer) leaves.0 leaves.1) }
     {
-        self.bare.place(x, y, layer)
-    }
-
-    fn goal(&self, x: u32, y: u32, layer: usize, heading: Option<Dir>) -> Option<(u32, u32)>
-        requires x_in { x < self.now.grid.width }
-        requires y_in { y < self.now.grid.height }
-        requires layer_in { layer < self.now.grid.depth }
-        ensures goal { result ≡ heading_goal self.now.grid (spot x y layer) heading }
-        ensures on_map { IfSome result (λ next. (next.0 < self.now.grid.width) × (next.1 < self.now.grid.height)) }
-    {
-        self.bare.goal(x, y, layer, heading)
+        self.bare.leaving(x, y, layer)
     }
 
     /// Whether nothing at a position of the map heads anywhere.
@@ -105,16 +139,6 @@ impl Level {
         ensures { result ≡ true → cell_at self.now.grid x y ≡ map still_place (cell_at self.now.grid x y) }
     {
         self.bare.is_still(x, y)
-    }
-
-    /// Whether what stands on a layer of a position of the map heads nowhere.
-    fn is_layer_still(&self, x: u32, y: u32, layer: usize) -> bool
-        requires x_in { x < self.now.grid.width }
-        requires y_in { y < self.now.grid.height }
-        requires layer_in { layer < self.now.grid.depth }
-        ensures { result ≡ true → place_at self.now.grid x y layer ≡ still_place (place_at self.now.grid x y layer) }
-    {
-        self.bare.is_layer_still(x, y, layer)
     }
 
     /// Whether no heading is noted for a column of the map: where that is true, nothing in it heads anywhere.
@@ -160,20 +184,14 @@ impl Level {
         ensures size { SameSize self.old.grid self.new.grid }
         ensures marks { IsMove self.old self.new }
     {
-        if self.is_layer_still(x, y, layer) {
-            return moved;
-        }
-        match self.place(x, y, layer) {
+        match self.leaving(x, y, layer) {
             None => moved,
-            Some(piece) => match self.goal(x, y, layer, piece.heading) {
-                None => moved,
-                Some((next_x, next_y)) => {
-                    self.put(x, y, layer, None);
-                    self.mark(next_x, next_y, piece.object as usize);
-                    self.put(next_x, next_y, layer, Some(Piece::still(piece.object)));
-                    true
-                }
-            },
+            Some((piece, (next_x, next_y))) => {
+                self.put(x, y, layer, None);
+                self.mark(next_x, next_y, piece.object as usize);
+                self.put(next_x, next_y, layer, Some(Piece::still(piece.object)));
+                true
+            }
         }
     }
 

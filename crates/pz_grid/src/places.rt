@@ -20,7 +20,7 @@ use std::alloc::Global;
 pub const MATCH_LIMIT: usize = 1_048_576;
 
 /// Where a row starts, and how many cells its gap spans: 0, if it has none.
-#[derive(Clone, Copy, PartialEq, Eq, Debug)]
+#[derive(Clone, Copy)]
 pub struct Place {
     pub x: u32,
     pub y: u32,
@@ -35,7 +35,7 @@ struct Line {
 }
 
 /// Why a search has no answer: memory was refused, or the row has more places than `MATCH_LIMIT`.
-#[derive(Clone, Copy, PartialEq, Eq, Debug)]
+#[derive(Clone, Copy)]
 pub enum GridFault {
     Memory,
     MatchLimit,
@@ -167,19 +167,6 @@ fn row_holds(bare: &BareLevel, row: &Row, dir: Dir, place: Place) -> bool
     }
 }
 
-/// The same where the cells before a number are on the map and hold.
-fn rest_holds(bare: &BareLevel, row: &Row, dir: Dir, place: Place, from: usize) -> bool
-    requires of_game { IsRowOf bare.now.grid.layers row.now }
-    requires begun { list_all (cell_holds bare.now.grid row.now dir place) (take from (enumerate_from 0 row.now.cells)) ≡ true }
-    ensures { result ≡ row_holds bare.now.grid row.now dir place }
-{
-    match &bare.sheet {
-        Sized::Small(sheet) => spread_holds(sheet, row, dir, place, from),
-        Sized::Middle(sheet) => spread_holds(sheet, row, dir, place, from),
-        Sized::Large(sheet) => spread_holds(sheet, row, dir, place, from),
-    }
-}
-
 fn line_count(bare: &BareLevel, dir: Dir) -> u32
     ensures value { result ≡ line_count bare.now.grid dir }
     ensures small { result ≤ MAX_SIDE }
@@ -190,13 +177,13 @@ fn line_count(bare: &BareLevel, dir: Dir) -> u32
     }
 }
 
-fn line_length(bare: &BareLevel, dir: Dir) -> u32
-    ensures value { result ≡ line_length bare.now.grid dir }
+fn line_length<const N: usize>(sheet: &Sheet<N>, dir: Dir) -> u32
+    ensures value { result ≡ line_length sheet.now.grid dir }
     ensures small { result ≤ MAX_SIDE }
 {
     match dir {
-        Dir::Up | Dir::Down => bare.height(),
-        Dir::Left | Dir::Right | Dir::Action => bare.width(),
+        Dir::Up | Dir::Down => sheet.height(),
+        Dir::Left | Dir::Right | Dir::Action => sheet.width(),
     }
 }
 
@@ -230,15 +217,20 @@ fn head_of(row: &Row) -> &[Pattern]
 }
 
 /// The first start from one on in a line from which the cells of a row before its gap hold one after another.
-fn next_start(bare: &BareLevel, line: Line, from: u32, head: &[Pattern]) -> Option<u32>
+fn next_start<const N: usize>(
+    sheet: &Sheet<N>,
+    line: Line,
+    from: u32,
+    head: &[Pattern],
+) -> Option<u32>
     requires some { 0 < length head.now }
-    requires line_in { line.number < line_count bare.now.grid line.dir }
-    requires of_game { All (AreOf bare.now.grid.layers) head.now }
-    ensures { IsNext (starts_with bare.now.grid line.dir line.number head.now) from (line_length bare.now.grid line.dir) result }
+    requires line_in { line.number < line_count sheet.now.grid line.dir }
+    requires of_game { All (AreOf sheet.now.grid.layers) head.now }
+    ensures { IsNext (starts_with sheet.now.grid line.dir line.number head.now) from (line_length sheet.now.grid line.dir) result }
 {
     match line.dir {
-        Dir::Up | Dir::Down => bare.next_run_in_column(line.dir, line.number, from, head),
-        Dir::Left | Dir::Right | Dir::Action => bare.next_run_in_row(
+        Dir::Up | Dir::Down => sheet.next_run_in_column(line.dir, line.number, from, head),
+        Dir::Left | Dir::Right | Dir::Action => sheet.next_run_in_row(
             line.dir,
             line.number,
             from,
@@ -264,22 +256,22 @@ fn add_found(place: Place, found: &mut Vec<Place>) -> Result<(), GridFault>
 }
 
 /// Adds the place if the row holds there, of which the cells before a number do.
-fn add_place(
-    bare: &BareLevel,
+fn add_place<const N: usize>(
+    sheet: &Sheet<N>,
     row: &Row,
     dir: Dir,
     place: Place,
     from: usize,
     found: &mut Vec<Place>,
 ) -> Result<(), GridFault>
-    requires of_game { IsRowOf bare.now.grid.layers row.now }
-    requires begun { list_all (cell_holds bare.now.grid row.now dir place) (take from (enumerate_from 0 row.now.cells)) ≡ true }
+    requires of_game { IsRowOf sheet.now.grid.layers row.now }
+    requires begun { list_all (cell_holds sheet.now.grid row.now dir place) (take from (enumerate_from 0 row.now.cells)) ≡ true }
     requires room { length found.old.items ≤ MATCH_LIMIT }
-    ensures added { OnOk result (found.new.items ≡ found.old.items ++ filter (row_holds bare.now.grid row.now dir) (place ∷ [])) }
+    ensures added { OnOk result (found.new.items ≡ found.old.items ++ filter (row_holds sheet.now.grid row.now dir) (place ∷ [])) }
     ensures room { OnOk result (length found.new.items ≤ MATCH_LIMIT) }
-    ensures limit { result ≡ Err GridFault.MatchLimit → MATCH_LIMIT < length (found.old.items ++ filter (row_holds bare.now.grid row.now dir) (place ∷ [])) }
+    ensures limit { result ≡ Err GridFault.MatchLimit → MATCH_LIMIT < length (found.old.items ++ filter (row_holds sheet.now.grid row.now dir) (place ∷ [])) }
 {
-    if rest_holds(bare, row, dir, place, from) {
+    if spread_holds(sheet, row, dir, place, from) {
         add_found(place, found)
     } else {
         Ok(())
@@ -287,32 +279,38 @@ fn add_place(
 }
 
 /// The first gap from a place's own on for which the row's first cell behind its gap, that of the number `at`, holds.
-fn next_gap(bare: &BareLevel, dir: Dir, from: Place, at: u32, behind: &Pattern) -> Option<u32>
-    requires inside { (from.x < bare.now.grid.width) × (from.y < bare.now.grid.height) }
-    requires of_game { AreOf bare.now.grid.layers behind.now }
-    ensures { IsNext (holds_behind bare.now.grid dir from.x from.y behind.now at) from.gap (line_length bare.now.grid dir) result }
+fn next_gap<const N: usize>(
+    sheet: &Sheet<N>,
+    dir: Dir,
+    from: Place,
+    at: u32,
+    behind: &Pattern,
+) -> Option<u32>
+    requires inside { (from.x < sheet.now.grid.width) × (from.y < sheet.now.grid.height) }
+    requires of_game { AreOf sheet.now.grid.layers behind.now }
+    ensures { IsNext (holds_behind sheet.now.grid dir from.x from.y behind.now at) from.gap (line_length sheet.now.grid dir) result }
 {
     let steps = at as usize + from.gap as usize;
-    if steps >= line_length(bare, dir) as usize {
+    if steps >= line_length(sheet, dir) as usize {
         return None;
     }
     match dir {
         Dir::Right => {
-            let x = bare.next_in_row(from.y, from.x + steps as u32, behind)?;
+            let x = sheet.next_in_row(from.y, from.x + steps as u32, behind)?;
             Some(x - from.x - at)
         }
         Dir::Left => {
             let end = (from.x + 1).saturating_sub(steps as u32);
-            let x = bare.last_in_row(from.y, end, behind)?;
+            let x = sheet.last_in_row(from.y, end, behind)?;
             Some(from.x - at - x)
         }
         Dir::Down => {
-            let y = bare.next_in_column(from.x, from.y + steps as u32, behind)?;
+            let y = sheet.next_in_column(from.x, from.y + steps as u32, behind)?;
             Some(y - from.y - at)
         }
         Dir::Up => {
             let end = (from.y + 1).saturating_sub(steps as u32);
-            let y = bare.last_in_column(from.x, end, behind)?;
+            let y = sheet.last_in_column(from.x, end, behind)?;
             Some(from.y - at - y)
         }
         Dir::Action => None,
@@ -321,62 +319,96 @@ fn next_gap(bare: &BareLevel, dir: Dir, from: Place, at: u32, behind: &Pattern) 
 
 /// Adds the places that start in a cell from which the cells before the gap hold, of a row with a gap before the cell of the number `at`:
 /// the cells behind that one are tested for those gaps alone for which it holds.
-fn add_places_with_gaps(
-    bare: &BareLevel,
+fn add_places_with_gaps<const N: usize>(
+    sheet: &Sheet<N>,
     row: &Row,
     line: Line,
     start: u32,
     at: u32,
     found: &mut Vec<Place>,
 ) -> Result<(), GridFault>
-    requires of_game { IsRowOf bare.now.grid.layers row.now }
-    requires line_in { line.number < line_count bare.now.grid line.dir }
-    requires start_in { start < line_length bare.now.grid line.dir }
+    requires of_game { IsRowOf sheet.now.grid.layers row.now }
+    requires line_in { line.number < line_count sheet.now.grid line.dir }
+    requires start_in { start < line_length sheet.now.grid line.dir }
     requires gap_at { row.now.gap_at ≡ Some at }
-    requires starts { starts_with bare.now.grid line.dir line.number (head_of row.now) start ≡ true }
+    requires starts { starts_with sheet.now.grid line.dir line.number (head_of row.now) start ≡ true }
     requires room { length found.old.items ≤ MATCH_LIMIT }
-    ensures added { OnOk result (found.new.items ≡ found.old.items ++ filter (row_holds bare.now.grid row.now line.dir) (pairs_at bare.now.grid row.now line.dir line.number start)) }
+    ensures added { OnOk result (found.new.items ≡ found.old.items ++ filter (row_holds sheet.now.grid row.now line.dir) (pairs_at sheet.now.grid row.now line.dir line.number start)) }
     ensures room { OnOk result (length found.new.items ≤ MATCH_LIMIT) }
-    ensures limit { result ≡ Err GridFault.MatchLimit → MATCH_LIMIT < length (found.old.items ++ filter (row_holds bare.now.grid row.now line.dir) (pairs_at bare.now.grid row.now line.dir line.number start)) }
+    ensures limit { result ≡ Err GridFault.MatchLimit → MATCH_LIMIT < length (found.old.items ++ filter (row_holds sheet.now.grid row.now line.dir) (pairs_at sheet.now.grid row.now line.dir line.number start)) }
 {
     // (brings the proof how short a line is)
-    let _ = line_length(bare, line.dir);
+    let _ = line_length(sheet, line.dir);
     let behind = &row.cells()[at as usize];
     let mut from = 0;
-    'gaps: while let Some(gap) = next_gap(bare, line.dir, place_in(line, start, from), at, behind) {
+    'gaps: while let Some(gap) = next_gap(
+        sheet,
+        line.dir,
+        place_in(line, start, from),
+        at,
+        behind,
+    ) {
         let place = place_in(line, start, gap);
-        add_place(bare, row, line.dir, place, at as usize + 1, found)?;
+        add_place(sheet, row, line.dir, place, at as usize + 1, found)?;
         from = gap + 1;
     }
     Ok(())
 }
 
 /// Adds the places that start in a cell from which the cells of the row before its gap hold.
-fn add_places_at(
-    bare: &BareLevel,
+fn add_places_at<const N: usize>(
+    sheet: &Sheet<N>,
     row: &Row,
     line: Line,
     start: u32,
     found: &mut Vec<Place>,
 ) -> Result<(), GridFault>
-    requires of_game { IsRowOf bare.now.grid.layers row.now }
-    requires line_in { line.number < line_count bare.now.grid line.dir }
-    requires start_in { start < line_length bare.now.grid line.dir }
-    requires starts { starts_with bare.now.grid line.dir line.number (head_of row.now) start ≡ true }
+    requires of_game { IsRowOf sheet.now.grid.layers row.now }
+    requires line_in { line.number < line_count sheet.now.grid line.dir }
+    requires start_in { start < line_length sheet.now.grid line.dir }
+    requires starts { starts_with sheet.now.grid line.dir line.number (head_of row.now) start ≡ true }
     requires room { length found.old.items ≤ MATCH_LIMIT }
-    ensures added { OnOk result (found.new.items ≡ found.old.items ++ filter (row_holds bare.now.grid row.now line.dir) (pairs_at bare.now.grid row.now line.dir line.number start)) }
+    ensures added { OnOk result (found.new.items ≡ found.old.items ++ filter (row_holds sheet.now.grid row.now line.dir) (pairs_at sheet.now.grid row.now line.dir line.number start)) }
     ensures room { OnOk result (length found.new.items ≤ MATCH_LIMIT) }
-    ensures limit { result ≡ Err GridFault.MatchLimit → MATCH_LIMIT < length (found.old.items ++ filter (row_holds bare.now.grid row.now line.dir) (pairs_at bare.now.grid row.now line.dir line.number start)) }
+    ensures limit { result ≡ Err GridFault.MatchLimit → MATCH_LIMIT < length (found.old.items ++ filter (row_holds sheet.now.grid row.now line.dir) (pairs_at sheet.now.grid row.now line.dir line.number start)) }
 {
     match row.gap_at() {
         None => add_found(place_in(line, start, 0), found),
-        Some(at) => add_places_with_gaps(bare, row, line, start, at, found),
+        Some(at) => add_places_with_gaps(sheet, row, line, start, at, found),
     }
 }
 
 /// Adds the places that start in a line, and counts the start cells that it tests: each is searched for the cells before the row's gap, and
 /// the gaps only where these hold.
-fn add_places_in(
+fn add_places_in<const N: usize>(
+    sheet: &Sheet<N>,
+    row: &Row,
+    line: Line,
+    found: &mut Vec<Place>,
+    tested: u64,
+) -> Result<u64, GridFault>
+    requires of_game { IsRowOf sheet.now.grid.layers row.now }
+    requires line_in { line.number < line_count sheet.now.grid line.dir }
+    requires room { length found.old.items ≤ MATCH_LIMIT }
+    requires few { tested ≤ 65536 }
+    ensures added { OnOk result (found.new.items ≡ found.old.items ++ filter (row_holds sheet.now.grid row.now line.dir) (pairs_in sheet.now.grid row.now line.dir line.number)) }
+    ensures count { IfOk result (λ count. count ≡ tested + line_length sheet.now.grid line.dir) }
+    ensures few { IfOk result (λ count. count ≤ tested + MAX_SIDE) }
+    ensures room { OnOk result (length found.new.items ≤ MATCH_LIMIT) }
+    ensures limit { result ≡ Err GridFault.MatchLimit → MATCH_LIMIT < length (found.old.items ++ filter (row_holds sheet.now.grid row.now line.dir) (pairs_in sheet.now.grid row.now line.dir line.number)) }
+{
+    let length = line_length(sheet, line.dir);
+    let head = head_of(row);
+    let mut from = 0;
+    'starts: while let Some(start) = next_start(sheet, line, from, head) {
+        add_places_at(sheet, row, line, start, found)?;
+        from = start + 1;
+    }
+    Ok(tested + length as u64)
+}
+
+/// Searches a line: the sheet that a level has adds the places that start there, and counts the start cells that it tests.
+fn search_line(
     bare: &BareLevel,
     row: &Row,
     line: Line,
@@ -393,14 +425,11 @@ fn add_places_in(
     ensures room { OnOk result (length found.new.items ≤ MATCH_LIMIT) }
     ensures limit { result ≡ Err GridFault.MatchLimit → MATCH_LIMIT < length (found.old.items ++ filter (row_holds bare.now.grid row.now line.dir) (pairs_in bare.now.grid row.now line.dir line.number)) }
 {
-    let length = line_length(bare, line.dir);
-    let head = head_of(row);
-    let mut from = 0;
-    'starts: while let Some(start) = next_start(bare, line, from, head) {
-        add_places_at(bare, row, line, start, found)?;
-        from = start + 1;
+    match &bare.sheet {
+        Sized::Small(sheet) => add_places_in(sheet, row, line, found, tested),
+        Sized::Middle(sheet) => add_places_in(sheet, row, line, found, tested),
+        Sized::Large(sheet) => add_places_in(sheet, row, line, found, tested),
     }
-    Ok(tested + length as u64)
 }
 
 impl Level {
@@ -433,7 +462,7 @@ impl Level {
     {
         let _ = &self.bare;
         if self.may_start(row, dir, line) {
-            add_places_in(&self.bare, row, Line { dir, number: line }, found, tested)
+            search_line(&self.bare, row, Line { dir, number: line }, found, tested)
         } else {
             Ok(tested)
         }

@@ -18,8 +18,8 @@ returns-then-may_start-clause-low c =
     let state = c.args.self.now in
     let dir = c.args.dir in
     let size = line_length state.grid dir in
-    let count = subst (λ (s : LevelState). IfOk c.add_places_in.result (λ count. count ≡ c.args.tested + line_length s.grid dir)) c.self.view_is c.add_places_in.ensures.count in
-    enough c.add_places_in.result c.args.tested (starts_in dir (places state.grid c.args.row.now dir) size c.args.line) size (starts_in_line dir (places state.grid c.args.row.now dir) size c.args.line) count
+    let count = subst (λ (s : LevelState). IfOk c.search_line.result (λ count. count ≡ c.args.tested + line_length s.grid dir)) c.self.view_is c.search_line.ensures.count in
+    enough c.search_line.result c.args.tested (starts_in dir (places state.grid c.args.row.now dir) size c.args.line) size (starts_in_line dir (places state.grid c.args.row.now dir) size c.args.line) count
 
 pub returns-else-may_start-clause-added : goal.returns-else-may_start-clause-added
 returns-else-may_start-clause-added c =

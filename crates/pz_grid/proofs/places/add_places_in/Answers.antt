@@ -10,9 +10,9 @@ use Rattle.pz_grid.proofs.StartLemmas.{none_at, gather_skip}
 use Rattle.pz_grid.proofs.places.add_places_in.Goals as goal
 
 pub returns-in_err-add_places_at-clause-limit : goal.returns-in_err-add_places_at-clause-limit
-returns-in_err-add_places_at-clause-limit c = λ is.
+returns-in_err-add_places_at-clause-limit g c = λ is.
     let p = err_from_is_err_and c.from_residual.result c.from_residual.ensures.1 in
-    let grid = c.args.bare.now.grid in
+    let grid = c.args.sheet.now.grid in
     let row = c.args.row.now in
     let dir = c.args.line.dir in
     let line = c.args.line.number in
@@ -25,11 +25,11 @@ returns-in_err-add_places_at-clause-limit c = λ is.
     subst (λ (xs : List Place). MATCH_LIMIT < length (c.args.found.now.items ++ xs)) (found_in_all grid row dir line) t
 
 pub overflow_add-from : goal.overflow_add-from
-overflow_add-from c = omega (arith, c.in-Some.ensures.1, c.line_length-length.ensures.value, c.line_length-length.ensures.small)
+overflow_add-from g c = omega (arith, c.in-Some.ensures.1, c.line_length-length.ensures.value, c.line_length-length.ensures.small)
 
 pub starts-preserved : goal.starts-preserved
-starts-preserved c =
-    let grid = c.args.bare.now.grid in
+starts-preserved g c =
+    let grid = c.args.sheet.now.grid in
     let row = c.args.row.now in
     let dir = c.args.line.dir in
     let line = c.args.line.number in
@@ -43,8 +43,8 @@ starts-preserved c =
     }
 
 pub returns-clause-added : goal.returns-clause-added
-returns-clause-added c =
-    let grid = c.args.bare.now.grid in
+returns-clause-added g c =
+    let grid = c.args.sheet.now.grid in
     let row = c.args.row.now in
     let dir = c.args.line.dir in
     let line = c.args.line.number in

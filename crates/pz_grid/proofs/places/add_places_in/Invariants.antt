@@ -6,11 +6,11 @@ use Rattle.pz_grid.proofs.FoundLemmas.{found_at}
 use Rattle.pz_grid.proofs.places.add_places_in.Given as goal
 
 abbrev pub invariant-starts : goal.invariant-starts
-invariant-starts l = record {
-  added : l.found.items ≡ l.initial.found.items ++ gather (found_at l.bare.grid l.row l.line.dir l.line.number) l.from;
-  within : l.from ≤ line_length l.bare.grid l.line.dir;
+invariant-starts g l = record {
+  added : l.found.items ≡ l.initial.found.items ++ gather (found_at l.sheet.grid l.row l.line.dir l.line.number) l.from;
+  within : l.from ≤ line_length l.sheet.grid l.line.dir;
   room : length l.found.items ≤ MATCH_LIMIT;
 }
 
 abbrev pub decreases-starts : goal.decreases-starts
-decreases-starts l = line_length l.bare.grid l.line.dir - l.from
+decreases-starts g l = line_length l.sheet.grid l.line.dir - l.from

@@ -13,9 +13,9 @@ use Rattle.pz_grid.proofs.GapLemmas.{own_gap, same_start, at_within, gaps_skippe
 use Rattle.pz_grid.proofs.places.add_places_with_gaps.Goals as goal
 
 pub returns-in_err-add_place-clause-limit : goal.returns-in_err-add_place-clause-limit
-returns-in_err-add_place-clause-limit c = λ is.
+returns-in_err-add_place-clause-limit g c = λ is.
     let p = err_from_is_err_and c.from_residual.result c.from_residual.ensures.1 in
-    let grid = c.args.bare.now.grid in
+    let grid = c.args.sheet.now.grid in
     let row = c.args.row.now in
     let dir = c.args.line.dir in
     let h = found_with grid row dir c.args.line.number c.args.start in
@@ -31,11 +31,11 @@ returns-in_err-add_place-clause-limit c = λ is.
     subst (λ (xs : List Place). MATCH_LIMIT < length (c.args.found.now.items ++ xs)) (found_with_gaps grid row dir c.args.line.number c.args.start c.args.at c.requires.gap_at) t
 
 pub overflow_add-from : goal.overflow_add-from
-overflow_add-from c = omega (arith, c.in-Some.ensures.1, c.line_length.ensures.value, c.line_length.ensures.small)
+overflow_add-from g c = omega (arith, c.in-Some.ensures.1, c.line_length.ensures.value, c.line_length.ensures.small)
 
 pub gaps-preserved : goal.gaps-preserved
-gaps-preserved c =
-    let grid = c.args.bare.now.grid in
+gaps-preserved g c =
+    let grid = c.args.sheet.now.grid in
     let row = c.args.row.now in
     let dir = c.args.line.dir in
     let h = found_with grid row dir c.args.line.number c.args.start in
@@ -52,8 +52,8 @@ gaps-preserved c =
     }
 
 pub returns-clause-added : goal.returns-clause-added
-returns-clause-added c =
-    let grid = c.args.bare.now.grid in
+returns-clause-added g c =
+    let grid = c.args.sheet.now.grid in
     let row = c.args.row.now in
     let dir = c.args.line.dir in
     let behind = c.index-cells-at.result in
@@ -61,9 +61,9 @@ returns-clause-added c =
     let skipped = gaps_skipped grid row dir c.args.line.number c.args.start c.args.at c.gaps.from (line_length grid dir) behind c.place_in.result c.requires.gap_at (at_within row c.args.at c.cells.ensures.row c.requires.gap_at) read c.place_in.ensures c.gaps.invariant.within c.in_default.ensures in
     c.gaps.invariant.added ∙ ap (λ (xs : List Place). c.args.found.now.items ++ xs) (sym skipped ∙ found_with_gaps grid row dir c.args.line.number c.args.start c.args.at c.requires.gap_at)
 
-pub add_place-requires-clause-begun : goal.add_place-requires-clause-begun
-add_place-requires-clause-begun c =
-    let grid = c.args.bare.now.grid in
+pub add_place-requires : goal.add_place-requires
+add_place-requires g c =
+    let grid = c.args.sheet.now.grid in
     let row = c.args.row.now in
     let dir = c.args.line.dir in
     let line = c.args.line.number in
@@ -74,5 +74,6 @@ add_place-requires-clause-begun c =
     let read : behind ≡ get_or row.cells at behind = c.index-cells-at.is ∙ ap (λ (xs : List (List Item)). get_or xs at behind) c.cells.ensures.cells in
     let place = place_in dir line start gap in
     let here : holds_behind grid dir place.x place.y behind at place.gap ≡ true = same_start grid dir line start c.gaps.from gap at behind ∙ ap (λ (p : Place). holds_behind grid dir p.x p.y behind at gap) (sym c.place_in.ensures) ∙ c.in-Some.ensures.2 in
-    subst (λ (p : Place). list_all (cell_holds grid row dir p) (take (at + 1) (enumerate_from 0 row.cells)) ≡ true) (sym c.place_in-place.ensures)
-    (begun_with_gap grid row dir place at behind c.requires.gap_at (at_within row at c.cells.ensures.row c.requires.gap_at) read (sym (starts_at grid dir line start gap (head_of row)) ∙ c.requires.starts) here)
+    let begun = subst (λ (p : Place). list_all (cell_holds grid row dir p) (take (at + 1) (enumerate_from 0 row.cells)) ≡ true) (sym c.place_in-place.ensures)
+    (begun_with_gap grid row dir place at behind c.requires.gap_at (at_within row at c.cells.ensures.row c.requires.gap_at) read (sym (starts_at grid dir line start gap (head_of row)) ∙ c.requires.starts) here) in
+    (omega arith, (c.requires.of_game, (begun, c.gaps.invariant.room)))

@@ -6,11 +6,11 @@ use Rattle.pz_grid.proofs.FoundLemmas.{found_with}
 use Rattle.pz_grid.proofs.places.add_places_with_gaps.Given as goal
 
 abbrev pub invariant-gaps : goal.invariant-gaps
-invariant-gaps l = record {
-  added : l.found.items ≡ l.initial.found.items ++ gather (found_with l.bare.grid l.row l.line.dir l.line.number l.start) l.from;
-  within : l.from ≤ line_length l.bare.grid l.line.dir;
+invariant-gaps g l = record {
+  added : l.found.items ≡ l.initial.found.items ++ gather (found_with l.sheet.grid l.row l.line.dir l.line.number l.start) l.from;
+  within : l.from ≤ line_length l.sheet.grid l.line.dir;
   room : length l.found.items ≤ MATCH_LIMIT;
 }
 
 abbrev pub decreases-gaps : goal.decreases-gaps
-decreases-gaps l = line_length l.bare.grid l.line.dir - l.from
+decreases-gaps g l = line_length l.sheet.grid l.line.dir - l.from

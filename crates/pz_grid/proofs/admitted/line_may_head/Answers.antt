@@ -2,12 +2,12 @@ use Rattle.std.proofs.Common.{inl, inr, sym, subst}
 use Rattle.pz_game.specs.declared.direction.Dir.{Dir}
 use Rattle.pz_grid.specs.Admitted.{StartsNowhere}
 use Rattle.pz_grid.proofs.SomewhereLemmas.{right_nowhere, left_nowhere, down_nowhere, up_nowhere, action_nowhere}
-use Rattle.pz_grid.proofs.admitted.may_head.Goals as goal
+use Rattle.pz_grid.proofs.admitted.line_may_head.Goals as goal
 
 pub returns-in-Up : goal.returns-in-Up
-returns-in-Up c = record {
+returns-in-Up g c = record {
   none = λ no.
-      let grid = c.args.bare.now.grid in
+      let grid = c.args.sheet.now.grid in
       let row = c.args.row.now in
       let line = c.args.line in
       let h = c.may_hold_in_column.ensures in
@@ -18,9 +18,9 @@ returns-in-Up c = record {
 }
 
 pub returns-in-Left : goal.returns-in-Left
-returns-in-Left c = record {
+returns-in-Left g c = record {
   none = λ no.
-      let grid = c.args.bare.now.grid in
+      let grid = c.args.sheet.now.grid in
       let row = c.args.row.now in
       let line = c.args.line in
       let h = c.may_hold_in_row.ensures in
