@@ -1,5 +1,5 @@
--- Where rules' cells hold one after another, the objects that they name as present are noted.
-use Rattle.std.proofs.Common.{◌≡◌, inl, inr, ℕ, ◌+◌, ◌-◌, ◌*◌, ◌<◌, ◌≤◌, List, Bool, true, false, ◌&&◌, nat_eq, eq-eqb, length, get_or, arith, ap, sym, ◌∙◌, refl}
+-- Where rules' cells hold one after another, the objects that they name as present are noted, and those that they name as absent are not.
+use Rattle.std.proofs.Common.{◌≡◌, inl, inr, ℕ, ◌+◌, ◌-◌, ◌*◌, ◌<◌, ◌≤◌, List, Bool, true, false, not, ◌&&◌, nat_eq, eq-eqb, length, get_or, arith, ap, sym, ◌∙◌, refl}
 use Rattle.std.specs.List.{All, list_all, enumerate_from}
 use Rattle.std.proofs.lemmas.Bool.{cases_lt}
 use Rattle.std.proofs.lemmas.List.{get_or_default}
@@ -12,7 +12,7 @@ use Rattle.pz_game.specs.Items.{names}
 use Rattle.pz_game.specs.Pattern.{AreOf}
 use Rattle.pz_cells.specs.declared.cell.Cell.{Cell}
 use Rattle.pz_cells.specs.Pattern.{pattern_holds}
-use Rattle.pz_cells.proofs.HoldLemmas.{met_all}
+use Rattle.pz_cells.proofs.HoldLemmas.{AreMet, met_all}
 use Rattle.pz_sheet.specs.Grid.{Grid, cell_at}
 use Rattle.pz_sheet.specs.Planes.{LineSets, PlaneSets, ArePlaced, AreItemsOf, MayHold, MayRunAhead, MayRunBack}
 use Rattle.pz_sheet.specs.Runs.{holds_along, run_holds}
@@ -41,24 +41,37 @@ module _ (N width height depth : ℕ) (layers : List ℕ) (sets : List (List ℕ
   abbrev grid : Grid
   grid = grid_of N width height depth layers cells
 
-  -- an object that a rule's cell names as present stands where it holds
-  stands_here : (x y : ℕ) → x < width → y < height → (pattern : List Item) → AreOf layers pattern → pattern_holds (cell_at grid x y) pattern ≡ true → (k : ℕ) (other : Item) → k < length pattern → names (get_or pattern k other).word ≡ true → member (get_or cells (y * width + x) (no_cell N)).objects (get_or pattern k other).object ≡ true
-  stands_here x y x_in y_in pattern are holds k other within named =
-      let at = y * width + x in
-      let there : at < length cells = omega (arith, mul-add-lt y width x height y_in x_in, s.covers) in
-      let cell = get_or cells at (no_cell N) in
-      let item = get_or pattern k other in
-      let here = seen_at N width height depth layers cells grid at cell refl there (get_or_default cells at (no_cell N) cell there) in
-      let met = met_all depth layers cell.objects cell.movement pattern s.layered (s.sound at (no_cell N) there) are (ap (λ places. pattern_holds places pattern) here ∙ holds) in
-      met.present item.object (list_any_at (λ (it : Item). names it.word && nat_eq it.object item.object) pattern k other within (ap (λ (b : Bool). b && nat_eq item.object item.object) named ∙ eq-eqb item.object item.object refl))
+  -- an object that a rule's cell names as present stands where it holds, and one that it names as absent doesn't
+  stands_here : (x y : ℕ) → x < width → y < height → (pattern : List Item) → AreOf layers pattern → pattern_holds (cell_at grid x y) pattern ≡ true → (k : ℕ) (other : Item) → k < length pattern → member (get_or cells (y * width + x) (no_cell N)).objects (get_or pattern k other).object ≡ names (get_or pattern k other).word
+  stands_here x y x_in y_in pattern are holds k other within = by_word (names item.word) refl where
+    at : ℕ
+    at = y * width + x
+
+    cell : Cell N
+    cell = get_or cells at (no_cell N)
+
+    item : Item
+    item = get_or pattern k other
+
+    met : AreMet pattern cell.objects cell.movement
+    met =
+        let there : at < length cells = omega (arith, mul-add-lt y width x height y_in x_in, s.covers) in
+        let here = seen_at N width height depth layers cells grid at cell refl there (get_or_default cells at (no_cell N) cell there) in
+        met_all depth layers cell.objects cell.movement pattern s.layered (s.sound at (no_cell N) there) are (ap (λ places. pattern_holds places pattern) here ∙ holds)
+
+    by_word : (named : Bool) → names item.word ≡ named → member cell.objects item.object ≡ names item.word
+    by_word true named =
+        met.present item.object (list_any_at (λ (it : Item). names it.word && nat_eq it.object item.object) pattern k other within (ap (λ (b : Bool). b && nat_eq item.object item.object) named ∙ eq-eqb item.object item.object refl)) ∙ sym named
+    by_word false named =
+        met.absent item.object (list_any_at (λ (it : Item). not (names it.word) && nat_eq it.object item.object) pattern k other within (ap (λ (b : Bool). not b && nat_eq item.object item.object) named ∙ eq-eqb item.object item.object refl)) ∙ sym named
 
   pub noted_in_row : (x y : ℕ) → x < width → y < height → x < 128 → (pattern : List Item) → AreOf layers pattern → pattern_holds (cell_at grid x y) pattern ≡ true → MayHold planes.rows y x pattern
-  noted_in_row x y x_in y_in small pattern are holds k other within named =
-      (p.there x y (no_cell N) x_in y_in (get_or pattern k other).object (stands_here x y x_in y_in pattern are holds k other within named)).row small
+  noted_in_row x y x_in y_in small pattern are holds k other within =
+      (p.there x y (no_cell N) x_in y_in).row (get_or pattern k other).object small ∙ stands_here x y x_in y_in pattern are holds k other within
 
   pub noted_in_column : (x y : ℕ) → x < width → y < height → y < 128 → (pattern : List Item) → AreOf layers pattern → pattern_holds (cell_at grid x y) pattern ≡ true → MayHold planes.columns x y pattern
-  noted_in_column x y x_in y_in small pattern are holds k other within named =
-      (p.there x y (no_cell N) x_in y_in (get_or pattern k other).object (stands_here x y x_in y_in pattern are holds k other within named)).column small
+  noted_in_column x y x_in y_in small pattern are holds k other within =
+      (p.there x y (no_cell N) x_in y_in).column (get_or pattern k other).object small ∙ stands_here x y x_in y_in pattern are holds k other within
 
   module _ (x y : ℕ) (x_in : x < width) (y_in : y < height) (patterns : List (List Item)) (some : 0 < length patterns) (are : All (AreOf layers) patterns) where
     pub ahead_in_row : width ≤ 128 → run_holds grid Right x y patterns ≡ true → MayRunAhead planes.rows y patterns x

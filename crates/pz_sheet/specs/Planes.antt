@@ -1,5 +1,5 @@
--- At which positions of each row and each column the objects of a level stand. What is noted is at least that: positions from 128 on are not.
-use Rattle.std.specs.Prelude.{◌≡◌, ℕ, ◌+◌, ◌-◌, ◌*◌, ◌<◌, ◌≤◌, List, Bool, true, not, nat_eq, length, slice_index_or, All}
+-- At which positions of each row and each column the objects of a level stand. What is noted is exactly that, of the positions below 128: others are not.
+use Rattle.std.specs.Prelude.{◌≡◌, ◌≢◌, ℕ, ◌+◌, ◌-◌, ◌*◌, ◌<◌, ◌≤◌, List, Bool, true, false, length, slice_index_or, All}
 use Rattle.pz_sets.specs.Sets.{member}
 use Rattle.pz_game.specs.declared.limits.TheConstants.{MAX_OBJECTS, MAX_SIDE}
 use Rattle.pz_game.specs.declared.pattern.Item.{Item}
@@ -27,24 +27,21 @@ pub record HasLines (objects count : ℕ) (words : List ℕ) : Type 0 where
 abbrev pub stands_in : LineSets → ℕ → ℕ → ℕ → Bool
 stands_in sets object line at = member sets.words ((object * sets.count + line) * 128 + at)
 
--- sets of as many objects and lines that have what they had, but at a position of a line, where of that those objects alone that stay
-pub record IsKept (old new : LineSets) (line at : ℕ) (stays : ℕ → Bool) : Type 0 where
+-- nothing is noted at all
+abbrev pub IsEmpty : LineSets → Type 0
+IsEmpty sets = (object line at : ℕ) → stands_in sets object line at ≡ false
+
+-- sets of as many objects and lines that have what they had, but at one position of a line: a function says which objects are noted there, by those that were
+pub record IsChanged (old new : LineSets) (line at : ℕ) (noted : ℕ → Bool → Bool) : Type 0 where
   pub objects : new.objects ≡ old.objects
   pub count : new.count ≡ old.count
-  pub sets : (object other place : ℕ) → other < old.count → place < 128 → stands_in old object other place ≡ true → (other ≡ line → place ≡ at → stays object ≡ true) → stands_in new object other place ≡ true
+  pub here : (object : ℕ) → at < 128 → stands_in new object line at ≡ noted object (stands_in old object line at)
+  pub others : (object other place : ℕ) → other < old.count → place < 128 → (other ≡ line → place ≢ at) → stands_in new object other place ≡ stands_in old object other place
 
 -- the same of both orders, at a position of the map
-pub record AreKept (old new : PlaneSets) (x y : ℕ) (stays : ℕ → Bool) : Type 0 where
-  pub rows : IsKept old.rows new.rows y x stays
-  pub columns : IsKept old.columns new.columns x y stays
-
--- every object stays
-abbrev pub every : ℕ → Bool
-every object = true
-
--- every object but one stays
-abbrev pub but : ℕ → ℕ → Bool
-but object other = not (nat_eq other object)
+pub record AreChanged (old new : PlaneSets) (x y : ℕ) (noted : ℕ → Bool → Bool) : Type 0 where
+  pub rows : IsChanged old.rows new.rows y x noted
+  pub columns : IsChanged old.columns new.columns x y noted
 
 -- a position of the map, in both orders
 pub record IsInside (planes : PlaneSets) (x y : ℕ) : Type 0 where
@@ -60,18 +57,14 @@ pub record IsKnown (planes : PlaneSets) (object : ℕ) : Type 0 where
 abbrev pub AreKnown : PlaneSets → List ℕ → Type 0
 AreKnown planes objects = (object : ℕ) → member objects object ≡ true → IsKnown planes object
 
--- an object is noted at a position of the map
-pub record IsThere (planes : PlaneSets) (x y object : ℕ) : Type 0 where
-  pub row : x < 128 → stands_in planes.rows object y x ≡ true
-  pub column : y < 128 → stands_in planes.columns object x y ≡ true
+-- the objects that pass a test are noted at a position of the map, and no others
+pub record AreThere (planes : PlaneSets) (x y : ℕ) (test : ℕ → Bool) : Type 0 where
+  pub row : (object : ℕ) → x < 128 → stands_in planes.rows object y x ≡ test object
+  pub column : (object : ℕ) → y < 128 → stands_in planes.columns object x y ≡ test object
 
--- each object of a set is
-abbrev pub AreThere : PlaneSets → ℕ → ℕ → List ℕ → Type 0
-AreThere planes x y objects = (object : ℕ) → member objects object ≡ true → IsThere planes x y object
-
--- each object of each cell is
+-- those of each cell are, where it stands, and no others
 abbrev pub AreAllThere : (N width height : ℕ) → PlaneSets → List (Cell N) → Type 0
-AreAllThere N width height planes cells = (x y : ℕ) (cell : Cell N) → x < width → y < height → AreThere planes x y (slice_index_or cells (y * width + x) cell).objects
+AreAllThere N width height planes cells = (x y : ℕ) (cell : Cell N) → x < width → y < height → AreThere planes x y (member (slice_index_or cells (y * width + x) cell).objects)
 
 -- sets of as many objects and lines
 pub record HaveSameLines (old new : PlaneSets) : Type 0 where
@@ -92,7 +85,7 @@ pub record IsFor (objects width height : ℕ) (planes : PlaneSets) : Type 0 wher
   pub column_objects : planes.columns.objects ≡ objects
   pub column_count : planes.columns.count ≡ width
 
--- there are sets for the objects and the lines of a level, and each object is noted where it stands
+-- there are sets for the objects and the lines of a level, and each object is noted where it stands and nowhere else
 pub record ArePlaced (N objects width height : ℕ) (planes : PlaneSets) (cells : List (Cell N)) : Type 0 where
   pub fits : IsFor objects width height planes
   pub there : AreAllThere N width height planes cells
@@ -101,11 +94,11 @@ pub record ArePlaced (N objects width height : ℕ) (planes : PlaneSets) (cells 
 abbrev pub AreItemsOf : LineSets → List Item → Type 0
 AreItemsOf sets pattern = All (λ item. item.object < sets.objects) pattern
 
--- each object that a rule's cell names as present is noted at a position of a line
+-- each object that a rule's cell names as present is noted at a position of a line, and none that it names as absent
 abbrev pub MayHold : LineSets → ℕ → ℕ → List Item → Type 0
-MayHold sets line at pattern = All (λ item. names item.word ≡ true → stands_in sets item.object line at ≡ true) pattern
+MayHold sets line at pattern = All (λ item. stands_in sets item.object line at ≡ names item.word) pattern
 
--- so are those of rules' cells one after another, from a position of a line on
+-- so it is with rules' cells one after another, from a position of a line on
 pub record MayRunAhead (sets : LineSets) (line : ℕ) (patterns : List (List Item)) (at : ℕ) : Type 0 where
   pub within : at + length patterns ≤ 128
   pub each : (index : ℕ) (pattern : List Item) → index < length patterns → MayHold sets line (at + index) (slice_index_or patterns index pattern)

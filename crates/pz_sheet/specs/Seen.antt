@@ -75,7 +75,7 @@ pub record IsStored (N width height depth : ℕ) (layers : List ℕ) (sets : Lis
   pub sound : All (IsSound N layers) cells
   pub noted : AreNoted N width height notes cells
 
--- what holds of a level in words: these, and each object is noted where it stands
+-- what holds of a level in words: these, and each object is noted where it stands and nowhere else
 pub record IsSheet (N width height depth : ℕ) (layers : List ℕ) (sets : List (List ℕ)) (cells : List (Cell N)) (notes : HeadingSets) (planes : PlaneSets) : Type 0 where
   pub stored : IsStored N width height depth layers sets cells notes
   pub placed : ArePlaced N (length layers) width height planes cells

@@ -1,6 +1,6 @@
 //! Positions of a line, as the bits of a word.
 
-ghost use Rattle.std.specs.Prelude.{◌≡◌, ℕ, ◌+◌, ◌-◌, ◌<◌, ◌≤◌, ◌&&◌, true};
+ghost use Rattle.std.specs.Prelude.{◌≡◌, ℕ, ◌+◌, ◌-◌, ◌<◌, ◌≤◌, ◌&&◌, true, not};
 ghost use Rattle.pz_sets.specs.Sets.{in_word};
 ghost use Rattle.pz_sheet.specs.Searching.{IsNext};
 
@@ -21,6 +21,13 @@ pub(crate) fn both(set: u128, other: u128) -> u128
     ensures { (at : ℕ) → in_word result at ≡ (in_word set at && in_word other at) }
 {
     set & other
+}
+
+/// The positions that are not in the set.
+pub(crate) fn others(set: u128) -> u128
+    ensures { (at : ℕ) → at < 128 → in_word result at ≡ not (in_word set at) }
+{
+    !set
 }
 
 /// The positions from which one of the set is so many steps ahead.

@@ -1,10 +1,10 @@
 //! At which positions of each row and each column the objects of a level stand, by which its lines are searched.
 
-ghost use Rattle.std.specs.Prelude.{◌≡◌, ℕ, ◌+◌, ◌*◌, ◌/◌, ◌%◌, ◌<◌, ◌≤◌, true, All, length, IfOk};
+ghost use Rattle.std.specs.Prelude.{◌≡◌, ℕ, ◌+◌, ◌*◌, ◌/◌, ◌%◌, ◌<◌, ◌≤◌, ◌&&◌, ◌||◌, true, false, not, nat_eq, All, length, IfOk};
 ghost use Rattle.pz_game.specs.declared.limits.TheConstants.{MAX_OBJECTS, MAX_SIDE};
 ghost use Rattle.pz_game.specs.Items.{names};
 ghost use Rattle.pz_sets.specs.Sets.{in_word, member};
-ghost use Rattle.pz_sheet.specs.Planes.{LineSets, PlaneSets, stands_in, IsKept, AreKept, every, but, IsInside, IsKnown, AreKnown, IsThere, AreThere, AreAllThere, HaveSameLines, HasRoomOf, IsFor, ArePlaced, AreItemsOf, MayHold, MayRunAhead, MayRunBack};
+ghost use Rattle.pz_sheet.specs.Planes.{LineSets, PlaneSets, stands_in, IsEmpty, IsChanged, AreChanged, IsInside, IsKnown, AreKnown, AreThere, AreAllThere, HaveSameLines, HasRoomOf, IsFor, ArePlaced, AreItemsOf, MayHold, MayRunAhead, MayRunBack};
 
 use crate::bits;
 use pz_cells::cell::Cell;
@@ -14,7 +14,7 @@ use pz_sets::words;
 use std::alloc::{AllocError, Global};
 use std::marker::Model;
 
-/// For each object and each line, at least the positions below 128 at which the object stands: a word for each line, those of one object
+/// For each object and each line, exactly the positions below 128 at which the object stands: a word for each line, those of one object
 /// one after another.
 #[derive(Drop)]
 pub(crate) struct LinePlanes {
@@ -33,8 +33,7 @@ impl Model for LinePlanes {
     ghost invariant = { λ p. HasLines p.objects p.count p.words.items };
 }
 
-/// The same by rows and by columns. What is noted is exact where each change of a cell is noted; that it is at least what stands there is
-/// all that a search needs.
+/// The same by rows and by columns. Since what is noted is exact, a search can look for a cell that has some objects and lacks others.
 pub(crate) struct Planes {
     rows: LinePlanes,
     columns: LinePlanes,
@@ -96,8 +95,7 @@ impl LinePlanes {
     fn insert(&mut self, object: usize, line: usize, at: usize)
         requires object_in { object < self.old.objects }
         requires line_in { line < self.old.count }
-        ensures here { at < 128 → stands_in self.new object line at ≡ true }
-        ensures kept { IsKept self.old self.new line at every }
+        ensures { IsChanged self.old self.new line at (λ other was. nat_eq other object || was) }
     {
         if at < bits::ROOM as usize {
             let index = self.index(object, line);
@@ -109,7 +107,7 @@ impl LinePlanes {
     fn remove(&mut self, object: usize, line: usize, at: usize)
         requires object_in { object < self.old.objects }
         requires line_in { line < self.old.count }
-        ensures { IsKept self.old self.new line at (but object) }
+        ensures { IsChanged self.old self.new line at (λ other was. not (nat_eq other object) && was) }
     {
         if at < bits::ROOM as usize {
             let index = self.index(object, line);
@@ -117,20 +115,31 @@ impl LinePlanes {
         }
     }
 
-    /// The positions of a line that an item admits: those at which its object is noted, where it names that as present.
+    /// Nothing is noted any longer.
+    fn clear(&mut self)
+        ensures objects { self.new.objects ≡ self.old.objects }
+        ensures count { self.new.count ≡ self.old.count }
+        ensures none { IsEmpty self.new }
+    {
+        clear(&mut self.words);
+    }
+
+    /// The positions of a line that an item admits: those at which its object is noted, or all others, where it names that as absent.
     fn item_places(&self, line: usize, item: &Item) -> u128
         requires line_in { line < self.now.count }
         requires object_in { item.now.object < self.now.objects }
-        ensures { (at : ℕ) → at < 128 → (names item.now.word ≡ true → stands_in self.now item.now.object line at ≡ true) → in_word result at ≡ true }
+        ensures { (at : ℕ) → at < 128 → stands_in self.now item.now.object line at ≡ names item.now.word → in_word result at ≡ true }
     {
+        let word = self.words[self.index(item.object, line)];
         if names(item.word) {
-            self.words[self.index(item.object, line)]
+            word
         } else {
-            bits::all()
+            bits::others(word)
         }
     }
 
-    /// The positions of a line at which a rule's cell may hold: all at which each object that it names as present is noted.
+    /// The positions of a line at which a rule's cell may hold: all at which each object that it names as present is noted, and none that
+    /// it names as absent.
     pub(crate) fn places(&self, line: usize, pattern: &Pattern) -> u128
         requires line_in { line < self.now.count }
         requires of_game { AreItemsOf self.now pattern.now }
@@ -256,8 +265,7 @@ impl Planes {
     fn insert(&mut self, object: usize, x: usize, y: usize)
         requires inside { IsInside self.old x y }
         requires known { IsKnown self.old object }
-        ensures here { IsThere self.new x y object }
-        ensures kept { AreKept self.old self.new x y every }
+        ensures { AreChanged self.old self.new x y (λ other was. nat_eq other object || was) }
     {
         self.rows.insert(object, y, x);
         self.columns.insert(object, x, y);
@@ -266,7 +274,7 @@ impl Planes {
     fn remove(&mut self, object: usize, x: usize, y: usize)
         requires inside { IsInside self.old x y }
         requires known { IsKnown self.old object }
-        ensures { AreKept self.old self.new x y (but object) }
+        ensures { AreChanged self.old self.new x y (λ other was. not (nat_eq other object) && was) }
     {
         self.rows.remove(object, y, x);
         self.columns.remove(object, x, y);
@@ -276,7 +284,7 @@ impl Planes {
     fn remove_unless(&mut self, object: usize, x: usize, y: usize, after: &[u128])
         requires inside { IsInside self.old x y }
         requires known { IsKnown self.old object }
-        ensures { AreKept self.old self.new x y (member after.now) }
+        ensures { AreChanged self.old self.new x y (λ other was. not (nat_eq other object && not (member after.now other)) && was) }
     {
         if !words::contains(after, object) {
             self.remove(object, x, y);
@@ -288,7 +296,7 @@ impl Planes {
         requires short { length before.now ≤ 4 }
         requires inside { IsInside self.old x y }
         requires known { AreKnown self.old before.now }
-        ensures { AreKept self.old self.new x y (member after.now) }
+        ensures { AreChanged self.old self.new x y (λ object was. not (member before.now object && not (member after.now object)) && was) }
     {
         let mut from = 0;
         'objects: while let Some(object) = words::next(before, from) {
@@ -302,8 +310,7 @@ impl Planes {
         requires short { length objects.now ≤ 4 }
         requires inside { IsInside self.old x y }
         requires known { AreKnown self.old objects.now }
-        ensures there { AreThere self.new x y objects.now }
-        ensures kept { AreKept self.old self.new x y every }
+        ensures { AreChanged self.old self.new x y (λ object was. member objects.now object || was) }
     {
         let mut from = 0;
         'objects: while let Some(object) = words::next(objects, from) {
@@ -312,7 +319,7 @@ impl Planes {
         }
     }
 
-    /// Notes the objects of a cell at a position of the map, where others stood before.
+    /// Notes the objects of a cell at a position of the map, and none of those that stood there before and are gone.
     pub(crate) fn note<const N: usize>(
         &mut self,
         x: usize,
@@ -324,9 +331,8 @@ impl Planes {
         requires inside { IsInside self.old x y }
         requires known_before { AreKnown self.old before.now.objects }
         requires known { AreKnown self.old after.now.objects }
-        requires there { AreThere self.old x y before.now.objects }
-        ensures there { AreThere self.new x y after.now.objects }
-        ensures kept { AreKept self.old self.new x y (member after.now.objects) }
+        requires there { AreThere self.old x y (member before.now.objects) }
+        ensures { AreChanged self.old self.new x y (λ object was. member after.now.objects object) }
     {
         if words::same(&before.objects, &after.objects) {
             return;
@@ -346,9 +352,8 @@ impl Planes {
         requires within { index < self.old.columns.count * self.old.rows.count }
         requires known_before { AreKnown self.old before.now.objects }
         requires known { AreKnown self.old after.now.objects }
-        requires there { AreThere self.old (index % self.old.columns.count) (index / self.old.columns.count) before.now.objects }
-        ensures there { AreThere self.new (index % self.old.columns.count) (index / self.old.columns.count) after.now.objects }
-        ensures kept { AreKept self.old self.new (index % self.old.columns.count) (index / self.old.columns.count) (member after.now.objects) }
+        requires there { AreThere self.old (index % self.old.columns.count) (index / self.old.columns.count) (member before.now.objects) }
+        ensures { AreChanged self.old self.new (index % self.old.columns.count) (index / self.old.columns.count) (λ object was. member after.now.objects object) }
     {
         let width = self.columns.count();
         self.note(index % width, index / width, before, after);
@@ -359,17 +364,28 @@ impl Planes {
         requires short { N ≤ 4 }
         requires within { index < self.old.columns.count * self.old.rows.count }
         requires known { AreKnown self.old cell.now.objects }
-        ensures there { AreThere self.new (index % self.old.columns.count) (index / self.old.columns.count) cell.now.objects }
-        ensures kept { AreKept self.old self.new (index % self.old.columns.count) (index / self.old.columns.count) every }
+        ensures { AreChanged self.old self.new (index % self.old.columns.count) (index / self.old.columns.count) (λ object was. member cell.now.objects object || was) }
     {
         let width = self.columns.count();
         self.arrive(index % width, index / width, &cell.objects);
     }
 
-    /// Notes the objects of all cells.
-    pub(crate) fn note_all<const N: usize>(&mut self, cells: &[Cell<N>])
+    /// Nothing is noted any longer.
+    fn clear(&mut self)
+        ensures size { HaveSameLines self.old self.new }
+        ensures rows { IsEmpty self.new.rows }
+        ensures columns { IsEmpty self.new.columns }
+    {
+        self.rows.clear();
+        self.columns.clear();
+    }
+
+    /// Notes the objects of all cells, where nothing is noted.
+    fn arrive_all<const N: usize>(&mut self, cells: &[Cell<N>])
         requires short { N ≤ 4 }
         requires covers { length cells.now ≡ self.old.columns.count * self.old.rows.count }
+        requires rows { IsEmpty self.old.rows }
+        requires columns { IsEmpty self.old.columns }
         requires known { All (λ cell. AreKnown self.old cell.objects) cells.now }
         ensures size { HaveSameLines self.old self.new }
         ensures there { AreAllThere N self.old.columns.count self.old.rows.count self.new cells.now }
@@ -377,6 +393,18 @@ impl Planes {
         for index in 0..cells.len() {
             self.arrive_at(index, &cells[index]);
         }
+    }
+
+    /// Notes the objects of all cells, and nothing else.
+    pub(crate) fn note_all<const N: usize>(&mut self, cells: &[Cell<N>])
+        requires short { N ≤ 4 }
+        requires covers { length cells.now ≡ self.old.columns.count * self.old.rows.count }
+        requires known { All (λ cell. AreKnown self.old cell.objects) cells.now }
+        ensures size { HaveSameLines self.old self.new }
+        ensures there { AreAllThere N self.old.columns.count self.old.rows.count self.new cells.now }
+    {
+        self.clear();
+        self.arrive_all(cells);
     }
 
     /// Whether another has as many objects and lines, so that its notes fit in this one's memory.
@@ -403,5 +431,15 @@ impl Planes {
         let rows = self.rows.copy()?;
         let columns = self.columns.copy()?;
         Ok(Planes { rows, columns })
+    }
+}
+
+/// Empties each word of a set.
+fn clear(words: &mut [u128])
+    ensures length { length words.new ≡ length words.old }
+    ensures none { (number : ℕ) → member words.new number ≡ false }
+{
+    for index in 0..words.len() {
+        words[index] = 0;
     }
 }

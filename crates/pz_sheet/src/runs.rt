@@ -167,8 +167,8 @@ impl<const N: usize> Sheet<N> {
         }
     }
 
-    /// The columns of a row of the map from which rules' cells may hold, by what is noted of the objects that they name as present: all from
-    /// which they do. Nothing is told of cells that stand in other rows.
+    /// The columns of a row of the map from which rules' cells may hold, by what is noted of the objects that they name: all from which they
+    /// do. Nothing is told of cells that stand in other rows.
     fn starts_in_row(&self, dir: Dir, y: u32, patterns: &[Pattern]) -> u128
         requires narrow { self.now.grid.width ≤ 128 }
         requires some { 0 < length patterns.now }

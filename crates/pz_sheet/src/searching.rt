@@ -9,8 +9,8 @@ use crate::{Sheet, bits};
 use pz_game::pattern::Pattern;
 
 impl<const N: usize> Sheet<N> {
-    /// The columns of a row of the map in which a rule's cell may hold, by what is noted of the objects that it names as present: all in
-    /// which it does.
+    /// The columns of a row of the map in which a rule's cell may hold, by what is noted of the objects that it names: all in which it
+    /// does.
     fn places_in_row(&self, y: u32, pattern: &Pattern) -> u128
         requires narrow { self.now.grid.width ≤ 128 }
         requires y_in { y < self.now.grid.height }

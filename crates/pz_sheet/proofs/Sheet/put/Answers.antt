@@ -108,7 +108,7 @@ invariant_of-self g c =
     record {
       stored = stored_set _ a.width a.height a.depth a.layers.items a.sets.items a.cells.items at new a.notes c.note.new.self c.self.invariant.stored
           (sound_changed _ a.layers.items _ c.index_mut-cell.result.now new c.args.layer c.args.place c.deref-2.ensures.value sound c.put.ensures) c.note.ensures.noted c.note.ensures.wider;
-      placed = placed_set _ (length a.layers.items) a.width a.height a.planes c.note-2.new.self a.cells.items at c.args.x c.args.y new c.self.invariant.placed number x_in y_in within c.note-2.ensures.there c.note-2.ensures.kept;
+      placed = placed_set _ (length a.layers.items) a.width a.height a.planes c.note-2.new.self a.cells.items at c.args.x c.args.y new c.self.invariant.placed number x_in y_in within c.note-2.ensures;
     }
 
 pub returns-clause-put : goal.returns-clause-put

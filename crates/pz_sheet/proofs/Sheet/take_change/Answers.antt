@@ -46,7 +46,7 @@ invariant_of-self g c =
     record {
       stored = stored_set _ a.width a.height a.depth a.layers.items a.sets.items a.cells.items change.index change.cell a.notes c.note.new.self c.self.invariant.stored
           (subst (λ (grid : Grid). IsSound g.row.N grid.layers change.cell) (sym e) c.requires.sound) c.note.ensures.noted c.note.ensures.wider;
-      placed = placed_at _ (length a.layers.items) a.width a.height a.planes c.note_at.new.self a.cells.items change.index change.cell c.self.invariant.placed within c.self.invariant.stored.covers c.note_at.ensures.there c.note_at.ensures.kept;
+      placed = placed_at _ (length a.layers.items) a.width a.height a.planes c.note_at.new.self a.cells.items change.index change.cell c.self.invariant.placed within c.self.invariant.stored.covers c.note_at.ensures;
     }
 
 pub returns : goal.returns

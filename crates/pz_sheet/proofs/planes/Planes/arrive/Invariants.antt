@@ -1,12 +1,11 @@
-use Rattle.std.proofs.Common.{ℕ, ◌≡◌, ◌<◌, ◌-◌, ◌≤◌, true}
-use Rattle.pz_sets.specs.Sets.{member}
-use Rattle.pz_sheet.specs.Planes.{AreKept, IsThere, every}
+use Rattle.std.proofs.Common.{◌-◌, ◌≤◌, ◌||◌}
+use Rattle.pz_sheet.specs.Planes.{AreChanged}
+use Rattle.pz_sheet.proofs.ArriveLemmas.{below_in}
 use Rattle.pz_sheet.proofs.planes.Planes.arrive.Given as goal
 
 abbrev pub invariant-objects : goal.invariant-objects
 invariant-objects l = record {
-  kept : AreKept l.initial.self l.self l.x l.y every;
-  there : (object : ℕ) → object < l.from → member l.objects object ≡ true → IsThere l.self l.x l.y object;
+  changed : AreChanged l.initial.self l.self l.x l.y (λ object was. below_in l.from l.objects object || was);
   low : l.from ≤ 512;
 }
 

@@ -1,5 +1,6 @@
-use Rattle.std.proofs.Common.{◌≡◌, ℕ, ◌/◌, ◌%◌, ap, ◌∙◌, subst}
-use Rattle.pz_sheet.specs.Planes.{PlaneSets, AreThere, AreKept, every}
+use Rattle.std.proofs.Common.{◌≡◌, ℕ, ◌/◌, ◌%◌, ◌||◌, ap, ◌∙◌, subst}
+use Rattle.pz_sets.specs.Sets.{member}
+use Rattle.pz_sheet.specs.Planes.{PlaneSets, AreChanged}
 use Rattle.pz_sheet.proofs.ArriveLemmas.{inside_at, wide_at}
 use Rattle.pz_sheet.proofs.planes.Planes.arrive_at.Goals as goal
 
@@ -18,7 +19,4 @@ arrive-requires-clause-known g c = c.requires.known
 pub returns : goal.returns
 returns g c =
     let width : c.count-width.result ≡ c.args.self.now.columns.count = c.count-width.ensures ∙ ap (λ (p : PlaneSets). p.columns.count) c.self.view_is in
-    record {
-      there = subst (λ (w : ℕ). AreThere c.arrive.new.self (c.args.index % w) (c.args.index / w) c.args.cell.now.objects) width c.arrive.ensures.there;
-      kept = subst (λ (w : ℕ). AreKept c.args.self.now c.arrive.new.self (c.args.index % w) (c.args.index / w) every) width c.arrive.ensures.kept;
-    }
+    subst (λ (w : ℕ). AreChanged c.args.self.now c.arrive.new.self (c.args.index % w) (c.args.index / w) (λ object was. member c.args.cell.now.objects object || was)) width c.arrive.ensures

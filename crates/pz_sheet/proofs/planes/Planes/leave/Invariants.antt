@@ -1,11 +1,12 @@
-use Rattle.std.proofs.Common.{◌-◌, ◌≤◌}
+use Rattle.std.proofs.Common.{◌-◌, ◌≤◌, ◌&&◌, not}
 use Rattle.pz_sets.specs.Sets.{member}
-use Rattle.pz_sheet.specs.Planes.{AreKept}
+use Rattle.pz_sheet.specs.Planes.{AreChanged}
+use Rattle.pz_sheet.proofs.ArriveLemmas.{below_in}
 use Rattle.pz_sheet.proofs.planes.Planes.leave.Given as goal
 
 abbrev pub invariant-objects : goal.invariant-objects
 invariant-objects l = record {
-  kept : AreKept l.initial.self l.self l.x l.y (member l.after);
+  changed : AreChanged l.initial.self l.self l.x l.y (λ object was. not (below_in l.from l.before object && not (member l.after object)) && was);
   low : l.from ≤ 512;
 }
 

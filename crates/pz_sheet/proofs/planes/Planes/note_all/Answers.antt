@@ -1,28 +1,37 @@
-use Rattle.std.proofs.Common.{◌≡◌, ◌*◌, ℕ, arith, ap, sym, ◌∙◌, subst}
-use Rattle.pz_cells.specs.declared.cell.Cell.{Cell}
-use Rattle.pz_sheet.specs.Planes.{AreKnown, every}
-use Rattle.pz_sheet.proofs.PlaneLemmas.{all_there_more, all_there, known_still, same_lines}
+use Rattle.std.proofs.Common.{ℕ, ◌*◌, ◌∙◌, ap, sym, subst}
+use Rattle.pz_sheet.specs.Planes.{AreAllThere}
+use Rattle.pz_sheet.proofs.PlaneLemmas.{known_still}
 use Rattle.pz_sheet.proofs.SheetLemmas.{small_cell}
 use Rattle.pz_sheet.proofs.planes.Planes.note_all.Goals as goal
 
-pub arrive_at-requires : goal.arrive_at-requires
-arrive_at-requires g c =
-    let old = c.loop-index.self in
+pub arrive_all-requires : goal.arrive_all-requires
+arrive_all-requires g c =
     let start = c.args.self.now in
-    let size = c.loop-index.invariant.size in
-    let cell = c.index-cells-index.result in
-    let product : old.columns.count * old.rows.count ≡ start.columns.count * start.rows.count = ap (λ (w : ℕ). w * old.rows.count) size.column_count ∙ ap (λ (h : ℕ). start.columns.count * h) size.row_count in
-    let known : AreKnown start cell.objects = subst (λ (it : Cell g.row.N). AreKnown start it.objects) (sym c.index-cells-index.is) (c.requires.known c.loop-index.index cell c.loop-index-test.true) in
-    (small_cell _ c.requires.short, (c.requires.short, (omega (arith, c.loop-index-test.true, c.requires.covers, product), known_still start old cell.objects size known)))
+    let empty = c.clear.ensures in (
+      small_cell _ c.requires.short,
+      (
+        c.requires.short,
+        (
+          c.requires.covers ∙ sym (ap (λ (w : ℕ). w * c.clear.new.self.rows.count) empty.size.column_count ∙ ap (λ (h : ℕ). start.columns.count * h) empty.size.row_count),
+          (
+            empty.rows,
+            (empty.columns, λ k cell within. known_still start c.clear.new.self _ empty.size (c.requires.known k cell within)),
+          ),
+        ),
+      ),
+    )
 
-pub loop-index-preserved : goal.loop-index-preserved
-loop-index-preserved g c =
-    let i = c.loop-index.invariant in
-    let new = c.arrive_at.new.self in
+pub returns : goal.returns
+returns g c =
+    let first = c.clear.ensures.size in
+    let size = c.arrive_all.ensures.size in
     record {
-      size = same_lines c.args.self.now c.loop-index.self new _ _ every i.size c.arrive_at.ensures.kept;
-      there = all_there_more g.row.N c.args.self.now c.loop-index.self new c.args.cells.now c.loop-index.index c.index-cells-index.result c.loop-index-test.true c.index-cells-index.is i.size c.requires.covers c.arrive_at.ensures.kept c.arrive_at.ensures.there i.there;
+      size = record {
+        row_objects = size.row_objects ∙ first.row_objects;
+        row_count = size.row_count ∙ first.row_count;
+        column_objects = size.column_objects ∙ first.column_objects;
+        column_count = size.column_count ∙ first.column_count;
+      };
+      there = subst (λ (w : ℕ). AreAllThere g.row.N w c.args.self.now.rows.count c.arrive_all.new.self c.args.cells.now) first.column_count
+          (subst (λ (h : ℕ). AreAllThere g.row.N c.clear.new.self.columns.count h c.arrive_all.new.self c.args.cells.now) first.row_count c.arrive_all.ensures.there);
     }
-
-pub returns-clause-there : goal.returns-clause-there
-returns-clause-there g c = all_there g.row.N c.args.self.now c.loop-index.self c.args.cells.now c.loop-index.index (omega (arith, c.loop-index-test.false)) c.requires.covers c.loop-index.invariant.there

@@ -1,6 +1,6 @@
 use Rattle.std.proofs.Common.{◌≡◌, ℕ, ◌/◌, ◌%◌, ap, sym, ◌∙◌, subst}
 use Rattle.pz_sets.specs.Sets.{member}
-use Rattle.pz_sheet.specs.Planes.{PlaneSets, AreThere, AreKept}
+use Rattle.pz_sheet.specs.Planes.{PlaneSets, AreThere, AreChanged}
 use Rattle.pz_sheet.proofs.ArriveLemmas.{inside_at, wide_at}
 use Rattle.pz_sheet.proofs.SheetLemmas.{small_cell}
 use Rattle.pz_sheet.proofs.planes.Planes.note_at.Goals as goal
@@ -23,7 +23,7 @@ note-requires g c =
             c.requires.known_before,
             (
               c.requires.known,
-              subst (λ (w : ℕ). AreThere c.args.self.now (c.args.index % w) (c.args.index / w) c.args.before.now.objects) (sym width) c.requires.there,
+              subst (λ (w : ℕ). AreThere c.args.self.now (c.args.index % w) (c.args.index / w) (member c.args.before.now.objects)) (sym width) c.requires.there,
             ),
           ),
         ),
@@ -33,7 +33,4 @@ note-requires g c =
 pub returns : goal.returns
 returns g c =
     let width : c.count-width.result ≡ c.args.self.now.columns.count = c.count-width.ensures ∙ ap (λ (p : PlaneSets). p.columns.count) c.self.view_is in
-    record {
-      there = subst (λ (w : ℕ). AreThere c.note.new.self (c.args.index % w) (c.args.index / w) c.args.after.now.objects) width c.note.ensures.there;
-      kept = subst (λ (w : ℕ). AreKept c.args.self.now c.note.new.self (c.args.index % w) (c.args.index / w) (member c.args.after.now.objects)) width c.note.ensures.kept;
-    }
+    subst (λ (w : ℕ). AreChanged c.args.self.now c.note.new.self (c.args.index % w) (c.args.index / w) (λ object was. member c.args.after.now.objects object)) width c.note.ensures
