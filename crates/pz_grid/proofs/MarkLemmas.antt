@@ -300,3 +300,17 @@ more_in_line marks line new added within more other object = elim (cases_eq othe
   | inr differs ↦ ap (λ (m : List ℕ). member m object) (get_or-set_other marks line other new [] differs)
       ∙ ap (λ (b : Bool). (b && nat_eq added object) || member (get_or marks other []) object) (sym (ne_eqb other line differs))
 ]
+
+-- ---- sets that hold exactly what stands in their lines
+pub marked_exact : (state : LevelState) → length state.row_marks ≡ state.grid.height → length state.column_marks ≡ state.grid.width
+    → ((line object : ℕ) → line < state.grid.height → is_marked state.row_marks line object ≡ in_row state.grid line object)
+    → ((line object : ℕ) → line < state.grid.width → is_marked state.column_marks line object ≡ in_column state.grid line object)
+    → ((line object : ℕ) → line < length state.row_marks → is_marked state.row_marks line object ≡ true → member state.level_marks object ≡ true)
+    → IsMarked state
+marked_exact state high wide rows columns all = record {
+  row_count = high;
+  column_count = wide;
+  rows = λ line object within here. rows line object within ∙ here;
+  columns = λ line object within here. columns line object within ∙ here;
+  all = λ line object within here. all line object (subst (λ (n : ℕ). line < n) (sym high) within) here;
+}

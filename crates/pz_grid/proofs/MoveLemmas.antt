@@ -1,7 +1,7 @@
 -- What a movement marks: what has landed stays, so in the end each line holds what was marked for it.
 use Rattle.std.proofs.Common.{◌≡◌, ◌⊎◌, inl, inr, ℕ, ◌+◌, ◌*◌, ◌<◌, List, [], Option, Some, None, Bool, true, false, ◌&&◌, ◌||◌, nat_eq, ◌∷◌, length, get_or, take, map, arith, ap, sym, ◌∙◌, refl, subst}
 use Rattle.std.proofs.lemmas.List.Folds.{list_any_more}
-use Rattle.std.proofs.lemmas.Bool.{and_parts, eqb-true, or_cases}
+use Rattle.std.proofs.lemmas.Bool.{and_parts, eq-eqb, eqb-true, or_cases}
 use Rattle.pz_game.specs.declared.pattern.Item.{Item}
 use Rattle.pz_cells.specs.declared.piece.Piece.{Piece}
 use Rattle.pz_cells.specs.Cell.{still_piece, still_place}
@@ -10,7 +10,7 @@ use Rattle.pz_sheet.specs.Grid.{Grid, LevelState, place_at, with_place}
 use Rattle.pz_grid.specs.Movement.{in_pass, spot, heading_goal, moved_to, move_place, move_at, Leaves}
 use Rattle.pz_sheet.specs.Movement.{stilled}
 use Rattle.pz_game.specs.Items.{names, names_object}
-use Rattle.pz_grid.specs.Marks.{is_marked, IsMore, IsWidened, IsWidenedBy}
+use Rattle.pz_grid.specs.Marks.{is_marked, IsMarkedAt, IsMore, IsWidened, IsWidenedBy}
 use Rattle.pz_grid.specs.Staying.{IsStill, KeepsStill, IsMove}
 use Rattle.pz_grid.proofs.StayLemmas.{still-moved_to}
 use Rattle.pz_grid.proofs.MarkLemmas.{in_row_from, in_column_from, is_in_at, is_in_cells, piece_is_in, still_same}
@@ -144,3 +144,23 @@ more_item old now new line items i item within is before more other object =
     ∙ ap (λ (b : Bool). (nat_eq other line && test item) || b) (before other object)
     ∙ more_bool (nat_eq other line) (names_object object (take i items)) (test item) (is_marked old other object)
     ∙ ap (λ (b : Bool). (nat_eq other line && b) || is_marked old other object) (sym next)
+
+-- a cell is marked with what passes a test: it is in the sets then, and nothing else is new there
+pub placed_marked : (old new : LevelState) (x y : ℕ) (test : ℕ → Bool) → IsMore old.row_marks new.row_marks y test → IsMore old.column_marks new.column_marks x test → IsMarkedAt new x y test
+placed_marked old new x y test rows columns = record {
+  row = λ object h. rows y object ∙ ap (λ (b : Bool). (b && test object) || is_marked old.row_marks y object) (eq-eqb y y refl) ∙ ap (λ (b : Bool). b || is_marked old.row_marks y object) h;
+  column = λ object h. columns x object ∙ ap (λ (b : Bool). (b && test object) || is_marked old.column_marks x object) (eq-eqb x x refl) ∙ ap (λ (b : Bool). b || is_marked old.column_marks x object) h;
+}
+
+pub placed_widened : (old marked new : LevelState) (x y : ℕ) (test : ℕ → Bool) → IsMore old.row_marks marked.row_marks y test → IsMore old.column_marks marked.column_marks x test
+    → new.row_marks ≡ marked.row_marks → new.column_marks ≡ marked.column_marks → IsWidenedBy old new test
+placed_widened old marked new x y test rows columns r d = record {
+  rows = λ line object e. elim (or_cases (nat_eq line y && test object) (is_marked old.row_marks line object) (sym (rows line object) ∙ ap (λ (m : List (List ℕ)). is_marked m line object) (sym r) ∙ e)) [
+    | inr before ↦ inl before
+    | inl both ↦ inr (and_parts (nat_eq line y) (test object) both).1
+  ];
+  columns = λ line object e. elim (or_cases (nat_eq line x && test object) (is_marked old.column_marks line object) (sym (columns line object) ∙ ap (λ (m : List (List ℕ)). is_marked m line object) (sym d) ∙ e)) [
+    | inr before ↦ inl before
+    | inl both ↦ inr (and_parts (nat_eq line x) (test object) both).1
+  ];
+}

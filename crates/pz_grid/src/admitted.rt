@@ -28,7 +28,12 @@ fn marks_item(marks: &NumberSet, item: Item) -> bool
 fn marks_cell(marks: &NumberSet, cell: &Pattern) -> bool
     ensures { result ≡ marks_cell marks.now cell.now }
 {
-    cell.items().iter().all(|item| marks_item(marks, *item))
+    for item in cell.items() {
+        if !marks_item(marks, *item) {
+            return false;
+        }
+    }
+    true
 }
 
 /// Whether a set has every object that a row's first cell names.

@@ -55,13 +55,12 @@ impl BareLevel {
         ensures leads { IfOk result (λ way. Leads way newer.now.grid self.old.grid) }
         ensures given { IfOk result (λ way. given_back way newer.now.grid ≡ self.old.grid) }
     {
-        let way = match (&mut self.sheet, &newer.sheet) {
-            (Sized::Small(sheet), Sized::Small(newer)) => Older::Small(sheet.go_on(newer)?),
-            (Sized::Middle(sheet), Sized::Middle(newer)) => Older::Middle(sheet.go_on(newer)?),
-            (Sized::Large(sheet), Sized::Large(newer)) => Older::Large(sheet.go_on(newer)?),
+        match (&mut self.sheet, &newer.sheet) {
+            (Sized::Small(sheet), Sized::Small(newer)) => sheet.go_on(newer).map(Older::Small),
+            (Sized::Middle(sheet), Sized::Middle(newer)) => sheet.go_on(newer).map(Older::Middle),
+            (Sized::Large(sheet), Sized::Large(newer)) => sheet.go_on(newer).map(Older::Large),
             _ => unreachable!(),
-        };
-        Ok(way)
+        }
     }
 
     /// Becomes the older level that is given back.

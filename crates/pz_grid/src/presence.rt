@@ -26,7 +26,12 @@ impl Level {
         requires { index < length self.now.grid.cells }
         ensures { result ≡ holds_one objects.now (cell_of self.now.grid index) }
     {
-        objects.iter().any(|object| self.is_in(index, *object))
+        for object in objects {
+            if self.is_in(index, *object) {
+                return true;
+            }
+        }
+        false
     }
 
     /// Whether each of the objects is in the cell of a number.
@@ -34,7 +39,12 @@ impl Level {
         requires { index < length self.now.grid.cells }
         ensures { result ≡ holds_each objects.now (cell_of self.now.grid index) }
     {
-        objects.iter().all(|object| self.is_in(index, *object))
+        for object in objects {
+            if !self.is_in(index, *object) {
+                return false;
+            }
+        }
+        true
     }
 
     /// Whether some cell holds one of some objects, and one of others.

@@ -20,17 +20,5 @@ pub fn push_players(game: &Game, level: &mut Level, dir: Dir)
     ensures row_marks { level.new.row_marks ≡ level.old.row_marks }
     ensures column_marks { level.new.column_marks ≡ level.old.column_marks }
 {
-    level.push_all(game.players(), dir);
-}
-
-impl Level {
-    fn push_all(&mut self, players: &[usize], dir: Dir)
-        ensures pushed { self.new.grid ≡ pushed players.now dir self.old.grid }
-        ensures lawful { IsLawful self.new.grid }
-        ensures marked { IsMarked self.new }
-        ensures row_marks { self.new.row_marks ≡ self.old.row_marks }
-        ensures column_marks { self.new.column_marks ≡ self.old.column_marks }
-    {
-        self.bare.push_all(players, dir);
-    }
+    level.bare.push_all(game.players(), dir);
 }

@@ -11,12 +11,6 @@ impl Level {
         ensures same { result ≡ same_grid self.now.grid other.now.grid }
         ensures equal { IsTrue result ↔ (self.now.grid ≡ other.now.grid) }
     {
-        self.equals(other)
-    }
-
-    fn equals(&self, other: &Level) -> bool
-        ensures { IsTrue result ↔ (self.now.grid ≡ other.now.grid) }
-    {
         self.bare.equals(&other.bare)
     }
 }

@@ -1,17 +1,45 @@
-use Rattle.std.proofs.Common.{◌≡◌, ℕ, ◌+◌, ◌≤◌, ◌++◌, List, arith, ap, sym, ◌∙◌, subst}
-use Rattle.std.specs.Prelude.{IfOk, Result, Ok, Err}
+use Rattle.std.proofs.Common.{◌≡◌, ℕ, ◌+◌, ◌<◌, ◌≤◌, ◌++◌, List, Bool, true, false, cond, filter, length, arith, ap, sym, ◌∙◌, subst}
+use Rattle.std.specs.Prelude.{IfOk, OnOk, Result, Ok, Err}
 use Rattle.std.proofs.lemmas.List.{append-nil}
+use Rattle.pz_game.specs.Pattern.{IsRowOf}
 use Rattle.pz_sheet.specs.Grid.{LevelState}
 use Rattle.pz_grid.specs.declared.places.GridFault.{GridFault}
+use Rattle.pz_grid.specs.declared.places.GridFault.TheVariants.{MatchLimit}
 use Rattle.pz_grid.specs.declared.places.Place.{Place}
-use Rattle.pz_grid.specs.Places.{line_length, places}
-use Rattle.pz_grid.specs.Admitted.{starts_in}
+use Rattle.pz_grid.specs.declared.places.TheConstants.{MATCH_LIMIT}
+use Rattle.pz_grid.specs.Places.{line_count, line_length, pairs_in, places, row_holds}
+use Rattle.pz_grid.specs.Admitted.{searches_line, starts_in}
 use Rattle.pz_grid.proofs.SkipLemmas.{found_nowhere, starts_nowhere, starts_in_line}
 use Rattle.pz_grid.proofs.Level.add_searched.Goals as goal
 
 enough : (result : Result ℕ GridFault) (tested starts size : ℕ) → starts ≤ size → IfOk result (λ count. count ≡ tested + size) → IfOk result (λ count. tested + starts ≤ count)
 enough (Ok count) tested starts size few is = omega (arith, few, is)
 enough (Err fault) tested starts size few is = tt
+
+as_searched : (result : Result ℕ GridFault) (tested size : ℕ) (searched : Bool) → searched ≡ true → IfOk result (λ count. count ≡ tested + size) → IfOk result (λ count. count ≤ tested + cond searched size 0)
+as_searched (Ok count) tested size true same is = omega (arith, is)
+as_searched (Ok count) tested size false same is = absurd (cc)
+as_searched (Err fault) tested size searched same is = tt
+
+pub search_line-requires-clause-of_game : goal.search_line-requires-clause-of_game
+search_line-requires-clause-of_game c = subst (λ (s : LevelState). IsRowOf s.grid.layers c.args.row.now) (sym c.self.view_is) c.requires.of_game
+
+pub search_line-requires-clause-line_in : goal.search_line-requires-clause-line_in
+search_line-requires-clause-line_in c = subst (λ (s : LevelState). c.args.line < line_count s.grid c.args.dir) (sym c.self.view_is) c.requires.line_in
+
+pub returns-then-may_start-clause-added : goal.returns-then-may_start-clause-added
+returns-then-may_start-clause-added c =
+    subst (λ (s : LevelState). OnOk c.search_line.result (c.search_line.new.found.items ≡ c.args.found.now.items ++ filter (row_holds s.grid c.args.row.now c.args.dir) (pairs_in s.grid c.args.row.now c.args.dir c.args.line))) c.self.view_is c.search_line.ensures.added
+
+pub returns-then-may_start-clause-limit : goal.returns-then-may_start-clause-limit
+returns-then-may_start-clause-limit c =
+    subst (λ (s : LevelState). c.search_line.result ≡ Err MatchLimit → MATCH_LIMIT < length (c.args.found.now.items ++ filter (row_holds s.grid c.args.row.now c.args.dir) (pairs_in s.grid c.args.row.now c.args.dir c.args.line))) c.self.view_is c.search_line.ensures.limit
+
+pub returns-then-may_start-clause-high : goal.returns-then-may_start-clause-high
+returns-then-may_start-clause-high c =
+    let state = c.args.self.now in
+    let count = subst (λ (s : LevelState). IfOk c.search_line.result (λ count. count ≡ c.args.tested + line_length s.grid c.args.dir)) c.self.view_is c.search_line.ensures.count in
+    as_searched c.search_line.result c.args.tested (line_length state.grid c.args.dir) (searches_line state c.args.row.now c.args.dir c.args.line) (c.may_start.ensures.searched c.if-may_start.true) count
 
 pub returns-then-may_start-clause-low : goal.returns-then-may_start-clause-low
 returns-then-may_start-clause-low c =

@@ -1,10 +1,14 @@
-use Rattle.std.proofs.Common.{◌≡◌}
+use Rattle.std.proofs.Common.{◌≡◌, ap, ◌∙◌}
 use Rattle.std.proofs.lemmas.Bool.Decides.{same_from_decides}
+use Rattle.pz_sheet.specs.Grid.{LevelState}
+use Rattle.pz_sheet.specs.Sameness.{same_grid}
 use Rattle.pz_grid.proofs.SameLemmas.{same_grid_decides}
 use Rattle.pz_grid.proofs.Level.same.Goals as goal
 
 pub returns-clause-same : goal.returns-clause-same
 returns-clause-same c =
-    let a = c.args.self.now.grid in
-    let b = c.args.other.now.grid in
+    let a = c.self.inside.bare.grid in
+    let b = c.other.inside.bare.grid in
     same_from_decides {P = a ≡ b} _ _ c.equals.ensures (same_grid_decides a b)
+    ∙ ap (λ (s : LevelState). same_grid s.grid b) c.self.view_is
+    ∙ ap (λ (s : LevelState). same_grid c.args.self.now.grid s.grid) c.other.view_is

@@ -1,0 +1,7 @@
+use Rattle.std.proofs.Common.{◌≡◌, take, false}
+use Rattle.std.specs.List.{list_any}
+use Rattle.pz_sheet.specs.Presence.{is_in, cell_of}
+use Rattle.pz_grid.proofs.Level.holds_one.Given as goal
+
+abbrev pub invariant-loop-object : goal.invariant-loop-object
+invariant-loop-object l = list_any (is_in (cell_of l.self.grid l.index)) (take l.object-index l.objects) ≡ false
