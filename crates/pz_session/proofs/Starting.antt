@@ -13,7 +13,7 @@ use Rattle.pz_session.specs.Plan.{PlanState}
 use Rattle.pz_session.specs.Case.{state_of, played_items}
 use Rattle.pz_session.proofs.Bounds.{items_bound}
 
-starts : (plan : PlanState) (state : State) (game : GameParts) (program : Program) (order : Order) (recorded : List (List (List ℕ))) (first : ℕ)
+pub starts : (plan : PlanState) (state : State) (game : GameParts) (program : Program) (order : Order) (recorded : List (List (List ℕ))) (first : ℕ)
     → state ≡ loaded_at game program order recorded first
     → game ≡ plan.game → program ≡ plan.program → order ≡ plan.order → recorded ≡ plan.recorded → first ≡ plan.first → state ≡ state_of plan
 starts plan state game program order recorded first is e p f g h =
@@ -36,9 +36,3 @@ pub room_if_ok : {E : Type 0} (plan : PlanState) (result : Result Player E) → 
     → IfOk result (λ player. left player ≡ played_items plan) → IfOk result (λ player. player.number + length (left player) < 2 ^ 63)
 room_if_ok plan (Ok player) few first is = omega (arith, first, ap length is, items_bound plan few)
 room_if_ok plan (Err fault) few first is = is
-
-pub starts_if_ok : {E : Type 0} (plan : PlanState) (result : Result State E) (game : GameParts) (program : Program) (order : Order) (recorded : List (List (List ℕ))) (first : ℕ)
-    → IfOk result (λ state. state ≡ loaded_at game program order recorded first)
-    → game ≡ plan.game → program ≡ plan.program → order ≡ plan.order → recorded ≡ plan.recorded → first ≡ plan.first → IfOk result (λ state. state ≡ state_of plan)
-starts_if_ok plan (Ok state) game program order recorded first is e p f g h = starts plan state game program order recorded first is e p f g h
-starts_if_ok plan (Err fault) game program order recorded first is e p f g h = is

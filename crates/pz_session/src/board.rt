@@ -289,14 +289,6 @@ impl<'a> Board<'a> {
         self.reach(kind, commands, changed)
     }
 
-    /// Puts another level in the place of this one, which is kept for the past until the chain is over.
-    fn leave_for(&mut self, level: Level)
-        requires { IsOfGame self.old.game level.grid }
-        ensures { self.new ≡ at_level level.grid (keeping self.old) }
-    {
-        put_before(&mut self.level, level, &mut self.before);
-    }
-
     /// A step from the level, which leads to another level of its game, and to the same where it is cancelled. The level itself stays
     /// as it is.
     fn turn(&mut self, input: Option<Dir>) -> Result<StepEnd, StepFault>
@@ -328,7 +320,7 @@ impl<'a> Board<'a> {
             commands,
             changed,
         } = end;
-        self.leave_for(level);
+        put_before(&mut self.level, level, &mut self.before);
         self.take(FrameKind::Move, commands, changed)
     }
 
@@ -379,7 +371,7 @@ impl<'a> Board<'a> {
         ensures { GivesLink (Ok (restarted (keeping self.old))) self.new result }
     {
         let target = self.target.copy()?;
-        self.leave_for(target);
+        put_before(&mut self.level, target, &mut self.before);
         let goes_on = self.ticks_at_start();
         self.show(FrameKind::Restart, goes_on)
     }

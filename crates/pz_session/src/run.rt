@@ -1,7 +1,7 @@
 //! The items of a case, one by one.
 
 ghost use Rattle.std.specs.Prelude.{◌≡◌, ◌+◌, ◌++◌, ◌<◌, ◌^◌, [], true, false, length, MatchResult, IsErr, IfOk, OnOk};
-ghost use Rattle.pz_session.specs.Case.{items_of, state_of, played_items};
+ghost use Rattle.pz_session.specs.Case.{items_of, played_items};
 ghost use Rattle.pz_session.specs.Player.{left};
 
 use crate::board::Board;
@@ -36,26 +36,20 @@ impl<'a> Model for Run<'a> {
     ghost invariant = { λ r. CanBeNumbered r.stage };
 }
 
-/// The board of a plan, before its first link.
-fn board_of(alloc: Global, plan: &Plan) -> Result<Board<'_>, AllocError>
-    ensures { IfOk result (λ board. board ≡ state_of plan.now) }
+/// A session at its start.
+fn play(alloc: Global, plan: &Plan) -> Result<Player<'_>, AllocError>
+    ensures items { IfOk result (λ player. left player ≡ played_items plan.now) }
+    ensures room { IfOk result (λ player. player.number + length (left player) < 2 ^ 63) }
 {
-    Board::load(
+    let board = Board::load(
         alloc,
         plan.game(),
         plan.program(),
         plan.order(),
         plan.recorded(),
         plan.first(),
-    )
-}
-
-/// A session at its start.
-fn play(alloc: Global, plan: &Plan) -> Result<Player<'_>, AllocError>
-    ensures items { IfOk result (λ player. left player ≡ played_items plan.now) }
-    ensures room { IfOk result (λ player. player.number + length (left player) < 2 ^ 63) }
-{
-    match board_of(alloc, plan) {
+    );
+    match board {
         Ok(board) => Player::start(board, Tape::new(plan.inputs().items())),
         Err(fault) => Err(fault),
     }
@@ -135,6 +129,8 @@ fn left_in(alloc: Global, run: &mut Run<'_>) -> Result<Vec<Item>, AllocError>
 pub fn frames(alloc: Global, case: &Case) -> Result<Vec<Item>, AllocError>
     ensures { IfOk result (λ items. items.items ≡ items_of case.now) }
 {
-    let mut run = Run::new(alloc, case)?;
-    left_in(alloc, &mut run)
+    match Run::new(alloc, case) {
+        Ok(mut run) => left_in(alloc, &mut run),
+        Err(fault) => Err(fault),
+    }
 }
