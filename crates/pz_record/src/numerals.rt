@@ -24,41 +24,30 @@ fn write_large(text: &mut String, number: usize) -> Result<(), AllocError>
     Ok(())
 }
 
-/// A digit with a comma behind it.
-fn digit_with_comma(digit: usize) -> &'static str
-    requires { digit < 10 }
-    ensures { result.now ≡ decimal digit ++ 44 ∷ [] }
-{
-    match digit {
-        0 => "0,",
-        1 => "1,",
-        2 => "2,",
-        3 => "3,",
-        4 => "4,",
-        5 => "5,",
-        6 => "6,",
-        7 => "7,",
-        8 => "8,",
-        9 => "9,",
-        _ => unreachable!(),
-    }
-}
-
-/// Writes a number and a comma. Nearly all have a digit or two, and the last digit is put behind the text with its comma at once.
+/// Writes a number. Nearly all have a digit or two: these are put behind the text one by one.
 #[inline(always)]
-pub(crate) fn write_number(text: &mut String, number: usize) -> Result<(), AllocError>
-    ensures { OnOk result (string_bytes text.new ≡ string_bytes text.old ++ (decimal number ++ 44 ∷ [])) }
+fn write_decimal(text: &mut String, number: usize) -> Result<(), AllocError>
+    ensures { OnOk result (string_bytes text.new ≡ string_bytes text.old ++ decimal number) }
 {
     if number < 10 {
-        text.push_str(digit_with_comma(number))?;
+        write_digit(text, number)?;
         return Ok(());
     }
     if number < 100 {
         write_digit(text, number / 10)?;
-        text.push_str(digit_with_comma(number % 10))?;
+        write_digit(text, number % 10)?;
         return Ok(());
     }
     write_large(text, number)?;
+    Ok(())
+}
+
+/// Writes a number and a comma.
+#[inline(always)]
+pub(crate) fn write_number(text: &mut String, number: usize) -> Result<(), AllocError>
+    ensures { OnOk result (string_bytes text.new ≡ string_bytes text.old ++ (decimal number ++ 44 ∷ [])) }
+{
+    write_decimal(text, number)?;
     text.push(',')?;
     Ok(())
 }
