@@ -102,8 +102,7 @@ pub fn same(words: &[u128], others: &[u128]) -> bool
     true
 }
 
-/// Whether two sets have the same numbers, and two others too, all in as many words: they are looked at side by side, which is faster than one pair
-/// after the other.
+/// Whether two sets have the same numbers, and two others too, all in as many words: they are looked at side by side.
 pub fn both_same(words: &[u128], others: &[u128], second: &[u128], second_others: &[u128]) -> bool
     requires others { length others.now ≡ length words.now }
     requires second { length second.now ≡ length words.now }
