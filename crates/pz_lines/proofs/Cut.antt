@@ -50,6 +50,10 @@ pub sessions_cut : (recording xs : List Record) (i : ℕ) (x : Record) → xs �
 sessions_cut recording xs i x e h is = rw (← e) (ap (lines_from 0) (cut_at xs i x h is) ∙ (lines_from-append 0 (take i xs) (x ∷ drop (i + 1) xs)
     ∙ ap (λ k. lines_from 0 (take i xs) ++ lines_from k (x ∷ drop (i + 1) xs)) (before_it xs i h)))
 
+-- behind the last session all lines stand
+pub sessions_all : (recording xs : List Record) (i : ℕ) → xs ≡ recording → length xs ≤ i → lines_from 0 recording ≡ lines_from 0 (take i recording)
+sessions_all recording xs i e h = rw (← e) (ap (lines_from 0) (sym (take_all i xs h)))
+
 -- the same of what a session showed, whose items and number of frames were read off
 pub shown_cut : (session : ℕ) (shown : Record) (items : List Item) (frames i : ℕ) (x : Item) → items ≡ shown.items → frames ≡ frame_count items → i < length items → x ≡ get_or items i x
     → lines_of session shown ≡ flat_map (item_line session shown.name frames) (take i items) ++ (item_line session shown.name frames x ++ flat_map (item_line session shown.name frames) (drop (i + 1) items))

@@ -84,6 +84,10 @@ pub line_before : (whole front sent held line more rest : List ℕ) → whole �
 line_before whole front sent held line more rest e p q =
     kept_before whole front sent held (line ++ rest) e p ∙ ap (λ t. sent ++ t) (sym (append_assoc held line rest) ∙ ap (λ t. t ++ rest) (sym q))
 
+-- what is cut in two is cut so behind another text too
+pub behind : (before whole front line : List ℕ) → whole ≡ front ++ line → before ++ whole ≡ (before ++ front) ++ line
+behind before whole front line e = ap (λ t. before ++ t) e ∙ sym (append_assoc before front line)
+
 -- what was kept back to the end goes out, or a part of it does
 pub all_behind : (whole front sent held now : List ℕ) (l m n : ℕ) (a b c : Writes) (result : Result (Unit {0}) Cause) → whole ≡ front → front ≡ sent ++ held → now ≡ held → IsSent sent l m a b
     → IfErr result (IsSentInPart now m n b c) → IfErr result (IsSentInPart whole l n a c)

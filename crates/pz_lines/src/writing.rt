@@ -11,7 +11,7 @@ use pz_session::recording::{Record, Recording};
 use std::alloc::Global;
 use std::io::Write;
 
-/// Lines of so many bytes go out together.
+/// Lines of so many bytes go out together, of however many sessions they are.
 const PIECE: usize = 65_536;
 
 /// Writes lines and counts their bytes, those written before them included.
@@ -58,21 +58,22 @@ fn write_full<W: Write>(
     Ok(lines)
 }
 
-/// Writes the lines of what a session showed.
+/// Puts the lines of what a session showed behind others, writes them where they are many enough, and answers those that are left.
 fn write_session<W: Write>(
     alloc: Global,
+    before: Vec<u8>,
     session: u64,
     shown: &Record,
     written: &mut u64,
     output: &mut Output<W>,
-) -> Result<(), Cause>
+) -> Result<Vec<u8>, Cause>
     requires { output.old.has_failed ≡ false }
-    ensures ok { OnOk result (IsSent (lines_of session shown.now) written.old written.new output.old output.new) }
-    ensures err { IfErr result (IsSentInPart (lines_of session shown.now) written.old written.new output.old output.new) }
+    ensures ok { IfOk result (λ left. (sent : List ℕ) × (before.items ++ lines_of session shown.now ≡ sent ++ left.items) × IsSent sent written.old written.new output.old output.new) }
+    ensures err { IfErr result (IsSentInPart (before.items ++ lines_of session shown.now) written.old written.new output.old output.new) }
 {
     let items = shown.items.items();
     let frames = frame_count(items);
-    let mut lines = Vec::new(alloc);
+    let mut lines = before;
     for item in items {
         let name = shown.name.as_str();
         let Ok(more) = write_item(alloc, lines, session, name, frames, item) else {
@@ -80,7 +81,7 @@ fn write_session<W: Write>(
         };
         lines = write_full(more, written, output)?;
     }
-    write_lines(&lines, written, output)
+    Ok(lines)
 }
 
 /// Writes the text of a recording: all of it, or its first bytes, as many as the fault tells. The first write that fails is the last.
@@ -95,10 +96,15 @@ pub fn write_recording<W: Write>(
     ensures err { IfErr result (λ fault. EndsFor fault (text_of recording.now) output.old output.new) }
 {
     let mut written = 0;
+    let mut lines = Vec::new(alloc);
     for (session, shown) in recording.records().iter().enumerate() {
-        if let Err(cause) = write_session(alloc, session as u64, shown, &mut written, output) {
-            return Err(WriteFault { written, cause });
+        match write_session(alloc, lines, session as u64, shown, &mut written, output) {
+            Ok(left) => lines = left,
+            Err(cause) => return Err(WriteFault { written, cause }),
         }
     }
-    Ok(())
+    match write_lines(&lines, &mut written, output) {
+        Ok(()) => Ok(()),
+        Err(cause) => Err(WriteFault { written, cause }),
+    }
 }
