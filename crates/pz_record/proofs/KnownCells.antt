@@ -8,7 +8,7 @@ use Rattle.std.proofs.lemmas.List.FromFn.{map-range_with_len_more}
 use Rattle.std.specs.List.{position_or_len, range_with_len}
 use Rattle.std.specs.Str.{bytes_eq}
 use Rattle.pz_base.specs.NameSet.{number_in, is_name_of}
-use Rattle.pz_record.specs.LevelText.{piece, with_cell, known_of, cell_text, line_end, text_of_cells}
+use Rattle.pz_record.specs.LevelText.{piece, with_cell, known_of, cell_text, line_end, text_to, text_of_cells}
 
 pub none_chosen : (b : Bool) (n : ℕ) → cond b (Some n) None ≡ None → b ≡ false
 none_chosen true n e = cc
@@ -31,10 +31,6 @@ is_new known cell e = nowhere known cell (none_chosen (nat_lt (position_or_len (
 
 pub known_more : (cells : List (List ℕ)) (k : ℕ) → k < length cells → known_of (take (k + 1) cells) ≡ with_cell (known_of (take k cells)) (get_or cells k [])
 known_more cells k h = fold_more with_cell [] cells k [] h
-
--- the text of the first cells
-abbrev pub text_to : ℕ → List (List ℕ) → ℕ → List ℕ
-text_to width cells n = flat_map (cell_text width cells) (range_with_len 0 n)
 
 pub numbers_more : (n : ℕ) → range_with_len 0 (n + 1) ≡ range_with_len 0 n ++ n ∷ []
 numbers_more n = sym (map-id (range_with_len 0 (n + 1))) ∙ map-range_with_len_more (λ k. k) 0 n n (omega arith) ∙ ap (λ l. l ++ n ∷ []) (map-id (range_with_len 0 n))

@@ -8,3 +8,5 @@ pub mod Changing
 pub mod LabelTexts
 pub mod Walking
 pub mod Quoting
+pub mod Escaping
+pub mod WrittenCells

@@ -1,10 +1,11 @@
 -- What a writer of JSON that wrote one text has written, and what that says.
-use Rattle.std.proofs.Common.{◌≡◌, ℕ, List, [], ◌∷◌, ◌++◌, ap, ap₂, sym, ◌∙◌}
+use Rattle.std.proofs.Common.{◌≡◌, ℕ, List, [], ◌∷◌, ◌++◌, refl, ap, ap₂, sym, ◌∙◌}
 use Rattle.std.proofs.lemmas.List.{append-nil}
 use Rattle.json.specs.Lex.{tokens}
 use Rattle.json.specs.Token.{Token, string}
-use Rattle.json.specs.Print.{print, print_from, quoted}
-use Rattle.pz_record.specs.Quoted.{text_of_first, text_said}
+use Rattle.json.specs.Print.{print, print_from, escape, quoted, ArePrintable}
+use Rattle.json.proofs.Printed.Tokens.{tokens-print}
+use Rattle.pz_record.specs.Quoted.{text_of_first, text_said, escaped_says}
 
 pub written_quoted : (text : List ℕ) (ts : List Token) → ts ≡ string text ∷ [] → print ts ≡ quoted text
 unfolding print_from
@@ -20,3 +21,14 @@ kept_quoted text before json ts made empty is back =
     let written : json ≡ quoted text = made ∙ ap₂ (λ b w. b ++ w) empty (written_quoted text ts is) in
     let says : text_said json ≡ text = ap text_said written ∙ quoted_says text ts is back in
     (written ∙ ap quoted (sym says), says)
+
+-- what an escaped text says is that text
+escaped_back : (text : List ℕ) → escaped_says (escape text) ≡ text
+unfolding ArePrintable
+escaped_back text = quoted_says text (string text ∷ []) refl (tokens-print (string text ∷ []) (tt, tt))
+
+-- bytes that are a text, escaped
+pub room_says : (bytes text : List ℕ) → bytes ≡ escape text → (bytes ≡ escape (escaped_says bytes)) × (escaped_says bytes ≡ text)
+room_says bytes text e =
+    let says : escaped_says bytes ≡ text = ap escaped_says e ∙ escaped_back text in
+    (e ∙ ap escape (sym says), says)

@@ -1,5 +1,5 @@
 -- The positions of a level's cells, one after the other.
-use Rattle.std.proofs.Common.{◌≡◌, ℕ, ◌+◌, ◌*◌, ◌/◌, ◌%◌, ◌<◌, List, [], ◌∷◌, Bool, false, cond, nat_eq, ap, ◌∙◌, arith}
+use Rattle.std.proofs.Common.{◌≡◌, ℕ, ◌+◌, ◌*◌, ◌/◌, ◌%◌, ◌<◌, ◌≤◌, List, [], ◌∷◌, Bool, false, cond, nat_eq, ap, ◌∙◌, arith}
 use Rattle.std.proofs.lemmas.Bool.{eqb-true, false_from_ne_true}
 use Rattle.std.proofs.Math.Nat.{mod-lt, div-lt_iff_lt-mul}
 use Rattle.std.proofs.lemmas.Nat.{div-add-mod', div-mul-add, mod-mul-add}
@@ -35,3 +35,11 @@ unended k w column at more =
     let e : (k + 1) % w ≡ k % w + 1 = (in_line k w (omega (arith, at, more))).0 in
     let none : List ℕ = [] in
     ap (λ n. cond (nat_eq n 0) (10 ∷ none) none) e ∙ ap (λ (b : Bool). cond b (10 ∷ none) none) (not_zero (k % w))
+
+-- a line that has as many cells as the level is wide ends
+pub ended : (k w column : ℕ) → column ≡ k % w → column < w → w ≤ column + 1 → line_end w (k + 1) ≡ 10 ∷ []
+ended k w column at low full =
+    let split : k + 1 ≡ (k / w + 1) * w + 0 = omega (arith, div-add-mod' k w) in
+    let e : (k + 1) % w ≡ 0 = ap (λ n. n % w) split ∙ mod-mul-add (k / w + 1) w 0 (omega arith) in
+    let none : List ℕ = [] in
+    ap (λ n. cond (nat_eq n 0) (10 ∷ none) none) e

@@ -38,9 +38,13 @@ line_end width count = if count % width == 0 then 10 ∷ [] else []
 abbrev pub cell_text : ℕ → List (List ℕ) → ℕ → List ℕ
 cell_text width cells k = piece (known_of (take k cells)) (slice_index_or cells k []) ++ line_end width (k + 1)
 
+-- the text of the first n cells
+abbrev pub text_to : ℕ → List (List ℕ) → ℕ → List ℕ
+text_to width cells n = flat_map (cell_text width cells) (range_with_len 0 n)
+
 -- the text of cells that have these texts
 abbrev pub text_of_cells : ℕ → List (List ℕ) → List ℕ
-text_of_cells width cells = flat_map (cell_text width cells) (range_with_len 0 (length cells))
+text_of_cells width cells = text_to width cells (length cells)
 
 -- the text of a level, its cells in an order
 unfoldable pub text_of_level : GameParts → Order → Grid → List ℕ

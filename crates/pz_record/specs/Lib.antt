@@ -5,3 +5,4 @@ pub mod LevelText
 pub mod Equality
 pub mod Labels
 pub mod Quoted
+pub mod Written

@@ -1,5 +1,5 @@
 -- The text that a JSON string says.
-use Rattle.std.specs.Prelude.{ℕ, List, [], ◌∷◌}
+use Rattle.std.specs.Prelude.{ℕ, List, [], ◌∷◌, ◌++◌}
 use Rattle.json.specs.Lex.{tokens}
 use Rattle.json.specs.Token.{Token}
 
@@ -22,3 +22,7 @@ text_of_first (token ∷ tokens) = text_of_token token
 -- what a JSON string says, as a reader of JSON gives it
 unfoldable pub text_said : List ℕ → List ℕ
 text_said json = text_of_first (tokens json)
+
+-- what an escaped text says
+abbrev pub escaped_says : List ℕ → List ℕ
+escaped_says bytes = text_said (34 ∷ (bytes ++ 34 ∷ []))

@@ -98,7 +98,7 @@ impl<'a> LabelTable<'a> {
     {
         let _ = objects;
         let text = text_at(alloc, self.game.objects(), level, x, y)?;
-        let label = self.texts.label_of(text)?;
+        let label = self.texts.label_of(alloc, text)?;
         Ok(label)
     }
 

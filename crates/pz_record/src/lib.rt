@@ -5,15 +5,17 @@
 mod cell_labels;
 pub mod cell_names;
 pub mod equality;
+mod escaped;
 pub mod input;
 mod label_table;
 mod labelled_set;
 mod labels;
 mod level_names;
 pub mod limits;
-mod numerals;
 pub mod order;
+mod plain;
 pub mod quoted;
 pub mod recorded;
 mod text_room;
 pub mod text_writer;
+mod written;

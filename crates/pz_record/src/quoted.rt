@@ -1,7 +1,8 @@
 //! Texts that are kept in the form in which they are written.
 
-ghost use Rattle.std.specs.Prelude.{◌≡◌, IfOk};
-ghost use Rattle.json.specs.Print.{quoted};
+ghost use Rattle.std.specs.Prelude.{◌≡◌, ◌+◌, ◌<◌, ◌^◌, length, IfOk};
+ghost use Rattle.json.specs.Print.{escape, quoted};
+ghost use Rattle.pz_record.specs.Quoted.{escaped_says};
 
 use json::Writer;
 use std::alloc::{AllocError, Global};
@@ -40,10 +41,30 @@ impl QuotedText {
         })
     }
 
+    /// Quotes a text whose escapes are made.
+    pub(crate) fn of_escaped(alloc: Global, escaped: &[u8]) -> Result<QuotedText, AllocError>
+        requires { escaped.now ≡ escape (escaped_says escaped.now) }
+        ensures { IfOk result (λ kept. kept ≡ escaped_says escaped.now) }
+    {
+        let mut json = Vec::with_capacity(alloc, escaped.len() + 2)?;
+        json.push(b'"')?;
+        json.extend_from_slice(escaped)?;
+        json.push(b'"')?;
+        Ok(QuotedText { json })
+    }
+
     /// The text as a JSON string, as it is written.
     pub fn as_json(&self) -> &[u8]
         ensures { result.now ≡ quoted self.now }
     {
         self.json.as_slice()
+    }
+
+    /// The text with its escapes made, as it stands between the two marks.
+    pub(crate) fn escaped(&self) -> &[u8]
+        ensures text { result.now ≡ escape self.now }
+        ensures small { length result.now + 1 < 2 ^ 63 }
+    {
+        &self.json[1..self.json.len() - 1]
     }
 }

@@ -1,27 +1,34 @@
 //! The room for the text of a level.
 
-ghost use Rattle.std.specs.Prelude.{◌≡◌, ◌<◌, [], length, map, All, OnOk};
+ghost use Rattle.std.specs.Prelude.{◌≡◌, ◌<◌, [], length, map, All, IfOk, OnOk};
 ghost use Rattle.pz_record.specs.Labels.{text_at};
 ghost use Rattle.pz_record.specs.LevelText.{text_of_cells};
 
-use crate::labels::{KnownTexts, write_labels};
+use crate::escaped::write_labels;
+use crate::labels::KnownTexts;
+use crate::quoted::QuotedText;
 use std::alloc::{AllocError, Global};
 use std::marker::Model;
 
 /// The room for the text of a level, and for the numbers that it gives to the sets of its cells. It is kept from text to text, so that a
-/// text is written without asking for memory.
+/// text is written without asking for memory: it stands in front, with the escapes that JSON asks for, and ends where `end` says.
 #[derive(Drop)]
 pub(crate) struct TextRoom {
-    text: String,
+    json: Vec<u8>,
+    end: usize,
     numbers: Vec<Option<usize>>,
 }
 
 impl Model for TextRoom {
-    ghost use Rattle.std.specs.Prelude.{List, ℕ, string_bytes};
+    ghost use Rattle.std.specs.Prelude.{◌≡◌, ◌≤◌, List, ℕ, length, take};
+    ghost use Rattle.json.specs.Print.{escape};
+    ghost use Rattle.pz_record.specs.Quoted.{escaped_says};
 
     ghost Value = { List ℕ };
 
-    ghost view = { λ r. string_bytes r.text };
+    ghost view = { λ r. escaped_says (take r.end r.json.items) };
+
+    ghost invariant = { λ r. (r.end ≤ length r.json.items) × (take r.end r.json.items ≡ escape (escaped_says (take r.end r.json.items))) };
 }
 
 impl TextRoom {
@@ -29,16 +36,17 @@ impl TextRoom {
         ensures { result ≡ [] }
     {
         TextRoom {
-            text: String::new(alloc),
+            json: Vec::new(alloc),
+            end: 0,
             numbers: Vec::new(alloc),
         }
     }
 
-    /// The text that was written last.
-    pub fn text(&self) -> &str
-        ensures { result.now ≡ self.now }
+    /// A copy of the text that was written last.
+    pub fn text(&self, alloc: Global) -> Result<QuotedText, AllocError>
+        ensures { IfOk result (λ text. text ≡ self.now) }
     {
-        self.text.as_str()
+        QuotedText::of_escaped(alloc, &self.json[..self.end])
     }
 
     /// Writes the text of cells of these labels over the last one.
@@ -52,7 +60,10 @@ impl TextRoom {
         requires within { All (λ label. label < length texts.now) labels.now }
         ensures { OnOk result (self.new ≡ text_of_cells width (map (text_at texts.now) labels.now)) }
     {
-        write_labels(&mut self.text, &mut self.numbers, texts, labels, width)?;
+        // (if there isn't enough memory, nothing is written)
+        self.end = 0;
+        let end = write_labels(&mut self.json, &mut self.numbers, texts, labels, width)?;
+        self.end = end;
         Ok(())
     }
 }

@@ -7,6 +7,7 @@ ghost use Rattle.pz_record.specs.LevelText.{text_of_cells, text_of_level};
 
 use crate::cell_labels::CellLabels;
 use crate::order::Order;
+use crate::plain::plain_text;
 use crate::quoted::QuotedText;
 use crate::text_room::TextRoom;
 use pz_base::text::Text;
@@ -77,6 +78,15 @@ fn fill(
     }
 }
 
+/// The text of cells, not quoted. It isn't kept.
+fn plain(alloc: Global, cells: &CellLabels<'_>, width: u32) -> Result<Text, AllocError>
+    requires { 0 < width }
+    ensures { IfOk result (λ text. text ≡ text_of_cells width cells.now.cells) }
+{
+    let text = plain_text(alloc, cells.texts(), cells.labels(), width as usize)?;
+    Ok(text)
+}
+
 impl<'a> TextWriter<'a> {
     pub fn new(alloc: Global, game: &'a Game, order: Order) -> TextWriter<'a>
         ensures { result ≡ record { table = record { game = game.now; texts = [] }; order = order; cells = [] } }
@@ -145,7 +155,7 @@ impl<'a> TextWriter<'a> {
     {
         self.look_over(level)?;
         fill(&mut self.room, &mut self.last, &self.cells, level.width())?;
-        let text = QuotedText::of_str(self.alloc, self.room.text())?;
+        let text = self.room.text(self.alloc)?;
         Ok(text)
     }
 
@@ -157,8 +167,7 @@ impl<'a> TextWriter<'a> {
         ensures order { self.new.order ≡ self.old.order }
     {
         self.look_over(level)?;
-        fill(&mut self.room, &mut self.last, &self.cells, level.width())?;
-        let text = Text::of_str(self.alloc, self.room.text())?;
+        let text = plain(self.alloc, &self.cells, level.width())?;
         Ok(text)
     }
 }

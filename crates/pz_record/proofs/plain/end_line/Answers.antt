@@ -1,7 +1,7 @@
 use Rattle.std.proofs.Common.{◌++◌, List, ℕ, string_bytes, ap, sym, ◌∙◌}
 use Rattle.std.proofs.lemmas.List.{append-nil}
 use Rattle.pz_record.proofs.Walking.{unended}
-use Rattle.pz_record.proofs.labels.end_line.Goals as goal
+use Rattle.pz_record.proofs.plain.end_line.Goals as goal
 
 pub returns-then-column-width-clause-ended : goal.returns-then-column-width-clause-ended
 returns-then-column-width-clause-ended c count at =

@@ -1,6 +1,6 @@
 use Rattle.std.proofs.Common.{◌∷◌, [], ◌++◌, decimal, string_bytes, ap, ◌∙◌}
 use Rattle.pz_record.proofs.LabelTexts.{in_parts}
-use Rattle.pz_record.proofs.labels.write_new.Goals as goal
+use Rattle.pz_record.proofs.plain.write_new.Goals as goal
 
 pub returns : goal.returns
 returns c =

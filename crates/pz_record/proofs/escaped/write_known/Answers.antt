@@ -1,0 +1,37 @@
+use Rattle.std.proofs.Common.{◌≡◌, ℕ, ◌+◌, ◌++◌, [], Some, None, take, get_or, map, refl, arith, ap, sym, ◌∙◌}
+use Rattle.std.proofs.lemmas.List.{get_or-map}
+use Rattle.json.specs.Print.{escape}
+use Rattle.pz_base.specs.NameSet.{number_in}
+use Rattle.pz_record.specs.Labels.{text_at}
+use Rattle.pz_record.specs.LevelText.{known_of, line_end}
+use Rattle.pz_record.proofs.LabelTexts.{known_piece}
+use Rattle.pz_record.proofs.WrittenCells.{cell_more, labelled}
+use Rattle.pz_record.proofs.escaped.write_known.Goals as goal
+
+pub cells-preserved : goal.cells-preserved
+cells-preserved c =
+    let texts = c.args.texts.now in
+    let items = c.args.labels.now in
+    let all = map (text_at texts) items in
+    let k = c.cells.at.cells in
+    let label : ℕ = get_or items k 0 in
+    let cell = text_at texts label in
+    let known = known_of (take k all) in
+    let before = c.cells.invariant.written in
+    let is = labelled texts items k c.cells-test.true c.requires.within in
+    let found : number_in known cell ≡ Some c.in-Some.number =
+    sym (ap (λ l. get_or l label None) before.numbers ∙ get_or-map (number_in known) texts label [] None is.1) ∙ c.in-Some.is in
+    let parts = known_piece known cell c.in-Some.number found in
+    record {
+      room = omega (arith, c.put_number-next.ensures.end, c.end_line-end.ensures.end);
+      onward = omega arith;
+      written = cell_more c.args.width all texts c.cells.at c.cells.json c.args.numbers.now before cell is.0 is.2 _ c.end_line-end.new.json c.args.numbers.now refl
+          (c.end_line-end.ensures.written k before.column
+          ∙ ap (λ l. l ++ escape (line_end c.args.width (k + 1))) (c.put_number-next.ensures.written ∙ ap (λ l. take c.cells.at.end c.cells.json ++ escape l) (sym parts.0)))
+          (omega arith)
+          (rw parts.1 before.numbers)
+          (rw parts.1 before.known)
+          (omega arith)
+          (c.end_line-end.ensures.column k before.column)
+          c.end_line-end.ensures.line;
+    }

@@ -1,0 +1,251 @@
+//! The text of cells as it stands in a JSON string, its escapes made. It is written into room that is kept from text to text.
+
+ghost use Rattle.std.specs.Prelude.{◌≡◌, ℕ, ◌+◌, ◌-◌, ◌*◌, ◌%◌, ◌^◌, ◌<◌, ◌≤◌, ◌++◌, ◌∷◌, [], length, map, take, All, IfOk, OnOk, decimal};
+ghost use Rattle.json.specs.Print.{escape};
+ghost use Rattle.pz_record.specs.Labels.{text_at};
+ghost use Rattle.pz_record.specs.LevelText.{line_end, text_of_cells};
+ghost use Rattle.pz_record.specs.Written.{AreWritten};
+
+use crate::labels::{KnownTexts, clear_numbers};
+use crate::quoted::QuotedText;
+use crate::written::Written;
+use itoa::Buffer;
+use std::alloc::AllocError;
+
+/// Makes room for so many bytes more behind a text that ends here.
+fn make_way(json: &mut Vec<u8>, end: usize, more: usize) -> Result<(), AllocError>
+    requires within { end ≤ length json.old.items }
+    requires few { more < 2 ^ 63 }
+    ensures room { OnOk result (end + more ≤ length json.new.items) }
+    ensures kept { OnOk result (take end json.new.items ≡ take end json.old.items) }
+{
+    if json.len() - end < more {
+        json.resize(end + more, 0)?;
+    }
+    Ok(())
+}
+
+/// Writes bytes behind a text, and says where it ends then.
+fn put(json: &mut [u8], end: usize, bytes: &[u8]) -> usize
+    requires { end + length bytes.now ≤ length json.old }
+    ensures end { result ≡ end + length bytes.now }
+    ensures written { take result json.new ≡ take end json.old ++ bytes.now }
+    ensures room { length json.new ≡ length json.old }
+{
+    let next = end + bytes.len();
+    json[end..next].copy_from_slice(bytes);
+    next
+}
+
+/// Writes bytes and a mark behind them.
+fn put_marked(json: &mut [u8], end: usize, bytes: &[u8], mark: u8) -> usize
+    requires { end + length bytes.now + 1 ≤ length json.old }
+    ensures end { result ≡ end + length bytes.now + 1 }
+    ensures written { take result json.new ≡ take end json.old ++ (bytes.now ++ mark ∷ []) }
+    ensures room { length json.new ≡ length json.old }
+{
+    let next = put(json, end, bytes);
+    json[next] = mark;
+    next + 1
+}
+
+/// Writes a number of one digit.
+#[inline(always)]
+fn put_digit(json: &mut [u8], end: usize, digit: usize) -> usize
+    requires digit { digit < 10 }
+    requires room { end < length json.old }
+    ensures end { result ≡ end + 1 }
+    ensures written { take result json.new ≡ take end json.old ++ decimal digit }
+    ensures room { length json.new ≡ length json.old }
+{
+    json[end] = b'0' + digit as u8;
+    end + 1
+}
+
+/// Writes a number of one digit or two.
+#[inline(always)]
+fn put_short(json: &mut [u8], end: usize, number: usize) -> usize
+    requires number { number < 100 }
+    requires room { end + 2 ≤ length json.old }
+    ensures end { result ≤ end + 2 }
+    ensures written { take result json.new ≡ take end json.old ++ decimal number }
+    ensures room { length json.new ≡ length json.old }
+{
+    if number < 10 {
+        return put_digit(json, end, number);
+    }
+    let next = put_digit(json, end, number / 10);
+    put_digit(json, next, number % 10)
+}
+
+/// Writes a number of one digit or two and a comma.
+#[inline(always)]
+fn put_number(json: &mut [u8], end: usize, number: usize) -> usize
+    requires number { number < 100 }
+    requires room { end + 3 ≤ length json.old }
+    ensures end { result ≤ end + 3 }
+    ensures written { take result json.new ≡ take end json.old ++ escape (decimal number ++ 44 ∷ []) }
+    ensures room { length json.new ≡ length json.old }
+{
+    let next = put_short(json, end, number);
+    json[next] = b',';
+    next + 1
+}
+
+/// Ends the last line behind one more cell, if it then has as many cells as the level is wide: says where the text ends then, and how many cells
+/// the last line has.
+#[inline(always)]
+fn end_line(json: &mut [u8], end: usize, width: usize, column: usize) -> (usize, usize)
+    requires column { column < width }
+    requires room { end + 2 ≤ length json.old }
+    ensures end { result.0 ≤ end + 2 }
+    ensures written { (count : ℕ) → column ≡ count % width → take result.0 json.new ≡ take end json.old ++ escape (line_end width (count + 1)) }
+    ensures column { (count : ℕ) → column ≡ count % width → result.1 ≡ (count + 1) % width }
+    ensures line { result.1 < width }
+    ensures room { length json.new ≡ length json.old }
+{
+    if column + 1 < width {
+        return (end, column + 1);
+    }
+    json[end] = b'\\';
+    json[end + 1] = b'n';
+    (end + 2, 0)
+}
+
+/// Writes cells that have a number of one digit or two, up to the first other one. The numbers are those of the texts.
+fn write_known(
+    json: &mut [u8],
+    numbers: &[Option<usize>],
+    texts: &KnownTexts,
+    labels: &[usize],
+    width: usize,
+    from: Written,
+) -> Written
+    requires room { from.end + 5 * (length labels.now - from.cells) ≤ length json.old }
+    requires within { All (λ label. label < length texts.now) labels.now }
+    requires from { AreWritten width (map (text_at texts.now) labels.now) texts.now from json.old numbers.now }
+    ensures written { AreWritten width (map (text_at texts.now) labels.now) texts.now result json.new numbers.now }
+    ensures onward { from.cells ≤ result.cells }
+{
+    // (the proof alone speaks of the texts)
+    let _ = texts;
+    let mut at = from;
+    'cells: while at.cells < labels.len() {
+        let given = numbers[labels[at.cells]];
+        match given {
+            Some(number) if number < 100 => {
+                let next = put_number(json, at.end, number);
+                let (end, column) = end_line(json, next, width, at.column);
+                at = Written {
+                    end,
+                    cells: at.cells + 1,
+                    known: at.known,
+                    column,
+                };
+            }
+            _ => return at,
+        }
+    }
+    at
+}
+
+/// Writes a number of any size and a comma.
+fn put_large(json: &mut Vec<u8>, end: usize, number: usize) -> Result<usize, AllocError>
+    requires { end ≤ length json.old.items }
+    ensures end { IfOk result (λ next. next ≤ length json.new.items) }
+    ensures written { IfOk result (λ next. take next json.new.items ≡ take end json.old.items ++ escape (decimal number ++ 44 ∷ [])) }
+{
+    let mut digits = Buffer::new();
+    let text = digits.format(number).as_bytes();
+    make_way(json, end, text.len() + 1)?;
+    Ok(put_marked(json.as_mut_slice(), end, text, b','))
+}
+
+/// Writes a text that is new, its number and a comma.
+fn put_new(
+    json: &mut Vec<u8>,
+    end: usize,
+    text: &QuotedText,
+    number: usize,
+) -> Result<usize, AllocError>
+    requires { end ≤ length json.old.items }
+    ensures end { IfOk result (λ next. next ≤ length json.new.items) }
+    ensures written { IfOk result (λ next. take next json.new.items ≡ take end json.old.items ++ escape (text.now ++ 58 ∷ [] ++ decimal number ++ 44 ∷ [])) }
+{
+    let text = text.escaped();
+    make_way(json, end, text.len() + 1)?;
+    let next = put_marked(json.as_mut_slice(), end, text, b':');
+    let end = put_large(json, next, number)?;
+    Ok(end)
+}
+
+/// Writes the cell behind those that are written, whatever its text.
+fn write_cell(
+    json: &mut Vec<u8>,
+    numbers: &mut Vec<Option<usize>>,
+    texts: &KnownTexts,
+    labels: &[usize],
+    width: usize,
+    at: Written,
+) -> Result<Written, AllocError>
+    requires here { at.cells < length labels.now }
+    requires within { All (λ label. label < length texts.now) labels.now }
+    requires at { AreWritten width (map (text_at texts.now) labels.now) texts.now at json.old.items numbers.old.items }
+    ensures written { IfOk result (λ next. AreWritten width (map (text_at texts.now) labels.now) texts.now next json.new.items numbers.new.items) }
+    ensures onward { IfOk result (λ next. next.cells ≡ at.cells + 1) }
+{
+    let label = labels[at.cells];
+    let mut known = at.known;
+    let end = match numbers[label] {
+        Some(number) => put_large(json, at.end, number)?,
+        None => {
+            let end = put_new(json, at.end, texts.quoted(label), known)?;
+            numbers[label] = Some(known);
+            known += 1;
+            end
+        }
+    };
+    make_way(json, end, 2)?;
+    let (end, column) = end_line(json.as_mut_slice(), end, width, at.column);
+    Ok(Written {
+        end,
+        cells: at.cells + 1,
+        known,
+        column,
+    })
+}
+
+/// Writes the text of cells of these labels over what was written before, and says where it ends. The numbers are room for those of the labels.
+pub(crate) fn write_labels(
+    json: &mut Vec<u8>,
+    numbers: &mut Vec<Option<usize>>,
+    texts: &KnownTexts,
+    labels: &[usize],
+    width: usize,
+) -> Result<usize, AllocError>
+    requires wide { 0 < width }
+    requires within { All (λ label. label < length texts.now) labels.now }
+    ensures end { IfOk result (λ end. end ≤ length json.new.items) }
+    ensures text { IfOk result (λ end. take end json.new.items ≡ escape (text_of_cells width (map (text_at texts.now) labels.now))) }
+{
+    clear_numbers(numbers, texts.len())?;
+    let mut at = Written {
+        end: 0,
+        cells: 0,
+        known: 0,
+        column: 0,
+    };
+    'cells: while at.cells < labels.len() {
+        let next = write_cell(json, numbers, texts, labels, width, at)?;
+        make_way(json, next.end, 5 * (labels.len() - next.cells))?;
+        at = write_known(
+            json.as_mut_slice(),
+            numbers.as_slice(),
+            texts,
+            labels,
+            width,
+            next,
+        );
+    }
+    Ok(at.end)
+}

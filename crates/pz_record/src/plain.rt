@@ -1,0 +1,89 @@
+//! The text of cells as it is, for who reads it again. It is written seldom; `escaped` has the same text as it is written for each frame.
+
+ghost use Rattle.std.specs.Prelude.{◌≡◌, ℕ, ◌<◌, ◌+◌, ◌%◌, ◌++◌, ◌∷◌, [], length, All, IfOk, None, OnOk, decimal, map, string_bytes};
+ghost use Rattle.pz_record.specs.Labels.{text_at};
+ghost use Rattle.pz_record.specs.LevelText.{line_end, text_of_cells};
+
+use crate::labels::{KnownTexts, clear_numbers};
+use itoa::Buffer;
+use pz_base::text::Text;
+use std::alloc::{AllocError, Global};
+
+/// Writes a number and a comma.
+fn write_number(text: &mut String, number: usize) -> Result<(), AllocError>
+    ensures { OnOk result (string_bytes text.new ≡ string_bytes text.old ++ (decimal number ++ 44 ∷ [])) }
+{
+    let mut digits = Buffer::new();
+    text.push_str(digits.format(number))?;
+    text.push_str(",")?;
+    Ok(())
+}
+
+/// Writes a text that is new, its number and a comma.
+fn write_new(text: &mut String, name: &str, number: usize) -> Result<(), AllocError>
+    ensures { OnOk result (string_bytes text.new ≡ string_bytes text.old ++ (name.now ++ 58 ∷ [] ++ decimal number ++ 44 ∷ [])) }
+{
+    text.push_str(name)?;
+    text.push_str(":")?;
+    write_number(text, number)?;
+    Ok(())
+}
+
+/// Ends the last line behind one more cell, if it then has as many cells as the level is wide, and says how many it has.
+fn end_line(text: &mut String, width: usize, column: usize) -> Result<usize, AllocError>
+    requires { column < width }
+    ensures ended { OnOk result ((count : ℕ) → column ≡ count % width → string_bytes text.new ≡ string_bytes text.old ++ line_end width (count + 1)) }
+    ensures column { IfOk result (λ next. (count : ℕ) → column ≡ count % width → next ≡ (count + 1) % width) }
+{
+    if column + 1 < width {
+        return Ok(column + 1);
+    }
+    text.push_str("\n")?;
+    Ok(0)
+}
+
+/// Writes the text of cells of these labels.
+fn write_labels(
+    alloc: Global,
+    texts: &KnownTexts,
+    labels: &[usize],
+    width: usize,
+) -> Result<String, AllocError>
+    requires wide { 0 < width }
+    requires within { All (λ label. label < length texts.now) labels.now }
+    ensures { IfOk result (λ text. string_bytes text ≡ text_of_cells width (map (text_at texts.now) labels.now)) }
+{
+    let mut text = String::new(alloc);
+    let mut numbers = Vec::new(alloc);
+    clear_numbers(&mut numbers, texts.len())?;
+    let mut count = 0;
+    let mut column = 0;
+    for cell in labels {
+        let label = *cell;
+        match numbers[label] {
+            Some(number) => write_number(&mut text, number)?,
+            None => {
+                write_new(&mut text, texts.text(label), count)?;
+                numbers[label] = Some(count);
+                count += 1;
+            }
+        }
+        column = end_line(&mut text, width, column)?;
+    }
+    Ok(text)
+}
+
+/// The text of cells of these labels.
+pub(crate) fn plain_text(
+    alloc: Global,
+    texts: &KnownTexts,
+    labels: &[usize],
+    width: usize,
+) -> Result<Text, AllocError>
+    requires wide { 0 < width }
+    requires within { All (λ label. label < length texts.now) labels.now }
+    ensures { IfOk result (λ text. text ≡ text_of_cells width (map (text_at texts.now) labels.now)) }
+{
+    let text = write_labels(alloc, texts, labels, width)?;
+    Ok(Text::new(text))
+}
