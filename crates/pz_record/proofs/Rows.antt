@@ -1,11 +1,13 @@
 -- Worked cases: the texts of cells, and names as sets.
-use Rattle.std.proofs.Common.{◌≡◌, ℕ, List, [], ◌∷◌, codes, true, false, refl}
+use Rattle.std.proofs.Common.{◌≡◌, ℕ, List, [], ◌∷◌, ◌++◌, Some, None, map, codes, true, false, refl}
 use Rattle.std.specs.Fmt.{digits}
+use Rattle.json.specs.Print.{escape, escape_byte}
 use Rattle.pz_sheet.specs.Grid.{Grid}
 use Rattle.pz_record.specs.Order.{cells_in}
 use Rattle.pz_record.specs.declared.order.Order.TheVariants.{Rows, Columns}
 use Rattle.pz_record.specs.CellNames.{with_name, set_of, same_set}
 use Rattle.pz_record.specs.LevelText.{joined, text_of_cells, piece, with_cell}
+use Rattle.pz_record.specs.Written.{code_of}
 
 abbrev background : List ℕ
 background = codes "background"
@@ -24,6 +26,15 @@ in_rows = refl
 in_columns : text_of_cells 2 (background ∷ background ∷ background ∷ joined (background ∷ player ∷ []) ∷ background ∷ background ∷ []) ≡ codes "background:0,0,\n0,background player:1,\n0,0,\n"
 unfolding piece with_cell digits
 in_columns = refl
+
+-- as it stands in a JSON string: the end of a line takes two bytes, and a mark in a name has one before it
+as_json : escape (text_of_cells 2 (codes "wa\"ll" ∷ codes "wa\"ll" ∷ [])) ≡ codes "wa" ++ 92 ∷ 34 ∷ codes "ll:0,0," ++ 92 ∷ 110 ∷ []
+unfolding piece with_cell digits escape_byte
+as_json = refl
+
+-- a text that has no number stands for the largest word, and a number for itself
+no_number : map code_of (None ∷ Some 3 ∷ []) ≡ 18_446_744_073_709_551_615 ∷ 3 ∷ []
+no_number = refl
 
 sorted : set_of (wall ∷ player ∷ background ∷ player ∷ []) ≡ background ∷ player ∷ wall ∷ []
 unfolding with_name

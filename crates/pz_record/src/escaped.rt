@@ -1,12 +1,12 @@
 //! The text of cells as it stands in a JSON string, its escapes made. It is written into room that is kept from text to text.
 
-ghost use Rattle.std.specs.Prelude.{◌≡◌, ℕ, ◌+◌, ◌-◌, ◌*◌, ◌%◌, ◌^◌, ◌<◌, ◌≤◌, ◌++◌, ◌∷◌, [], length, map, take, All, IfOk, OnOk, decimal};
+ghost use Rattle.std.specs.Prelude.{◌≡◌, ℕ, ◌+◌, ◌-◌, ◌*◌, ◌%◌, ◌^◌, ◌<◌, ◌≤◌, ◌++◌, ◌∷◌, [], length, map, replicate, take, All, IfOk, OnOk, decimal};
 ghost use Rattle.json.specs.Print.{escape};
 ghost use Rattle.pz_record.specs.Labels.{text_at};
 ghost use Rattle.pz_record.specs.LevelText.{line_end, text_of_cells};
 ghost use Rattle.pz_record.specs.Written.{AreWritten};
 
-use crate::labels::{KnownTexts, clear_numbers};
+use crate::labels::KnownTexts;
 use crate::quoted::QuotedText;
 use crate::written::Written;
 use itoa::Buffer;
@@ -112,10 +112,11 @@ fn end_line(json: &mut [u8], end: usize, width: usize, column: usize) -> (usize,
     (end + 2, 0)
 }
 
-/// Writes cells that have a number of one digit or two, up to the first other one. The numbers are those of the texts.
+/// Writes cells that have a number of one digit or two, up to the first other one. The numbers are those of the texts; where a text has none, the
+/// largest stands, so that one comparison finds both.
 fn write_known(
     json: &mut [u8],
-    numbers: &[Option<usize>],
+    numbers: &[usize],
     texts: &KnownTexts,
     labels: &[usize],
     width: usize,
@@ -131,20 +132,18 @@ fn write_known(
     let _ = texts;
     let mut at = from;
     'cells: while at.cells < labels.len() {
-        let given = numbers[labels[at.cells]];
-        match given {
-            Some(number) if number < 100 => {
-                let next = put_number(json, at.end, number);
-                let (end, column) = end_line(json, next, width, at.column);
-                at = Written {
-                    end,
-                    cells: at.cells + 1,
-                    known: at.known,
-                    column,
-                };
-            }
-            _ => return at,
+        let number = numbers[labels[at.cells]];
+        if number >= 100 {
+            return at;
         }
+        let next = put_number(json, at.end, number);
+        let (end, column) = end_line(json, next, width, at.column);
+        at = Written {
+            end,
+            cells: at.cells + 1,
+            known: at.known,
+            column,
+        };
     }
     at
 }
@@ -182,7 +181,7 @@ fn put_new(
 /// Writes the cell behind those that are written, whatever its text.
 fn write_cell(
     json: &mut Vec<u8>,
-    numbers: &mut Vec<Option<usize>>,
+    numbers: &mut Vec<usize>,
     texts: &KnownTexts,
     labels: &[usize],
     width: usize,
@@ -195,15 +194,15 @@ fn write_cell(
     ensures onward { IfOk result (λ next. next.cells ≡ at.cells + 1) }
 {
     let label = labels[at.cells];
+    let number = numbers[label];
     let mut known = at.known;
-    let end = match numbers[label] {
-        Some(number) => put_large(json, at.end, number)?,
-        None => {
-            let end = put_new(json, at.end, texts.quoted(label), known)?;
-            numbers[label] = Some(known);
-            known += 1;
-            end
-        }
+    let end = if number < known {
+        put_large(json, at.end, number)?
+    } else {
+        let end = put_new(json, at.end, texts.quoted(label), known)?;
+        numbers[label] = known;
+        known += 1;
+        end
     };
     make_way(json, end, 2)?;
     let (end, column) = end_line(json.as_mut_slice(), end, width, at.column);
@@ -215,10 +214,19 @@ fn write_cell(
     })
 }
 
+/// As yet no label has a number.
+fn clear_numbers(numbers: &mut Vec<usize>, count: usize) -> Result<(), AllocError>
+    ensures { OnOk result (numbers.new.items ≡ replicate count 18_446_744_073_709_551_615) }
+{
+    numbers.clear();
+    numbers.resize(count, usize::MAX)?;
+    Ok(())
+}
+
 /// Writes the text of cells of these labels over what was written before, and says where it ends. The numbers are room for those of the labels.
 pub(crate) fn write_labels(
     json: &mut Vec<u8>,
-    numbers: &mut Vec<Option<usize>>,
+    numbers: &mut Vec<usize>,
     texts: &KnownTexts,
     labels: &[usize],
     width: usize,

@@ -1,6 +1,6 @@
 //! The labels of cells: texts of which none stands twice, each with a number.
 
-ghost use Rattle.std.specs.Prelude.{◌≡◌, ◌<◌, ◌^◌, ◌++◌, ◌∷◌, [], length, false, IfOk, None, OnOk, replicate, take, string_bytes};
+ghost use Rattle.std.specs.Prelude.{◌≡◌, ◌<◌, ◌^◌, ◌++◌, ◌∷◌, [], length, false, IfOk, OnOk, take, string_bytes};
 ghost use Rattle.pz_base.specs.NameSet.{is_name_of, number_in};
 ghost use Rattle.pz_record.specs.Labels.{AreDistinct, text_at};
 
@@ -99,16 +99,4 @@ impl KnownTexts {
             }
         }
     }
-}
-
-/// As yet no label has a number.
-pub(crate) fn clear_numbers(
-    numbers: &mut Vec<Option<usize>>,
-    count: usize,
-) -> Result<(), AllocError>
-    ensures { OnOk result (numbers.new.items ≡ replicate count None) }
-{
-    numbers.clear();
-    numbers.resize(count, None)?;
-    Ok(())
 }

@@ -1,10 +1,10 @@
 //! The text of cells as it is, for who reads it again. It is written seldom; `escaped` has the same text as it is written for each frame.
 
-ghost use Rattle.std.specs.Prelude.{◌≡◌, ℕ, ◌<◌, ◌+◌, ◌%◌, ◌++◌, ◌∷◌, [], length, All, IfOk, None, OnOk, decimal, map, string_bytes};
+ghost use Rattle.std.specs.Prelude.{◌≡◌, ℕ, ◌<◌, ◌+◌, ◌%◌, ◌++◌, ◌∷◌, [], length, All, IfOk, None, OnOk, decimal, map, replicate, string_bytes};
 ghost use Rattle.pz_record.specs.Labels.{text_at};
 ghost use Rattle.pz_record.specs.LevelText.{line_end, text_of_cells};
 
-use crate::labels::{KnownTexts, clear_numbers};
+use crate::labels::KnownTexts;
 use itoa::Buffer;
 use pz_base::text::Text;
 use std::alloc::{AllocError, Global};
@@ -42,6 +42,15 @@ fn end_line(text: &mut String, width: usize, column: usize) -> Result<usize, All
     Ok(0)
 }
 
+/// As yet no label has a number.
+fn no_numbers(alloc: Global, count: usize) -> Result<Vec<Option<usize>>, AllocError>
+    ensures { IfOk result (λ numbers. numbers.items ≡ replicate count None) }
+{
+    let mut numbers = Vec::new(alloc);
+    numbers.resize(count, None)?;
+    Ok(numbers)
+}
+
 /// Writes the text of cells of these labels.
 fn write_labels(
     alloc: Global,
@@ -54,8 +63,7 @@ fn write_labels(
     ensures { IfOk result (λ text. string_bytes text ≡ text_of_cells width (map (text_at texts.now) labels.now)) }
 {
     let mut text = String::new(alloc);
-    let mut numbers = Vec::new(alloc);
-    clear_numbers(&mut numbers, texts.len())?;
+    let mut numbers = no_numbers(alloc, texts.len())?;
     let mut count = 0;
     let mut column = 0;
     for cell in labels {

@@ -16,7 +16,7 @@ use std::marker::Model;
 pub(crate) struct TextRoom {
     json: Vec<u8>,
     end: usize,
-    numbers: Vec<Option<usize>>,
+    numbers: Vec<usize>,
 }
 
 impl Model for TextRoom {

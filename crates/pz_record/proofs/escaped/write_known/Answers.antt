@@ -1,11 +1,10 @@
-use Rattle.std.proofs.Common.{◌≡◌, ℕ, ◌+◌, ◌++◌, [], Some, None, take, get_or, map, refl, arith, ap, sym, ◌∙◌}
-use Rattle.std.proofs.lemmas.List.{get_or-map}
+use Rattle.std.proofs.Common.{◌≡◌, ℕ, ◌+◌, ◌++◌, Some, take, get_or, map, refl, arith, ap, sym, ◌∙◌}
 use Rattle.json.specs.Print.{escape}
 use Rattle.pz_base.specs.NameSet.{number_in}
 use Rattle.pz_record.specs.Labels.{text_at}
 use Rattle.pz_record.specs.LevelText.{known_of, line_end}
 use Rattle.pz_record.proofs.LabelTexts.{known_piece}
-use Rattle.pz_record.proofs.WrittenCells.{cell_more, labelled}
+use Rattle.pz_record.proofs.WrittenCells.{cell_more, coded_at, is_number, labelled}
 use Rattle.pz_record.proofs.escaped.write_known.Goals as goal
 
 pub cells-preserved : goal.cells-preserved
@@ -19,9 +18,10 @@ cells-preserved c =
     let known = known_of (take k all) in
     let before = c.cells.invariant.written in
     let is = labelled texts items k c.cells-test.true c.requires.within in
-    let found : number_in known cell ≡ Some c.in-Some.number =
-    sym (ap (λ l. get_or l label None) before.numbers ∙ get_or-map (number_in known) texts label [] None is.1) ∙ c.in-Some.is in
-    let parts = known_piece known cell c.in-Some.number found in
+    let n = get_or c.args.numbers.now label 0 in
+    let found : number_in known cell ≡ Some n =
+    is_number (number_in known cell) n 100 (coded_at texts known c.args.numbers.now label 0 before.numbers is.1) (omega arith) (omega arith) in
+    let parts = known_piece known cell n found in
     record {
       room = omega (arith, c.put_number-next.ensures.end, c.end_line-end.ensures.end);
       onward = omega arith;

@@ -13,7 +13,7 @@ use Rattle.pz_record.proofs.plain.write_labels.Goals.{in-Some+in_ok-write_number
 pub loop-cell-init : goal.loop-cell-init
 loop-cell-init c = record {
   text = search rules;
-  numbers = c.in_ok-clear_numbers.ensures ∙ ap (λ n. replicate n None) c.len.ensures.count ∙ none_numbered c.args.texts.now;
+  numbers = c.in_ok-numbers.ensures ∙ ap (λ n. replicate n None) c.len.ensures.count ∙ none_numbered c.args.texts.now;
   count = refl;
   few = omega arith;
   column = sym (mod-eq_of_lt c.requires.wide);
