@@ -15,8 +15,8 @@ use Rattle.pz_sheet.specs.declared.changes.Change.{Change}
 use Rattle.pz_sheet.specs.Changes.{CellChange, changed_from, changed_cells, change_seen, with_cell, restored}
 use Rattle.pz_sheet.specs.Grid.{Grid, IsLawful, SameSize}
 use Rattle.pz_sheet.specs.Presence.{cell_of}
-use Rattle.pz_sheet.specs.Seen.{seen, grid_of, IsSound}
-use Rattle.pz_sheet.proofs.SameLemmas.{AreAlike, seen_alike, alike_seen}
+use Rattle.pz_sheet.specs.Seen.{seen, grid_of, IsSound, AreAlike}
+use Rattle.pz_sheet.proofs.SameLemmas.{seen_alike, alike_seen}
 use Rattle.pz_sheet.proofs.SheetLemmas.{seen_within, seen_at, sound_at}
 
 -- ---- cells put back
