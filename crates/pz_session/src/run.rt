@@ -55,6 +55,15 @@ fn play(alloc: Global, plan: &Plan) -> Result<Player<'_>, AllocError>
     }
 }
 
+/// Nothing is to come, since memory was refused. It stands alone, since a call clears all room that it may need, also where it needs none:
+/// this needs that of a stage.
+#[inline(never)]
+fn fail(stage: &mut Stage<'_>)
+    ensures { stage.new ≡ Stage.Failed }
+{
+    *stage = Stage::Failed;
+}
+
 impl<'a> Run<'a> {
     ghost use Rattle.pz_session.specs.Player.{Yields};
 
@@ -88,7 +97,7 @@ impl<'a> Run<'a> {
             Stage::Playing(player) => match player.next() {
                 Ok(item) => Ok(item),
                 Err(fault) => {
-                    self.stage = Stage::Failed;
+                    fail(&mut self.stage);
                     Err(fault)
                 }
             },

@@ -1,9 +1,10 @@
 -- The cells in which an older level differs are found one by one, and give it back.
-use Rattle.std.proofs.Common.{◌≡◌, ℕ, zero, suc, ◌+◌, ◌*◌, ◌^◌, ◌<◌, ◌≤◌, List, [], ◌∷◌, ◌++◌, Option, Bool, true, false, cond, map, set, drop, length, get_or, ap, sym, ◌∙◌, refl, subst, arith}
+use Rattle.std.proofs.Common.{◌≡◌, inl, inr, ℕ, zero, suc, ◌+◌, ◌*◌, ◌^◌, ◌<◌, ◌≤◌, List, [], ◌∷◌, ◌++◌, Option, Some, None, Bool, true, false, not, cond, map, set, drop, length, get_or, ap, sym, ◌∙◌, refl, subst, arith}
 use Rattle.std.specs.Prelude.{IsTrue, ◌↔◌, fold}
-use Rattle.std.proofs.lemmas.List.{length-append}
+use Rattle.std.proofs.lemmas.List.{append-nil, length-append, length-map, get_or_default}
+use Rattle.std.proofs.lemmas.Bool.{cases_eq}
 use Rattle.std.proofs.lemmas.List.Elements.{All-append, All-cons, All-nil}
-use Rattle.std.proofs.Math.Seq.{set-append_seam}
+use Rattle.std.proofs.Math.Seq.{set-append_seam, drop-length}
 use Rattle.std.specs.List.{All}
 use prog.Memory.{up}
 use Rattle.pz_base.proofs.ListLemmas.{drop-next}
@@ -12,12 +13,15 @@ use Rattle.pz_cells.specs.declared.piece.Piece.{Piece}
 use Rattle.pz_cells.specs.Sameness.{same_cell}
 use Rattle.pz_cells.proofs.SameLemmas.{same_cell_is, same_cell_self}
 use Rattle.pz_sheet.specs.declared.changes.Change.{Change}
-use Rattle.pz_sheet.specs.Changes.{CellChange, changed_from, changed_cells, change_seen, with_cell, restored}
+use Rattle.pz_sheet.specs.Changes.{CellChange, changed_from, changed_cells, change_seen, with_cell, restored, differ_in}
+use Rattle.pz_sheet.specs.Differing.{AreAlikeBetween, Differ, IsNextDiffering}
 use Rattle.pz_sheet.specs.Grid.{Grid, IsLawful, SameSize}
 use Rattle.pz_sheet.specs.Presence.{cell_of}
-use Rattle.pz_sheet.specs.Seen.{seen, grid_of, IsSound}
-use Rattle.pz_sheet.proofs.SameLemmas.{AreAlike, seen_alike, alike_seen}
-use Rattle.pz_sheet.proofs.SheetLemmas.{seen_within, seen_at, sound_at}
+use Rattle.pz_sheet.specs.Searching.{IsNext}
+use Rattle.pz_sheet.specs.Seen.{seen, grid_of, IsSound, AreAlike}
+use Rattle.pz_sheet.proofs.HeadingLemmas.{no_cell}
+use Rattle.pz_sheet.proofs.SameLemmas.{seen_alike, alike_seen}
+use Rattle.pz_sheet.proofs.SheetLemmas.{seen_at, sound_at}
 
 -- ---- cells put back
 abbrev put_back : List (List (Option Piece)) → CellChange → List (List (Option Piece))
@@ -100,40 +104,63 @@ module _ (N depth : ℕ) (layers : List ℕ) (low : All (λ l. l < depth) layers
 pub record AreFound (N depth : ℕ) (layers : List ℕ) (cells older : List (Cell N)) (changes : List (Change N)) (index : ℕ) : Type 0 where
   pub changes_are : map (change_seen N depth layers) changes ++ left_from N depth layers cells older index ≡ changed_from 0 (map (seen N depth layers) cells) (map (seen N depth layers) older)
   pub within : All (λ change. (change.index < length cells) × IsSound N layers change.cell) changes
+  pub low : index ≤ length cells
 
--- a cell of both, and whether its words have the same numbers
-pub record AreRead (N depth : ℕ) (layers : List ℕ) (cells older : List (Cell N)) (index : ℕ) (x y : Cell N) (r : Bool) : Type 0 where
+-- as many cells of one game
+pub record ArePaired (N depth : ℕ) (layers : List ℕ) (cells older : List (Cell N)) : Type 0 where
   pub low : All (λ l. l < depth) layers
-  pub in_cells : index < length cells
   pub long : length cells ≡ length older
-  pub is_x : x ≡ get_or cells index x
-  pub is_y : y ≡ get_or older index y
   pub sound : All (IsSound N layers) cells
   pub sound_older : All (IsSound N layers) older
-  pub decides : IsTrue r ↔ AreAlike N x y
 
-left_read : (N depth : ℕ) (layers : List ℕ) (cells older : List (Cell N)) (index : ℕ) (x y : Cell N) (r b : Bool) → AreRead N depth layers cells older index x y r → r ≡ b
-    → left_from N depth layers cells older index ≡ cond b (left_from N depth layers cells older (index + 1)) (record { number = index; cell = seen N depth layers y } ∷ left_from N depth layers cells older (index + 1))
-left_read N depth layers cells older index x y r b a is =
-    left_more N depth layers a.low cells older index x y r a.in_cells a.long a.is_x a.is_y a.sound a.sound_older a.decides
-    ∙ ap (λ (t : Bool). cond t (left_from N depth layers cells older (index + 1)) (record { number = index; cell = seen N depth layers y } ∷ left_from N depth layers cells older (index + 1))) is
+module _ (N depth : ℕ) (layers : List ℕ) (cells older : List (Cell N)) (p : ArePaired N depth layers cells older) where
+  abbrev left : ℕ → List CellChange
+  left = left_from N depth layers cells older
 
-pub found_same : (N depth : ℕ) (layers : List ℕ) (cells older : List (Cell N)) (index : ℕ) (x y : Cell N) (r : Bool) (changes now : List (Change N)) → AreRead N depth layers cells older index x y r → r ≡ true → now ≡ changes → AreFound N depth layers cells older changes index → AreFound N depth layers cells older now (index + 1)
-found_same N depth layers cells older index x y r changes now a is same f = subst (λ (all : List (Change N)). AreFound N depth layers cells older all (index + 1)) (sym same) (record {
-  changes_are = ap (λ (l : List CellChange). map (change_seen N depth layers) changes ++ l) (sym (left_read N depth layers cells older index x y r true a is)) ∙ f.changes_are;
-  within = f.within;
-})
+  left_alike : (index : ℕ) → index < length cells → AreAlike N (get_or cells index (no_cell N)) (get_or older index (no_cell N)) → left index ≡ left (index + 1)
+  left_alike index within same =
+      let x = get_or cells index (no_cell N) in
+      let y = get_or older index (no_cell N) in
+      left_more N depth layers p.low cells older index x y true within p.long (get_or_default cells index (no_cell N) x within) (get_or_default older index (no_cell N) y (omega (arith, within, p.long))) p.sound p.sound_older (λ _. same, λ _. refl)
 
-pub found_more : (N depth : ℕ) (layers : List ℕ) (cells older : List (Cell N)) (index : ℕ) (x y : Cell N) (r : Bool) (changes now : List (Change N)) → AreRead N depth layers cells older index x y r → r ≡ false → now ≡ changes ++ record { index = index; cell = y } ∷ [] → AreFound N depth layers cells older changes index → AreFound N depth layers cells older now (index + 1)
-found_more N depth layers cells older index x y r changes now a is more f =
-    let new : Change N = record { index = index; cell = y } in
-    let P : Change N → Type 0 = λ change. (change.index < length cells) × IsSound N layers change.cell in
-    let sound : IsSound N layers y = subst (IsSound N layers) (sym a.is_y) (a.sound_older index y (omega (arith, a.in_cells, a.long))) in
-    record {
-      changes_are = seen_more N depth layers changes now new (left_from N depth layers cells older (index + 1)) more
-          ∙ (ap (λ (l : List CellChange). map (change_seen N depth layers) changes ++ l) (sym (left_read N depth layers cells older index x y r false a is)) ∙ f.changes_are);
-      within = subst (All P) (sym more) (All-append P changes (new ∷ []) f.within (All-cons P new [] (a.in_cells, sound) (All-nil P)));
-    }
+  -- cells that are alike leave nothing
+  left_behind : (from index : ℕ) → from ≤ index → index ≤ length cells → AreAlikeBetween N cells older from index → left from ≡ left index
+  left_behind from zero low high same = let here : from ≡ zero = omega (arith, low) in ap left here
+  left_behind from (suc index) low high same = elim (cases_eq from (suc index)) [
+    | inl here ↦ ap left here
+    | inr apart ↦
+        left_behind from index (omega (arith, low, apart)) (omega (arith, high)) (λ k cell other from_k below. same k cell other from_k (omega (arith, below)))
+        ∙ (left_alike index (omega (arith, high)) (same index (no_cell N) (no_cell N) (omega (arith, low, apart)) (omega arith)) ∙ (let next : index + 1 ≡ suc index = omega arith in ap left next))
+  ]
+
+  -- one more is found
+  pub found_more : (changes now : List (Change N)) (from index : ℕ) (cell : Cell N) → from ≤ index → index < length cells → AreAlikeBetween N cells older from index → Differ N cells older index → cell ≡ get_or older index cell → now ≡ changes ++ record { index = index; cell = cell } ∷ []
+      → AreFound N depth layers cells older changes from → AreFound N depth layers cells older now (index + 1)
+  found_more changes now from index cell low within same differ is more f =
+      let new : Change N = record { index = index; cell = cell } in
+      let P : Change N → Type 0 = λ change. (change.index < length cells) × IsSound N layers change.cell in
+      let within_older : index < length older = omega (arith, within, p.long) in
+      let sound : IsSound N layers cell = subst (IsSound N layers) (sym is) (p.sound_older index cell within_older) in
+      let x = get_or cells index cell in
+      let decides : IsTrue false ↔ AreAlike N x cell = (λ (e : false ≡ true). cc, λ alike. absurd (differ cell cell (subst (λ (c : Cell N). AreAlike N x c) is alike))) in
+      let here : left index ≡ change_seen N depth layers new ∷ left (index + 1) =
+      left_more N depth layers p.low cells older index x cell false within p.long (get_or_default cells index cell x within) is p.sound p.sound_older decides in
+      record {
+        changes_are = seen_more N depth layers changes now new (left (index + 1)) more
+            ∙ (ap (λ (l : List CellChange). map (change_seen N depth layers) changes ++ l) (sym (left_behind from index low (omega (arith, within)) same ∙ here)) ∙ f.changes_are);
+        within = subst (All P) (sym more) (All-append P changes (new ∷ []) f.within (All-cons P new [] (within, sound) (All-nil P)));
+        low = omega (arith, within);
+      }
+
+  left_none : left (length cells) ≡ []
+  left_none = ap (λ (xs : List (Cell N)). changed_from (length cells) (map (seen N depth layers) xs) (map (seen N depth layers) (drop (length cells) older))) (drop-length cells)
+
+  -- all are found
+  pub all_found : (changes : List (Change N)) (from : ℕ) → AreAlikeBetween N cells older from (length cells) → AreFound N depth layers cells older changes from
+      → map (change_seen N depth layers) changes ≡ changed_from 0 (map (seen N depth layers) cells) (map (seen N depth layers) older)
+  all_found changes from same f =
+      sym (append-nil (map (change_seen N depth layers) changes))
+      ∙ (ap (λ (l : List CellChange). map (change_seen N depth layers) changes ++ l) (sym (left_behind from (length cells) f.low (omega arith) same ∙ left_none)) ∙ f.changes_are)
 
 -- a change of a cell of up to four words is no larger than memory
 pub small_change : (n : ℕ) → n ≤ 4 → up 16 (16 + up 16 (up 16 (0 + n * 16) + n * 16)) < 2 ^ 63
@@ -148,26 +175,26 @@ small_change (suc (suc (suc (suc (suc n))))) h = absurd (omega (arith, h))
 pub as_long : (wa ha wb hb na nb : ℕ) → wa ≡ wb → ha ≡ hb → na ≡ wa * ha → nb ≡ wb * hb → na ≡ nb
 as_long wa ha wb hb na nb width height a b = a ∙ (ap (λ (w : ℕ). w * ha) width ∙ (ap (λ (h : ℕ). wb * h) height ∙ sym b))
 
--- two levels in words, and a number of a cell of both
-pub record AreBoth (N wa ha da : ℕ) (la : List ℕ) (ca : List (Cell N)) (wb hb db : ℕ) (lb : List ℕ) (cb : List (Cell N)) (grid other : Grid) (index : ℕ) : Type 0 where
+-- two levels in words, of one size
+pub record AreBoth (N wa ha da : ℕ) (la : List ℕ) (ca : List (Cell N)) (wb hb db : ℕ) (lb : List ℕ) (cb : List (Cell N)) (grid other : Grid) : Type 0 where
   pub size : SameSize grid other
   pub is : grid_of N wa ha da la ca ≡ grid
   pub is_other : grid_of N wb hb db lb cb ≡ other
   pub covers : length ca ≡ wa * ha
   pub covers_other : length cb ≡ wb * hb
+  pub layered : All (λ l. l < da) la
   pub sound : All (IsSound N la) ca
   pub sound_other : All (IsSound N lb) cb
-  pub within : index < length grid.cells
 
-module _ (N wa ha da : ℕ) (la : List ℕ) (ca : List (Cell N)) (wb hb db : ℕ) (lb : List ℕ) (cb : List (Cell N)) (grid other : Grid) (index : ℕ) (a : AreBoth N wa ha da la ca wb hb db lb cb grid other index) where
-  pub in_first : index < length ca
-  in_first = seen_within N wa ha da la ca grid index a.is a.within
+module _ (N wa ha da : ℕ) (la : List ℕ) (ca : List (Cell N)) (wb hb db : ℕ) (lb : List ℕ) (cb : List (Cell N)) (grid other : Grid) (a : AreBoth N wa ha da la ca wb hb db lb cb grid other) where
+  many : length grid.cells ≡ length ca
+  many = ap (λ (g : Grid). length g.cells) (sym a.is) ∙ length-map ca (seen N da la)
 
-  pub in_second : index < length cb
-  in_second =
+  pub as_many : length ca ≡ length cb
+  as_many =
       let width : wa ≡ wb = ap (λ (g : Grid). g.width) a.is ∙ (sym a.size.width ∙ sym (ap (λ (g : Grid). g.width) a.is_other)) in
       let height : ha ≡ hb = ap (λ (g : Grid). g.height) a.is ∙ (sym a.size.height ∙ sym (ap (λ (g : Grid). g.height) a.is_other)) in
-      omega (arith, in_first, as_long wa ha wb hb (length ca) (length cb) width height a.covers a.covers_other)
+      as_long wa ha wb hb (length ca) (length cb) width height a.covers a.covers_other
 
   over_layers : la ≡ lb
   over_layers = ap (λ (g : Grid). g.layers) a.is ∙ (sym a.size.layers ∙ sym (ap (λ (g : Grid). g.layers) a.is_other))
@@ -175,17 +202,43 @@ module _ (N wa ha da : ℕ) (la : List ℕ) (ca : List (Cell N)) (wb hb db : ℕ
   over_depth : da ≡ db
   over_depth = ap (λ (g : Grid). g.depth) a.is ∙ (sym a.size.depth ∙ sym (ap (λ (g : Grid). g.depth) a.is_other))
 
+  pub in_second : (index : ℕ) → index < length grid.cells → index < length cb
+  in_second index within = omega (arith, within, many, as_many)
+
   -- the other's cell is of the first one's game
-  pub sound_there : (y : Cell N) → y ≡ get_or cb index y → IsSound N la y
-  sound_there y is_y = subst (λ (l : List ℕ). IsSound N l y) (sym over_layers) (sound_at N lb cb index y a.sound_other in_second is_y)
+  pub sound_there : (index : ℕ) (y : Cell N) → index < length cb → y ≡ get_or cb index y → IsSound N la y
+  sound_there index y within is_y = subst (λ (l : List ℕ). IsSound N l y) (sym over_layers) (sound_at N lb cb index y a.sound_other within is_y)
 
   -- and is seen so as in the other
-  pub seen_there : (y : Cell N) → y ≡ get_or cb index y → seen N da la y ≡ cell_of other index
-  seen_there y is_y =
-      ap (λ (d : ℕ). seen N d la y) over_depth ∙ (ap (λ (l : List ℕ). seen N db l y) over_layers ∙ seen_at N wb hb db lb cb other index y a.is_other in_second is_y)
+  pub seen_there : (index : ℕ) (y : Cell N) → index < length cb → y ≡ get_or cb index y → seen N da la y ≡ cell_of other index
+  seen_there index y within is_y =
+      ap (λ (d : ℕ). seen N d la y) over_depth ∙ (ap (λ (l : List ℕ). seen N db l y) over_layers ∙ seen_at N wb hb db lb cb other index y a.is_other within is_y)
 
-  -- the words tell whether both are the same
-  pub same_there : (x y : Cell N) (r : Bool) → All (λ l. l < da) la → x ≡ get_or ca index x → y ≡ get_or cb index y → (IsTrue r ↔ AreAlike N x y) → r ≡ same_cell (cell_of grid index) (cell_of other index)
-  same_there x y r low is_x is_y decides =
-      sym (test_is N da la low x y r (sound_at N la ca index x a.sound in_first is_x) (sound_there y is_y) decides)
-      ∙ (ap (λ (cell : List (Option Piece)). same_cell cell (seen N da la y)) (seen_at N wa ha da la ca grid index x a.is in_first is_x) ∙ ap (same_cell (cell_of grid index)) (seen_there y is_y))
+  -- the words tell whether the cells of a number are the same
+  same_there : (index : ℕ) (r : Bool) → index < length ca → (IsTrue r ↔ AreAlike N (get_or ca index (no_cell N)) (get_or cb index (no_cell N))) → r ≡ same_cell (cell_of grid index) (cell_of other index)
+  same_there index r within decides =
+      let x = get_or ca index (no_cell N) in
+      let y = get_or cb index (no_cell N) in
+      let within_other : index < length cb = omega (arith, within, as_many) in
+      let is_x : x ≡ get_or ca index x = get_or_default ca index (no_cell N) x within in
+      let is_y : y ≡ get_or cb index y = get_or_default cb index (no_cell N) y within_other in
+      sym (test_is N da la a.layered x y r (sound_at N la ca index x a.sound within is_x) (sound_there index y within_other is_y) decides)
+      ∙ (ap (λ (cell : List (Option Piece)). same_cell cell (seen N da la y)) (seen_at N wa ha da la ca grid index x a.is within is_x) ∙ ap (same_cell (cell_of grid index)) (seen_there index y within_other is_y))
+
+  alike_same : (index : ℕ) → index < length ca → AreAlike N (get_or ca index (no_cell N)) (get_or cb index (no_cell N)) → differ_in grid other index ≡ false
+  alike_same index within same = ap not (sym (same_there index true within (λ _. same, λ _. refl)))
+
+  other_differs : (index : ℕ) → index < length ca → Differ N ca cb index → differ_in grid other index ≡ true
+  other_differs index within differ =
+      ap not (sym (same_there index false within (λ (e : false ≡ true). cc, λ same. absurd (differ (no_cell N) (no_cell N) same))))
+
+  -- the next cell whose words differ is the next that is seen to differ
+  pub next_is : (from : ℕ) (found : Option ℕ) → IsNextDiffering N ca cb from found → IsNext (differ_in grid other) from (length grid.cells) found
+  next_is from None same =
+      λ number low high. alike_same number (omega (arith, high, many)) (same number (no_cell N) (no_cell N) low (omega (arith, high, many)))
+  next_is from (Some found) n = (
+    n.0,
+    omega (arith, n.1, many),
+    other_differs found n.1 n.2,
+    λ number low high. alike_same number (omega (arith, high, n.1)) (n.3 number (no_cell N) (no_cell N) low high),
+  )

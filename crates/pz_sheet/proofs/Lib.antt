@@ -4,6 +4,7 @@ pub mod MapLemmas
 pub mod PushLemmas
 pub mod LoadLemmas
 pub mod SameLemmas
+pub mod DifferingLemmas
 pub mod HeadingLemmas
 pub mod ChangeLemmas
 pub mod LineLemmas

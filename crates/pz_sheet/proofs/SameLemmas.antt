@@ -1,21 +1,15 @@
 -- Levels in words are the same if their words have the same numbers.
-use Rattle.std.proofs.Common.{◌≡◌, inl, inr, ℕ, ◌+◌, ◌<◌, ◌≤◌, List, [], Option, Bool, true, false, map, length, get_or, ap, sym, ◌∙◌, refl, subst, arith}
+use Rattle.std.proofs.Common.{◌≡◌, ℕ, ◌<◌, List, [], Option, Bool, true, map, length, get_or, ap, sym, ◌∙◌, refl, subst, arith}
 use Rattle.std.specs.Prelude.{IsTrue, ◌↔◌}
-use Rattle.std.proofs.lemmas.List.{length-map, get_or-map, get_or_default, ext_get_or}
-use Rattle.std.proofs.lemmas.Bool.{cases_eq}
+use Rattle.std.proofs.lemmas.List.{length-map, get_or-map, ext_get_or}
 use Rattle.std.specs.List.{All}
-use Rattle.pz_sets.specs.Sets.{AreSame}
 use Rattle.pz_game.specs.Headings.{flag}
 use Rattle.pz_game.proofs.FlagLemmas.{each_number}
 use Rattle.pz_cells.specs.declared.cell.Cell.{Cell}
 use Rattle.pz_cells.specs.declared.piece.Piece.{Piece}
 use Rattle.pz_cells.proofs.RewriteLemmas.{cell_alike, objects_alike, heads_alike}
 use Rattle.pz_sheet.specs.Grid.{Grid}
-use Rattle.pz_sheet.specs.Seen.{seen, grid_of, IsSound, HeadingSets, IsStored, HaveSame}
-
--- two sets of words that have the same numbers
-abbrev pub AreAlike : (N : ℕ) → Cell N → Cell N → Type 0
-AreAlike N cell other = AreSame cell.objects other.objects × AreSame cell.movement other.movement
+use Rattle.pz_sheet.specs.Seen.{seen, grid_of, IsSound, HeadingSets, IsStored, AreAlike, HaveSame}
 
 pub seen_alike : (N depth : ℕ) (layers : List ℕ) (cell other : Cell N) → IsSound N layers cell → IsSound N layers other → AreAlike N cell other → seen N depth layers cell ≡ seen N depth layers other
 seen_alike N depth layers cell other sound sound_other same =
@@ -83,23 +77,3 @@ module _ (N wa ha da : ℕ) (la : List ℕ) (sa : List (List ℕ)) (ca : List (C
     λ u. sym is ∙ (grids_same (subst (λ (g : Grid). AreSized g (grid_of N wb hb db lb cb)) (sym is) (subst (AreSized grid) (sym is_other) (first.0 t))) (second.0 u) ∙ is_other),
     λ e. second.1 (same_grids (is ∙ (e ∙ sym is_other))),
   )
-
--- ---- a loop over the cells of both
-abbrev pub AreAlikeTo : (N : ℕ) → List (Cell N) → List (Cell N) → ℕ → Type 0
-AreAlikeTo N a b index = (k : ℕ) (cell other : Cell N) → k < index → AreAlike N (get_or a k cell) (get_or b k other)
-
-pub alike_more : (N : ℕ) (a b : List (Cell N)) (index : ℕ) (x y : Cell N) → index < length a → length a ≡ length b → x ≡ get_or a index x → y ≡ get_or b index y → AreAlike N x y → AreAlikeTo N a b index → AreAlikeTo N a b (index + 1)
-alike_more N a b index x y within long is_x is_y same before k cell other h = elim (cases_eq k index) [
-  | inl here ↦ (let p : x ≡ get_or a k cell = is_x ∙ (get_or_default a index x cell within ∙ ap (λ (i : ℕ). get_or a i cell) (sym here)) in
-      let q : y ≡ get_or b k other = is_y ∙ (get_or_default b index y other (omega (arith, within, long)) ∙ ap (λ (i : ℕ). get_or b i other) (sym here)) in
-      subst (λ (c : Cell N). AreAlike N c (get_or b k other)) p (subst (λ (c : Cell N). AreAlike N x c) q same))
-  | inr apart ↦ before k cell other (omega (arith, h, apart))
-]
-
-pub alike_all : (N : ℕ) (a b : List (Cell N)) (index : ℕ) → length a ≤ index → length a ≡ length b → AreAlikeTo N a b index → HaveSame N a b
-alike_all N a b index past long before = record { long = long; alike = λ k cell other h. before k cell other (omega (arith, past, h)) }
-
--- two cells that differ
-pub not_alike : (N : ℕ) (a b : List (Cell N)) (index : ℕ) (x y : Cell N) (result : Bool) → index < length a → x ≡ get_or a index x → y ≡ get_or b index y → (IsTrue result ↔ AreAlike N x y) → result ≡ false → HaveSame N a b → false ≡ true
-not_alike N a b index x y result within is_x is_y decides differ same =
-    sym differ ∙ decides.1 (subst (λ (c : Cell N). AreAlike N c y) (sym is_x) (subst (λ (c : Cell N). AreAlike N (get_or a index x) c) (sym is_y) (same.alike index x y within)))

@@ -64,6 +64,9 @@ module _ (N width height depth : ℕ) (layers : List ℕ) (sets : List (List ℕ
       same_all (map still_place) (map (seen N depth layers) cells) (All-map (λ cell. cell ≡ map still_place cell) (seen N depth layers) cells
       (λ k d within. still_seen N depth layers (get_or cells k d) (s.sound k d within) (none_within (get_or cells k d).movement notes.whole (s.noted.each k d within).whole none)))
 
+  pub all_head_nowhere : ((number : ℕ) → member notes.whole number ≡ false) → HeadNowhere N cells
+  all_head_nowhere none index cell number within = none_within (get_or cells index cell).movement notes.whole (s.noted.each index cell within).whole none number
+
 -- cells that head nowhere need no notes
 pub noted_nowhere : (N width height : ℕ) (notes : HeadingSets) (cells : List (Cell N)) → length notes.rows ≡ height → length notes.columns ≡ width → HeadNowhere N cells → AreNoted N width height notes cells
 noted_nowhere N width height notes cells rows columns nowhere = record {

@@ -4,6 +4,7 @@ pub mod Seen
 pub mod Standing
 pub mod Sameness
 pub mod Changes
+pub mod Differing
 pub mod Presence
 pub mod Movement
 pub mod Pushing

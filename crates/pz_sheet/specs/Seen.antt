@@ -89,7 +89,11 @@ pub record AreMapped (N depth : ℕ) (layers : List ℕ) (f : List (Option Piece
   pub sound : All (IsSound N layers) new
   pub cells : map (seen N depth layers) new ≡ map f (map (seen N depth layers) old)
 
+-- the words of two cells have the same numbers
+abbrev pub AreAlike : (N : ℕ) → Cell N → Cell N → Type 0
+AreAlike N cell other = AreSame cell.objects other.objects × AreSame cell.movement other.movement
+
 -- cells of words that have the same numbers, cell by cell
 pub record HaveSame (N : ℕ) (a b : List (Cell N)) : Type 0 where
   pub long : length a ≡ length b
-  pub alike : (index : ℕ) (cell other : Cell N) → index < length a → AreSame (slice_index_or a index cell).objects (slice_index_or b index other).objects × AreSame (slice_index_or a index cell).movement (slice_index_or b index other).movement
+  pub alike : (index : ℕ) (cell other : Cell N) → index < length a → AreAlike N (slice_index_or a index cell) (slice_index_or b index other)

@@ -1,14 +1,14 @@
 //! The cells in which a level differs from an older one, and the way back to that.
 
-ghost use Rattle.std.specs.Prelude.{◌≡◌, ◌≤◌, ◌<◌, ◌+◌, ◌++◌, All, IfOk, OnOk, OnErr, length, map, drop};
-ghost use Rattle.pz_cells.specs.Sameness.{same_cell};
+ghost use Rattle.std.specs.Prelude.{◌≡◌, true, ◌≤◌, ◌<◌, ◌+◌, ◌++◌, All, IfOk, OnOk, OnErr, length, map, drop};
 ghost use Rattle.pz_sheet.specs.Changes.{changed_from, changed_cells, change_seen, changes_seen, IsChangeOf, with_cell, restored, differ_in, cell_there};
 ghost use Rattle.pz_sheet.specs.Grid.{SameSize};
-ghost use Rattle.pz_sheet.specs.Presence.{cell_of};
 ghost use Rattle.pz_sheet.specs.Searching.{IsNext};
-ghost use Rattle.pz_sheet.specs.Seen.{seen, IsSound};
+ghost use Rattle.pz_sheet.specs.Seen.{seen, IsSound, HeadNowhere};
 
 use crate::Sheet;
+use crate::differing::next_differing;
+use crate::notes::are_empty;
 use pz_cells::cell::Cell;
 use std::alloc::{AllocError, Global};
 
@@ -57,7 +57,15 @@ impl<const N: usize> Sheet<N> {
         ensures way_back { IfOk result (λ changes. restored (changes_seen N self.now.grid changes.items) self.now.grid ≡ older.now.grid) }
     {
         let alloc = *self.cells.allocator();
-        changes_between(alloc, self.depth, &self.layers, &self.cells, &older.cells)
+        let are_still = are_empty(&self.notes, &older.notes);
+        changes_between(
+            alloc,
+            self.depth,
+            &self.layers,
+            &self.cells,
+            &older.cells,
+            are_still,
+        )
     }
 
     /// Puts the cells of an older level back.
@@ -81,26 +89,13 @@ impl<const N: usize> Sheet<N> {
         self.planes.note_at(change.index, &before, &change.cell);
     }
 
-    /// Whether another level of the same size has the same in the cell of a number.
-    fn is_same_in(&self, other: &Sheet<N>, index: usize) -> bool
-        requires size { SameSize self.now.grid other.now.grid }
-        requires within { index < length self.now.grid.cells }
-        ensures { result ≡ same_cell (cell_of self.now.grid index) (cell_of other.now.grid index) }
-    {
-        self.cells[index].same(&other.cells[index])
-    }
-
     /// The number of the first cell from one on in which another level of the same size differs.
     pub fn next_change(&self, other: &Sheet<N>, from: usize) -> Option<usize>
         requires size { SameSize self.now.grid other.now.grid }
         ensures { IsNext (differ_in self.now.grid other.now.grid) from (length self.now.grid.cells) result }
     {
-        for index in from..self.cell_count() {
-            if !self.is_same_in(other, index) {
-                return Some(index);
-            }
-        }
-        None
+        let are_still = are_empty(&self.notes, &other.notes);
+        next_differing(&self.cells, &other.cells, are_still, from)
     }
 
     /// Puts the cell of a number of another level of the same size in the place of its own.
@@ -116,18 +111,22 @@ impl<const N: usize> Sheet<N> {
     }
 }
 
+/// The cells in which an older level differs. Where no cell of either heads anywhere, the objects alone are looked at.
 fn changes_between<const N: usize>(
     alloc: Global,
     depth: usize,
     layers: &[usize],
     cells: &[Cell<N>],
     older: &[Cell<N>],
+    are_still: bool,
 ) -> Result<Vec<Change<N>>, AllocError>
     requires short { N ≤ 4 }
     requires layered { All (λ layer. layer < depth) layers.now }
     requires sound { All (IsSound N layers.now) cells.now }
     requires older_sound { All (IsSound N layers.now) older.now }
     requires long { length cells.now ≡ length older.now }
+    requires still { are_still ≡ true → HeadNowhere N cells.now }
+    requires older_still { are_still ≡ true → HeadNowhere N older.now }
     ensures changes { IfOk result (λ changes. map (change_seen N depth layers.now) changes.items ≡ changed_from 0 (map (seen N depth layers.now) cells.now) (map (seen N depth layers.now) older.now)) }
     ensures within { IfOk result (λ changes. All (λ change. (change.index < length cells.now) × IsSound N layers.now change.cell) changes.items) }
 {
@@ -135,11 +134,11 @@ fn changes_between<const N: usize>(
     let _ = depth;
     let _ = layers;
     let mut changes = Vec::new(alloc);
-    for index in 0..cells.len() {
-        let old = &older[index];
-        if !cells[index].same(old) {
-            changes.push(Change { index, cell: *old })?;
-        }
+    let mut from = 0;
+    'changes: while let Some(index) = next_differing(cells, older, are_still, from) {
+        let cell = older[index];
+        changes.push(Change { index, cell })?;
+        from = index + 1;
     }
     Ok(changes)
 }

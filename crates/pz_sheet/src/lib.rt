@@ -13,6 +13,7 @@ use std::marker::Model;
 mod bits;
 pub mod changes;
 mod copying;
+mod differing;
 mod headings;
 mod holding;
 mod lines;

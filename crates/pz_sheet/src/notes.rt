@@ -173,6 +173,14 @@ pub(crate) fn is_empty(headings: &NumberSet) -> bool
     headings.same(&NumberSet::empty())
 }
 
+/// Whether no heading is noted of two levels.
+pub(crate) fn are_empty(notes: &Notes, others: &Notes) -> bool
+    ensures first { result ≡ true → (number : ℕ) → member notes.now.whole number ≡ false }
+    ensures second { result ≡ true → (number : ℕ) → member others.now.whole number ≡ false }
+{
+    is_empty(notes.whole()) && is_empty(others.whole())
+}
+
 /// Adds headings to the set of a line.
 fn widen(sets: &mut Vec<NumberSet>, line: usize, headings: &NumberSet)
     requires { line < length sets.old.items }

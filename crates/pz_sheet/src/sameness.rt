@@ -1,9 +1,11 @@
 //! Whether two levels are the same.
 
-ghost use Rattle.std.specs.Prelude.{◌≡◌, ◌≤◌, ◌↔◌, IsTrue};
-ghost use Rattle.pz_sheet.specs.Seen.{HaveSame};
+ghost use Rattle.std.specs.Prelude.{◌≡◌, ◌≤◌, ◌↔◌, IsTrue, true};
+ghost use Rattle.pz_sheet.specs.Seen.{HaveSame, HeadNowhere};
 
 use crate::Sheet;
+use crate::differing::next_differing;
+use crate::notes::are_empty;
 use pz_cells::cell::Cell;
 
 impl<const N: usize> Sheet<N> {
@@ -21,22 +23,17 @@ impl<const N: usize> Sheet<N> {
     pub fn equals(&self, other: &Sheet<N>) -> bool
         ensures { IsTrue result ↔ (self.now.grid ≡ other.now.grid) }
     {
-        self.same_size(other) && same_cells(&self.cells, &other.cells)
+        let are_still = are_empty(&self.notes, &other.notes);
+        self.same_size(other) && same_cells(&self.cells, &other.cells, are_still)
     }
 }
 
-/// Whether the words of the cells have the same numbers.
-fn same_cells<const N: usize>(a: &[Cell<N>], b: &[Cell<N>]) -> bool
+/// Whether the words of the cells have the same numbers. Where no cell of either heads anywhere, the objects alone are looked at.
+fn same_cells<const N: usize>(a: &[Cell<N>], b: &[Cell<N>], are_still: bool) -> bool
     requires short { N ≤ 4 }
+    requires still { are_still ≡ true → HeadNowhere N a.now }
+    requires others_still { are_still ≡ true → HeadNowhere N b.now }
     ensures { IsTrue result ↔ HaveSame N a.now b.now }
 {
-    if a.len() != b.len() {
-        return false;
-    }
-    for index in 0..a.len() {
-        if !a[index].same(&b[index]) {
-            return false;
-        }
-    }
-    true
+    a.len() == b.len() && next_differing(a, b, are_still, 0).is_none()
 }

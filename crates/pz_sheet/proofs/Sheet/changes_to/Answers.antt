@@ -3,9 +3,10 @@ use Rattle.std.proofs.lemmas.Result.{IfOk-weaker}
 use Rattle.pz_cells.specs.declared.cell.Cell.{Cell}
 use Rattle.pz_sheet.specs.Changes.{changed_cells, changes_seen, restored}
 use Rattle.pz_sheet.specs.Grid.{Grid, BareState, IsLawful}
-use Rattle.pz_sheet.specs.Seen.{IsSound}
+use Rattle.pz_sheet.specs.Seen.{IsSound, HeadNowhere}
 use Rattle.pz_sheet.proofs.SheetLemmas.{small_cell, lawful_seen}
 use Rattle.pz_sheet.proofs.MapLemmas.{sound_read}
+use Rattle.pz_sheet.proofs.StillLemmas.{all_head_nowhere}
 use Rattle.pz_sheet.proofs.ChangeLemmas.{small_change, way_back_by}
 use Rattle.pz_sheet.proofs.Sheet.changes_to.Goals as goal
 
@@ -29,7 +30,13 @@ changes_between-requires g c =
               subst (λ (cells : List (Cell g.row.N)). All (IsSound g.row.N c.deref.result.now) cells) (sym c.deref-2.ensures.value) (sound_read g.row.N a.layers.items c.deref.result.now a.cells.items c.deref.ensures.value c.self.invariant.stored.sound),
               (
                 subst (λ (cells : List (Cell g.row.N)). All (IsSound g.row.N c.deref.result.now) cells) (sym c.deref-3.ensures.value) (sound_read g.row.N b.layers.items c.deref.result.now b.cells.items layers c.older.invariant.stored.sound),
-                ap length c.deref-2.ensures.value ∙ (c.self.invariant.stored.covers ∙ (ap (λ (w : ℕ). w * a.height) width ∙ (ap (λ (h : ℕ). b.width * h) height ∙ (sym c.older.invariant.stored.covers ∙ sym (ap length c.deref-3.ensures.value))))),
+                (
+                  ap length c.deref-2.ensures.value ∙ (c.self.invariant.stored.covers ∙ (ap (λ (w : ℕ). w * a.height) width ∙ (ap (λ (h : ℕ). b.width * h) height ∙ (sym c.older.invariant.stored.covers ∙ sym (ap length c.deref-3.ensures.value))))),
+                  (
+                    λ still. subst (HeadNowhere g.row.N) (sym c.deref-2.ensures.value) (all_head_nowhere g.row.N a.width a.height a.depth a.layers.items a.sets.items a.cells.items a.notes c.self.invariant.stored (c.are_empty-are_still.ensures.first still)),
+                    λ still. subst (HeadNowhere g.row.N) (sym c.deref-3.ensures.value) (all_head_nowhere g.row.N b.width b.height b.depth b.layers.items b.sets.items b.cells.items b.notes c.older.invariant.stored (c.are_empty-are_still.ensures.second still)),
+                  ),
+                ),
               ),
             ),
           ),

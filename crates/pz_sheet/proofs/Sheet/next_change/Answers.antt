@@ -1,0 +1,55 @@
+use Rattle.std.proofs.Common.{List, length, ap, sym, ◌∙◌, subst}
+use Rattle.pz_cells.specs.declared.cell.Cell.{Cell}
+use Rattle.pz_sheet.specs.Differing.{IsNextDiffering}
+use Rattle.pz_sheet.specs.Grid.{BareState}
+use Rattle.pz_sheet.specs.Seen.{HeadNowhere}
+use Rattle.pz_sheet.proofs.ChangeLemmas.{AreBoth, as_many, next_is}
+use Rattle.pz_sheet.proofs.SheetLemmas.{small_cell}
+use Rattle.pz_sheet.proofs.StillLemmas.{all_head_nowhere}
+use Rattle.pz_sheet.proofs.Sheet.next_change.Goals as goal
+
+pub next_differing-requires : goal.next_differing-requires
+next_differing-requires g c =
+    let a = c.self.inside in
+    let b = c.other.inside in
+    let both : AreBoth g.row.N a.width a.height a.depth a.layers.items a.cells.items b.width b.height b.depth b.layers.items b.cells.items c.args.self.now.grid c.args.other.now.grid = record {
+      size = c.requires.size;
+      is = ap (λ (s : BareState). s.grid) c.self.view_is;
+      is_other = ap (λ (s : BareState). s.grid) c.other.view_is;
+      covers = c.self.invariant.stored.covers;
+      covers_other = c.other.invariant.stored.covers;
+      layered = c.self.invariant.stored.layered;
+      sound = c.self.invariant.stored.sound;
+      sound_other = c.other.invariant.stored.sound;
+    } in (
+      small_cell _ c.self.invariant.stored.short,
+      (
+        c.self.invariant.stored.short,
+        (
+          ap length c.deref.ensures.value ∙ (as_many _ _ _ _ _ _ _ _ _ _ _ _ _ both ∙ sym (ap length c.deref-2.ensures.value)),
+          (
+            λ still. subst (HeadNowhere g.row.N) (sym c.deref.ensures.value) (all_head_nowhere g.row.N a.width a.height a.depth a.layers.items a.sets.items a.cells.items a.notes c.self.invariant.stored (c.are_empty-are_still.ensures.first still)),
+            λ still. subst (HeadNowhere g.row.N) (sym c.deref-2.ensures.value) (all_head_nowhere g.row.N b.width b.height b.depth b.layers.items b.sets.items b.cells.items b.notes c.other.invariant.stored (c.are_empty-are_still.ensures.second still)),
+          ),
+        ),
+      ),
+    )
+
+pub returns : goal.returns
+returns g c =
+    let a = c.self.inside in
+    let b = c.other.inside in
+    let both : AreBoth g.row.N a.width a.height a.depth a.layers.items a.cells.items b.width b.height b.depth b.layers.items b.cells.items c.args.self.now.grid c.args.other.now.grid = record {
+      size = c.requires.size;
+      is = ap (λ (s : BareState). s.grid) c.self.view_is;
+      is_other = ap (λ (s : BareState). s.grid) c.other.view_is;
+      covers = c.self.invariant.stored.covers;
+      covers_other = c.other.invariant.stored.covers;
+      layered = c.self.invariant.stored.layered;
+      sound = c.self.invariant.stored.sound;
+      sound_other = c.other.invariant.stored.sound;
+    } in
+    let next : IsNextDiffering g.row.N a.cells.items b.cells.items c.args.from c.next_differing.result =
+    subst (λ (there : List (Cell g.row.N)). IsNextDiffering g.row.N a.cells.items there c.args.from c.next_differing.result) c.deref-2.ensures.value
+    (subst (λ (here : List (Cell g.row.N)). IsNextDiffering g.row.N here c.deref-2.result.now c.args.from c.next_differing.result) c.deref.ensures.value c.next_differing.ensures) in
+    next_is _ _ _ _ _ _ _ _ _ _ _ _ _ both c.args.from c.next_differing.result next

@@ -1,0 +1,66 @@
+//! The next cell in which two lists of cells differ.
+
+ghost use Rattle.std.specs.Prelude.{◌≡◌, ◌≤◌, ℕ, true, length};
+ghost use Rattle.pz_sheet.specs.Differing.{IsNextDiffering};
+ghost use Rattle.pz_sheet.specs.Seen.{HeadNowhere};
+
+use pz_cells::cell::Cell;
+use pz_sets::words::same;
+
+/// The number of the first cell from one on in which two lists differ. Where no cell of either heads anywhere, the objects alone are looked at.
+pub(crate) fn next_differing<const N: usize>(
+    cells: &[Cell<N>],
+    others: &[Cell<N>],
+    are_still: bool,
+    from: usize,
+) -> Option<usize>
+    requires short { N ≤ 4 }
+    requires long { length cells.now ≡ length others.now }
+    requires still { are_still ≡ true → HeadNowhere N cells.now }
+    requires others_still { are_still ≡ true → HeadNowhere N others.now }
+    ensures { IsNextDiffering N cells.now others.now from result }
+{
+    if are_still {
+        next_of_objects(cells, others, from)
+    } else {
+        next_of_cells(cells, others, from)
+    }
+}
+
+/// The same of cells that head nowhere.
+fn next_of_objects<const N: usize>(
+    cells: &[Cell<N>],
+    others: &[Cell<N>],
+    from: usize,
+) -> Option<usize>
+    requires short { N ≤ 4 }
+    requires long { length cells.now ≡ length others.now }
+    requires still { HeadNowhere N cells.now }
+    requires others_still { HeadNowhere N others.now }
+    ensures { IsNextDiffering N cells.now others.now from result }
+{
+    for index in from..cells.len() {
+        if !same(&cells[index].objects, &others[index].objects) {
+            return Some(index);
+        }
+    }
+    None
+}
+
+/// The same of all cells.
+fn next_of_cells<const N: usize>(
+    cells: &[Cell<N>],
+    others: &[Cell<N>],
+    from: usize,
+) -> Option<usize>
+    requires short { N ≤ 4 }
+    requires long { length cells.now ≡ length others.now }
+    ensures { IsNextDiffering N cells.now others.now from result }
+{
+    for index in from..cells.len() {
+        if !cells[index].same(&others[index]) {
+            return Some(index);
+        }
+    }
+    None
+}
