@@ -5,3 +5,6 @@ pub mod SameLemmas
 pub mod HoldLemmas
 pub mod FitLemmas
 pub mod RewriteLemmas
+pub mod ListLemmas
+pub mod DrawLemmas
+pub mod DifferingLemmas

@@ -5,3 +5,6 @@ pub mod Pattern
 pub mod Rewriting
 pub mod Shown
 pub mod Rewrites
+pub mod Lists
+pub mod Differing
+pub mod Drawing

@@ -22,7 +22,7 @@ pub struct Cell<const N: usize> {
 
 impl<const N: usize> Cell<N> {
     /// How many words each set has.
-    pub(crate) fn word_count(&self) -> usize
+    pub fn word_count(&self) -> usize
         ensures count { result ≡ N }
         ensures objects { length self.now.objects ≡ N }
         ensures movement { length self.now.movement ≡ N }

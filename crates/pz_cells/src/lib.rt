@@ -1,9 +1,13 @@
-//! Cells of a level: which objects stand there and where they head, as sets in machine words; what holds in a cell, and how it is rewritten.
+//! Cells of a level: which objects stand there and where they head, as sets in machine words; what holds in a cell, and how it is
+//! rewritten; and lists of cells, drawn, filled, stilled and compared.
 #![tactic(auto)]
 
 pub mod cell;
 mod changing;
+pub mod differing;
+pub mod drawing;
 mod matching;
 pub mod piece;
 mod reading;
 mod rewriting;
+pub mod stilling;

@@ -1,6 +1,6 @@
 -- A loop that keeps what a function gives of each element, and stops at the first of which it gives nothing.
 use Rattle.std.proofs.Common.{◌≡◌, ◌+◌, ℕ, ◌<◌, length, get_or, drop, List, [], ◌∷◌, ◌++◌, map, Option, Some, None, option_map, refl, ap, ◌∙◌, sym}
-use Rattle.std.proofs.lemmas.List.{append_assoc, append-nil, at_drop_more}
+use Rattle.std.proofs.lemmas.List.{at_drop_more}
 use Rattle.serde_json.specs.Data.{Data}
 use Rattle.serde_json.specs.declared.value.Value.{Value}
 use Rattle.serde_json.specs.Find.{as_array}

@@ -3,7 +3,6 @@ pub mod Entries
 pub mod Gather
 pub mod InputLists
 pub mod Joining
-pub mod LevelReads
 pub mod Numbers
 pub mod Pieces
 pub mod RoundTrip

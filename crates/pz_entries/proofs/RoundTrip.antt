@@ -16,7 +16,7 @@ use Rattle.std.proofs.lemmas.List.{append_assoc, append-nil, map-append, take_mo
 use Rattle.std.proofs.lemmas.Grind.{flat_map-append}
 use Rattle.pz_record.proofs.KnownCells.{known_more, numbers_more}
 use Rattle.pz_base.specs.NameSet.{number_in}
-use Rattle.pz_record.specs.LevelText.{with_cell, or_added, known_of, numbered, piece, line_end, cell_text, text_of_cells}
+use Rattle.pz_record.specs.CellTexts.{with_cell, or_added, known_of, numbered, piece, line_end, cell_text, text_of_cells}
 use Rattle.pz_entries.specs.Reading.{number_of, cut_last, read_piece, read_from, is_comma, all_ended, reading, no_line_end, plain}
 use Rattle.pz_entries.specs.Names.{name_set}
 use Rattle.pz_entries.proofs.Pieces.{pieces_more}

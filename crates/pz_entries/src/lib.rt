@@ -6,6 +6,5 @@ pub mod entry;
 pub mod fault;
 pub mod file;
 mod input;
-pub mod level_text;
 mod names;
 pub mod reading;

@@ -1,10 +1,9 @@
 -- The numbers of the directions of layers.
-use Rattle.std.proofs.Common.{◌≡◌, inl, inr, ℕ, zero, suc, ◌+◌, ◌*◌, ◌/◌, ◌%◌, ◌<◌, ◌≤◌, List, Bool, false, ◌&&◌, arith, ap, sym, ◌∙◌, refl, subst, nat_eq, eq-eqb}
-use Rattle.std.proofs.lemmas.Bool.{cases_lt, cases_eq, ne_eqb}
+use Rattle.std.proofs.Common.{◌≡◌, inl, inr, ℕ, zero, suc, ◌+◌, ◌*◌, ◌/◌, ◌%◌, ◌<◌, ◌≤◌, List, Bool, false, arith, sym, refl, subst}
+use Rattle.std.proofs.lemmas.Bool.{cases_lt}
 use Rattle.pz_sets.specs.Sets.{member}
 use Rattle.pz_game.specs.declared.direction.Dir.{Dir}
 use Rattle.pz_game.specs.declared.direction.Dir.TheVariants.{Up, Down, Left, Right, Action}
-use Rattle.pz_game.specs.Direction.{same_dir}
 use Rattle.pz_game.specs.Headings.{dir_bit, flag, heads}
 
 pub dir_bit-low : (dir : Dir) → dir_bit dir < 5

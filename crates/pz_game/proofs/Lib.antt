@@ -1,3 +1,2 @@
 pub mod FlagLemmas
 pub mod MaskLemmas
-pub mod SegmentLemmas

@@ -1,14 +1,11 @@
-pub mod Commands
 pub mod Denotation
 pub mod Direction
 pub mod Drawing
 pub mod Game
 pub mod Headings
-pub mod Instance
 pub mod Items
 pub mod Level
 pub mod Masks
 pub mod Pattern
-pub mod Segments
 pub mod Size
 pub mod Word

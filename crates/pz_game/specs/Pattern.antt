@@ -1,5 +1,5 @@
 -- The rows of rules.
-use Rattle.std.specs.Prelude.{ℕ, ◌<◌, ◌≤◌, List, Option, length, All, IfSome, slice_index, ◌≡◌}
+use Rattle.std.specs.Prelude.{ℕ, true, ◌<◌, ◌≤◌, List, Option, length, All, IfSome, slice_index, ◌≡◌}
 use Rattle.std.specs.List.{list_any}
 use Rattle.pz_sets.specs.Sets.{member}
 use Rattle.pz_game.specs.declared.direction.Dir.{Dir}
@@ -46,3 +46,10 @@ AreNamed cells set = (object : ℕ) → member set object ≡ list_any (names_ob
 pub record AreRequired (cells : List (List Item)) (set : List ℕ) : Type 0 where
   pub asked : (layer : ℕ) (dir : Dir) → heads set layer dir ≡ list_any (asks_toward layer dir) cells
   pub proper : IsProper set
+
+-- one of a row's cells asks a layer to head in a direction of a set
+pub record AsksAmong (set : List ℕ) (cells : List (List Item)) : Type 0 where
+  pub layer : ℕ
+  pub dir : Dir
+  pub among : heads set layer dir ≡ true
+  pub asks : list_any (asks_toward layer dir) cells ≡ true

@@ -1,14 +1,11 @@
-//! What a game is made of, as all contracts name it: its parts and what its names denote, its drawn levels, and the instances of
-//! its rules.
+//! What a game is made of, as all contracts name it: its parts and what its names denote, its drawn levels, and the rows
+//! of its rules.
 #![tactic(auto)]
 
-pub mod commands;
 pub mod denotation;
 pub mod direction;
 pub mod game;
-pub mod group;
 pub mod headings;
-pub mod instance;
 pub mod level;
 pub mod limits;
 pub mod masks;

@@ -5,13 +5,13 @@ use Rattle.std.specs.Prelude.{slice_index}
 use Rattle.std.proofs.lemmas.Bool.{cases_lt}
 use Rattle.std.proofs.lemmas.List.{get_or_past}
 use Rattle.pz_game.specs.declared.level.LevelEntry.TheVariants.{Message}
-use Rattle.pz_game.specs.Level.{is_playable}
+use Rattle.pz_game.specs.Level.{is_playable, entry_at}
 use Rattle.pz_game.specs.Drawing.{Drawing}
 use Rattle.pz_game.specs.Game.{background_of}
 use Rattle.pz_game.specs.declared.game.GameParts.{GameParts}
 use Rattle.pz_sheet.specs.Grid.{Grid}
 use Rattle.pz_sheet.specs.Loading.{drawn}
-use Rattle.pz_grid.specs.Loading.{first_of, entry_at, with_background, loaded_from}
+use Rattle.pz_grid.specs.Loading.{first_of, with_background, loaded_from}
 
 first_split : {X : Type 0} (f : ℕ → Option X) (a n : ℕ) (r : Option X) → first_of (map f (range_with_len a n)) ≡ None → (more : List ℕ) → first_of (map f (range_with_len a n ++ more)) ≡ first_of (map f more)
 first_split f a zero r e more = refl

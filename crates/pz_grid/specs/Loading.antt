@@ -1,11 +1,12 @@
 -- A level as it is loaded. Each cell gets the objects of its glyph in order, a later one in the place of one of its layer. Then
 -- the background is laid where there is none: what the first cell that has something on its layer has there, columns from left
 -- to right, each from the top; if no cell has, the first object of the background.
-use Rattle.std.specs.Prelude.{ℕ, List, [], ◌∷◌, map, Option, Some, None, unwrap_or, slice_index, slice_index_or}
+use Rattle.std.specs.Prelude.{ℕ, List, [], ◌∷◌, map, Option, Some, None, unwrap_or, slice_index}
 use Rattle.std.specs.List.{range_with_len}
 use Rattle.pz_game.specs.Game.{background_of}
 use Rattle.pz_game.specs.declared.game.GameParts.{GameParts}
 use Rattle.pz_game.specs.Drawing.{Drawing}
+use Rattle.pz_game.specs.Level.{entry_at}
 use Rattle.pz_game.specs.declared.level.LevelEntry.{LevelEntry}
 use Rattle.pz_game.specs.declared.level.LevelEntry.TheVariants.{Message, Level}
 use Rattle.pz_cells.specs.declared.piece.Piece.{Piece}
@@ -34,10 +35,6 @@ with_background layer object grid = filled layer (unwrap_or (first_on grid layer
 abbrev pub drawing_of : LevelEntry → Drawing
 drawing_of Message = record { width = 0; height = 0; cells = [] }
 drawing_of (Level drawing) = drawing
-
--- the entry of LEVELS of a number
-abbrev pub entry_at : GameParts → ℕ → LevelEntry
-entry_at game index = slice_index_or game.levels index Message
 
 abbrev pub loaded_from : GameParts → Drawing → Grid
 loaded_from game drawing = with_background (slice_index game.layers (background_of game)) (background_of game) (drawn game drawing)

@@ -5,7 +5,7 @@
 use Rattle.std.specs.Prelude.{ℕ, List, fold, Bool, ◌||◌, Option, Some, None}
 use Rattle.std.specs.List.{enumerate_from, zip}
 use Rattle.pz_game.specs.declared.direction.Dir.{Dir}
-use Rattle.pz_game.specs.declared.instance.Instance.{Instance}
+use Rattle.pz_program.specs.declared.instance.Instance.{Instance}
 use Rattle.pz_game.specs.declared.pattern.Item.{Item}
 use Rattle.pz_game.specs.Pattern.{RuleRow}
 use Rattle.pz_grid.specs.declared.places.Place.{Place}

@@ -4,7 +4,7 @@ ghost use Rattle.std.specs.Prelude.{◌≡◌, [], List, All, true, false};
 ghost use Rattle.pz_game.specs.declared.direction.Dir.{Dir};
 ghost use Rattle.pz_game.specs.declared.pattern.Item.{Item};
 ghost use Rattle.pz_game.specs.Pattern.{RuleRow, AreOf, IsRowOf};
-ghost use Rattle.pz_game.specs.Segments.{AsksAmong};
+ghost use Rattle.pz_game.specs.Pattern.{AsksAmong};
 ghost use Rattle.pz_sheet.specs.Searching.{HoldsSomewhere};
 ghost use Rattle.pz_grid.specs.Places.{places};
 

@@ -1,13 +1,13 @@
 //! Levels, loaded from their drawings.
 
 ghost use Rattle.std.specs.Prelude.{◌≡◌, ◌<◌, ◌≤◌, ◌*◌, IfOk, All, length, map, fold, slice_index, true};
-ghost use Rattle.pz_game.specs.Level.{is_playable};
+ghost use Rattle.pz_game.specs.Level.{is_playable, entry_at};
 ghost use Rattle.pz_game.specs.Game.{background_of};
 ghost use Rattle.pz_cells.specs.Cell.{IsOnLayer};
 ghost use Rattle.pz_sheet.specs.Grid.{IsLawful};
 ghost use Rattle.pz_grid.specs.Marks.{IsExact};
 ghost use Rattle.pz_sheet.specs.Loading.{with_object, glyph_cell, drawn, filled_cell, filled};
-ghost use Rattle.pz_grid.specs.Loading.{first_in_column, first_on, with_background, entry_at, loaded_from, loaded};
+ghost use Rattle.pz_grid.specs.Loading.{first_in_column, first_on, with_background, loaded_from, loaded};
 
 use crate::Level;
 use crate::bare::{BareLevel, Sized};

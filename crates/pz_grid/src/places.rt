@@ -11,8 +11,8 @@ ghost use Rattle.pz_sheet.specs.Searching.{IsNext};
 use crate::Level;
 use crate::bare::{BareLevel, Sized};
 use pz_game::direction::Dir;
-use pz_game::instance::Instance;
 use pz_game::pattern::{Pattern, Row};
+use pz_program::instance::Instance;
 use pz_sheet::Sheet;
 use std::alloc::Global;
 

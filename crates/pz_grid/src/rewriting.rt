@@ -1,7 +1,7 @@
 //! The rewriting of cells by the instances of rules.
 
 ghost use Rattle.std.specs.Prelude.{false, ◌≡◌, ◌<◌, ◌^◌, IfSome};
-ghost use Rattle.pz_game.specs.Instance.{IsInstanceOf};
+ghost use Rattle.pz_program.specs.Instance.{IsInstanceOf};
 ghost use Rattle.pz_game.specs.Pattern.{AreOf, IsRowOf, AreRowsOf};
 ghost use Rattle.pz_sheet.specs.Grid.{IsLawful, IsOfGame, SameSize};
 ghost use Rattle.pz_grid.specs.Marks.{IsMarked, IsMarkedAt, IsWidenedBy, row_places, places_object};
@@ -13,8 +13,8 @@ use crate::Level;
 use crate::places::Place;
 use pz_game::direction::Dir;
 use pz_game::game::Game;
-use pz_game::instance::Instance;
 use pz_game::pattern::{Pattern, Row};
+use pz_program::instance::Instance;
 
 impl Level {
     /// Rewrites the cell at a position, whose row and column are marked with what the right places.

@@ -11,8 +11,8 @@ use Rattle.pz_game.specs.declared.game.GameParts.{GameParts}
 use Rattle.pz_game.specs.declared.pattern.Item.{Item}
 use Rattle.pz_game.specs.declared.pattern.Word.{Word}
 use Rattle.pz_game.specs.declared.pattern.Word.TheVariants.{Present, Still, Toward, Absent}
-use Rattle.pz_game.specs.declared.commands.Commands.{Commands}
-use Rattle.pz_game.specs.declared.instance.Instance.{Instance}
+use Rattle.pz_program.specs.declared.commands.Commands.{Commands}
+use Rattle.pz_program.specs.declared.instance.Instance.{Instance}
 use Rattle.pz_game.specs.Pattern.{RuleRow}
 use Rattle.pz_cells.specs.declared.piece.Piece.{Piece}
 use Rattle.pz_grid.specs.declared.places.Place.{Place}

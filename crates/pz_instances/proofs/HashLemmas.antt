@@ -7,7 +7,7 @@ use Rattle.std.specs.Int.Bits.{bit_xor, xor_assoc}
 use Rattle.std.specs.List.{list_any}
 use lib.Pointwise.{pointwise}
 use Rattle.pz_game.specs.declared.pattern.Item.{Item}
-use Rattle.pz_game.specs.declared.instance.Instance.{Instance}
+use Rattle.pz_program.specs.declared.instance.Instance.{Instance}
 use Rattle.pz_game.specs.Direction.{same_dir}
 use Rattle.pz_game.specs.Pattern.{RuleRow}
 use Rattle.pz_instances.specs.Equal.{same_item, has_item, within_cell, same_cell, same_row, same_instance}

@@ -3,7 +3,7 @@
 use Rattle.std.specs.Prelude.{Bool}
 use Rattle.std.specs.List.{list_any}
 use Rattle.pz_instances.specs.declared.exclusion.Role.TheVariants.{Placed}
-use Rattle.pz_game.specs.declared.instance.Instance.{Instance}
+use Rattle.pz_program.specs.declared.instance.Instance.{Instance}
 use Rattle.pz_instances.specs.Exclusion.{has_impossible}
 
 unfoldable pub has_clash : Instance → Bool

@@ -7,7 +7,7 @@ use Rattle.pz_instances.specs.declared.hashes.TheConstants.{SPREADER}
 use Rattle.pz_game.specs.declared.pattern.Word.{Word}
 use Rattle.pz_game.specs.declared.pattern.Word.TheVariants.{Present, Still, Toward, Absent}
 use Rattle.pz_game.specs.declared.pattern.Item.{Item}
-use Rattle.pz_game.specs.declared.instance.Instance.{Instance}
+use Rattle.pz_program.specs.declared.instance.Instance.{Instance}
 use Rattle.pz_instances.specs.Equal.{has_item}
 use Rattle.pz_game.specs.Pattern.{RuleRow}
 

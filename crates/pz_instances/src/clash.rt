@@ -5,7 +5,7 @@ ghost use Rattle.std.specs.List.{list_any};
 ghost use Rattle.pz_instances.specs.Clash.{has_clash};
 
 use crate::exclusion::{Role, have_impossible};
-use pz_game::instance::Instance;
+use pz_program::instance::Instance;
 
 /// Whether the right of an instance has a cell that can't be placed.
 #[tactic(auto, unfolding(crate::specs::Clash::has_clash))]

@@ -5,8 +5,8 @@ ghost use Rattle.std.specs.List.{list_all, list_any, zip};
 ghost use lib.Pointwise.{pointwise};
 ghost use Rattle.pz_instances.specs.Equal.{same_meaning, same_item, has_item, within_cell, same_cell, same_row, same_instance};
 
-use pz_game::instance::Instance;
 use pz_game::pattern::{Item, Pattern, Row, Word};
+use pz_program::instance::Instance;
 
 /// Whether two words say the same of their object.
 pub fn same_meaning(a: Word, b: Word) -> bool

@@ -5,8 +5,8 @@ ghost use Rattle.pz_instances.specs.Hashes.{direction_number, word_number, sprea
 
 use crate::equal::has_item;
 use pz_game::direction::Dir;
-use pz_game::instance::Instance;
 use pz_game::pattern::{Item, Pattern, Row, Word};
+use pz_program::instance::Instance;
 
 /// An odd number, by which a product spreads what it is multiplied with.
 const SPREADER: u64 = 0x9e37_79b9_7f4a_7c15;

@@ -8,8 +8,8 @@ use Rattle.std.specs.Map.{update, lookup}
 use Rattle.std.specs.HashMap.{HashMap, get_by_text, IsUnchanged, Updates}
 use Rattle.std.specs.declared.sync.Arc.{Arc}
 use Rattle.std.proofs.lemmas.Map.Text.{hash_map_updates_text}
-use Rattle.pz_session.specs.declared.item.Refusal.{Refusal}
-use Rattle.pz_session.specs.Rulebook.{RulebookState}
+use Rattle.pz_case.specs.declared.item.Refusal.{Refusal}
+use Rattle.pz_case.specs.Rulebook.{RulebookState}
 use Rattle.pz_job.specs.Rulebooks.{rulebook_of, shared_in, AreKept}
 
 abbrev Answer : Type 0

@@ -2,12 +2,12 @@
 use Rattle.std.proofs.Common.{◌≡◌, ℕ, List, Result, Ok, Err, refl}
 use Rattle.pz_base.specs.declared.fault.SourceFault.{SourceFault}
 use Rattle.pz_game.specs.declared.game.GameParts.{GameParts}
-use Rattle.pz_game.specs.declared.instance.Program.{Program}
+use Rattle.pz_program.specs.declared.instance.Program.{Program}
 use Rattle.pz_source.specs.Reading.{source_of}
 use Rattle.pz_rules.specs.Drafts.{program_of}
 use Rattle.pz_record.specs.declared.input.Input.{Input}
 use Rattle.pz_record.specs.declared.order.Order.{Order}
-use Rattle.pz_session.specs.FirstLevel.{level_from}
+use Rattle.pz_case.specs.FirstLevel.{level_from}
 use Rattle.pz_job.specs.Rulebooks.{or_refused, rulebook_of}
 use Rattle.pz_job.specs.Job.{or_no_level, plan_at, plan_of, plan_from}
 

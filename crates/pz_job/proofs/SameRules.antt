@@ -7,7 +7,7 @@ use Rattle.std.proofs.lemmas.List.Elements.{All-tail}
 use Rattle.pz_base.specs.NameSet.{number_in}
 use Rattle.pz_base.specs.declared.fault.SourceFault.{SourceFault}
 use Rattle.pz_game.specs.declared.game.GameParts.{GameParts}
-use Rattle.pz_game.specs.declared.instance.Program.{Program}
+use Rattle.pz_program.specs.declared.instance.Program.{Program}
 use Rattle.pz_game.specs.declared.rule_line.RuleLine.{RuleLine}
 use Rattle.pz_grammar.specs.Loop.{loop_word, next_loop, is_end}
 use Rattle.pz_grammar.specs.Parsed.{parsed}

@@ -5,7 +5,7 @@ use Rattle.std.specs.Str.{chars}
 use Rattle.pz_base.specs.declared.fault.Code.TheVariants as code
 use Rattle.pz_source.specs.Reading.{source_of}
 use Rattle.pz_record.specs.declared.order.Order.TheVariants.{Rows}
-use Rattle.pz_session.specs.declared.item.Refusal.TheVariants.{Source}
+use Rattle.pz_case.specs.declared.item.Refusal.TheVariants.{Source}
 use Rattle.pz_job.specs.Job.{plan_of}
 
 -- an empty source is refused by its sections

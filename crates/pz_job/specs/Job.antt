@@ -2,17 +2,17 @@
 use Rattle.std.specs.Prelude.{ℕ, List, map, Option, Some, None, Result, Ok, Err}
 use Rattle.pz_game.specs.declared.game.GameParts.{GameParts}
 use Rattle.pz_source.specs.Reading.{source_of}
-use Rattle.pz_game.specs.declared.instance.Program.{Program}
+use Rattle.pz_program.specs.declared.instance.Program.{Program}
 use Rattle.pz_rules.specs.Drafts.{program_of}
 use Rattle.pz_entries.specs.declared.entry.Entry.{Entry}
 use Rattle.pz_record.specs.declared.input.Input.{Input}
 use Rattle.pz_record.specs.declared.order.Order.{Order}
-use Rattle.pz_session.specs.declared.case.Case.{Case}
-use Rattle.pz_session.specs.declared.item.Refusal.{Refusal}
-use Rattle.pz_session.specs.declared.item.Refusal.TheVariants.{NoLevel}
-use Rattle.pz_session.specs.FirstLevel.{level_from}
-use Rattle.pz_session.specs.Plan.{PlanState}
-use Rattle.pz_session.specs.Rulebook.{RulebookState}
+use Rattle.pz_case.specs.declared.case.Case.{Case}
+use Rattle.pz_case.specs.declared.item.Refusal.{Refusal}
+use Rattle.pz_case.specs.declared.item.Refusal.TheVariants.{NoLevel}
+use Rattle.pz_case.specs.FirstLevel.{level_from}
+use Rattle.pz_case.specs.Plan.{PlanState}
+use Rattle.pz_case.specs.Rulebook.{RulebookState}
 use Rattle.pz_job.specs.Rulebooks.{or_refused}
 
 abbrev pub or_no_level : Option ℕ → (ℕ → PlanState) → Result PlanState Refusal

@@ -5,14 +5,14 @@ use Rattle.std.specs.Global.{Global}
 use Rattle.std.specs.HashMap.{HashMap, get_by_text}
 use Rattle.std.specs.declared.sync.Arc.{Arc}
 use Rattle.pz_base.specs.declared.fault.SourceFault.{SourceFault}
-use Rattle.pz_game.specs.Instance.{IsProgramOf}
+use Rattle.pz_program.specs.Instance.{IsProgramOf}
 use Rattle.pz_game.specs.declared.game.GameParts.{GameParts}
-use Rattle.pz_game.specs.declared.instance.Program.{Program}
+use Rattle.pz_program.specs.declared.instance.Program.{Program}
 use Rattle.pz_source.specs.Reading.{source_of}
 use Rattle.pz_rules.specs.Drafts.{program_of}
-use Rattle.pz_session.specs.declared.item.Refusal.{Refusal}
-use Rattle.pz_session.specs.declared.item.Refusal.TheVariants.{Source}
-use Rattle.pz_session.specs.Rulebook.{RulebookState}
+use Rattle.pz_case.specs.declared.item.Refusal.{Refusal}
+use Rattle.pz_case.specs.declared.item.Refusal.TheVariants.{Source}
+use Rattle.pz_case.specs.Rulebook.{RulebookState}
 
 abbrev pub or_refused : {X Y : Type 0} → Result X SourceFault → (X → Result Y Refusal) → Result Y Refusal
 or_refused (Ok x) later = later x

@@ -2,7 +2,7 @@
 use Rattle.std.specs.Prelude.{◌≡◌, ◌≢◌, ℕ, List, Ok, Err}
 use Rattle.pz_base.specs.declared.fault.Code.TheVariants.{Memory}
 use Rattle.pz_source.specs.Reading.{source_of}
-use Rattle.pz_session.specs.declared.item.Refusal.TheVariants.{Source}
+use Rattle.pz_case.specs.declared.item.Refusal.TheVariants.{Source}
 use Rattle.pz_job.specs.Rulebooks.{rulebook_of, IsProgramFor}
 use Rattle.pz_job.specs.declared.sources.Known.{Known}
 use Rattle.pz_job.specs.declared.sources.Known.TheVariants as known

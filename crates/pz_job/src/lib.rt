@@ -1,5 +1,5 @@
-//! The job that a list of entries makes: the one place where the reading of a source, the expansion of its rules and the playing of
-//! its sessions meet.
+//! The job that a list of entries makes: the one place where the reading of a source and the expansion of its rules meet. What comes of
+//! them is a case for each session, ready to be played; what plays it isn't needed here.
 #![tactic(auto)]
 
 pub mod job;

@@ -6,9 +6,9 @@ ghost use Rattle.pz_rules.specs.Drafts.{program_of};
 ghost use Rattle.pz_job.specs.Rulebooks.{IsProgramFor};
 
 use crate::same::same_rules;
+use pz_case::rulebook::Rulebook;
 use pz_game::game::Game;
-use pz_game::instance::Program;
-use pz_session::rulebook::Rulebook;
+use pz_program::instance::Program;
 use std::alloc::{AllocError, Global};
 use std::sync::Arc;
 

@@ -7,7 +7,7 @@ use crate::same::same_rules;
 use pz_base::fault::SourceFault;
 use pz_entries::entry::Entry;
 use pz_game::game::Game;
-use pz_game::instance::Program;
+use pz_program::instance::Program;
 use pz_rules::expand::expand;
 use pz_source::reading::read_game;
 use std::alloc::{AllocError, Global};

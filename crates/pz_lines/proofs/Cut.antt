@@ -2,8 +2,8 @@
 use Rattle.std.proofs.Common.{◌≡◌, ℕ, ◌+◌, ◌<◌, ◌≤◌, suc, List, [], ◌∷◌, ◌++◌, length, take, drop, get_or, flat_map, refl, ap, ◌∙◌, sym, arith}
 use Rattle.std.proofs.lemmas.List.{append_assoc, append-nil, take-append-drop, take_all, at_drop_more, drop-take, take-take, length-take-le}
 use Rattle.std.proofs.lemmas.Grind.{flat_map-append}
-use Rattle.pz_session.specs.declared.recording.Record.{Record}
-use Rattle.pz_session.specs.declared.item.Item.{Item}
+use Rattle.pz_case.specs.declared.recording.Record.{Record}
+use Rattle.pz_case.specs.declared.item.Item.{Item}
 use Rattle.pz_lines.specs.Lines.{frame_count, item_line, lines_of, lines_from}
 
 -- w elements, and k more of what is left

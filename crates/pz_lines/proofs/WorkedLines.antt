@@ -4,13 +4,13 @@ use Rattle.std.specs.Prelude.{codes}
 use Rattle.std.specs.Fmt.{digits}
 use Rattle.json.specs.Print.{escape_byte}
 use Rattle.pz_base.specs.declared.fault.Code.TheVariants as code
-use Rattle.pz_session.specs.declared.item.Frame.{Frame}
-use Rattle.pz_session.specs.declared.item.FrameKind.{FrameKind}
-use Rattle.pz_session.specs.declared.item.FrameKind.TheVariants as kind
-use Rattle.pz_session.specs.declared.item.Item.TheVariants as item
-use Rattle.pz_session.specs.declared.item.Refusal.TheVariants.{Source, NoLevel}
-use Rattle.pz_session.specs.declared.item.Stop.TheVariants as stop
-use Rattle.pz_session.specs.declared.item.Verdict.TheVariants.{Passed, Stopped, Refused}
+use Rattle.pz_case.specs.declared.item.Frame.{Frame}
+use Rattle.pz_case.specs.declared.item.FrameKind.{FrameKind}
+use Rattle.pz_case.specs.declared.item.FrameKind.TheVariants as kind
+use Rattle.pz_case.specs.declared.item.Item.TheVariants as item
+use Rattle.pz_case.specs.declared.item.Refusal.TheVariants.{Source, NoLevel}
+use Rattle.pz_case.specs.declared.item.Stop.TheVariants as stop
+use Rattle.pz_case.specs.declared.item.Verdict.TheVariants.{Passed, Stopped, Refused}
 use Rattle.pz_lines.specs.Lines.{frame_line, verdict_line, close_line, text_of}
 use Rattle.pz_lines.specs.Naming.{kind_name, code_name, stop_name, refusal_name, close_name, cause_name}
 

@@ -1,11 +1,11 @@
 -- The text of a recording: a line for each item, compact JSON with its keys in the order of their bytes.
 use Rattle.std.specs.Prelude.{ℕ, Bool, true, false, suc, List, [], ◌∷◌, ◌++◌, filter, flat_map, length, Option, Some, None, codes, decimal}
 use Rattle.json.specs.Print.{quoted}
-use Rattle.pz_session.specs.declared.item.Frame.{Frame}
-use Rattle.pz_session.specs.declared.item.Item.{Item}
-use Rattle.pz_session.specs.declared.item.Item.TheVariants as item
-use Rattle.pz_session.specs.declared.item.Verdict.{Verdict}
-use Rattle.pz_session.specs.declared.recording.Record.{Record}
+use Rattle.pz_case.specs.declared.item.Frame.{Frame}
+use Rattle.pz_case.specs.declared.item.Item.{Item}
+use Rattle.pz_case.specs.declared.item.Item.TheVariants as item
+use Rattle.pz_case.specs.declared.item.Verdict.{Verdict}
+use Rattle.pz_case.specs.declared.recording.Record.{Record}
 use Rattle.pz_lines.specs.Naming.{kind_name, close_name, cause_name}
 
 abbrev pub frame_parts : ℕ → ℕ → ℕ → List ℕ → List ℕ → List ℕ

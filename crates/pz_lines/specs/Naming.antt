@@ -2,14 +2,14 @@
 use Rattle.std.specs.Prelude.{ℕ, List, ◌++◌, Option, Some, None, codes, decimal}
 use Rattle.pz_base.specs.declared.fault.Code.{Code}
 use Rattle.pz_base.specs.declared.fault.Code.TheVariants as code
-use Rattle.pz_session.specs.declared.item.FrameKind.{FrameKind}
-use Rattle.pz_session.specs.declared.item.FrameKind.TheVariants as kind
-use Rattle.pz_session.specs.declared.item.Stop.{Stop}
-use Rattle.pz_session.specs.declared.item.Stop.TheVariants as stop
-use Rattle.pz_session.specs.declared.item.Refusal.{Refusal}
-use Rattle.pz_session.specs.declared.item.Refusal.TheVariants.{Source, NoLevel}
-use Rattle.pz_session.specs.declared.item.Verdict.{Verdict}
-use Rattle.pz_session.specs.declared.item.Verdict.TheVariants.{Passed, Differs, Stopped, Refused}
+use Rattle.pz_case.specs.declared.item.FrameKind.{FrameKind}
+use Rattle.pz_case.specs.declared.item.FrameKind.TheVariants as kind
+use Rattle.pz_case.specs.declared.item.Stop.{Stop}
+use Rattle.pz_case.specs.declared.item.Stop.TheVariants as stop
+use Rattle.pz_case.specs.declared.item.Refusal.{Refusal}
+use Rattle.pz_case.specs.declared.item.Refusal.TheVariants.{Source, NoLevel}
+use Rattle.pz_case.specs.declared.item.Verdict.{Verdict}
+use Rattle.pz_case.specs.declared.item.Verdict.TheVariants.{Passed, Differs, Stopped, Refused}
 
 unfoldable pub kind_name : FrameKind → List ℕ
 kind_name kind.Start = codes "start"

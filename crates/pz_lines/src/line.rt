@@ -7,8 +7,8 @@ ghost use Rattle.pz_lines.specs.Naming.{cause_name};
 
 use crate::naming::{cause_name, close_name, quoted_kind};
 use itoa::Buffer;
+use pz_case::item::{Frame, Item, Verdict};
 use pz_record::quoted::QuotedText;
-use pz_session::item::{Frame, Item, Verdict};
 use std::alloc::{AllocError, Global};
 
 /// Writes a key, with what stands before it, and its value, as it is written.

@@ -5,7 +5,7 @@ ghost use Rattle.json.specs.Print.{quoted};
 ghost use Rattle.pz_lines.specs.Naming.{kind_name, code_name, stop_name, refusal_name, close_name, cause_name};
 
 use pz_base::fault::Code;
-use pz_session::item::{FrameKind, Refusal, Stop, Verdict};
+use pz_case::item::{FrameKind, Refusal, Stop, Verdict};
 use std::alloc::{AllocError, Global};
 
 /// The name of a kind of frames as a JSON string, as it is written: there is one in each line.

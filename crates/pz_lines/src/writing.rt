@@ -7,7 +7,7 @@ ghost use Rattle.pz_lines.specs.Writing.{EndsFor, HasWritten, IsSent, IsSentInPa
 use crate::fault::{Cause, WriteFault};
 use crate::line::{frame_count, write_item};
 use crate::output::Output;
-use pz_session::recording::{Record, Recording};
+use pz_case::recording::{Record, Recording};
 use std::alloc::Global;
 use std::io::Write;
 

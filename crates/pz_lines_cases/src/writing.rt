@@ -2,12 +2,12 @@
 
 use pz_base::listed::Listed;
 use pz_base::text::Text;
+use pz_case::item::{Frame, FrameKind, Item, Verdict};
+use pz_case::recording::{Record, Recording};
 use pz_lines::fault::{Cause, WriteFault};
 use pz_lines::output::Output;
 use pz_lines::writing::write_recording;
 use pz_record::quoted::QuotedText;
-use pz_session::item::{Frame, FrameKind, Item, Verdict};
-use pz_session::recording::{Record, Recording};
 use std::alloc::{AllocError, Global};
 use std::io;
 use std::io::Write;

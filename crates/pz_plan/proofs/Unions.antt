@@ -5,9 +5,9 @@ use Rattle.std.proofs.lemmas.Nat.{pow_pos}
 use Rattle.std.proofs.lemmas.Nat.Bits.{and_pow, bit_at_or, bit_at-lt}
 use Rattle.std.specs.Int.{bit_at}
 use Rattle.std.specs.Int.Bits.{bit_and, bit_or, and_zero_r}
-use Rattle.pz_game.specs.declared.commands.Commands.{Commands}
+use Rattle.pz_program.specs.declared.commands.Commands.{Commands}
 use Rattle.pz_grammar.specs.declared.token.Command.TheVariants as command
-use Rattle.pz_game.specs.Commands.{has, either, no_commands}
+use Rattle.pz_program.specs.Commands.{has, either, no_commands}
 use Rattle.pz_plan.specs.Laws.{UnionsHoldEither}
 
 unset : (p : ℕ) → 0 < p → (0 * p == p) ≡ false

@@ -1,7 +1,7 @@
 -- The commands of a rule, as a set.
 use Rattle.std.specs.Prelude.{List, fold}
-use Rattle.pz_game.specs.Commands.{no_commands, again, cancel, checkpoint, restart, win, either}
-use Rattle.pz_game.specs.declared.commands.Commands.{Commands}
+use Rattle.pz_program.specs.Commands.{no_commands, again, cancel, checkpoint, restart, win, either}
+use Rattle.pz_program.specs.declared.commands.Commands.{Commands}
 use Rattle.pz_grammar.specs.declared.token.Command.{Command}
 use Rattle.pz_grammar.specs.declared.token.Command.TheVariants as command
 

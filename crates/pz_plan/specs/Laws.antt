@@ -1,8 +1,8 @@
 -- A law of sets of commands.
 use Rattle.std.specs.Prelude.{◌≡◌, ◌||◌}
-use Rattle.pz_game.specs.declared.commands.Commands.{Commands}
+use Rattle.pz_program.specs.declared.commands.Commands.{Commands}
 use Rattle.pz_grammar.specs.declared.token.Command.{Command}
-use Rattle.pz_game.specs.Commands.{has, either}
+use Rattle.pz_program.specs.Commands.{has, either}
 use Rattle.pz_plan.specs.Commands.{flag_of}
 
 -- a union holds the flag of a command exactly if one of the two holds it

@@ -4,8 +4,8 @@ ghost use Rattle.std.specs.Prelude.{◌≡◌};
 ghost use Rattle.pz_plan.specs.Commands.{flag_of, commands_given};
 
 use bitflags::Flags;
-use pz_game::commands::{Commands, either};
 use pz_grammar::token::Command;
+use pz_program::commands::{Commands, either};
 
 /// The set of one command; sounds and messages have no effect.
 fn flag_of(command: Command) -> Commands

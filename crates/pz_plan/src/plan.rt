@@ -1,9 +1,9 @@
 //! A rule whose names are spelled out and whose choices are numbered.
 
 use pz_base::listed::Listed;
-use pz_game::commands::Commands;
 use pz_game::direction::Dir;
 use pz_grammar::token::{Class, Lead};
+use pz_program::commands::Commands;
 
 /// An object, or one of the members of a property, by the number of the property's own name.
 #[derive(Clone, Copy, PartialEq, Eq)]

@@ -8,7 +8,7 @@ use Rattle.std.proofs.lemmas.List.FromFn.{map-range_with_len_more}
 use Rattle.std.specs.List.{position_or_len, range_with_len}
 use Rattle.std.specs.Str.{bytes_eq}
 use Rattle.pz_base.specs.NameSet.{number_in, is_name_of}
-use Rattle.pz_record.specs.LevelText.{piece, with_cell, known_of, cell_text, line_end, text_to, text_of_cells}
+use Rattle.pz_record.specs.CellTexts.{piece, with_cell, known_of, cell_text, line_end, text_to, text_of_cells}
 
 pub none_chosen : (b : Bool) (n : ℕ) → cond b (Some n) None ≡ None → b ≡ false
 none_chosen true n e = cc

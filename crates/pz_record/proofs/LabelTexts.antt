@@ -1,7 +1,6 @@
 -- Numbers of cells by their labels.
-use Rattle.std.proofs.Common.{◌≡◌, ℕ, suc, zero, ◌+◌, ◌<◌, Bool, true, false, cond, ◌||◌, List, [], ◌∷◌, ◌++◌, length, take, map, get_or, slice_set, replicate, Option, Some, None, decimal, refl, ap, ap₂, sym, ◌∙◌, arith}
-use Rattle.std.proofs.lemmas.List.{append_assoc, get_or-take, length-take}
-use Rattle.pz_record.specs.LevelNames.{chosen_from}
+use Rattle.std.proofs.Common.{◌≡◌, ℕ, suc, zero, ◌+◌, ◌<◌, Bool, true, false, cond, ◌||◌, List, [], ◌∷◌, ◌++◌, length, take, map, slice_set, replicate, Option, Some, None, decimal, refl, ap, ap₂, sym, ◌∙◌, arith}
+use Rattle.std.proofs.lemmas.List.{append_assoc}
 use Rattle.std.specs.List.{list_any, position_from}
 use Rattle.std.specs.Str.{bytes_eq}
 use Rattle.std.proofs.lemmas.Iterator.Adapters.{position_from-zero}
@@ -9,8 +8,8 @@ use Rattle.std.proofs.lemmas.Slice.Eq.{bytes_eq-Decides}
 use Rattle.std.proofs.lemmas.Bool.{true≢false}
 use Rattle.std.proofs.lemmas.List.Quantifiers.{position-Some}
 use Rattle.pz_base.specs.NameSet.{number_in, is_name_of}
-use Rattle.pz_record.specs.Labels.{AreDistinct, text_at, IsLabelOf}
-use Rattle.pz_record.specs.LevelText.{with_cell, piece}
+use Rattle.pz_record.specs.Labels.{AreDistinct, text_at}
+use Rattle.pz_record.specs.CellTexts.{with_cell, piece}
 
 or_parts : (a b : Bool) → (a || b) ≡ false → (a ≡ false) × (b ≡ false)
 or_parts true b e = cc
@@ -122,15 +121,3 @@ kept_front texts more text e = rw e (front texts)
     front : (ts : List (List ℕ)) → take (length ts) (ts ++ text ∷ []) ≡ ts
     front [] = refl
     front (t ∷ ts) = ap (λ l. t ∷ l) (front ts)
-
--- tests that agree choose the same names
-pub chosen_same : (f g : ℕ → Bool) → ((n : ℕ) → f n ≡ g n) → (k : ℕ) (names : List (List ℕ)) → chosen_from f k names ≡ chosen_from g k names
-chosen_same f g e k [] = refl
-chosen_same f g e k (name ∷ names) = rw (e k, chosen_same f g e (suc k) names) refl
-
--- a label stays a label among more texts
-pub label_kept : (names texts more : List (List ℕ)) (objects : List ℕ) (label : ℕ) → take (length texts) more ≡ texts → IsLabelOf names texts objects label → IsLabelOf names more objects label
-label_kept names texts more objects label e is =
-    let at : get_or (take (length texts) more) label [] ≡ get_or more label [] = get_or-take (length texts) more label [] is.0 in
-    let long : length (take (length texts) more) ≡ length texts = ap length e in
-    (omega (arith, is.0, long, length-take (length texts) more), sym at ∙ ap (λ l. get_or l label []) e ∙ is.1)

@@ -1,10 +1,7 @@
-pub mod Joining
 pub mod KnownCells
-pub mod Ordered
 pub mod Rows
 pub mod Sets
 pub mod WorkedRecords
-pub mod Changing
 pub mod LabelTexts
 pub mod Walking
 pub mod Quoting

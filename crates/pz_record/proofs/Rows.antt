@@ -2,11 +2,8 @@
 use Rattle.std.proofs.Common.{◌≡◌, ℕ, List, [], ◌∷◌, ◌++◌, Some, None, map, codes, true, false, refl}
 use Rattle.std.specs.Fmt.{digits}
 use Rattle.json.specs.Print.{escape, escape_byte}
-use Rattle.pz_sheet.specs.Grid.{Grid}
-use Rattle.pz_record.specs.Order.{cells_in}
-use Rattle.pz_record.specs.declared.order.Order.TheVariants.{Rows, Columns}
 use Rattle.pz_record.specs.CellNames.{with_name, set_of, same_set}
-use Rattle.pz_record.specs.LevelText.{joined, text_of_cells, piece, with_cell}
+use Rattle.pz_record.specs.CellTexts.{joined, text_of_cells, piece, with_cell}
 use Rattle.pz_record.specs.Written.{code_of}
 
 abbrev background : List ℕ
@@ -51,13 +48,3 @@ more_names = refl
 fewer_names : same_set (background ∷ []) (background ∷ player ∷ []) ≡ false
 unfolding same_set
 fewer_names = refl
-
--- a level of two columns and three rows
-abbrev grid : Grid
-grid = record { width = 2; height = 3; depth = 0; layers = []; cells = [] }
-
-row_by_row : cells_in Rows grid ≡ (0, 0) ∷ (1, 0) ∷ (0, 1) ∷ (1, 1) ∷ (0, 2) ∷ (1, 2) ∷ []
-row_by_row = refl
-
-column_by_column : cells_in Columns grid ≡ (0, 0) ∷ (0, 1) ∷ (0, 2) ∷ (1, 0) ∷ (1, 1) ∷ (1, 2) ∷ []
-column_by_column = refl

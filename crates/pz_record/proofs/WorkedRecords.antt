@@ -1,17 +1,8 @@
--- Worked cases of level texts, and of levels that are as they were recorded.
-use Rattle.std.proofs.Common.{◌≡◌, ℕ, List, [], ◌∷◌, Option, Some, None, true, false, refl}
-use Rattle.std.specs.Prelude.{codes, map}
-use Rattle.std.specs.Fmt.{digits}
-use Rattle.pz_game.specs.declared.game.GameParts.{GameParts}
-use Rattle.pz_cells.specs.declared.piece.Piece.{Piece}
-use Rattle.pz_sheet.specs.Grid.{Grid}
-use Rattle.pz_record.specs.declared.order.Order.TheVariants.{Rows, Columns}
+-- Worked cases of names as sets, and of labels.
+use Rattle.std.proofs.Common.{◌≡◌, [], ◌∷◌, true, false, refl}
+use Rattle.std.specs.Prelude.{codes}
 use Rattle.pz_record.specs.CellNames.{with_name, set_of, same_set}
-use Rattle.pz_record.specs.Equality.{equals_recorded}
-use Rattle.pz_record.specs.Labels.{text_at, set_text}
-use Rattle.pz_record.specs.LevelNames.{standing_names}
-use Rattle.pz_record.specs.LevelText.{with_cell, piece, text_of_level}
-use Rattle.pz_record.specs.Order.{cells_in}
+use Rattle.pz_record.specs.Labels.{text_at}
 
 -- the names of a cell
 
@@ -30,105 +21,6 @@ one_more : same_set (codes "a" ∷ []) (codes "a" ∷ codes "b" ∷ []) ≡ fals
 unfolding same_set
 one_more = refl
 
--- the labels of cells
-
--- the set of the objects 0 and 2 is the word 5; its text has their names in the order of their bytes
-two_objects : set_text (codes "player" ∷ codes "crate" ∷ codes "background" ∷ []) (5 ∷ []) ≡ codes "background player"
-unfolding with_name
-two_objects = refl
-
-no_objects : set_text (codes "player" ∷ codes "crate" ∷ []) (0 ∷ []) ≡ []
-unfolding with_name
-no_objects = refl
-
 -- the label of a text is its place among those that are known
 second_text : text_at (codes "crate" ∷ codes "player" ∷ []) 1 ≡ codes "player"
 second_text = refl
-
--- the text of a level
-
--- the objects 0 player and 1 crate on one layer, 2 the background on another
-abbrev game : GameParts
-game = record {
-  objects = codes "player" ∷ codes "crate" ∷ codes "background" ∷ [];
-  names = codes "player" ∷ codes "crate" ∷ codes "background" ∷ [];
-  values = [];
-  layers = 1 ∷ 1 ∷ 0 ∷ [];
-  depth = 2;
-  rules = [];
-  wins = [];
-  levels = [];
-  options = record { run_rules_on_level_start = false; require_player_movement = false };
-}
-
-abbrev still : ℕ → Option Piece
-still k = Some (record { object = k; heading = None })
-
-abbrev player : List (Option Piece)
-player = still 2 ∷ still 0 ∷ []
-
-abbrev crate : List (Option Piece)
-crate = still 2 ∷ still 1 ∷ []
-
-abbrev bare : List (Option Piece)
-bare = still 2 ∷ None ∷ []
-
-abbrev level : ℕ → ℕ → List (List (Option Piece)) → Grid
-level width height cells = record { width = width; height = height; depth = 2; layers = 1 ∷ 1 ∷ 0 ∷ []; cells = cells }
-
--- a row of a crate and two bare cells, and one of a bare cell, a crate and the player
-abbrev six : Grid
-six = level 3 2 (crate ∷ bare ∷ bare ∷ bare ∷ crate ∷ player ∷ [])
-
--- row by row; the names of a cell are sorted, whatever the order of the objects
-row_text : text_of_level game Rows six ≡ codes "background crate:0,background:1,1,\n1,0,background player:2,\n"
-unfolding text_of_level standing_names with_name with_cell piece digits
-row_text = refl
-
--- column by column, and still a line break after every three numbers, the width
-column_text : text_of_level game Columns six ≡ codes "background crate:0,background:1,1,\n0,1,background player:2,\n"
-unfolding text_of_level standing_names with_name with_cell piece digits
-column_text = refl
-
--- cells without an object
-no_object : text_of_level game Rows (level 1 2 ((None ∷ None ∷ []) ∷ (None ∷ None ∷ []) ∷ [])) ≡ codes ":0,\n0,\n"
-unfolding text_of_level standing_names with_name with_cell piece digits
-no_object = refl
-
--- a level of three columns and two rows: its cells in the order of columns, each by its column and its row
-by_columns : cells_in Columns six ≡ (0, 0) ∷ (0, 1) ∷ (1, 0) ∷ (1, 1) ∷ (2, 0) ∷ (2, 1) ∷ []
-by_columns = refl
-
-by_rows : cells_in Rows six ≡ (0, 0) ∷ (1, 0) ∷ (2, 0) ∷ (0, 1) ∷ (1, 1) ∷ (2, 1) ∷ []
-by_rows = refl
-
--- a level as it was recorded
-
-abbrev on_background : List ℕ → List (List ℕ)
-on_background name = codes "background" ∷ name ∷ []
-
--- the names of the level's cells, by columns
-abbrev recorded : List (List (List ℕ))
-recorded = on_background (codes "crate") ∷ (codes "background" ∷ []) ∷ (codes "background" ∷ []) ∷ on_background (codes "crate")
-    ∷ (codes "background" ∷ []) ∷ on_background (codes "player") ∷ []
-
--- in the order that it was recorded in, and not in the other
-in_its_order : equals_recorded game Columns six recorded ≡ true
-unfolding equals_recorded standing_names with_name same_set
-in_its_order = refl
-
-not_in_the_other : equals_recorded game Rows six recorded ≡ false
-unfolding equals_recorded standing_names with_name same_set
-not_in_the_other = refl
-
--- a recorded level of a cell less isn't the level
-one_cell_less : equals_recorded game Rows (level 2 1 (bare ∷ bare ∷ [])) ((codes "background" ∷ []) ∷ []) ≡ false
-unfolding equals_recorded standing_names with_name same_set
-one_cell_less = refl
-
--- the width isn't compared: a row and a column of the same cells are both as recorded
-shape_is_not_compared : map (λ grid. equals_recorded game Rows grid ((codes "background" ∷ []) ∷ on_background (codes "player") ∷ []))
-    (level 2 1 (bare ∷ player ∷ []) ∷ level 1 2 (bare ∷ player ∷ []) ∷ [])
-    ≡ true ∷ true ∷ []
-unfolding equals_recorded standing_names with_name same_set
-shape_is_not_compared = refl

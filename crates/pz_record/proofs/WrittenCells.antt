@@ -6,7 +6,7 @@ use Rattle.json.specs.Print.{escape}
 use Rattle.pz_base.specs.NameSet.{number_in}
 use Rattle.pz_record.specs.declared.written.Written.{Written}
 use Rattle.pz_record.specs.Labels.{AreDistinct, text_at}
-use Rattle.pz_record.specs.LevelText.{known_of, piece, with_cell, line_end, text_to}
+use Rattle.pz_record.specs.CellTexts.{known_of, piece, with_cell, line_end, text_to}
 use Rattle.pz_record.specs.Written.{AreWritten, code_of}
 use Rattle.pz_record.proofs.Escaping.{escape-append}
 use Rattle.pz_record.proofs.LabelTexts.{has_label, numbers_more}

@@ -1,14 +1,7 @@
 -- Cells by their labels: the place of a cell's text among different texts.
-use Rattle.std.specs.Prelude.{◌≡◌, ℕ, ◌<◌, false, List, [], ◌∷◌, length, map, slice_index_or}
+use Rattle.std.specs.Prelude.{◌≡◌, ℕ, false, List, [], ◌∷◌, slice_index_or}
 use Rattle.std.specs.List.{list_any}
 use Rattle.std.specs.Str.{bytes_eq}
-use Rattle.pz_game.specs.declared.game.GameParts.{GameParts}
-use Rattle.pz_sheet.specs.Grid.{Grid}
-use Rattle.pz_sets.specs.Sets.{member}
-use Rattle.pz_record.specs.declared.order.Order.{Order}
-use Rattle.pz_record.specs.CellNames.{set_of}
-use Rattle.pz_record.specs.LevelNames.{chosen_from, sets_in}
-use Rattle.pz_record.specs.LevelText.{joined, text_of_cells}
 
 -- no text stands twice
 abbrev pub AreDistinct : List (List ℕ) → Type 0
@@ -18,30 +11,3 @@ AreDistinct (text ∷ texts) = (list_any (λ other. bytes_eq other text) texts �
 -- the text of a label
 abbrev pub text_at : List (List ℕ) → ℕ → List ℕ
 text_at texts label = slice_index_or texts label []
-
--- the text of a set of objects
-abbrev pub set_text : List (List ℕ) → List ℕ → List ℕ
-set_text names objects = joined (set_of (chosen_from (member objects) 0 names))
-
--- the texts of the cells of a level, in an order
-abbrev pub texts_in : GameParts → Order → Grid → List (List ℕ)
-texts_in game order grid = map joined (sets_in game order grid)
-
--- a set of objects has the text of this label
-abbrev pub IsLabelOf : List (List ℕ) → List (List ℕ) → List ℕ → ℕ → Type 0
-IsLabelOf names texts objects label = (label < length texts) × (text_at texts label ≡ set_text names objects)
-
--- a text is that of a level of this width with these cells
-abbrev pub IsTextOf : List (List ℕ) → ℕ → List ℕ → Type 0
-IsTextOf cells width text = text ≡ text_of_cells width cells
-
--- the texts that are known of a game
-pub record TableView : Type 0 where
-  pub game : GameParts
-  pub texts : List (List ℕ)
-
--- the texts of a game's levels in an order: the texts that are known, and those of the cells of the last level
-pub record WriterView : Type 0 where
-  pub table : TableView
-  pub order : Order
-  pub cells : List (List ℕ)

@@ -1,8 +1,5 @@
 pub mod CellNames
-pub mod Order
-pub mod LevelNames
-pub mod LevelText
-pub mod Equality
+pub mod CellTexts
 pub mod Labels
 pub mod Quoted
 pub mod Written

@@ -3,7 +3,7 @@ use Rattle.std.specs.Prelude.{◌≡◌, ℕ, ◌≤◌, ◌<◌, ◌%◌, List,
 use Rattle.json.specs.Print.{escape}
 use Rattle.pz_base.specs.NameSet.{number_in}
 use Rattle.pz_record.specs.declared.written.Written.{Written}
-use Rattle.pz_record.specs.LevelText.{known_of, text_to}
+use Rattle.pz_record.specs.CellTexts.{known_of, text_to}
 
 -- a number that may be none: then the largest word stands for it
 abbrev pub code_of : Option ℕ → ℕ

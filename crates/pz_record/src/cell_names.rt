@@ -31,7 +31,8 @@ impl CellNames {
         }
     }
 
-    pub(crate) fn names(&self) -> &BTreeSet<Vec<u8>>
+    /// The names themselves, in the order of their bytes.
+    pub fn names(&self) -> &BTreeSet<Vec<u8>>
         ensures { map (λ name. name.items) result.now.keys ≡ self.now }
     {
         &self.names
@@ -45,7 +46,8 @@ impl CellNames {
         Ok(())
     }
 
-    pub(crate) fn contains(&self, name: &[u8]) -> bool
+    /// Whether a name is among them.
+    pub fn contains(&self, name: &[u8]) -> bool
         ensures { result ≡ has_name self.now name.now }
     {
         self.names.contains(name)

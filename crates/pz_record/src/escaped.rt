@@ -3,7 +3,7 @@
 ghost use Rattle.std.specs.Prelude.{◌≡◌, ℕ, ◌+◌, ◌-◌, ◌*◌, ◌%◌, ◌^◌, ◌<◌, ◌≤◌, ◌++◌, ◌∷◌, [], length, map, replicate, take, All, IfOk, OnOk, decimal};
 ghost use Rattle.json.specs.Print.{escape};
 ghost use Rattle.pz_record.specs.Labels.{text_at};
-ghost use Rattle.pz_record.specs.LevelText.{line_end, text_of_cells};
+ghost use Rattle.pz_record.specs.CellTexts.{line_end, text_of_cells};
 ghost use Rattle.pz_record.specs.Written.{AreWritten};
 
 use crate::labels::KnownTexts;

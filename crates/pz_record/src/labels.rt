@@ -11,7 +11,7 @@ use std::marker::Model;
 
 /// Different texts of cells, by their numbers; and the same texts quoted, since a text is written again and again.
 #[derive(Drop)]
-pub(crate) struct KnownTexts {
+pub struct KnownTexts {
     texts: IndexSet<String>,
     quoted: Vec<QuotedText>,
 }
@@ -28,6 +28,7 @@ impl Model for KnownTexts {
 }
 
 impl KnownTexts {
+    /// No text is known.
     pub fn new(alloc: Global) -> KnownTexts
         ensures { result ≡ [] }
     {
@@ -37,7 +38,7 @@ impl KnownTexts {
         }
     }
 
-    pub fn len(&self) -> usize
+    pub(crate) fn len(&self) -> usize
         ensures count { result ≡ length self.now }
         ensures small { result < 2 ^ 63 }
         ensures distinct { AreDistinct self.now }
@@ -46,7 +47,7 @@ impl KnownTexts {
     }
 
     /// The text of a label.
-    pub fn text(&self, label: usize) -> &str
+    pub(crate) fn text(&self, label: usize) -> &str
         requires { label < length self.now }
         ensures { result.now ≡ text_at self.now label }
     {
@@ -57,7 +58,7 @@ impl KnownTexts {
     }
 
     /// The text of a label, quoted.
-    pub fn quoted(&self, label: usize) -> &QuotedText
+    pub(crate) fn quoted(&self, label: usize) -> &QuotedText
         requires { label < length self.now }
         ensures text { result.now ≡ text_at self.now label }
         ensures distinct { AreDistinct self.now }
@@ -66,14 +67,14 @@ impl KnownTexts {
     }
 
     /// The label of a text, if it is known.
-    pub fn number_of(&self, text: &str) -> Option<usize>
+    fn number_of(&self, text: &str) -> Option<usize>
         ensures { result ≡ number_in self.now text.now }
     {
         self.texts.get_index_of(text)
     }
 
     /// Puts a new text behind the others.
-    pub fn add(&mut self, alloc: Global, text: String) -> Result<(), AllocError>
+    fn add(&mut self, alloc: Global, text: String) -> Result<(), AllocError>
         requires { is_name_of self.old (string_bytes text) ≡ false }
         ensures added { OnOk result (self.new ≡ self.old ++ string_bytes text ∷ []) }
         ensures kept { take (length self.old) self.new ≡ self.old }
@@ -85,7 +86,7 @@ impl KnownTexts {
         Ok(())
     }
 
-    /// The label of a text, which is added where it is new.
+    /// The label of a text, which is put behind the others where it is new. Err: memory was refused; those that were known keep their labels.
     pub fn label_of(&mut self, alloc: Global, text: String) -> Result<usize, AllocError>
         ensures label { IfOk result (λ label. (label < length self.new) × (text_at self.new label ≡ string_bytes text)) }
         ensures kept { take (length self.old) self.new ≡ self.old }

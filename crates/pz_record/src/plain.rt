@@ -2,7 +2,7 @@
 
 ghost use Rattle.std.specs.Prelude.{◌≡◌, ℕ, ◌<◌, ◌+◌, ◌%◌, ◌++◌, ◌∷◌, [], length, All, IfOk, None, OnOk, decimal, map, replicate, string_bytes};
 ghost use Rattle.pz_record.specs.Labels.{text_at};
-ghost use Rattle.pz_record.specs.LevelText.{line_end, text_of_cells};
+ghost use Rattle.pz_record.specs.CellTexts.{line_end, text_of_cells};
 
 use crate::labels::KnownTexts;
 use itoa::Buffer;
@@ -81,8 +81,8 @@ fn write_labels(
     Ok(text)
 }
 
-/// The text of cells of these labels.
-pub(crate) fn plain_text(
+/// The text of cells of these labels, the level so many cells wide, as it is read again: not quoted. Err: memory was refused.
+pub fn plain_text(
     alloc: Global,
     texts: &KnownTexts,
     labels: &[usize],

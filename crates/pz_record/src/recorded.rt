@@ -33,14 +33,14 @@ impl Recorded {
     }
 
     /// The number of cells.
-    pub(crate) fn len(&self) -> usize
+    pub fn len(&self) -> usize
         ensures { result ≡ length self.now }
     {
         self.cells.len()
     }
 
     /// The names of the cell of a number.
-    pub(crate) fn names(&self, number: usize) -> &CellNames
+    pub fn names(&self, number: usize) -> &CellNames
         requires { number < length self.now }
         ensures { result.now ≡ slice_index_or self.now number [] }
     {

@@ -2,7 +2,7 @@
 
 ghost use Rattle.std.specs.Prelude.{◌≡◌, ◌<◌, [], length, map, All, IfOk, OnOk};
 ghost use Rattle.pz_record.specs.Labels.{text_at};
-ghost use Rattle.pz_record.specs.LevelText.{text_of_cells};
+ghost use Rattle.pz_record.specs.CellTexts.{text_of_cells};
 
 use crate::escaped::write_labels;
 use crate::labels::KnownTexts;
@@ -13,7 +13,7 @@ use std::marker::Model;
 /// The room for the text of a level, and for the numbers that it gives to the sets of its cells. It is kept from text to text, so that a
 /// text is written without asking for memory: it stands in front, with the escapes that JSON asks for, and ends where `end` says.
 #[derive(Drop)]
-pub(crate) struct TextRoom {
+pub struct TextRoom {
     json: Vec<u8>,
     end: usize,
     numbers: Vec<usize>,
@@ -32,6 +32,7 @@ impl Model for TextRoom {
 }
 
 impl TextRoom {
+    /// Room that has no text yet.
     pub fn new(alloc: Global) -> TextRoom
         ensures { result ≡ [] }
     {
@@ -42,14 +43,14 @@ impl TextRoom {
         }
     }
 
-    /// A copy of the text that was written last.
+    /// A copy of the text that was written last. Err: memory was refused.
     pub fn text(&self, alloc: Global) -> Result<QuotedText, AllocError>
         ensures { IfOk result (λ text. text ≡ self.now) }
     {
         QuotedText::of_escaped(alloc, &self.json[..self.end])
     }
 
-    /// Writes the text of cells of these labels over the last one.
+    /// Writes the text of cells of these labels, the level so many cells wide, over the last one. Err: memory was refused.
     pub fn write(
         &mut self,
         texts: &KnownTexts,

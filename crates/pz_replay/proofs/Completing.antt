@@ -7,10 +7,11 @@ use Rattle.std.proofs.lemmas.Bool.Decides.{nat_tests}
 use native.Mathlib.Decide.{ℕ_discrete}
 use mathlib.Core.Logic.{dite}
 use Rattle.pz_claims.specs.Rule.{times, once_below}
-use Rattle.pz_session.specs.declared.item.Item.{Item}
+use Rattle.pz_case.specs.declared.item.Item.{Item}
 use Rattle.pz_replay.specs.declared.lane.End.TheVariants.{Finished}
 use Rattle.pz_replay.specs.declared.lane.Message.TheVariants.{Last}
-use Rattle.pz_replay.specs.Sent.{items_at, messages_of, messages_for, sent_for}
+use Rattle.pz_case.specs.Playing.{items_at}
+use Rattle.pz_replay.specs.Sent.{messages_of, messages_for, sent_for}
 use Rattle.pz_replay.specs.Recorded.{of_session, Gathered}
 use Rattle.pz_replay.proofs.Gathering.{of_append}
 

@@ -3,11 +3,11 @@ use Rattle.std.proofs.Common.{◌≡◌, ℕ, ◌<◌, ◌≤◌, List, [], ◌�
 use Rattle.std.proofs.lemmas.List.{length-map}
 use Rattle.pz_claims.specs.Holders.{Numbers, Makes}
 use Rattle.pz_claims.specs.Rule.{times, once_below}
-use Rattle.pz_session.specs.Case.{items_of}
-use Rattle.pz_session.specs.declared.case.Case.{Case}
-use Rattle.pz_session.specs.declared.item.Item.{Item}
+use Rattle.pz_case.specs.declared.case.Case.{Case}
+use Rattle.pz_case.specs.declared.item.Item.{Item}
 use Rattle.pz_replay.specs.declared.lane.Message.{Message}
-use Rattle.pz_replay.specs.Sent.{sent_for, sessions_of}
+use Rattle.pz_case.specs.Playing.{sessions_of}
+use Rattle.pz_replay.specs.Sent.{sent_for}
 use Rattle.pz_replay.specs.Recorded.{Gathered, taken_of, lane_of}
 use Rattle.pz_replay.specs.Workers.{IsDone, IsAll}
 use Rattle.pz_replay.specs.declared.recorder.Inbox.{Inbox}
@@ -19,11 +19,11 @@ no_inbox : (inboxes : List Inbox) → map lane_of inboxes ≡ [] → map taken_o
 no_inbox [] e = refl
 no_inbox (d ∷ ds) e = absurd (cc)
 
-pub finishes : (job : List Case) (claims : Numbers) (workers : ℕ) (m : Makes) (inboxes : List Inbox) (out : Result (Makes × List (List Item)) ReplayFault) → map lane_of inboxes ≡ []
-    → m.of ≡ claims → m.made ≡ 0 → m.joined ≡ 0 → m.numbers ≡ [] → claims.total ≡ length job → IfOk out (λ p. IsDone (sessions_of job) m workers inboxes p.0 p.1) → IfOk out (λ p. IsAll (sessions_of job) claims workers p.0 p.1)
-finishes job claims workers m inboxes (Err f) none of made joined numbers total done = tt
-finishes job claims workers m inboxes (Ok p) none of made joined numbers total done =
-    let sessions : List (List Item) = sessions_of job in
+pub finishes : (items_of : Case → List Item) (job : List Case) (claims : Numbers) (workers : ℕ) (m : Makes) (inboxes : List Inbox) (out : Result (Makes × List (List Item)) ReplayFault) → map lane_of inboxes ≡ []
+    → m.of ≡ claims → m.made ≡ 0 → m.joined ≡ 0 → m.numbers ≡ [] → claims.total ≡ length job → IfOk out (λ p. IsDone (sessions_of items_of job) m workers inboxes p.0 p.1) → IfOk out (λ p. IsAll (sessions_of items_of job) claims workers p.0 p.1)
+finishes items_of job claims workers m inboxes (Err f) none of made joined numbers total done = tt
+finishes items_of job claims workers m inboxes (Ok p) none of made joined numbers total done =
+    let sessions : List (List Item) = sessions_of items_of job in
     let lists = done.0 in
     let all : Gathered (map (sent_for sessions) lists) p.1 = subst (λ (ts : List (List Message)). Gathered (ts ++ map (sent_for sessions) lists) p.1) (no_inbox inboxes none) done.1.0 in
     let many : claims.total ≡ length sessions = total ∙ sym (length-map job items_of) in (

@@ -4,7 +4,7 @@ use Rattle.std.proofs.lemmas.List.{append-nil}
 use Rattle.std.specs.Prelude.{◌==◌}
 use native.Mathlib.Decide.{ℕ_discrete}
 use mathlib.Core.Logic.{dite}
-use Rattle.pz_session.specs.declared.item.Item.{Item}
+use Rattle.pz_case.specs.declared.item.Item.{Item}
 use Rattle.pz_replay.specs.declared.lane.Message.{Message}
 use Rattle.pz_replay.specs.declared.lane.Message.TheVariants as messages
 use Rattle.pz_replay.specs.Recorded.{of_session, kept, Gathered}

@@ -8,15 +8,15 @@ use Rattle.std.proofs.Math.Seq.{append_snoc}
 use Rattle.pz_claims.specs.Holders.{Numbers, Makes}
 use Rattle.pz_claims.specs.Rule.{times}
 use Rattle.pz_claims.specs.declared.limits.TheConstants.{MOST_SEATS}
-use Rattle.pz_session.specs.declared.item.Item.{Item}
-use Rattle.pz_session.specs.declared.case.Case.{Case}
+use Rattle.pz_case.specs.declared.item.Item.{Item}
+use Rattle.pz_case.specs.declared.case.Case.{Case}
 use Rattle.pz_replay.specs.Lane.{LaneId}
 use Rattle.pz_replay.specs.declared.lane.End.{End}
 use Rattle.pz_replay.specs.declared.lane.End.TheVariants.{GateClosed as gate_closed}
 use Rattle.pz_replay.specs.declared.lane.Message.{Message}
 use Rattle.pz_replay.specs.declared.lane.Message.TheVariants.{Last}
-use Rattle.pz_replay.specs.Sent.{sent_for, sessions_of}
-use Rattle.pz_session.specs.Case.{items_of}
+use Rattle.pz_case.specs.Playing.{sessions_of}
+use Rattle.pz_replay.specs.Sent.{sent_for}
 use Rattle.pz_replay.specs.Recorded.{of_session, Gathered, taken_of, lane_of, HasEnded, IsAsLong, IsHonest, IsRecorded}
 use Rattle.pz_replay.specs.Worked.{IsWorked}
 use Rattle.pz_replay.specs.Workers.{IsDone, IsSettled, IsOpened}
@@ -66,16 +66,17 @@ pub last_lane : (before after inboxes rest : List Inbox) (inbox : Inbox) (lane :
 last_lane before after inboxes rest inbox lane o same is =
     snoc_last (map lane_of rest) (map lane_of before) (lane_of inbox) (lane_of o.0) (sym (map-append lane_of rest (inbox ∷ [])) ∙ ap (map lane_of) (sym is) ∙ same ∙ ap (map lane_of) o.1 ∙ map-append lane_of before (o.0 ∷ [])) ∙ o.4
 
-pub moved_worked : (a b : Numbers) (job other : List Case) (l sender m : LaneId) (w : Worked) → a ≡ b → job ≡ other → l ≡ sender → m ≡ sender → IsWorked a (sessions_of job) l w → IsWorked b (sessions_of other) m w
-moved_worked a b job other l sender m w p q r s h =
+pub moved_worked : {D : Type 0} (items_of : Case → List Item) (job : D → List Case) (a b : Numbers) (played other : D) (l sender m : LaneId) (w : Worked) → a ≡ b → played ≡ other → l ≡ sender → m ≡ sender
+    → IsWorked a (sessions_of items_of (job played)) l w → IsWorked b (sessions_of items_of (job other)) m w
+moved_worked {D = D} items_of job a b played other l sender m w p q r s h =
     let same : l ≡ m = r ∙ sym s in
-    subst (λ (x : Numbers × List Case × LaneId). IsWorked x.0 (sessions_of x.1) x.2 w) (λ i. (p i, q i, same i)) h
+    subst (λ (x : Numbers × D × LaneId). IsWorked x.0 (sessions_of items_of (job x.1)) x.2 w) (λ i. (p i, q i, same i)) h
 
-pub none_left : (job : List Case) (m : Makes) (left : ℕ) (inboxes : List Inbox) (kept_then : Option (List (List Item))) (out : Result (Makes × List (List Item)) ReplayFault) → left ≡ 0
-    → IfOk out (λ p. (p.0 ≡ m) × Gathered (map taken_of inboxes) p.1 × IfSome kept_then (λ r. length p.1 ≡ length r) × IsSome kept_then) → IfSome kept_then (λ r. length r ≡ length job) → IfOk out (λ p. IsDone (sessions_of job) m left inboxes p.0 p.1)
-none_left job m left inboxes kept_then (Err f) z h l = tt
-none_left job m left inboxes None (Ok p) z h l = absurd (cc)
-none_left job m left inboxes (Some r) (Ok p) z h l = (
+pub none_left : (items_of : Case → List Item) (job : List Case) (m : Makes) (left : ℕ) (inboxes : List Inbox) (kept_then : Option (List (List Item))) (out : Result (Makes × List (List Item)) ReplayFault) → left ≡ 0
+    → IfOk out (λ p. (p.0 ≡ m) × Gathered (map taken_of inboxes) p.1 × IfSome kept_then (λ r. length p.1 ≡ length r) × IsSome kept_then) → IfSome kept_then (λ r. length r ≡ length job) → IfOk out (λ p. IsDone (sessions_of items_of job) m left inboxes p.0 p.1)
+none_left items_of job m left inboxes kept_then (Err f) z h l = tt
+none_left items_of job m left inboxes None (Ok p) z h l = absurd (cc)
+none_left items_of job m left inboxes (Some r) (Ok p) z h l = (
   [],
   (
     subst (λ (ts : List (List Message)). Gathered ts p.1) (sym (append-nil (map taken_of inboxes))) h.1,

@@ -1,16 +1,15 @@
 -- Lists of messages, and what they say of a worker that broke off.
 use Rattle.std.proofs.Common.{true≢false, ◌≡◌, ◌≢◌, ◌<◌, ◌+◌, ℕ, List, [], ◌∷◌, ◌++◌, All, IfSome, None, length, take, refl, sym, ap, ◌∙◌, subst, append_assoc, arith}
 use Rattle.std.proofs.Math.Seq.{take-append-add}
-use Rattle.std.proofs.lemmas.List.{append-nil, get_or-map, length-map, map-append, take_at}
+use Rattle.std.proofs.lemmas.List.{append-nil, length-map, map-append, take_at}
 use Rattle.std.proofs.lemmas.List.Elements.{All-push}
-use Rattle.std.proofs.lemmas.Option.{IfSome_then, get_or_from_slice_get, slice_get_within}
-use Rattle.std.specs.Prelude.{Some, slice_get}
+use Rattle.std.proofs.lemmas.Option.{IfSome_then}
+use Rattle.std.specs.Prelude.{Some}
 use Rattle.pz_claims.specs.Holders.{Ending, Holding, Numbers}
-use Rattle.pz_session.specs.Case.{items_of}
-use Rattle.pz_session.specs.declared.case.Case.{Case}
-use Rattle.pz_session.specs.declared.item.Item.{Item}
+use Rattle.pz_case.specs.declared.item.Item.{Item}
+use Rattle.pz_case.specs.Playing.{items_at}
 use Rattle.pz_replay.specs.Lane.{LaneId, Sends}
-use Rattle.pz_replay.specs.Sent.{items_at, messages_of, messages_for, sessions_of}
+use Rattle.pz_replay.specs.Sent.{messages_of, messages_for}
 use Rattle.pz_replay.specs.Worked.{IsWorked}
 use Rattle.pz_replay.specs.declared.lane.End.{End}
 use Rattle.pz_replay.specs.declared.lane.End.TheVariants.{Finished, Memory, GateClosed}
@@ -53,10 +52,6 @@ pub sends_more : (session : ℕ) (start before after : Sends) (shown : List Item
 sends_more session start before after shown item so_far more =
     rw (more, so_far, map-append (messages.Item session) shown (item ∷ [])) (ap (λ (ms : List Message). record start { sent = ms }) (append_assoc start.sent (messages_of session shown) (messages.Item session item ∷ [])))
 
-pub items_at_case : (job : List Case) (number : ℕ) (case : Case) → slice_get job number ≡ Some case → items_at (sessions_of job) number ≡ items_of case
-items_at_case job number case there =
-    get_or-map items_of job number case [] (slice_get_within job number case there) ∙ ap (λ (c : Case). items_of c) (get_or_from_slice_get job number case case there)
-
 pub messages_for_push : (sessions : List (List Item)) (numbers : List ℕ) (number : ℕ) → messages_for sessions (numbers ++ number ∷ []) ≡ messages_for sessions numbers ++ messages_of number (items_at sessions number)
 messages_for_push sessions [] number = append-nil (messages_of number (items_at sessions number))
 messages_for_push sessions (first ∷ later) number =
@@ -71,12 +66,12 @@ take_of sessions numbers number count =
     ∙ take-append-add (messages_for sessions numbers) (messages_of number (items_at sessions number)) count
 
 -- one session more was sent
-pub session_more : (job : List Case) (seat same : Holding) (number : ℕ) (case : Case) (before after : Sends)
-    → same ≡ record seat { numbers = seat.numbers ++ number ∷ [] } → slice_get job number ≡ Some case
-    → before.sent ≡ messages_for (sessions_of job) seat.numbers → after ≡ record before { sent = before.sent ++ messages_of number (items_of case) }
-    → after.sent ≡ messages_for (sessions_of job) same.numbers
-session_more job seat same number case before after claimed there so_far more =
-    rw (claimed, more, so_far, messages_for_push (sessions_of job) seat.numbers number, items_at_case job number case there) refl
+pub session_more : (sessions : List (List Item)) (seat same : Holding) (number : ℕ) (before after : Sends)
+    → same ≡ record seat { numbers = seat.numbers ++ number ∷ [] }
+    → before.sent ≡ messages_for sessions seat.numbers → after ≡ record before { sent = before.sent ++ messages_of number (items_at sessions number) }
+    → after.sent ≡ messages_for sessions same.numbers
+session_more sessions seat same number before after claimed so_far more =
+    rw (claimed, more, so_far, messages_for_push sessions seat.numbers number) refl
 
 pub below_more : (claims : Numbers) (seat same : Holding) (number : ℕ) → same ≡ record seat { numbers = seat.numbers ++ number ∷ [] }
     → All (λ k. k < claims.total) seat.numbers → seat.of ≡ claims → number < seat.of.total → All (λ k. k < claims.total) same.numbers
@@ -84,13 +79,13 @@ below_more claims seat same number claimed below table within =
     rw claimed (All-push (λ k. k < claims.total) seat.numbers number below (rw (← table) within))
 
 -- a worker that ends within a session breaks off
-pub breaks_off : (claims : Numbers) (job : List Case) (lane : LaneId) (seat same : Holding) (number count : ℕ) (case : Case) (before after : Sends) (end : End) (worked : Worked)
-    → seat.of ≡ claims → All (λ k. k < claims.total) seat.numbers → before.lane ≡ lane → before.sent ≡ messages_for (sessions_of job) seat.numbers
-    → number < seat.of.total → same ≡ record seat { numbers = seat.numbers ++ number ∷ [] } → slice_get job number ≡ Some case
-    → after ≡ record before { sent = before.sent ++ take count (messages_of number (items_of case)) } → end ≢ Finished
+pub breaks_off : (claims : Numbers) (sessions : List (List Item)) (lane : LaneId) (seat same : Holding) (number count : ℕ) (before after : Sends) (end : End) (worked : Worked)
+    → seat.of ≡ claims → All (λ k. k < claims.total) seat.numbers → before.lane ≡ lane → before.sent ≡ messages_for sessions seat.numbers
+    → number < seat.of.total → same ≡ record seat { numbers = seat.numbers ++ number ∷ [] }
+    → after ≡ record before { sent = before.sent ++ take count (messages_of number (items_at sessions number)) } → end ≢ Finished
     → worked.end ≡ end → worked.ended ≡ None → IfSome worked.sent (λ all. all ≡ record { lane = after.lane; sent = after.sent ++ messages.Last end ∷ [] })
-    → IsWorked claims (sessions_of job) lane worked
-breaks_off claims job lane seat same number count case before after end worked table below here so_far within claimed there part broken ends unended sent =
+    → IsWorked claims sessions lane worked
+breaks_off claims sessions lane seat same number count before after end worked table below here so_far within claimed part broken ends unended sent =
     record {
       token = IfSome_then worked.sent sent (λ all is. ap (λ a. a.lane) is ∙ (ap (λ s. s.lane) part ∙ here));
       seat = λ finished. absurd (broken (sym ends ∙ finished));
@@ -100,8 +95,8 @@ breaks_off claims job lane seat same number count case before after end worked t
           record {
             numbers = same.numbers;
             below = below_more claims seat same number claimed below table within;
-            count = length (messages_for (sessions_of job) seat.numbers) + count;
-            sends = ap (λ a. a.sent) is ∙ rw (ends, part, so_far, claimed, take_of (sessions_of job) seat.numbers number count, items_at_case job number case there) refl;
+            count = length (messages_for sessions seat.numbers) + count;
+            sends = ap (λ a. a.sent) is ∙ rw (ends, part, so_far, claimed, take_of sessions seat.numbers number count) refl;
           });
     }
 
@@ -110,18 +105,18 @@ none_below n [] e = λ k d within. absurd (omega arith)
 none_below n (number ∷ numbers) e = absurd (cc)
 
 -- a worker begins with nothing
-pub begins : (claims : Numbers) (job : List Case) (seat : Holding) (sent : List Message) → seat.numbers ≡ [] → sent ≡ [] → All (λ k. k < claims.total) seat.numbers × (sent ≡ messages_for (sessions_of job) seat.numbers)
-begins claims job seat sent none nothing = (none_below claims.total seat.numbers none, nothing ∙ sym (ap (messages_for (sessions_of job)) none))
+pub begins : (claims : Numbers) (sessions : List (List Item)) (seat : Holding) (sent : List Message) → seat.numbers ≡ [] → sent ≡ [] → All (λ k. k < claims.total) seat.numbers × (sent ≡ messages_for sessions seat.numbers)
+begins claims sessions seat sent none nothing = (none_below claims.total seat.numbers none, nothing ∙ sym (ap (messages_for sessions) none))
 
-pub case_there : (claims : Numbers) (job : List Case) (seat : Holding) (number : ℕ) → number < seat.of.total → seat.of ≡ claims → claims.total ≡ length job → number < length job
-case_there claims job seat number within table whole = subst (λ n. number < n) (ap (λ (c : Numbers). c.total) table ∙ whole) within
+pub case_there : (claims : Numbers) (many : ℕ) (seat : Holding) (number : ℕ) → number < seat.of.total → seat.of ≡ claims → claims.total ≡ many → number < many
+case_there claims many seat number within table whole = subst (λ n. number < n) (ap (λ (c : Numbers). c.total) table ∙ whole) within
 
 -- a worker that finds no number left has sent all
-pub ends_whole : (claims : Numbers) (job : List Case) (lane : LaneId) (seat : Holding) (ended : Ending) (before : Sends) (worked : Worked)
-    → seat.of ≡ claims → before.lane ≡ lane → before.sent ≡ messages_for (sessions_of job) seat.numbers → ended.of ≡ seat.of → ended.numbers ≡ seat.numbers
+pub ends_whole : (claims : Numbers) (sessions : List (List Item)) (lane : LaneId) (seat : Holding) (ended : Ending) (before : Sends) (worked : Worked)
+    → seat.of ≡ claims → before.lane ≡ lane → before.sent ≡ messages_for sessions seat.numbers → ended.of ≡ seat.of → ended.numbers ≡ seat.numbers
     → worked.end ≡ Finished → worked.ended ≡ Some ended → IfSome worked.sent (λ all. all ≡ record { lane = before.lane; sent = before.sent ++ messages.Last Finished ∷ [] })
-    → IsWorked claims (sessions_of job) lane worked
-ends_whole claims job lane seat ended before worked table here so_far of numbers ends some sent =
+    → IsWorked claims sessions lane worked
+ends_whole claims sessions lane seat ended before worked table here so_far of numbers ends some sent =
     record {
       token = IfSome_then worked.sent sent (λ all is. ap (λ a. a.lane) is ∙ here);
       seat = λ _. rw some refl;

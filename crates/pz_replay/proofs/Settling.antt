@@ -1,11 +1,12 @@
 -- An inbox that took a last message took all.
 use Rattle.std.proofs.Common.{◌≡◌, ℕ, List, [], ◌∷◌, ◌++◌, Some, None, Option, IfSome, IsSome, sym, ap, ◌∙◌, append_assoc}
 use Rattle.std.proofs.lemmas.List.{append-nil}
-use Rattle.pz_session.specs.declared.item.Item.{Item}
+use Rattle.pz_case.specs.declared.item.Item.{Item}
 use Rattle.pz_replay.specs.declared.lane.End.{End}
 use Rattle.pz_replay.specs.declared.lane.Message.{Message}
 use Rattle.pz_replay.specs.declared.lane.Message.TheVariants as messages
-use Rattle.pz_replay.specs.Sent.{items_at, messages_of, messages_for, sent_for}
+use Rattle.pz_case.specs.Playing.{items_at}
+use Rattle.pz_replay.specs.Sent.{messages_of, messages_for, sent_for}
 
 AllItems : List Message → Type 0
 AllItems [] = Unit {0}

@@ -4,7 +4,7 @@ use Rattle.std.proofs.lemmas.List.{length-map, map-set, get_or-map, set-get_or, 
 use native.Mathlib.Decide.{ℕ_discrete}
 use mathlib.Core.Logic.{dite}
 use Rattle.std.proofs.lemmas.List.Elements.{All-set}
-use Rattle.pz_session.specs.declared.item.Item.{Item}
+use Rattle.pz_case.specs.declared.item.Item.{Item}
 use Rattle.pz_replay.specs.declared.lane.End.{End}
 use Rattle.pz_replay.specs.declared.lane.Message.{Message}
 use Rattle.pz_replay.specs.declared.lane.Message.TheVariants as messages

@@ -1,6 +1,6 @@
 -- What the recorder has taken, and what it keeps.
 use Rattle.std.specs.Prelude.{◌≡◌, ◌≢◌, ◌⊎◌, ◌<◌, ◌==◌, if◌then◌else◌, ℕ, List, [], ◌∷◌, ◌++◌, map, length, slice_index_or, slice_set, Option, Some, None, IfSome, IsSome, All}
-use Rattle.pz_session.specs.declared.item.Item.{Item}
+use Rattle.pz_case.specs.declared.item.Item.{Item}
 use Rattle.pz_replay.specs.Lane.{LaneId}
 use Rattle.pz_replay.specs.declared.lane.End.{End}
 use Rattle.pz_replay.specs.declared.lane.Message.{Message}

@@ -1,19 +1,10 @@
 -- What workers send of the sessions of a job.
-use Rattle.std.specs.Prelude.{ℕ, List, [], ◌∷◌, ◌++◌, map, slice_index_or}
-use Rattle.pz_session.specs.declared.case.Case.{Case}
-use Rattle.pz_session.specs.declared.item.Item.{Item}
-use Rattle.pz_session.specs.Case.{items_of}
+use Rattle.std.specs.Prelude.{ℕ, List, [], ◌∷◌, ◌++◌, map}
+use Rattle.pz_case.specs.declared.item.Item.{Item}
+use Rattle.pz_case.specs.Playing.{items_at}
 use Rattle.pz_replay.specs.declared.lane.End.TheVariants.{Finished}
 use Rattle.pz_replay.specs.declared.lane.Message.{Message}
 use Rattle.pz_replay.specs.declared.lane.Message.TheVariants as messages
-
--- the items of each session of a job
-abbrev pub sessions_of : List Case → List (List Item)
-sessions_of job = map items_of job
-
--- the items of the session of this number
-abbrev pub items_at : List (List Item) → ℕ → List Item
-items_at sessions number = slice_index_or sessions number []
 
 -- the messages that one session makes
 abbrev pub messages_of : ℕ → List Item → List Message

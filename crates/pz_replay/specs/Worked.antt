@@ -1,7 +1,7 @@
 -- What a worker hands back.
 use Rattle.std.specs.Prelude.{◌≡◌, ◌≢◌, ◌<◌, ℕ, List, [], ◌∷◌, ◌++◌, All, take, IfSome, IsSome}
 use Rattle.pz_claims.specs.Holders.{Numbers}
-use Rattle.pz_session.specs.declared.item.Item.{Item}
+use Rattle.pz_case.specs.declared.item.Item.{Item}
 use Rattle.pz_replay.specs.Lane.{LaneId}
 use Rattle.pz_replay.specs.Sent.{messages_for, sent_for}
 use Rattle.pz_replay.specs.declared.lane.End.{End}

@@ -2,7 +2,7 @@
 use Rattle.std.specs.Prelude.{◌≡◌, ℕ, ◌+◌, List, [], ◌∷◌, ◌++◌, map, length, sum_by, None}
 use Rattle.pz_claims.specs.Holders.{Numbers, Makes}
 use Rattle.pz_claims.specs.Rule.{times, Once}
-use Rattle.pz_session.specs.declared.item.Item.{Item}
+use Rattle.pz_case.specs.declared.item.Item.{Item}
 use Rattle.pz_replay.specs.Lane.{LaneId}
 use Rattle.pz_replay.specs.Sent.{sent_for}
 use Rattle.pz_replay.specs.Recorded.{Gathered, taken_of, lane_of}

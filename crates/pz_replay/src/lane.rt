@@ -3,7 +3,7 @@
 ghost use Rattle.std.specs.Prelude.{◌≡◌, ◌<◌, ◌≤◌, [], ◌∷◌, ◌++◌, length, IfOk, IfErr, IfSome, IfNone, OnOk, IsOk, IsSome};
 ghost use mathlib.Core.List.{IsPrefix};
 
-use pz_session::item::Item;
+use pz_case::item::Item;
 use rtrb::{Consumer, Finished, Producer, PushError, RingBuffer};
 use std::alloc::{AllocError, Global};
 use std::marker::Model;

@@ -6,7 +6,7 @@ ghost use Rattle.pz_replay.specs.declared.lane.Message.TheVariants as messages;
 
 use crate::lane::{End, Message, Taker};
 use crate::waiting::pause;
-use pz_session::item::Item;
+use pz_case::item::Item;
 use std::alloc::{AllocError, Global};
 use std::marker::Model;
 use std::sync::Wait;
@@ -19,7 +19,7 @@ pub(crate) struct Sessions {
 
 impl Model for Sessions {
     ghost use Rattle.std.specs.Prelude.{List, map};
-    ghost use Rattle.pz_session.specs.declared.item.Item.{Item};
+    ghost use Rattle.pz_case.specs.declared.item.Item.{Item};
 
     ghost Value = { List (List Item) };
 

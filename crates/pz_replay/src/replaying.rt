@@ -2,8 +2,7 @@
 
 ghost use Rattle.std.specs.Prelude.{◌≡◌, ◌≢◌, ◌↔◌, ◌⊎◌, ◌<◌, ◌≤◌, [], length, replicate, Err, IfOk};
 ghost use Rattle.pz_replay.specs.Workers.{IsAll};
-ghost use Rattle.pz_replay.specs.Sent.{sessions_of};
-ghost use Rattle.pz_session.specs.Recording.{recording};
+ghost use Rattle.pz_case.specs.Playing.{recording, sessions_of};
 
 use crate::fault::ReplayFault;
 use crate::gate::Gate;
@@ -11,9 +10,9 @@ use crate::recorder::Sessions;
 use crate::workers::{Shared, all_started};
 use pz_base::listed::Listed;
 use pz_base::text::Text;
+use pz_case::playing::Playable;
+use pz_case::recording::{Record, Recording};
 use pz_claims::{Claims, Maker};
-use pz_session::job::Job;
-use pz_session::recording::{Record, Recording};
 use std::alloc::{AllocError, Global};
 use std::sync::Wait;
 use std::thread;
@@ -30,11 +29,16 @@ pub fn workers_are_limited()
     ensures { MOST_WORKERS ≡ 64 }
 {}
 
-/// The records of a job, from the items of its sessions.
-fn named(alloc: Global, job: &Job, sessions: Sessions) -> Result<Recording, AllocError>
-    requires { sessions ≡ sessions_of job.now }
-    ensures { IfOk result (λ records. records ≡ recording job.now) }
+/// The records of a job that is played, from the items of its sessions.
+fn named<P: Playable>(
+    alloc: Global,
+    played: &P,
+    sessions: Sessions,
+) -> Result<Recording, AllocError>
+    requires { sessions ≡ sessions_of P.items_of (P.job played.now) }
+    ensures { IfOk result (λ records. records ≡ recording P.items_of (P.job played.now)) }
 {
+    let job = played.job();
     let mut records = Vec::new(alloc);
     for items in sessions.into_items() {
         let case = job.case(records.len());
@@ -57,42 +61,45 @@ fn crew_for(workers: usize, sessions: usize) -> usize
 
 /// What every session of a job shows, by session number. At most so many workers play the sessions, each over a lane that holds `capacity`
 /// messages: none is started for which there is no session.
-pub fn replay_with<'a, R: Threads + Wait + Sync, G: Gate + Sync>(
+pub fn replay_with<'a, P: Playable + Sync, R: Threads + Wait + Sync, G: Gate + Sync>(
     rt: &'a R,
     alloc: Global,
-    job: &'a Job,
+    played: &'a P,
     workers: usize,
     capacity: usize,
     gate: &'a G,
 ) -> Result<Recording, ReplayFault>
+where
+    P::Run: Send,
     requires capacity { 1 ≤ capacity }
     ensures workers { (result ≡ Err ReplayFault.Workers) ↔ ((workers ≡ 0) ⊎ (MOST_WORKERS < workers)) }
-    ensures recording { IfOk result (λ r. r ≡ recording job.now) }
+    ensures recording { IfOk result (λ r. r ≡ recording P.items_of (P.job played.now)) }
     ensures opened { G.lets_all_pass gate.now → result ≢ Err ReplayFault.GateClosed }
 {
     if workers == 0 || workers > MOST_WORKERS {
         return Err(ReplayFault::Workers);
     }
-    let Ok(blank) = Sessions::blank(alloc, job.len()) else {
+    let count = played.job().len();
+    let Ok(blank) = Sessions::blank(alloc, count) else {
         return Err(ReplayFault::Memory);
     };
-    let Ok((claims, maker)) = Claims::new(alloc, job.len()) else {
+    let Ok((claims, maker)) = Claims::new(alloc, count) else {
         return Err(ReplayFault::Memory);
     };
     let table = &claims;
-    let crew = crew_for(workers, job.len());
+    let crew = crew_for(workers, count);
     let all = thread::scope(
         thread::scope_env(),
         rt,
         |scope| -> Result<(Maker, Sessions), ReplayFault>
-            requires { (1 ≤ capacity) × (1 ≤ crew) × (crew ≤ MOST_WORKERS) × (maker.of ≡ table.now) × (maker.made ≡ 0) × (maker.joined ≡ 0) × (maker.numbers ≡ []) × (table.now.total ≡ length job.now) × (blank ≡ replicate (length job.now) []) }
-            ensures { IfOk result (λ made. IsAll (sessions_of job.entry.now) table.entry.now crew made.0 made.1) × (G.lets_all_pass gate.entry.now → result ≢ Err ReplayFault.GateClosed) × (result ≢ Err ReplayFault.Workers) }
+            requires { (1 ≤ capacity) × (1 ≤ crew) × (crew ≤ MOST_WORKERS) × (maker.of ≡ table.now) × (maker.made ≡ 0) × (maker.joined ≡ 0) × (maker.numbers ≡ []) × (table.now.total ≡ length (P.job played.now)) × (blank ≡ replicate (length (P.job played.now)) []) }
+            ensures { IfOk result (λ made. IsAll (sessions_of P.items_of (P.job played.entry.now)) table.entry.now crew made.0 made.1) × (G.lets_all_pass gate.entry.now → result ≢ Err ReplayFault.GateClosed) × (result ≢ Err ReplayFault.Workers) }
         {
             let shared = Shared {
                 rt,
                 alloc,
                 claims: table,
-                job,
+                played,
                 gate,
                 capacity,
             };
@@ -101,23 +108,25 @@ pub fn replay_with<'a, R: Threads + Wait + Sync, G: Gate + Sync>(
     );
     let (maker, sessions) = all?;
     claims.close(maker);
-    match named(alloc, job, sessions) {
+    match named(alloc, played, sessions) {
         Ok(recording) => Ok(recording),
         Err(_) => Err(ReplayFault::Memory),
     }
 }
 
 /// What every session of a job shows, by session number, played by so many workers.
-pub fn replay<'a, R: Threads + Wait + Sync, G: Gate + Sync>(
+pub fn replay<'a, P: Playable + Sync, R: Threads + Wait + Sync, G: Gate + Sync>(
     rt: &'a R,
     alloc: Global,
-    job: &'a Job,
+    played: &'a P,
     workers: usize,
     gate: &'a G,
 ) -> Result<Recording, ReplayFault>
+where
+    P::Run: Send,
     ensures workers { (result ≡ Err ReplayFault.Workers) ↔ ((workers ≡ 0) ⊎ (MOST_WORKERS < workers)) }
-    ensures recording { IfOk result (λ r. r ≡ recording job.now) }
+    ensures recording { IfOk result (λ r. r ≡ recording P.items_of (P.job played.now)) }
     ensures opened { G.lets_all_pass gate.now → result ≢ Err ReplayFault.GateClosed }
 {
-    replay_with(rt, alloc, job, workers, CAPACITY, gate)
+    replay_with(rt, alloc, played, workers, CAPACITY, gate)
 }

@@ -1,8 +1,8 @@
 //! The run of a worker: it claims a session, plays it, sends its items, and claims again.
 
-ghost use Rattle.std.specs.Prelude.{◌≡◌, ◌≢◌, ◌++◌, ◌∷◌, [], All, IfErr, IfSome, OnOk, ℕ, length, take};
-ghost use Rattle.pz_session.specs.Case.{items_of};
-ghost use Rattle.pz_replay.specs.Sent.{messages_of, sessions_of};
+ghost use Rattle.std.specs.Prelude.{◌≡◌, ◌≢◌, ◌<◌, ◌++◌, ◌∷◌, [], All, IfErr, IfSome, OnOk, ℕ, length, take};
+ghost use Rattle.pz_case.specs.Playing.{items_at, sessions_of};
+ghost use Rattle.pz_replay.specs.Sent.{messages_of};
 ghost use Rattle.pz_replay.specs.Worked.{IsWorked};
 ghost use Rattle.pz_replay.specs.declared.lane.End.TheVariants.{Finished, GateClosed};
 ghost use Rattle.pz_replay.specs.declared.lane.Message.TheVariants.{Last};
@@ -10,19 +10,17 @@ ghost use Rattle.pz_replay.specs.declared.lane.Message.TheVariants.{Last};
 use crate::gate::Gate;
 use crate::lane::{End, Message, Sender, SentAll};
 use crate::waiting::pause;
+use pz_case::playing::{Playable, Playing};
 use pz_claims::{Claimed, Claims, Ended, Seat};
-use pz_session::case::Case;
-use pz_session::job::Job;
-use pz_session::run::Run;
 use std::alloc::Global;
 use std::sync::Wait;
 
-/// What a worker is given beside its seat and its lane: the table at which it claims, the job, and the gate that it asks.
+/// What a worker is given beside its seat and its lane: the table at which it claims, the job that is played, and the gate that it asks.
 #[derive(Drop)]
-pub struct Duty<'a, G> {
+pub struct Duty<'a, P, G> {
     pub alloc: Global,
     pub claims: &'a Claims,
-    pub job: &'a Job,
+    pub played: &'a P,
     pub gate: &'a G,
 }
 
@@ -50,15 +48,15 @@ fn send<R: Wait>(rt: &R, sender: &mut Sender, message: Message)
 }
 
 /// Sends the items that are still to come in a run, or the first of them: as far as there is memory to play on and the gate lets them pass.
-fn send_items<R: Wait, G: Gate>(
+fn send_items<U: Playing, R: Wait, G: Gate>(
     rt: &R,
     sender: &mut Sender,
     session: usize,
-    run: &mut Run<'_>,
+    run: &mut U,
     gate: &G,
 ) -> Result<(), End>
-    ensures whole { OnOk result (sender.new ≡ record sender.old { sent = sender.old.sent ++ messages_of session run.old.items }) }
-    ensures part { IfErr result (λ _. (count : ℕ) × (sender.new ≡ record sender.old { sent = sender.old.sent ++ take count (messages_of session run.old.items) })) }
+    ensures whole { OnOk result (sender.new ≡ record sender.old { sent = sender.old.sent ++ messages_of session (U.left run.old) }) }
+    ensures part { IfErr result (λ _. (count : ℕ) × (sender.new ≡ record sender.old { sent = sender.old.sent ++ take count (messages_of session (U.left run.old)) })) }
     ensures broken { IfErr result (λ end. end ≢ Finished) }
     ensures opened { G.lets_all_pass gate.now → IfErr result (λ end. end ≢ GateClosed) }
 {
@@ -82,19 +80,19 @@ fn send_items<R: Wait, G: Gate>(
 }
 
 /// Sends the items of a session, or its first ones. The run is made here and lent to the loop, so that the ways out of the loop drop none.
-fn play<R: Wait, G: Gate>(
+fn play<P: Playable, R: Wait, G: Gate>(
     rt: &R,
-    duty: &Duty<'_, G>,
+    duty: &Duty<'_, P, G>,
     sender: &mut Sender,
     session: usize,
-    case: &Case,
 ) -> Result<(), End>
-    ensures whole { OnOk result (sender.new ≡ record sender.old { sent = sender.old.sent ++ messages_of session (items_of case.now) }) }
-    ensures part { IfErr result (λ _. (count : ℕ) × (sender.new ≡ record sender.old { sent = sender.old.sent ++ take count (messages_of session (items_of case.now)) })) }
+    requires { session < length (P.job duty.now.played.now) }
+    ensures whole { OnOk result (sender.new ≡ record sender.old { sent = sender.old.sent ++ messages_of session (items_at (sessions_of P.items_of (P.job duty.now.played.now)) session) }) }
+    ensures part { IfErr result (λ _. (count : ℕ) × (sender.new ≡ record sender.old { sent = sender.old.sent ++ take count (messages_of session (items_at (sessions_of P.items_of (P.job duty.now.played.now)) session)) })) }
     ensures broken { IfErr result (λ end. end ≢ Finished) }
     ensures opened { G.lets_all_pass duty.now.gate.now → IfErr result (λ end. end ≢ GateClosed) }
 {
-    let Ok(mut run) = Run::new(duty.alloc, case) else {
+    let Ok(mut run) = duty.played.begin(duty.alloc, session) else {
         return Err(End::Memory);
     };
     send_items(rt, sender, session, &mut run, duty.gate)
@@ -113,11 +111,16 @@ fn end_work<R: Wait>(rt: &R, sender: Sender, end: End, ended: Option<Ended>) -> 
 }
 
 /// A worker's whole run, on a seat that holds nothing and a lane on which nothing was sent.
-pub fn work<R: Wait, G: Gate>(rt: &R, duty: &Duty<'_, G>, seat: Seat, sender: Sender) -> Worked
+pub fn work<P: Playable, R: Wait, G: Gate>(
+    rt: &R,
+    duty: &Duty<'_, P, G>,
+    seat: Seat,
+    sender: Sender,
+) -> Worked
     requires seat { (seat.of ≡ duty.now.claims.now) × (seat.numbers ≡ []) }
     requires sender { sender.sent ≡ [] }
-    requires job { duty.now.claims.now.total ≡ length duty.now.job.now }
-    ensures worked { IsWorked duty.now.claims.now (sessions_of duty.now.job.now) sender.lane result }
+    requires job { duty.now.claims.now.total ≡ length (P.job duty.now.played.now) }
+    ensures worked { IsWorked duty.now.claims.now (sessions_of P.items_of (P.job duty.now.played.now)) sender.lane result }
     ensures opened { G.lets_all_pass duty.now.gate.now → result.end ≢ GateClosed }
 {
     let mut seat = seat;
@@ -126,8 +129,7 @@ pub fn work<R: Wait, G: Gate>(rt: &R, duty: &Duty<'_, G>, seat: Seat, sender: Se
         match duty.claims.claim(seat) {
             Claimed::Got(same, session) => {
                 seat = same;
-                let case = duty.job.case(session);
-                if let Err(end) = play(rt, duty, &mut sender, session, case) {
+                if let Err(end) = play(rt, duty, &mut sender, session) {
                     return end_work(rt, sender, end, None);
                 }
             }

@@ -5,7 +5,8 @@ ghost use Rattle.pz_claims.specs.declared.limits.TheConstants.{MOST_SEATS};
 ghost use Rattle.pz_replay.specs.declared.lane.End.TheVariants.{GateClosed as gate_closed};
 ghost use Rattle.pz_replay.specs.Workers.{IsAll, IsDone, IsOpened, IsSettled};
 ghost use Rattle.pz_replay.specs.Faults.{fault_in, fault_of, first_fault};
-ghost use Rattle.pz_replay.specs.Sent.{sent_for, sessions_of};
+ghost use Rattle.pz_case.specs.Playing.{sessions_of};
+ghost use Rattle.pz_replay.specs.Sent.{sent_for};
 ghost use Rattle.pz_replay.specs.Recorded.{Gathered, HasEnded, IsHonest, IsRecorded, lane_of, taken_of};
 ghost use Rattle.pz_replay.specs.Worked.{IsWorked};
 
@@ -14,8 +15,8 @@ use crate::gate::Gate;
 use crate::lane::{End, Sender, SentAll, lane};
 use crate::recorder::{Inbox, Sessions, record};
 use crate::work::{Duty, Worked, work};
+use pz_case::playing::Playable;
 use pz_claims::{Claims, Ended, Maker, Seat};
-use pz_session::job::Job;
 use std::alloc::Global;
 use std::snapshot::Snapshot;
 use std::sync::Wait;
@@ -23,45 +24,48 @@ use std::thread::{Promise, PromisedHandle, Scope, Threads};
 
 /// What the workers of a replay share. Each has a lane of its own, of the same capacity.
 #[derive(Drop)]
-pub(crate) struct Shared<'e, R, G> {
+pub(crate) struct Shared<'e, P, R, G> {
     pub rt: &'e R,
     pub alloc: Global,
     pub claims: &'e Claims,
-    pub job: &'e Job,
+    pub played: &'e P,
     pub gate: &'e G,
     pub capacity: usize,
 }
 
 /// What is promised of a worker.
 #[derive(Drop)]
-struct Task<'a, G> {
+struct Task<'a, P, G> {
     claims: &'a Claims,
-    job: &'a Job,
+    played: &'a P,
     gate: &'a G,
     lane: Snapshot<Sender>,
 }
 
-impl<'a, G: Gate> Promise<Worked> for Task<'a, G> {
-    ghost kept_by = { λ task worked. IsWorked task.claims.now (sessions_of task.job.now) task.lane.value.lane worked × (G.lets_all_pass task.gate.now → worked.end ≢ gate_closed) };
+impl<'a, P: Playable, G: Gate> Promise<Worked> for Task<'a, P, G> {
+    ghost kept_by = { λ task worked. IsWorked task.claims.now (sessions_of P.items_of (P.job task.played.now)) task.lane.value.lane worked × (G.lets_all_pass task.gate.now → worked.end ≢ gate_closed) };
 }
 
-/// Starts a worker, if a thread can be made.
-fn start<'s, 'e, R: Threads + Wait + Sync, G: Gate + Sync>(
+/// Starts a worker, if a thread can be made. No run leaves the thread that makes it; but what is known of runs is known in another thread only
+/// where they may be sent.
+fn start<'s, 'e, P: Playable + Sync, R: Threads + Wait + Sync, G: Gate + Sync>(
     scope: &'s Scope<'s, &'e ()>,
-    shared: &Shared<'e, R, G>,
+    shared: &Shared<'e, P, R, G>,
     seat: Seat,
     sender: Sender,
-) -> Option<PromisedHandle<Worked, Task<'e, G>>>
+) -> Option<PromisedHandle<Worked, Task<'e, P, G>>>
+where
+    P::Run: Send,
     requires seat { (seat.of ≡ shared.now.claims.now) × (seat.numbers ≡ []) }
     requires sender { sender.sent ≡ [] }
-    requires job { shared.now.claims.now.total ≡ length shared.now.job.now }
-    ensures { IfSome result (λ h. (h.promise.claims.now ≡ shared.now.claims.now) × (h.promise.job.now ≡ shared.now.job.now) × (h.promise.gate.now ≡ shared.now.gate.now) × (h.promise.lane.value.lane ≡ sender.lane)) }
+    requires job { shared.now.claims.now.total ≡ length (P.job shared.now.played.now) }
+    ensures { IfSome result (λ h. (h.promise.claims.now ≡ shared.now.claims.now) × (h.promise.played.now ≡ shared.now.played.now) × (h.promise.gate.now ≡ shared.now.gate.now) × (h.promise.lane.value.lane ≡ sender.lane)) }
 {
     let (rt, alloc) = (shared.rt, shared.alloc);
-    let (claims, job, gate) = (shared.claims, shared.job, shared.gate);
+    let (claims, played, gate) = (shared.claims, shared.played, shared.gate);
     let task = Task {
         claims,
-        job,
+        played,
         gate,
         lane: Snapshot::of(&sender),
     };
@@ -69,14 +73,14 @@ fn start<'s, 'e, R: Threads + Wait + Sync, G: Gate + Sync>(
         .spawn_with(
             task,
             move ||
-                requires { (seat.of ≡ claims.now) × (seat.numbers ≡ []) × (sender.sent ≡ []) × (claims.now.total ≡ length job.now) }
+                requires { (seat.of ≡ claims.now) × (seat.numbers ≡ []) × (sender.sent ≡ []) × (claims.now.total ≡ length (P.job played.now)) }
             {
                 work(
                     rt,
                     &Duty {
                         alloc,
                         claims,
-                        job,
+                        played,
                         gate,
                     },
                     seat,
@@ -109,11 +113,11 @@ fn gather<R: Wait>(
 }
 
 /// What was taken at the inbox is all that was sent on its lane.
-fn confirm(mut inbox: Inbox, mut sent: SentAll, job: &Job, ended: &Ended)
+fn confirm<P: Playable>(mut inbox: Inbox, mut sent: SentAll, played: &P, ended: &Ended)
     requires lane { sent.lane ≡ inbox.taker.lane }
     requires inbox { IsHonest inbox × HasEnded inbox }
-    requires sent { sent.sent ≡ sent_for (sessions_of job.now) ended.now.numbers }
-    ensures { taken_of inbox ≡ sent_for (sessions_of job.now) ended.now.numbers }
+    requires sent { sent.sent ≡ sent_for (sessions_of P.items_of (P.job played.now)) ended.now.numbers }
+    ensures { taken_of inbox ≡ sent_for (sessions_of P.items_of (P.job played.now)) ended.now.numbers }
 {
     inbox.taker.left(&mut sent);
 }
@@ -138,17 +142,17 @@ fn first_fault(
 }
 
 /// Puts what one worker handed back to what the workers below it made. Of two faults the first goes on up.
-fn settle(
+fn settle<P: Playable>(
     claims: &Claims,
-    job: &Job,
+    played: &P,
     below: Result<(Maker, Sessions), ReplayFault>,
     worked: Worked,
     inbox: Inbox,
 ) -> Result<(Maker, Sessions), ReplayFault>
     requires maker { IfOk below (λ made. made.0.of ≡ claims.now) }
-    requires worked { IsWorked claims.now (sessions_of job.now) inbox.taker.lane worked }
+    requires worked { IsWorked claims.now (sessions_of P.items_of (P.job played.now)) inbox.taker.lane worked }
     requires inbox { IsHonest inbox × HasEnded inbox }
-    ensures settled { IfOk result (λ made. IfOk below (λ before. IsSettled (sessions_of job.now) inbox before.0 before.1 made.0 made.1)) }
+    ensures settled { IfOk result (λ made. IfOk below (λ before. IsSettled (sessions_of P.items_of (P.job played.now)) inbox before.0 before.1 made.0 made.1)) }
     ensures below { IfOk result (λ _. IsOk below) }
     ensures first { fault_in result ≡ first_fault (fault_in below) (fault_of worked) }
     ensures workers { result ≡ Err ReplayFault.Workers → below ≡ Err ReplayFault.Workers }
@@ -175,7 +179,7 @@ fn settle(
     let Some(sent) = sent else {
         unreachable!();
     };
-    confirm(inbox, sent, job, &ended);
+    confirm(inbox, sent, played, &ended);
     let maker = claims.join(maker, ended);
     Ok((maker, sessions))
 }
@@ -199,21 +203,23 @@ fn open_lane(alloc: Global, capacity: usize, inboxes: &mut Vec<Inbox>) -> Option
 
 /// Starts the workers that are left, and records what all of them send. Each call starts one worker, and joins it. A worker that can't be
 /// started is not waited for: those that run are, and the answer is `Memory`.
-fn run_workers<'s, 'e, R: Threads + Wait + Sync, G: Gate + Sync>(
+fn run_workers<'s, 'e, P: Playable + Sync, R: Threads + Wait + Sync, G: Gate + Sync>(
     scope: &'s Scope<'s, &'e ()>,
-    shared: &Shared<'e, R, G>,
+    shared: &Shared<'e, P, R, G>,
     maker: Maker,
     left: usize,
     inboxes: &mut Vec<Inbox>,
     sessions: Option<Sessions>,
 ) -> Result<(Maker, Sessions), ReplayFault>
+where
+    P::Run: Send,
     requires capacity { 1 ≤ shared.now.capacity }
     requires maker { (maker.of ≡ shared.now.claims.now) × (maker.made + left ≤ MOST_SEATS) }
-    requires job { shared.now.claims.now.total ≡ length shared.now.job.now }
-    requires recorded { IsRecorded inboxes.old.items sessions × IfSome sessions (λ s. length s ≡ length shared.now.job.now) }
+    requires job { shared.now.claims.now.total ≡ length (P.job shared.now.played.now) }
+    requires recorded { IsRecorded inboxes.old.items sessions × IfSome sessions (λ s. length s ≡ length (P.job shared.now.played.now)) }
     ensures lanes { map lane_of inboxes.new.items ≡ map lane_of inboxes.old.items }
     ensures ended { All IsHonest inboxes.new.items × All HasEnded inboxes.new.items }
-    ensures whole { IfOk result (λ made. IsDone (sessions_of shared.now.job.now) maker left inboxes.new.items made.0 made.1) }
+    ensures whole { IfOk result (λ made. IsDone (sessions_of P.items_of (P.job shared.now.played.now)) maker left inboxes.new.items made.0 made.1) }
     ensures workers { result ≢ Err ReplayFault.Workers }
     ensures opened { G.lets_all_pass shared.now.gate.now → result ≢ Err ReplayFault.GateClosed }
 {
@@ -236,24 +242,26 @@ fn run_workers<'s, 'e, R: Threads + Wait + Sync, G: Gate + Sync>(
     let Some(inbox) = inboxes.pop() else {
         unreachable!()
     };
-    settle(shared.claims, shared.job, below, worked, inbox)
+    settle(shared.claims, shared.played, below, worked, inbox)
 }
 
 /// Plays a job with so many workers: the maker that has joined them all, and the items of each session.
-pub(crate) fn all_started<'s, 'e, R: Threads + Wait + Sync, G: Gate + Sync>(
+pub(crate) fn all_started<'s, 'e, P: Playable + Sync, R: Threads + Wait + Sync, G: Gate + Sync>(
     scope: &'s Scope<'s, &'e ()>,
-    shared: &Shared<'e, R, G>,
+    shared: &Shared<'e, P, R, G>,
     maker: Maker,
     workers: usize,
     blank: Sessions,
 ) -> Result<(Maker, Sessions), ReplayFault>
+where
+    P::Run: Send,
     requires capacity { 1 ≤ shared.now.capacity }
     requires workers { (1 ≤ workers) × (workers ≤ MOST_SEATS) }
     requires maker { (maker.of ≡ shared.now.claims.now) × (maker.made ≡ 0) × (maker.joined ≡ 0) × (maker.numbers ≡ []) }
-    requires job { shared.now.claims.now.total ≡ length shared.now.job.now }
-    requires blank { blank ≡ replicate (length shared.now.job.now) [] }
+    requires job { shared.now.claims.now.total ≡ length (P.job shared.now.played.now) }
+    requires blank { blank ≡ replicate (length (P.job shared.now.played.now)) [] }
     ensures workers { result ≢ Err ReplayFault.Workers }
-    ensures all { IfOk result (λ made. IsAll (sessions_of shared.now.job.now) shared.now.claims.now workers made.0 made.1) }
+    ensures all { IfOk result (λ made. IsAll (sessions_of P.items_of (P.job shared.now.played.now)) shared.now.claims.now workers made.0 made.1) }
     ensures opened { G.lets_all_pass shared.now.gate.now → result ≢ Err ReplayFault.GateClosed }
 {
     let mut inboxes = Vec::new(shared.alloc);

@@ -3,13 +3,14 @@
 use crate::sessions::{ClosedTo, LONG, REFUSED, STALE, WALK, job_of, many_sources};
 use pz_base::listed::Listed;
 use pz_base::text::Text;
+use pz_case::job::Job;
+use pz_case::recording::{Record, Recording};
 use pz_lines::output::Output;
 use pz_lines::writing::write_recording;
 use pz_replay::fault::ReplayFault;
 use pz_replay::gate::{Always, Gate};
 use pz_replay::replaying::{replay, replay_with};
-use pz_session::job::Job;
-use pz_session::recording::{Record, Recording};
+use pz_session::by_rules::ByRules;
 use pz_session::run::frames;
 use std::alloc::{AllocError, Global};
 use std::sync::Wait;
@@ -52,8 +53,9 @@ fn records<R: Threads + Wait + Sync>(
     workers: usize,
     bytes: &[u8],
 ) -> Result<bool, Fail> {
-    let narrow = replay_with(rt, alloc, job, workers, 1, &Always).map_err(|_| "no recording")?;
-    let wide = replay(rt, alloc, job, workers, &Always).map_err(|_| "no recording")?;
+    let played = ByRules::new(job);
+    let narrow = replay_with(rt, alloc, &played, workers, 1, &Always).map_err(|_| "no recording")?;
+    let wide = replay(rt, alloc, &played, workers, &Always).map_err(|_| "no recording")?;
     Ok(bytes_of(alloc, &narrow)?.as_slice() == bytes && bytes_of(alloc, &wide)?.as_slice() == bytes)
 }
 
@@ -91,8 +93,9 @@ fn prepares_the_same_with_any_number_of_threads(rt: HostRuntime) -> Result<(), F
 #[test]
 fn refuses_other_numbers_of_workers(rt: HostRuntime) -> Result<(), Fail> {
     let job = nine_sessions(&rt, rt.alloc())?;
+    let played = ByRules::new(&job);
     for workers in [0, 65] {
-        let end = replay(&rt, rt.alloc(), &job, workers, &Always);
+        let end = replay(&rt, rt.alloc(), &played, workers, &Always);
         assert!(rt; matches!(end, Err(ReplayFault::Workers)));
     }
     Ok(())
@@ -140,11 +143,12 @@ impl Gate for WaitsFor {
 #[test]
 fn plays_a_session_beside_one_that_waits(rt: HostRuntime) -> Result<(), Fail> {
     let job = nine_sessions(&rt, rt.alloc())?;
+    let played = ByRules::new(&job);
     for session in [1, 2] {
         let gate = WaitsFor::new(session, 1_000_000_000);
-        let narrow = replay_with(&rt, rt.alloc(), &job, 2, 1, &gate);
+        let narrow = replay_with(&rt, rt.alloc(), &played, 2, 1, &gate);
         let gate = WaitsFor::new(session, 1_000_000_000);
-        let wide = replay(&rt, rt.alloc(), &job, 2, &gate);
+        let wide = replay(&rt, rt.alloc(), &played, 2, &gate);
         assert!(rt; narrow.is_ok() && wide.is_ok());
     }
     Ok(())
@@ -154,7 +158,7 @@ fn plays_a_session_beside_one_that_waits(rt: HostRuntime) -> Result<(), Fail> {
 fn plays_one_session_at_a_time_with_one_worker(rt: HostRuntime) -> Result<(), Fail> {
     let job = nine_sessions(&rt, rt.alloc())?;
     let gate = WaitsFor::new(1, 1000);
-    let end = replay(&rt, rt.alloc(), &job, 1, &gate);
+    let end = replay(&rt, rt.alloc(), &ByRules::new(&job), 1, &gate);
     assert!(rt; matches!(end, Err(ReplayFault::GateClosed)));
     Ok(())
 }
@@ -167,11 +171,12 @@ fn misses_each_item<R: Threads + Wait + Sync>(
     session: usize,
     items: usize,
 ) -> bool {
+    let played = ByRules::new(job);
     let mut missed = true;
     for item in 0..items as u64 {
         let gate = ClosedTo { session, item };
-        let one = replay_with(rt, alloc, job, 1, 1, &gate);
-        let three = replay_with(rt, alloc, job, 3, 1, &gate);
+        let one = replay_with(rt, alloc, &played, 1, 1, &gate);
+        let three = replay_with(rt, alloc, &played, 3, 1, &gate);
         missed = missed
             && matches!(one, Err(ReplayFault::GateClosed))
             && matches!(three, Err(ReplayFault::GateClosed));

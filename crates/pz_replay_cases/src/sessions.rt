@@ -1,10 +1,10 @@
 //! Sessions, and the jobs that they make.
 
+use pz_case::job::Job;
 use pz_entries::file::read_sessions;
 use pz_job::job::prepare;
 use pz_record::order::Order;
 use pz_replay::gate::Gate;
-use pz_session::job::Job;
 use std::alloc::{AllocError, Global};
 use std::test::Fail;
 use std::thread::Threads;

@@ -3,11 +3,12 @@
 ghost use Rattle.std.specs.Prelude.{◌≡◌};
 
 use crate::sessions::{ClosedTo, WALK, job_of};
+use pz_case::job::Job;
 use pz_claims::Claims;
 use pz_replay::gate::{Always, Gate};
 use pz_replay::lane::{End, Message, SentAll, Taker, lane};
 use pz_replay::work::{Duty, work};
-use pz_session::job::Job;
+use pz_session::by_rules::ByRules;
 use std::alloc::{AllocError, Global};
 use std::sync::Wait;
 use std::test::Fail;
@@ -61,10 +62,11 @@ fn played<R: Threads + Wait + Sync, G: Gate>(
         let _ = claims.claim(other);
     }
     let (sender, mut taker) = lane(alloc, 16)?;
+    let played = ByRules::new(&job);
     let duty = Duty {
         alloc,
         claims: &claims,
-        job: &job,
+        played: &played,
         gate,
     };
     let worked = work(rt, &duty, seat, sender);

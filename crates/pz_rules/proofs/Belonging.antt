@@ -6,7 +6,7 @@ use Rattle.std.proofs.lemmas.Bool.{and_parts, and_from, lt-ltb, eq-eqb}
 use Rattle.pz_game.specs.declared.denotation.Denotation.{Denotation}
 use Rattle.pz_game.specs.declared.direction.Dir.{Dir}
 use Rattle.pz_plan.specs.declared.fault.RuleFault.{RuleFault}
-use Rattle.pz_game.specs.declared.instance.Instance.{Instance}
+use Rattle.pz_program.specs.declared.instance.Instance.{Instance}
 use Rattle.pz_rules.specs.declared.instances.Pick.{Pick}
 use Rattle.pz_rules.specs.declared.instances.Pick.TheVariants as pick
 use Rattle.pz_game.specs.declared.pattern.Item.{Item}

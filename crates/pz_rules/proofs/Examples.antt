@@ -9,10 +9,10 @@ use Rattle.pz_game.specs.declared.direction.Dir.{Dir}
 use Rattle.pz_game.specs.declared.direction.Dir.TheVariants as dir
 use Rattle.pz_game.specs.declared.rule_line.RuleLine.{RuleLine}
 use Rattle.pz_game.specs.declared.game.GameParts.{GameParts}
-use Rattle.pz_game.specs.declared.instance.Block.{Block}
-use Rattle.pz_game.specs.declared.instance.Block.TheVariants.{One, Loop}
-use Rattle.pz_game.specs.declared.instance.Instance.{Instance}
-use Rattle.pz_game.specs.declared.instance.Program.{Program}
+use Rattle.pz_program.specs.declared.instance.Block.{Block}
+use Rattle.pz_program.specs.declared.instance.Block.TheVariants.{One, Loop}
+use Rattle.pz_program.specs.declared.instance.Instance.{Instance}
+use Rattle.pz_program.specs.declared.instance.Program.{Program}
 use Rattle.pz_game.specs.declared.pattern.Word.{Word}
 use Rattle.pz_game.specs.declared.pattern.Word.TheVariants as word
 use Rattle.pz_game.specs.declared.pattern.Item.{Item}

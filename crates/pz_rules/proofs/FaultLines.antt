@@ -9,7 +9,7 @@ use Rattle.pz_game.specs.declared.game.GameParts.{GameParts}
 use Rattle.pz_game.specs.declared.rule_line.RuleLine.{RuleLine}
 use Rattle.pz_rules.specs.declared.draft.Draft.{Draft}
 use Rattle.pz_plan.specs.declared.fault.RuleFault.{RuleFault}
-use Rattle.pz_game.specs.declared.instance.Program.{Program}
+use Rattle.pz_program.specs.declared.instance.Program.{Program}
 use Rattle.pz_rules.specs.Drafts.{line_added, going_on, program_from, nothing, program_of}
 
 -- the fault names one of the lines

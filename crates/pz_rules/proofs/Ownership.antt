@@ -18,10 +18,10 @@ use Rattle.pz_rules.specs.declared.draft.OpenGroup.{OpenGroup}
 use Rattle.pz_rules.specs.declared.expansion.Expansion.{Expansion}
 use Rattle.pz_plan.specs.declared.fault.RuleFault.{RuleFault}
 use Rattle.pz_plan.specs.declared.fault.RuleFault.TheVariants as fault
-use Rattle.pz_game.specs.declared.instance.Block.{Block}
-use Rattle.pz_game.specs.declared.instance.Block.TheVariants.{One, Loop}
-use Rattle.pz_game.specs.declared.instance.Instance.{Instance}
-use Rattle.pz_game.specs.declared.instance.Program.{Program}
+use Rattle.pz_program.specs.declared.instance.Block.{Block}
+use Rattle.pz_program.specs.declared.instance.Block.TheVariants.{One, Loop}
+use Rattle.pz_program.specs.declared.instance.Instance.{Instance}
+use Rattle.pz_program.specs.declared.instance.Program.{Program}
 use Rattle.pz_grammar.specs.declared.loops.LoopWord.{LoopWord}
 use Rattle.pz_grammar.specs.declared.loops.LoopWord.TheVariants as loop_words
 use Rattle.pz_game.specs.declared.pattern.Item.{Item}
@@ -32,7 +32,7 @@ use Rattle.pz_instances.specs.Clash.{has_clash}
 use Rattle.pz_rules.specs.Counting.{pair_count}
 use Rattle.pz_rules.specs.Drafts.{placed, settled, opened, loop_of, with_loop, closed, is_misplaced, lateness, joins, before, extended, extended_by, rule_added, parsed_added, loop_added, line_added, going_on, finished, program_from, nothing, program_of}
 use Rattle.pz_rules.specs.Expansion.{unless_clash, expansion_within, expanded_plan, expanded}
-use Rattle.pz_game.specs.Instance.{IsInstanceOf, IsGroupOf, IsBlockOf, IsProgramOf}
+use Rattle.pz_program.specs.Instance.{IsInstanceOf, IsGroupOf, IsBlockOf, IsProgramOf}
 use Rattle.pz_rules.specs.Instances.{layer_of, instances_of}
 use Rattle.pz_grammar.specs.Loop.{loop_word, next_loop, is_end}
 use Rattle.pz_grammar.specs.Parsed.{parsed}

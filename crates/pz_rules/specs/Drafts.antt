@@ -8,10 +8,10 @@ use Rattle.pz_rules.specs.declared.draft.OpenGroup.{OpenGroup}
 use Rattle.pz_rules.specs.declared.expansion.Expansion.{Expansion}
 use Rattle.pz_plan.specs.declared.fault.RuleFault.{RuleFault}
 use Rattle.pz_plan.specs.declared.fault.RuleFault.TheVariants as fault
-use Rattle.pz_game.specs.declared.instance.Block.{Block}
-use Rattle.pz_game.specs.declared.instance.Block.TheVariants.{One, Loop}
-use Rattle.pz_game.specs.declared.instance.Instance.{Instance}
-use Rattle.pz_game.specs.declared.instance.Program.{Program}
+use Rattle.pz_program.specs.declared.instance.Block.{Block}
+use Rattle.pz_program.specs.declared.instance.Block.TheVariants.{One, Loop}
+use Rattle.pz_program.specs.declared.instance.Instance.{Instance}
+use Rattle.pz_program.specs.declared.instance.Program.{Program}
 use Rattle.pz_grammar.specs.declared.loops.LoopWord.{LoopWord}
 use Rattle.pz_grammar.specs.declared.loops.LoopWord.TheVariants as loop_words
 use Rattle.pz_grammar.specs.declared.rule.Rule.{Rule}

@@ -6,7 +6,7 @@ use Rattle.pz_rules.specs.declared.expansion.Expansion.{Expansion}
 use Rattle.pz_rules.specs.declared.expansion.TheConstants.{PAIRS}
 use Rattle.pz_plan.specs.declared.fault.RuleFault.{RuleFault}
 use Rattle.pz_plan.specs.declared.fault.RuleFault.TheVariants as fault
-use Rattle.pz_game.specs.declared.instance.Instance.{Instance}
+use Rattle.pz_program.specs.declared.instance.Instance.{Instance}
 use Rattle.pz_plan.specs.declared.plan.Plan.{Plan}
 use Rattle.pz_grammar.specs.declared.rule.Rule.{Rule}
 use Rattle.pz_instances.specs.Clash.{has_clash}

@@ -9,7 +9,7 @@ use Rattle.pz_instances.specs.declared.exclusion.Role.TheVariants.{Asked}
 use Rattle.pz_game.specs.declared.pattern.Item.{Item}
 use Rattle.pz_game.specs.declared.pattern.Word.{Word}
 use Rattle.pz_game.specs.declared.pattern.Word.TheVariants.{Present, Still, Toward, Absent}
-use Rattle.pz_game.specs.declared.instance.Instance.{Instance}
+use Rattle.pz_program.specs.declared.instance.Instance.{Instance}
 use Rattle.pz_rules.specs.declared.instances.Pick.{Pick}
 use Rattle.pz_rules.specs.declared.instances.Pick.TheVariants as pick
 use Rattle.pz_grammar.specs.declared.token.Lead.{Lead}

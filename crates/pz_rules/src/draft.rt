@@ -14,8 +14,6 @@ use pz_base::listed::Listed;
 use pz_base::listing::joined;
 use pz_base::name::Name;
 use pz_game::game::Game;
-use pz_game::group::Group;
-use pz_game::instance::{Block, Instance};
 use pz_game::rule_line::RuleLine;
 use pz_grammar::grammar::parse;
 use pz_grammar::loops::{LoopWord, loop_word, next_loop};
@@ -23,6 +21,8 @@ use pz_grammar::rule::Rule;
 use pz_grammar::words::tokens_of;
 use pz_plan::fault::RuleFault;
 use pz_plan::prefix::is_late_rule;
+use pz_program::group::Group;
+use pz_program::instance::{Block, Instance};
 use std::alloc::{AllocError, Global};
 
 /// The last group, which a rule may join.

@@ -5,15 +5,15 @@ ghost use Rattle.pz_base.specs.declared.fault.Code.TheVariants.{Memory};
 ghost use Rattle.pz_plan.specs.declared.fault.RuleFault.TheVariants as rule_faults;
 ghost use Rattle.pz_rules.specs.Drafts.{nothing, finished, program_of};
 ghost use Rattle.pz_plan.specs.Fault.{code_of};
-ghost use Rattle.pz_game.specs.Instance.{IsProgramOf};
+ghost use Rattle.pz_program.specs.Instance.{IsProgramOf};
 
 use crate::draft::{Draft, line_added, settled};
 use crate::patterns::Patterns;
 use crate::sides::{Sides, no_sides};
 use pz_base::fault::{Code, SourceFault};
 use pz_game::game::Game;
-use pz_game::instance::Program;
 use pz_plan::fault::RuleFault;
+use pz_program::instance::Program;
 use std::alloc::{AllocError, Global};
 
 /// The refusal of a source one of whose rule lines has a fault. Want of memory is no line's.

@@ -13,12 +13,12 @@ use crate::instances::instances_of;
 use crate::patterns::Patterns;
 use pz_base::listed::Listed;
 use pz_game::denotation::Denotation;
-use pz_game::instance::Instance;
 use pz_grammar::rule::Rule;
 use pz_instances::clash::have_clash;
 use pz_plan::fault::RuleFault;
 use pz_plan::plan::Plan;
 use pz_plan::planning::plan_of;
+use pz_program::instance::Instance;
 
 /// How many pairs of a direction and a list of picks all rules of a game may have together.
 pub const PAIRS: u64 = 65_536;

@@ -12,11 +12,11 @@ use crate::turning::{class_directions, turned};
 use pz_base::listed::Listed;
 use pz_game::denotation::Denotation;
 use pz_game::direction::Dir;
-use pz_game::instance::Instance;
 use pz_game::pattern::{Item, Pattern, Row, Rows, Word};
 use pz_grammar::token::Lead;
 use pz_instances::exclusion::{Role, have_impossible};
 use pz_plan::plan::{Asked, Choice, Plan, PlanRow, Term, TermName};
+use pz_program::instance::Instance;
 use std::alloc::{AllocError, Global};
 
 /// What a choice gives.

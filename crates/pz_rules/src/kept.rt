@@ -5,9 +5,9 @@ ghost use Rattle.pz_instances.specs.Equal.{same_instance};
 ghost use Rattle.pz_base.specs.Lists.{added};
 
 use indexmap::IndexSet;
-use pz_game::instance::Instance;
 use pz_instances::equal::same_instance;
 use pz_instances::hashes::hash_of;
+use pz_program::instance::Instance;
 use std::alloc::{AllocError, Global};
 use std::hash::{Hash, Hasher};
 use std::marker::Model;
@@ -19,7 +19,7 @@ struct Form {
 }
 
 impl Model for Form {
-    ghost use Rattle.pz_game.specs.declared.instance.Instance.{Instance};
+    ghost use Rattle.pz_program.specs.declared.instance.Instance.{Instance};
 
     ghost Value = { Instance };
 
@@ -76,7 +76,7 @@ pub struct Kept {
 
 impl Model for Kept {
     ghost use Rattle.std.specs.Prelude.{List};
-    ghost use Rattle.pz_game.specs.declared.instance.Instance.{Instance};
+    ghost use Rattle.pz_program.specs.declared.instance.Instance.{Instance};
 
     ghost Value = { List Instance };
 

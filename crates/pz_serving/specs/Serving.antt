@@ -8,12 +8,12 @@ use Rattle.pz_entries.specs.declared.fault.FileFault.TheVariants as fault
 use Rattle.pz_entries.specs.declared.file.TheConstants.{MOST_BYTES}
 use Rattle.pz_record.specs.declared.order.Order.{Order}
 use Rattle.pz_entries.specs.File.{entries_of}
-use Rattle.pz_session.specs.declared.item.Item.{Item}
-use Rattle.pz_session.specs.declared.item.Item.TheVariants.{Close}
-use Rattle.pz_session.specs.declared.item.Verdict.TheVariants.{Passed}
+use Rattle.pz_case.specs.declared.item.Item.{Item}
+use Rattle.pz_case.specs.declared.item.Item.TheVariants.{Close}
+use Rattle.pz_case.specs.declared.item.Verdict.TheVariants.{Passed}
+use Rattle.pz_case.specs.declared.recording.Record.{Record}
 use Rattle.pz_job.specs.Job.{job_of}
 use Rattle.pz_lines.specs.declared.fault.WriteFault.{WriteFault}
-use Rattle.pz_session.specs.declared.recording.Record.{Record}
 use Rattle.pz_lines.specs.Lines.{text_of}
 use Rattle.pz_session.specs.Recording.{recording}
 use Rattle.pz_lines.specs.Writing.{Writes, EndsFor, HasWritten}

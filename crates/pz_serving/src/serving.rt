@@ -6,6 +6,8 @@ ghost use Rattle.pz_console.specs.declared.options.TheConstants.{MOST_WORKERS};
 ghost use Rattle.pz_console.specs.declared.failure.Failure.{Failure};
 ghost use Rattle.pz_serving.specs.Serving.{Reports, Serves, all_passed, has_passed, sessions_in, shown_of, status_of};
 
+use pz_case::item::{Item, Verdict};
+use pz_case::recording::{Record, Recording};
 use pz_console::counted::Counted;
 use pz_console::failure::{Failure, fail_with};
 use pz_console::input::{InputFault, read_input};
@@ -17,12 +19,10 @@ use pz_job::job::prepare;
 use pz_lines::output::Output;
 use pz_lines::writing::write_recording;
 use pz_record::limits::MOST_ENTRIES;
-use pz_record::order::Order;
 use pz_replay::fault::ReplayFault;
 use pz_replay::gate::Always;
 use pz_replay::replaying::replay;
-use pz_session::item::{Item, Verdict};
-use pz_session::recording::{Record, Recording};
+use pz_session::by_rules::ByRules;
 use std::alloc::Global;
 use std::io::{Read, Write};
 use std::sync::Wait;
@@ -55,7 +55,7 @@ fn record<T: Threads + Wait + Sync>(
     ensures refused { IfErr result (λ failure. (failure ≡ Failure.Memory) ⊎ (failure ≡ Failure.LaneLost)) }
 {
     let job = prepare(rt, alloc, entries, settings.order, settings.workers)?;
-    match replay(rt, alloc, &job, settings.workers, &Always) {
+    match replay(rt, alloc, &ByRules::new(&job), settings.workers, &Always) {
         Ok(recording) => Ok(recording),
         Err(ReplayFault::Memory) => Err(Failure::Memory),
         Err(ReplayFault::LaneLost) => Err(Failure::LaneLost),

@@ -3,7 +3,7 @@ use Rattle.std.proofs.Common.{◌≡◌, ◌<◌, ℕ, zero, suc, ◌+◌, ◌-�
 use Rattle.std.proofs.lemmas.Bool.{and_parts, false≢true}
 use Rattle.std.proofs.lemmas.List.{drop_more}
 use Rattle.pz_record.specs.declared.input.Input.{Input}
-use Rattle.pz_session.specs.declared.item.Stop.TheVariants.{AgainLimit}
+use Rattle.pz_case.specs.declared.item.Stop.TheVariants.{AgainLimit}
 use Rattle.pz_session.specs.declared.player.Phase.TheVariants as phase
 use Rattle.pz_session.specs.declared.player.Player.{Player}
 use Rattle.pz_session.specs.Board.{begun, tick_link}

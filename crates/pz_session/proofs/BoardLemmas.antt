@@ -3,10 +3,10 @@ use Rattle.std.proofs.Common.{◌≡◌, ℕ, List, [], ◌∷◌, Option, Some,
 use Rattle.std.specs.Prelude.{IfOk}
 use Rattle.std.proofs.lemmas.List.Elements.{All-head, All-tail}
 use Rattle.pz_game.specs.declared.game.GameParts.{GameParts}
-use Rattle.pz_game.specs.declared.commands.Commands.{Commands}
+use Rattle.pz_program.specs.declared.commands.Commands.{Commands}
 use Rattle.pz_game.specs.declared.direction.Dir.{Dir}
-use Rattle.pz_game.specs.declared.instance.Program.{Program}
-use Rattle.pz_game.specs.Commands.{has, cancel, restart}
+use Rattle.pz_program.specs.declared.instance.Program.{Program}
+use Rattle.pz_program.specs.Commands.{has, cancel, restart}
 use Rattle.pz_game.specs.Game.{players_of}
 use Rattle.pz_sheet.specs.Grid.{Grid, IsOfGame, LevelState}
 use Rattle.pz_sheet.specs.Sameness.{same_grid}
@@ -15,9 +15,9 @@ use Rattle.pz_turn.specs.declared.outcome.StepFault.{StepFault}
 use Rattle.pz_turn.specs.declared.step.StepEnd.{StepEnd}
 use Rattle.pz_turn.specs.Outcome.{Outcome}
 use Rattle.pz_turn.specs.Step.{given_input, must_cancel, with_cancel, ended, step_ended, step_of, rules_run}
-use Rattle.pz_session.specs.declared.item.FrameKind.{FrameKind}
-use Rattle.pz_session.specs.declared.item.FrameKind.TheVariants.{Move, Tick}
-use Rattle.pz_session.specs.declared.item.Stop.{Stop}
+use Rattle.pz_case.specs.declared.item.FrameKind.{FrameKind}
+use Rattle.pz_case.specs.declared.item.FrameKind.TheVariants.{Move, Tick}
+use Rattle.pz_case.specs.declared.item.Stop.{Stop}
 use Rattle.pz_session.specs.declared.chain.Shown.{Shown}
 use Rattle.pz_session.specs.declared.chain.PlayFault.{PlayFault}
 use Rattle.pz_session.specs.Chain.{Link, GivesLink}

@@ -3,11 +3,11 @@ use Rattle.std.proofs.Common.{◌≡◌, ℕ, ◌+◌, Bool, true, false, ◌&&�
 use Rattle.std.proofs.lemmas.Bool.{ltb-false}
 use Rattle.std.proofs.lemmas.List.{drop_all, map-append, append_assoc}
 use Rattle.pz_record.specs.declared.input.Input.{Input}
-use Rattle.pz_session.specs.declared.item.Stop.{Stop}
-use Rattle.pz_session.specs.declared.item.Verdict.TheVariants.{Stopped}
-use Rattle.pz_session.specs.declared.item.Frame.{Frame}
-use Rattle.pz_session.specs.declared.item.Item.{Item}
-use Rattle.pz_session.specs.declared.item.Item.TheVariants as item
+use Rattle.pz_case.specs.declared.item.Stop.{Stop}
+use Rattle.pz_case.specs.declared.item.Verdict.TheVariants.{Stopped}
+use Rattle.pz_case.specs.declared.item.Frame.{Frame}
+use Rattle.pz_case.specs.declared.item.Item.{Item}
+use Rattle.pz_case.specs.declared.item.Item.TheVariants as item
 use Rattle.pz_session.specs.declared.player.Phase.{Phase}
 use Rattle.pz_session.specs.declared.player.Phase.TheVariants as phase
 use Rattle.pz_session.specs.Session.{Played, items_from, numbered, played, showing, going_on, after_chain}

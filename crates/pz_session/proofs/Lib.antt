@@ -4,7 +4,6 @@ pub mod Running
 pub mod Bounds
 pub mod Starting
 pub mod BoardLemmas
-pub mod FirstLevel
 pub mod Closing
 pub mod Rows
 pub mod WorkedSessions

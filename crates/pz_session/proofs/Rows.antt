@@ -9,8 +9,8 @@ use Rattle.pz_game.specs.declared.level.LevelEntry.TheVariants.{Message, Level}
 use Rattle.pz_game.specs.declared.win_line.Quantifier.TheVariants.{No}
 use Rattle.pz_game.specs.declared.win_line.WinLine.{WinLine}
 use Rattle.pz_game.specs.declared.game.GameParts.{GameParts}
-use Rattle.pz_game.specs.declared.instance.Block.TheVariants.{One}
-use Rattle.pz_game.specs.declared.instance.Program.{Program}
+use Rattle.pz_program.specs.declared.instance.Block.TheVariants.{One}
+use Rattle.pz_program.specs.declared.instance.Program.{Program}
 use Rattle.pz_game.specs.declared.pattern.Word.TheVariants.{Toward}
 use Rattle.pz_game.specs.Pattern.{RuleRow}
 use Rattle.pz_cells.specs.declared.piece.Piece.{Piece}
@@ -23,18 +23,18 @@ use Rattle.pz_turn.specs.Win.{has_won}
 use Rattle.pz_record.specs.declared.input.Input.{Input}
 use Rattle.pz_record.specs.declared.input.Input.TheVariants.{Press, Undo, Restart, Tick}
 use Rattle.pz_record.specs.declared.order.Order.TheVariants.{Rows}
-use Rattle.pz_record.specs.Equality.{equals_recorded}
-use Rattle.pz_record.specs.LevelText.{text_of_level}
-use Rattle.pz_session.specs.declared.item.FrameKind.{FrameKind}
-use Rattle.pz_session.specs.declared.item.FrameKind.TheVariants as kind
-use Rattle.pz_session.specs.declared.item.Item.{Item}
-use Rattle.pz_session.specs.declared.item.Item.TheVariants.{Frame, Close}
-use Rattle.pz_session.specs.declared.item.Refusal.TheVariants.{NoLevel}
-use Rattle.pz_session.specs.declared.item.Verdict.TheVariants.{Passed, Differs, Refused}
+use Rattle.pz_level_text.specs.Equality.{equals_recorded}
+use Rattle.pz_level_text.specs.LevelText.{text_of_level}
+use Rattle.pz_case.specs.declared.item.FrameKind.{FrameKind}
+use Rattle.pz_case.specs.declared.item.FrameKind.TheVariants as kind
+use Rattle.pz_case.specs.declared.item.Item.{Item}
+use Rattle.pz_case.specs.declared.item.Item.TheVariants.{Frame, Close}
+use Rattle.pz_case.specs.declared.item.Refusal.TheVariants.{NoLevel}
+use Rattle.pz_case.specs.declared.item.Verdict.TheVariants.{Passed, Differs, Refused}
+use Rattle.pz_case.specs.FirstLevel.{level_from}
+use Rattle.pz_case.specs.Plan.{PlanState}
 use Rattle.pz_session.specs.Session.{played, numbered, items_from}
-use Rattle.pz_session.specs.FirstLevel.{level_from}
 use Rattle.pz_session.specs.Board.{frame_of, start_link, press_link, tick_link, undo_link, restarted, won_link, kept_link, reached_link, effect, begun, settled}
-use Rattle.pz_session.specs.Plan.{PlanState}
 use Rattle.pz_session.specs.Case.{played_items, items_of_plan}
 
 abbrev named : ℕ → Denotation
@@ -190,23 +190,3 @@ wins = refl
 pub refused : items_of_plan (Err NoLevel) ≡ Close (Refused NoLevel) ∷ []
 unfolding items_of_plan
 refused = refl
-
--- a message is passed over; behind the last level there is none
-abbrev entries : List LevelEntry
-entries = free ∷ Message ∷ Message ∷ walled ∷ Message ∷ []
-
-pub starts_at_level : level_from (game entries) 0 ≡ Some 0
-unfolding level_from
-starts_at_level = refl
-
-pub passes_messages : level_from (game entries) 1 ≡ Some 3
-unfolding level_from
-passes_messages = refl
-
-pub no_level_left : level_from (game entries) 4 ≡ None
-unfolding level_from
-no_level_left = refl
-
-pub index_behind_all : level_from (game entries) 18446744073709551615 ≡ None
-unfolding level_from
-index_behind_all = refl

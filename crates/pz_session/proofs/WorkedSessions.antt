@@ -1,4 +1,4 @@
--- Worked cases of sessions: where they start, undo and restart, what commands make of a step, the order of the items, and the close.
+-- Worked cases of sessions: undo and restart, what commands make of a step, the order of the items, and the close.
 use Rattle.std.proofs.Common.{◌≡◌, ℕ, suc, List, [], ◌∷◌, length, Option, Some, None, Bool, true, false, Ok, Err, refl}
 use Rattle.std.specs.Prelude.{codes, map, nat_lt, ◌==◌, if◌then◌else◌}
 use Rattle.std.specs.Fmt.{digits}
@@ -8,10 +8,10 @@ use Rattle.pz_game.specs.declared.direction.Dir.TheVariants.{Up, Right}
 use Rattle.pz_game.specs.declared.level.LevelEntry.{LevelEntry}
 use Rattle.pz_game.specs.declared.level.LevelEntry.TheVariants.{Message, Level}
 use Rattle.pz_game.specs.declared.game.GameParts.{GameParts}
-use Rattle.pz_game.specs.Commands as command
-use Rattle.pz_game.specs.declared.commands.Commands.{Commands}
-use Rattle.pz_game.specs.Commands.{either}
-use Rattle.pz_game.specs.declared.instance.Program.{Program}
+use Rattle.pz_program.specs.Commands as command
+use Rattle.pz_program.specs.declared.commands.Commands.{Commands}
+use Rattle.pz_program.specs.Commands.{either}
+use Rattle.pz_program.specs.declared.instance.Program.{Program}
 use Rattle.pz_cells.specs.declared.piece.Piece.{Piece}
 use Rattle.pz_sheet.specs.Grid.{Grid}
 use Rattle.pz_turn.specs.Outcome.{Outcome}
@@ -20,21 +20,22 @@ use Rattle.pz_turn.specs.Win.{has_won}
 use Rattle.pz_record.specs.declared.input.Input.TheVariants.{Press, Undo, Restart, Tick}
 use Rattle.pz_record.specs.declared.order.Order.TheVariants.{Rows}
 use Rattle.pz_record.specs.CellNames.{with_name, same_set}
-use Rattle.pz_record.specs.Equality.{equals_recorded}
-use Rattle.pz_record.specs.LevelNames.{standing_names}
-use Rattle.pz_record.specs.LevelText.{with_cell, piece, text_of_level}
-use Rattle.pz_session.specs.declared.item.FrameKind.{FrameKind}
-use Rattle.pz_session.specs.declared.item.FrameKind.TheVariants as kind
-use Rattle.pz_session.specs.declared.item.Frame.{Frame}
-use Rattle.pz_session.specs.declared.item.Item.TheVariants as item
-use Rattle.pz_session.specs.declared.item.Refusal.TheVariants.{NoLevel}
-use Rattle.pz_session.specs.declared.item.Stop.TheVariants as stop
-use Rattle.pz_session.specs.declared.item.Verdict.TheVariants.{Passed, Differs, Stopped, Refused}
+use Rattle.pz_level_text.specs.Equality.{equals_recorded}
+use Rattle.pz_level_text.specs.LevelNames.{standing_names}
+use Rattle.pz_record.specs.CellTexts.{with_cell, piece}
+use Rattle.pz_level_text.specs.LevelText.{text_of_level}
+use Rattle.pz_case.specs.declared.item.FrameKind.{FrameKind}
+use Rattle.pz_case.specs.declared.item.FrameKind.TheVariants as kind
+use Rattle.pz_case.specs.declared.item.Frame.{Frame}
+use Rattle.pz_case.specs.declared.item.Item.TheVariants as item
+use Rattle.pz_case.specs.declared.item.Refusal.TheVariants.{NoLevel}
+use Rattle.pz_case.specs.declared.item.Stop.TheVariants as stop
+use Rattle.pz_case.specs.declared.item.Verdict.TheVariants.{Passed, Differs, Stopped, Refused}
+use Rattle.pz_case.specs.FirstLevel.{level_from}
+use Rattle.pz_case.specs.Plan.{PlanState}
 use Rattle.pz_session.specs.Board.{State, frame_of, start_link, restarted, won_link, kept_link, reached_link, effect}
 use Rattle.pz_session.specs.Board.{press_link, undo_link, begun, settled}
 use Rattle.pz_session.specs.Case.{played_items, items_of_plan}
-use Rattle.pz_session.specs.FirstLevel.{level_from}
-use Rattle.pz_session.specs.Plan.{PlanState}
 use Rattle.pz_session.specs.Session.{Links, closing, played, numbered, items_from}
 use Rattle.pz_session.specs.Turn.{is_idle}
 
@@ -104,14 +105,6 @@ session = session_of game
 
 abbrev shows : FrameKind → Grid → Frame
 shows kind level = record { kind = kind; level_text = text_of_level game Rows level }
-
--- where a session starts
-
--- a message is passed over, behind the last level none is left
-first_levels : map (level_from (game_with false (Message ∷ entry ∷ Message ∷ entry ∷ Message ∷ []))) (0 ∷ 1 ∷ 2 ∷ 4 ∷ 9 ∷ [])
-    ≡ Some 1 ∷ Some 1 ∷ Some 3 ∷ None ∷ None ∷ []
-unfolding level_from
-first_levels = refl
 
 -- undo
 

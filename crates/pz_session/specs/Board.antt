@@ -2,10 +2,10 @@
 use Rattle.std.specs.Prelude.{ℕ, ◌+◌, ◌<◌, Bool, true, false, ◌&&◌, ◌||◌, List, [], ◌∷◌, length, Option, Some, None, Result, Ok, Err, All, IfSome, if◌then◌else◌}
 use Rattle.pz_game.specs.declared.game.GameParts.{GameParts}
 use Rattle.pz_game.specs.declared.direction.Dir.{Dir}
-use Rattle.pz_game.specs.declared.commands.Commands.{Commands}
-use Rattle.pz_game.specs.declared.instance.Program.{Program}
-use Rattle.pz_game.specs.Commands as command
-use Rattle.pz_game.specs.Instance.{IsProgramOf}
+use Rattle.pz_program.specs.declared.commands.Commands.{Commands}
+use Rattle.pz_program.specs.declared.instance.Program.{Program}
+use Rattle.pz_program.specs.Commands as command
+use Rattle.pz_program.specs.Instance.{IsProgramOf}
 use Rattle.pz_sheet.specs.Grid.{Grid, IsOfGame}
 use Rattle.pz_grid.specs.Loading.{loaded}
 use Rattle.pz_sheet.specs.Sameness.{same_grid}
@@ -16,16 +16,16 @@ use Rattle.pz_turn.specs.Win.{has_won}
 use Rattle.pz_record.specs.declared.input.Input.{Input}
 use Rattle.pz_record.specs.declared.input.Input.TheVariants as input
 use Rattle.pz_record.specs.declared.order.Order.{Order}
-use Rattle.pz_record.specs.Equality.{equals_recorded}
-use Rattle.pz_record.specs.LevelText.{text_of_level}
-use Rattle.pz_session.specs.declared.item.FrameKind.{FrameKind}
-use Rattle.pz_session.specs.declared.item.FrameKind.TheVariants.{Start, Move, Tick, Undo, Restart, Load, Over}
-use Rattle.pz_session.specs.declared.item.Frame.{Frame}
-use Rattle.pz_session.specs.declared.item.Stop.{Stop}
-use Rattle.pz_session.specs.declared.item.Verdict.{Verdict}
-use Rattle.pz_session.specs.declared.item.Verdict.TheVariants.{Passed, Differs}
+use Rattle.pz_level_text.specs.Equality.{equals_recorded}
+use Rattle.pz_level_text.specs.LevelText.{text_of_level}
+use Rattle.pz_case.specs.declared.item.FrameKind.{FrameKind}
+use Rattle.pz_case.specs.declared.item.FrameKind.TheVariants.{Start, Move, Tick, Undo, Restart, Load, Over}
+use Rattle.pz_case.specs.declared.item.Frame.{Frame}
+use Rattle.pz_case.specs.declared.item.Stop.{Stop}
+use Rattle.pz_case.specs.declared.item.Verdict.{Verdict}
+use Rattle.pz_case.specs.declared.item.Verdict.TheVariants.{Passed, Differs}
+use Rattle.pz_case.specs.FirstLevel.{level_from}
 use Rattle.pz_session.specs.Chain.{Link}
-use Rattle.pz_session.specs.FirstLevel.{level_from}
 use Rattle.pz_session.specs.Session.{Links}
 use Rattle.pz_session.specs.Turn.{stop_of, is_idle}
 

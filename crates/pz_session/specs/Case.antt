@@ -1,15 +1,15 @@
 -- The items of a case.
 use Rattle.std.specs.Prelude.{List, [], ◌∷◌, Result, Ok, Err}
+use Rattle.pz_case.specs.declared.item.Item.{Item}
+use Rattle.pz_case.specs.declared.item.Item.TheVariants.{Close}
+use Rattle.pz_case.specs.declared.item.Refusal.{Refusal}
+use Rattle.pz_case.specs.declared.item.Verdict.TheVariants.{Refused}
+use Rattle.pz_case.specs.declared.case.Case.{Case}
+use Rattle.pz_case.specs.Plan.{PlanState}
 use Rattle.pz_session.specs.declared.chain.TheConstants.{MOST_TICKS}
-use Rattle.pz_session.specs.declared.item.Item.{Item}
-use Rattle.pz_session.specs.declared.item.Item.TheVariants.{Close}
-use Rattle.pz_session.specs.declared.item.Refusal.{Refusal}
-use Rattle.pz_session.specs.declared.item.Verdict.TheVariants.{Refused}
-use Rattle.pz_session.specs.declared.case.Case.{Case}
 use Rattle.pz_session.specs.Chain.{follow, ticks}
 use Rattle.pz_session.specs.Session.{played, going_on, items_from}
 use Rattle.pz_session.specs.Board.{State, board_links, start_link, loaded_at}
-use Rattle.pz_session.specs.Plan.{PlanState}
 
 -- the session at its start
 abbrev pub state_of : PlanState → State

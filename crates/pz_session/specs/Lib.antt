@@ -1,12 +1,9 @@
 pub mod Chain
 pub mod Session
 pub mod Player
-pub mod FirstLevel
 pub mod Turn
 pub mod Board
 pub mod Inside
-pub mod Rulebook
-pub mod Plan
 pub mod Case
 pub mod Recording
 pub mod Run

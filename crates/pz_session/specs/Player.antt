@@ -1,14 +1,14 @@
 -- What is left of a session in play.
-use Rattle.std.specs.Prelude.{◌≡◌, ℕ, ◌+◌, ◌*◌, ◌-◌, List, [], ◌∷◌, ◌++◌, drop, length, Option, Some, None, option_to_list, Result, Bool, true, false, nat_lt, is_none, ◌&&◌, if◌then◌else◌}
+use Rattle.std.specs.Prelude.{ℕ, ◌+◌, ◌*◌, ◌-◌, List, [], ◌++◌, drop, length, None, option_to_list, Result, Bool, true, false, nat_lt, is_none, ◌&&◌, if◌then◌else◌}
 use Rattle.pz_session.specs.declared.chain.TheConstants.{MOST_TICKS}
-use Rattle.pz_session.specs.declared.item.Verdict.TheVariants.{Stopped}
-use Rattle.pz_session.specs.declared.item.Item.{Item}
+use Rattle.pz_case.specs.declared.item.Verdict.TheVariants.{Stopped}
+use Rattle.pz_case.specs.declared.item.Item.{Item}
+use Rattle.pz_case.specs.declared.item.Frame.{Frame}
+use Rattle.pz_case.specs.declared.item.Stop.{Stop}
 use Rattle.pz_record.specs.declared.input.Input.{Input}
-use Rattle.pz_session.specs.declared.item.Frame.{Frame}
 use Rattle.pz_session.specs.declared.player.Phase.{Phase}
 use Rattle.pz_session.specs.declared.player.Phase.TheVariants as phase
 use Rattle.pz_session.specs.declared.player.Player.{Player}
-use Rattle.pz_session.specs.declared.item.Stop.{Stop}
 use Rattle.pz_session.specs.Chain.{Link, ticks, follow}
 use Rattle.pz_session.specs.Session.{Played, played, closing, going_on, showing, items_from}
 use Rattle.pz_session.specs.Board.{State, board_links, settled, tick_link}
@@ -29,11 +29,6 @@ pending player = option_to_list player.first ++ option_to_list player.second
 
 abbrev pub left : Player → List Item
 left player = left_in player.phase player.number (pending player) player.taken (drop player.taken player.inputs) player.board
-
--- an answer is the first of the items that were left
-abbrev pub Yields : List Item → Option Item → List Item → Type 0
-Yields before None after = (before ≡ []) × (after ≡ [])
-Yields before (Some item) after = before ≡ item ∷ after
 
 -- a bound on the links that are left
 abbrev pub rank : Phase → ℕ

@@ -1,8 +1,8 @@
 -- The items of a case that are still to come.
 use Rattle.std.specs.Prelude.{◌+◌, ◌<◌, ◌^◌, List, [], length, map, option_to_list, Bool, true, false}
-use Rattle.pz_session.specs.declared.item.Item.{Item}
-use Rattle.pz_session.specs.declared.item.Item.TheVariants.{Close}
-use Rattle.pz_session.specs.declared.item.Verdict.TheVariants as verdict
+use Rattle.pz_case.specs.declared.item.Item.{Item}
+use Rattle.pz_case.specs.declared.item.Item.TheVariants.{Close}
+use Rattle.pz_case.specs.declared.item.Verdict.TheVariants as verdict
 use Rattle.pz_session.specs.declared.stage.Stage.{Stage}
 use Rattle.pz_session.specs.declared.stage.Stage.TheVariants.{Refused, Playing, Failed}
 use Rattle.pz_session.specs.Player.{left}

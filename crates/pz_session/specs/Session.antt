@@ -2,13 +2,13 @@
 use Rattle.std.specs.Prelude.{ℕ, ◌+◌, ◌-◌, List, [], ◌∷◌, ◌++◌, map, Result, Ok, Err, Option, Some, option_to_list}
 use Rattle.pz_record.specs.declared.input.Input.{Input}
 use Rattle.pz_record.specs.declared.input.Input.TheVariants.{Tick}
+use Rattle.pz_case.specs.declared.item.Stop.{Stop}
+use Rattle.pz_case.specs.declared.item.Verdict.{Verdict}
+use Rattle.pz_case.specs.declared.item.Verdict.TheVariants.{Stopped}
+use Rattle.pz_case.specs.declared.item.Frame.{Frame}
+use Rattle.pz_case.specs.declared.item.Item.{Item}
+use Rattle.pz_case.specs.declared.item.Item.TheVariants as item
 use Rattle.pz_session.specs.declared.chain.TheConstants.{MOST_TICKS}
-use Rattle.pz_session.specs.declared.item.Stop.{Stop}
-use Rattle.pz_session.specs.declared.item.Verdict.{Verdict}
-use Rattle.pz_session.specs.declared.item.Verdict.TheVariants.{Stopped}
-use Rattle.pz_session.specs.declared.item.Frame.{Frame}
-use Rattle.pz_session.specs.declared.item.Item.{Item}
-use Rattle.pz_session.specs.declared.item.Item.TheVariants as item
 use Rattle.pz_session.specs.Chain.{Link, Chain, follow, ticks}
 
 -- how links are played

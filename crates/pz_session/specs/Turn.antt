@@ -1,12 +1,12 @@
 -- What a session makes of the end of a step.
 use Rattle.std.specs.Prelude.{Bool, not, ◌||◌}
-use Rattle.pz_game.specs.Commands.{has, cancel, restart, win}
+use Rattle.pz_program.specs.Commands.{has, cancel, restart, win}
 use Rattle.pz_sheet.specs.Grid.{Grid}
 use Rattle.pz_turn.specs.declared.outcome.StepFault.{StepFault}
 use Rattle.pz_turn.specs.declared.outcome.StepFault.TheVariants as step
 use Rattle.pz_turn.specs.Outcome.{Outcome}
-use Rattle.pz_session.specs.declared.item.Stop.{Stop}
-use Rattle.pz_session.specs.declared.item.Stop.TheVariants as stop
+use Rattle.pz_case.specs.declared.item.Stop.{Stop}
+use Rattle.pz_case.specs.declared.item.Stop.TheVariants as stop
 use Rattle.pz_session.specs.declared.chain.PlayFault.{PlayFault}
 use Rattle.pz_session.specs.declared.chain.PlayFault.TheVariants.{Memory, Stopped}
 

@@ -1,32 +1,32 @@
 //! The levels of a session between two links, and the links that lead on from them.
 
 ghost use Rattle.std.specs.Prelude.{◌≡◌, ◌≢◌, ◌<◌, ◌+◌, true, if◌then◌else◌, length, IfOk, IfErr, OnOk, Ok, Err};
-ghost use Rattle.pz_game.specs.Commands.{has, cancel, checkpoint};
-ghost use Rattle.pz_game.specs.Level.{is_playable};
-ghost use Rattle.pz_game.specs.Instance.{IsProgramOf};
+ghost use Rattle.pz_program.specs.Commands.{has, cancel, checkpoint};
+ghost use Rattle.pz_game.specs.Level.{is_playable, entry_at};
+ghost use Rattle.pz_program.specs.Instance.{IsProgramOf};
 ghost use Rattle.pz_sheet.specs.Grid.{IsOfGame};
-ghost use Rattle.pz_grid.specs.Loading.{entry_at, loaded};
+ghost use Rattle.pz_grid.specs.Loading.{loaded};
 ghost use Rattle.pz_turn.specs.Step.{step_of};
 ghost use Rattle.pz_turn.specs.declared.outcome.StepFault.TheVariants.{Memory};
+ghost use Rattle.pz_case.specs.FirstLevel.{level_from};
 ghost use Rattle.pz_session.specs.Chain.{GivesLink};
-ghost use Rattle.pz_session.specs.FirstLevel.{level_from};
 
 use crate::chain::{PlayFault, Shown};
-use crate::first_level::level_after;
-use crate::item::{Frame, FrameKind, Verdict};
 use crate::place::{put_aside, put_before, put_copy};
 use crate::turn::is_idle;
 use bitflags::Flags;
-use pz_game::commands::Commands;
+use pz_case::first_level::level_after;
+use pz_case::item::{Frame, FrameKind, Verdict};
 use pz_game::direction::Dir;
 use pz_game::game::Game;
-use pz_game::instance::Program;
 use pz_grid::{Level, Past};
-use pz_record::equality::equals;
+use pz_level_text::equality::equals;
+use pz_level_text::text_writer::TextWriter;
+use pz_program::commands::Commands;
+use pz_program::instance::Program;
 use pz_record::input::Input;
 use pz_record::order::Order;
 use pz_record::recorded::Recorded;
-use pz_record::text_writer::TextWriter;
 use pz_turn::outcome::StepFault;
 use pz_turn::step::{StepEnd, step_in};
 use pz_turn::win::won;

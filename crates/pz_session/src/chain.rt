@@ -2,7 +2,7 @@
 
 ghost use Rattle.std.specs.Prelude.{◌≡◌};
 
-use crate::item::{Frame, Stop};
+use pz_case::item::{Frame, Stop};
 use std::alloc::AllocError;
 
 /// The most ticks of a chain: those that follow a press, or a tick input with those that follow it.

@@ -6,9 +6,9 @@ ghost use Rattle.pz_session.specs.Player.{rank, to_come, to_follow};
 
 use crate::board::Board;
 use crate::chain::{MOST_TICKS, PlayFault, Shown};
-use crate::item::{Frame, Item, Stop, Verdict};
 use crate::place::put;
 use crate::tape::Tape;
+use pz_case::item::{Frame, Item, Stop, Verdict};
 use pz_record::input::Input;
 use std::alloc::AllocError;
 
@@ -96,7 +96,8 @@ fn phase_after(board: &mut Board<'_>, goes_on: bool, allowed: u64) -> Result<Pha
 impl<'a> Player<'a> {
     ghost use Rattle.pz_session.specs.Chain.{Link, GivesLink};
     ghost use Rattle.pz_session.specs.Board.{State, start_link};
-    ghost use Rattle.pz_session.specs.Player.{left, left_with, work, rank, is_waiting, Yields};
+    ghost use Rattle.pz_session.specs.Player.{left, left_with, work, rank, is_waiting};
+    ghost use Rattle.pz_case.specs.Playing.{Yields};
 
     /// A session whose first link was played: it shows the board.
     pub fn start(board: Board<'a>, inputs: Tape<'a>) -> Result<Player<'a>, AllocError>

@@ -5,12 +5,13 @@ ghost use Rattle.pz_session.specs.Case.{items_of, played_items};
 ghost use Rattle.pz_session.specs.Player.{left};
 
 use crate::board::Board;
-use crate::case::Case;
-use crate::item::{Item, Verdict};
-use crate::plan::Plan;
 use crate::player::Player;
 use crate::stage::Stage;
 use crate::tape::Tape;
+use pz_case::case::Case;
+use pz_case::item::{Item, Verdict};
+use pz_case::plan::Plan;
+use pz_case::playing::Playing;
 use std::alloc::{AllocError, Global};
 use std::marker::Model;
 
@@ -65,7 +66,7 @@ fn fail(stage: &mut Stage<'_>)
 }
 
 impl<'a> Run<'a> {
-    ghost use Rattle.pz_session.specs.Player.{Yields};
+    ghost use Rattle.pz_case.specs.Playing.{Yields};
 
     /// The run of a case, before its first item.
     #[tactic(auto, unfolding(crate::specs::Case::items_of_plan))]
@@ -107,6 +108,14 @@ impl<'a> Run<'a> {
             },
             Stage::Failed => Err(AllocError),
         }
+    }
+}
+
+impl Playing for Run<'_> {
+    ghost left = { λ run. run.items };
+
+    fn next(&mut self) -> Result<Option<Item>, AllocError> {
+        Run::next(self)
     }
 }
 

@@ -1,7 +1,7 @@
 //! Where the run of a case stands.
 
-use crate::item::Refusal;
 use crate::player::Player;
+use pz_case::item::Refusal;
 
 /// What is still to come in the run of a case.
 #[derive(Drop)]

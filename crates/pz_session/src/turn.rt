@@ -4,9 +4,9 @@ ghost use Rattle.std.specs.Prelude.{◌≡◌};
 ghost use Rattle.pz_session.specs.Turn.{is_idle};
 
 use crate::chain::PlayFault;
-use crate::item::Stop;
 use bitflags::Flags;
-use pz_game::commands::Commands;
+use pz_case::item::Stop;
+use pz_program::commands::Commands;
 use pz_turn::outcome::StepFault;
 use pz_turn::step::StepEnd;
 

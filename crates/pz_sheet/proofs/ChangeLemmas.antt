@@ -14,14 +14,15 @@ use Rattle.pz_cells.specs.Sameness.{same_cell}
 use Rattle.pz_cells.proofs.SameLemmas.{same_cell_is, same_cell_self}
 use Rattle.pz_sheet.specs.declared.changes.Change.{Change}
 use Rattle.pz_sheet.specs.Changes.{CellChange, changed_from, changed_cells, change_seen, with_cell, restored, differ_in}
-use Rattle.pz_sheet.specs.Differing.{AreAlikeBetween, Differ, IsNextDiffering}
+use Rattle.pz_cells.specs.Differing.{AreAlikeBetween, Differ, IsNextDiffering}
 use Rattle.pz_sheet.specs.Grid.{Grid, IsLawful, SameSize}
 use Rattle.pz_sheet.specs.Presence.{cell_of}
 use Rattle.pz_sheet.specs.Searching.{IsNext}
-use Rattle.pz_sheet.specs.Seen.{seen, grid_of, IsSound, AreAlike}
-use Rattle.pz_sheet.proofs.HeadingLemmas.{no_cell}
+use Rattle.pz_cells.specs.Lists.{seen, IsSound, AreAlike}
+use Rattle.pz_sheet.specs.Seen.{grid_of}
+use Rattle.pz_cells.proofs.ListLemmas.{no_cell, sound_at}
 use Rattle.pz_sheet.proofs.SameLemmas.{seen_alike, alike_seen}
-use Rattle.pz_sheet.proofs.SheetLemmas.{seen_at, sound_at}
+use Rattle.pz_sheet.proofs.SheetLemmas.{seen_at}
 
 -- ---- cells put back
 abbrev put_back : List (List (Option Piece)) → CellChange → List (List (Option Piece))

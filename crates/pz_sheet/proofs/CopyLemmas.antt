@@ -2,8 +2,9 @@
 use Rattle.std.proofs.Common.{◌≡◌, ℕ, List, Result, Ok, Err, ap, sym, ◌∙◌, subst}
 use Rattle.std.specs.Result.{OnErr}
 use Rattle.pz_cells.specs.declared.cell.Cell.{Cell}
-use Rattle.pz_sheet.specs.Planes.{PlaneSets}
-use Rattle.pz_sheet.specs.Seen.{HeadingSets, grid_of, IsSheet}
+use Rattle.pz_planes.specs.Planes.{PlaneSets}
+use Rattle.pz_planes.specs.Notes.{HeadingSets}
+use Rattle.pz_sheet.specs.Seen.{grid_of, IsSheet}
 
 pub grid_same : (N width height depth : ℕ) (layers other_layers : List ℕ) (cells other_cells : List (Cell N)) → other_layers ≡ layers → other_cells ≡ cells → grid_of N width height depth other_layers other_cells ≡ grid_of N width height depth layers cells
 grid_same N width height depth layers other_layers cells other_cells same_layers same_cells =

@@ -13,20 +13,19 @@ use Rattle.pz_game.specs.Masks.{asks_toward}
 use Rattle.pz_game.specs.Pattern.{AreOf, AreRequired}
 use Rattle.pz_game.proofs.FlagLemmas.{flag_of}
 use Rattle.pz_cells.specs.declared.cell.Cell.{Cell}
+use Rattle.pz_cells.proofs.ListLemmas.{no_cell}
 use Rattle.pz_cells.specs.Pattern.{pattern_holds}
 use Rattle.pz_cells.proofs.HoldLemmas.{met_all}
 use Rattle.pz_sheet.specs.Grid.{Grid}
 use Rattle.pz_sheet.specs.Searching.{HoldsSomewhere, HoldsInRow, HoldsInColumn}
-use Rattle.pz_sheet.specs.Seen.{HeadingSets, HeadsWithin, grid_of, IsStored}
+use Rattle.pz_planes.specs.Notes.{HeadingSets}
+use Rattle.pz_sheet.specs.Seen.{HeadsWithin, grid_of, IsStored}
 use Rattle.pz_sheet.proofs.SheetLemmas.{seen_at}
 
 -- a number of both sets: they aren't apart
 pub not_apart : (apart : Bool) (asked words : List ℕ) (number : ℕ) → (IsTrue apart ↔ AreApart asked words) → member asked number ≡ true → member words number ≡ true → not apart ≡ true
 not_apart true asked words number is wanted there = let none : true ≡ false = sym there ∙ is.0 refl number wanted in cc
 not_apart false asked words number is wanted there = refl
-
-pub no_cell : (N : ℕ) → Cell N
-no_cell N = record { objects = []; movement = [] }
 
 -- a cell of some number holds, and heads within a set
 record IsWhere (N : ℕ) (cells : List (Cell N)) (grid : Grid) (headings : List ℕ) (items : List Item) : Type 0 where

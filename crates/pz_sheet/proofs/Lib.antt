@@ -4,16 +4,13 @@ pub mod MapLemmas
 pub mod PushLemmas
 pub mod LoadLemmas
 pub mod SameLemmas
-pub mod DifferingLemmas
 pub mod HeadingLemmas
 pub mod ChangeLemmas
 pub mod LineLemmas
 pub mod StillLemmas
 pub mod HoldingLemmas
-pub mod BitLemmas
-pub mod PlaneLemmas
+pub mod PlacedLemmas
 pub mod StartLemmas
-pub mod ArriveLemmas
 pub mod CopyLemmas
 pub mod NoteLemmas
 pub mod NewerLemmas

@@ -4,7 +4,8 @@ use Rattle.std.proofs.Math.Bool.{or-true}
 use Rattle.std.proofs.lemmas.Bool.{eq-eqb}
 use Rattle.pz_sets.specs.Sets.{member}
 use Rattle.pz_cells.specs.declared.cell.Cell.{Cell}
-use Rattle.pz_sheet.specs.Seen.{HeadingSets, IsNoted, IsMoreIn, IsWider}
+use Rattle.pz_planes.specs.Notes.{HeadingSets, IsMoreIn, IsWider}
+use Rattle.pz_sheet.specs.Seen.{IsNoted}
 
 never : (b : Bool) (c : Bool) → b ≡ false → b ≡ true → c ≡ true
 never b c none here = absurd (let e : false ≡ true = sym none ∙ here in cc)

@@ -13,7 +13,7 @@ use Rattle.pz_cells.specs.Shown.{place_of, cell_of, Shows, AreLawful, Changes}
 use Rattle.pz_cells.proofs.PlaceLemmas.{lawful_changed, shows_changed, place_some, object_there}
 use Rattle.pz_sheet.specs.Grid.{Grid}
 use Rattle.pz_sheet.specs.Pushing.{is_one_of, pushed_place, pushed_at, pushed}
-use Rattle.pz_sheet.proofs.MapLemmas.{cell_mapped}
+use Rattle.pz_cells.proofs.ListLemmas.{cell_mapped}
 
 pub pushed_none : (dir : Dir) (place : Option Piece) → pushed_place [] dir place ≡ place
 pushed_none dir None = refl

@@ -9,7 +9,9 @@ use Rattle.pz_cells.specs.declared.cell.Cell.{Cell}
 use Rattle.pz_cells.specs.declared.piece.Piece.{Piece}
 use Rattle.pz_cells.proofs.RewriteLemmas.{cell_alike, objects_alike, heads_alike}
 use Rattle.pz_sheet.specs.Grid.{Grid}
-use Rattle.pz_sheet.specs.Seen.{seen, grid_of, IsSound, HeadingSets, IsStored, AreAlike, HaveSame}
+use Rattle.pz_planes.specs.Notes.{HeadingSets}
+use Rattle.pz_cells.specs.Lists.{seen, IsSound, AreAlike, HaveSame}
+use Rattle.pz_sheet.specs.Seen.{grid_of, IsStored}
 
 pub seen_alike : (N depth : ℕ) (layers : List ℕ) (cell other : Cell N) → IsSound N layers cell → IsSound N layers other → AreAlike N cell other → seen N depth layers cell ≡ seen N depth layers other
 seen_alike N depth layers cell other sound sound_other same =

@@ -1,12 +1,10 @@
 -- A cell of a level in words, and what is seen of it.
-use Rattle.std.proofs.Common.{◌≡◌, ℕ, zero, suc, ◌+◌, ◌*◌, ◌/◌, ◌%◌, ◌^◌, ◌<◌, ◌≤◌, List, [], Option, Some, None, Bool, true, false, ◌&&◌, cond, map, set, length, get_or, ap, sym, ◌∙◌, subst, arith, inl, inr, get_or-set_same, get_or-set_other}
+use Rattle.std.proofs.Common.{◌≡◌, ℕ, ◌+◌, ◌*◌, ◌/◌, ◌%◌, ◌<◌, ◌≤◌, List, [], Option, Some, None, Bool, true, false, ◌&&◌, cond, map, set, length, get_or, ap, sym, ◌∙◌, subst, arith, inl, inr, get_or-set_same, get_or-set_other}
 use Rattle.std.specs.Prelude.{nat_lt, IfSome, MatchOption}
 use Rattle.std.proofs.lemmas.Bool.{lt-ltb, cases_eq}
 use Rattle.std.proofs.lemmas.List.{length-map, length-set, get_or-map, get_or_default, map-set}
 use Rattle.std.proofs.lemmas.List.FromFn.{length-map-range_with_len}
 use Rattle.std.proofs.lemmas.List.Elements.{All-map, All-set}
-use Rattle.std.specs.List.{All}
-use prog.Memory.{up}
 use Rattle.pz_game.specs.declared.limits.TheConstants.{MAX_OBJECTS}
 use Rattle.pz_game.specs.declared.direction.Dir.{Dir}
 use Rattle.pz_cells.specs.declared.cell.Cell.{Cell}
@@ -18,7 +16,9 @@ use Rattle.pz_cells.proofs.HoldLemmas.{on_its_layer, place_seen, standing_by}
 use Rattle.pz_cells.proofs.PlaceLemmas.{lawful_changed, cell_changed}
 use Rattle.pz_sheet.specs.Grid.{Grid, IsLawful, cell_at, place_at, with_place}
 use Rattle.pz_sheet.specs.Standing.{standing_at}
-use Rattle.pz_sheet.specs.Seen.{seen, grid_of, IsSound, HeadingSets, IsNoted, IsWider, IsStored}
+use Rattle.pz_planes.specs.Notes.{HeadingSets, IsWider}
+use Rattle.pz_cells.specs.Lists.{seen, IsSound}
+use Rattle.pz_sheet.specs.Seen.{grid_of, IsNoted, IsStored}
 
 -- a number of a seen cell is one of a cell in words
 pub seen_within : (N width height depth : ℕ) (layers : List ℕ) (cells : List (Cell N)) (grid : Grid) (at : ℕ) → grid_of N width height depth layers cells ≡ grid → at < length grid.cells → at < length cells
@@ -29,18 +29,6 @@ pub seen_at : (N width height depth : ℕ) (layers : List ℕ) (cells : List (Ce
     → seen N depth layers cell ≡ get_or grid.cells at []
 seen_at N width height depth layers cells grid at cell e h is =
     ap (seen N depth layers) is ∙ (sym (get_or-map (seen N depth layers) cells at cell [] h) ∙ ap (λ (g : Grid). get_or g.cells at []) e)
-
-pub sound_at : (N : ℕ) (layers : List ℕ) (cells : List (Cell N)) (at : ℕ) (cell : Cell N) → All (IsSound N layers) cells → at < length cells → cell ≡ get_or cells at cell → IsSound N layers cell
-sound_at N layers cells at cell all h is = subst (IsSound N layers) (sym is) (all at cell h)
-
--- a cell of up to four words is no larger than memory
-pub small_cell : (n : ℕ) → n ≤ 4 → up 16 (up 16 (0 + n * 16) + n * 16) < 2 ^ 63
-small_cell zero h = omega arith
-small_cell (suc zero) h = omega arith
-small_cell (suc (suc zero)) h = omega arith
-small_cell (suc (suc (suc zero))) h = omega arith
-small_cell (suc (suc (suc (suc zero)))) h = omega arith
-small_cell (suc (suc (suc (suc (suc n))))) h = absurd (omega (arith, h))
 
 -- lawful words are seen as a cell of the game
 pub cell_seen : (N depth : ℕ) (layers : List ℕ) (cell : Cell N) → IsSound N layers cell → IsCell depth layers (seen N depth layers cell)

@@ -14,11 +14,13 @@ use Rattle.pz_cells.specs.declared.cell.Cell.{Cell}
 use Rattle.pz_cells.specs.Pattern.{pattern_holds}
 use Rattle.pz_cells.proofs.HoldLemmas.{AreMet, met_all}
 use Rattle.pz_sheet.specs.Grid.{Grid, cell_at}
-use Rattle.pz_sheet.specs.Planes.{LineSets, PlaneSets, ArePlaced, AreItemsOf, MayHold, MayRunAhead, MayRunBack}
+use Rattle.pz_planes.specs.Planes.{LineSets, PlaneSets, AreItemsOf, MayHold, MayRunAhead, MayRunBack}
+use Rattle.pz_sheet.specs.Noting.{ArePlaced}
 use Rattle.pz_sheet.specs.Runs.{holds_along, run_holds}
-use Rattle.pz_sheet.specs.Seen.{HeadingSets, grid_of, IsStored}
+use Rattle.pz_planes.specs.Notes.{HeadingSets}
+use Rattle.pz_sheet.specs.Seen.{grid_of, IsStored}
 use Rattle.pz_sheet.proofs.SheetLemmas.{seen_at}
-use Rattle.pz_sheet.proofs.HeadingLemmas.{no_cell}
+use Rattle.pz_cells.proofs.ListLemmas.{no_cell}
 use Rattle.pz_sheet.proofs.RunLemmas.{enumerate_fails, right_in, left_in, down_in, up_in, right_past, left_past, down_past, up_past}
 
 -- what is true of some is not false of all

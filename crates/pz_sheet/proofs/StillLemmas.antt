@@ -1,9 +1,8 @@
 -- A cell that heads nowhere is still, and so is each cell of a line, or of a level, of which no heading is noted.
-use Rattle.std.proofs.Common.{◌≡◌, ◌+◌, ◌*◌, ◌<◌, ℕ, suc, List, [], ◌∷◌, Option, Some, None, Bool, true, false, inl, inr, map, set, length, get_or, arith, ap, sym, ◌∙◌, refl, subst, get_or-set_same, get_or-set_other}
+use Rattle.std.proofs.Common.{◌≡◌, ◌+◌, ◌*◌, ◌<◌, ℕ, suc, List, [], ◌∷◌, Option, Some, None, Bool, true, false, map, length, get_or, arith, ap, sym, ◌∙◌, refl, subst}
 use Rattle.std.specs.Prelude.{find}
 use Rattle.std.specs.List.{All, range_with_len}
 use Rattle.std.specs.Option.{option_map}
-use Rattle.std.proofs.lemmas.Bool.{cases_eq}
 use Rattle.std.proofs.lemmas.List.{get_or_default}
 use Rattle.std.proofs.lemmas.List.Elements.{All-map}
 use Rattle.std.proofs.lemmas.Nat.{mul-add-lt, mod-mul-add}
@@ -15,10 +14,11 @@ use Rattle.pz_cells.specs.declared.piece.Piece.{Piece}
 use Rattle.pz_cells.specs.Cell.{still_place}
 use Rattle.pz_cells.specs.Shown.{place_of, stands_on, piece_with}
 use Rattle.pz_sheet.specs.Grid.{cell_at}
-use Rattle.pz_sheet.specs.Seen.{seen, grid_of, IsSound, HeadingSets, HeadsWithin, HeadNowhere, HaveSameObjects, AreNoted, IsStored}
+use Rattle.pz_planes.specs.Notes.{HeadingSets}
+use Rattle.pz_cells.specs.Lists.{seen, IsSound, HeadNowhere}
+use Rattle.pz_sheet.specs.Seen.{grid_of, HeadsWithin, AreNoted, IsStored}
 use Rattle.pz_sheet.proofs.SheetLemmas.{seen_at}
-use Rattle.pz_sheet.proofs.HeadingLemmas.{no_cell}
-use Rattle.pz_sheet.proofs.MapLemmas.{cell_mapped, still_shows}
+use Rattle.pz_cells.proofs.ListLemmas.{no_cell, cell_mapped, still_shows}
 
 pub still_seen : (N depth : ℕ) (layers : List ℕ) (cell : Cell N) → IsSound N layers cell → ((number : ℕ) → member cell.movement number ≡ false) → seen N depth layers cell ≡ map still_place (seen N depth layers cell)
 still_seen N depth layers cell sound none =
@@ -80,20 +80,3 @@ noted_nowhere N width height notes cells rows columns nowhere = record {
 } where
   heads_not : (index : ℕ) (cell : Cell N) → index < length cells → (number : ℕ) → member (get_or cells index cell).movement number ≡ true → ⊥
   heads_not index cell within number e = let f : false ≡ true = sym (nowhere index cell number within) ∙ e in cc
-
--- one more cell heads nowhere
-pub nowhere_more : (N : ℕ) (cells : List (Cell N)) (index : ℕ) (new : Cell N) → index < length cells → ((number : ℕ) → member new.movement number ≡ false)
-    → ((k : ℕ) (cell : Cell N) (number : ℕ) → k < index → member (get_or cells k cell).movement number ≡ false) → (k : ℕ) (cell : Cell N) (number : ℕ) → k < index + 1 → member (get_or (set cells index new) k cell).movement number ≡ false
-nowhere_more N cells index new within none before k cell number below = elim (cases_eq k index) [
-  | inl same ↦ ap (λ (there : Cell N). member there.movement number) (ap (λ (i : ℕ). get_or (set cells index new) i cell) same ∙ get_or-set_same cells index new cell within) ∙ none number
-  | inr other ↦ ap (λ (there : Cell N). member there.movement number) (get_or-set_other cells index k new cell other) ∙ before k cell number (omega (arith, below, other))
-]
-
--- one more cell has the same objects
-pub same_objects_more : (N : ℕ) (old cells : List (Cell N)) (index : ℕ) (here new : Cell N) → index < length cells → here ≡ get_or cells index here → new.objects ≡ here.objects → HaveSameObjects N old cells → HaveSameObjects N old (set cells index new)
-same_objects_more N old cells index here new within is same before k cell = elim (cases_eq k index) [
-  | inl at ↦
-      ap (λ (there : Cell N). there.objects) (ap (λ (i : ℕ). get_or (set cells index new) i cell) at ∙ get_or-set_same cells index new cell within) ∙ same
-      ∙ ap (λ (there : Cell N). there.objects) (is ∙ get_or_default cells index here cell within ∙ ap (λ (i : ℕ). get_or cells i cell) (sym at)) ∙ before k cell
-  | inr other ↦ ap (λ (there : Cell N). there.objects) (get_or-set_other cells index k new cell other) ∙ before k cell
-]

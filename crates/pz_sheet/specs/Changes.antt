@@ -5,7 +5,7 @@ use Rattle.pz_cells.specs.Sameness.{same_cell}
 use Rattle.pz_sheet.specs.declared.changes.Change.{Change}
 use Rattle.pz_sheet.specs.Grid.{Grid}
 use Rattle.pz_sheet.specs.Presence.{cell_of}
-use Rattle.pz_sheet.specs.Seen.{seen, IsSound}
+use Rattle.pz_cells.specs.Lists.{seen, IsSound}
 
 -- what a change says: the number of a cell, and what stood there
 pub record CellChange : Type 0 where

@@ -1,10 +1,9 @@
 pub mod Grid
-pub mod Planes
+pub mod Noting
 pub mod Seen
 pub mod Standing
 pub mod Sameness
 pub mod Changes
-pub mod Differing
 pub mod Presence
 pub mod Movement
 pub mod Pushing

@@ -1,20 +1,10 @@
--- A level as it is drawn, and how its background is laid. Each cell gets the objects of its glyph in order, a later one in the place
--- of one of its layer. A level is filled with a piece where nothing stands on a layer.
-use Rattle.std.specs.Prelude.{ℕ, List, map, fold, Option, Some, None, unwrap_or, slice_index, slice_index_or, slice_set}
-use Rattle.pz_game.specs.Game.{glyph_objects}
+-- A level as it is drawn, and how its background is laid: it is filled with a piece where nothing stands on a layer.
+use Rattle.std.specs.Prelude.{ℕ, map}
 use Rattle.pz_game.specs.declared.game.GameParts.{GameParts}
 use Rattle.pz_game.specs.Drawing.{Drawing}
 use Rattle.pz_cells.specs.declared.piece.Piece.{Piece}
-use Rattle.pz_cells.specs.Cell.{still_piece, empty_cell}
+pub use Rattle.pz_cells.specs.Drawing.{with_object, glyph_cell, filled_cell}
 use Rattle.pz_sheet.specs.Grid.{Grid}
-
--- an object put on its layer, in the place of what stood there
-abbrev pub with_object : List ℕ → List (Option Piece) → ℕ → List (Option Piece)
-with_object layers cell object = slice_set cell (slice_index layers object) (Some (still_piece object))
-
--- a cell with the objects of the glyph of a number, put one after another
-abbrev pub glyph_cell : GameParts → ℕ → List (Option Piece)
-glyph_cell game number = fold (with_object game.layers) (empty_cell game.depth) (glyph_objects game number)
 
 -- the level as it is drawn, before the background is laid
 abbrev pub drawn : GameParts → Drawing → Grid
@@ -26,9 +16,6 @@ drawn game drawing = record {
   cells = map (glyph_cell game) drawing.cells;
 }
 
--- a cell with this piece on a layer, if nothing stands there
-abbrev pub filled_cell : ℕ → Piece → List (Option Piece) → List (Option Piece)
-filled_cell layer piece cell = slice_set cell layer (Some (unwrap_or (slice_index_or cell layer None) piece))
-
+-- the level with this piece on a layer of each cell where nothing stands
 abbrev pub filled : ℕ → Piece → Grid → Grid
 filled layer piece grid = record grid { cells = map (filled_cell layer piece) grid.cells }

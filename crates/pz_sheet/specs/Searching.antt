@@ -1,6 +1,7 @@
 -- The next cell of a line where a rule's cell holds, and the last one before a place in it.
-use Rattle.std.specs.Prelude.{◌≡◌, ℕ, ◌<◌, ◌≤◌, List, Bool, true, false, Option, Some, None}
+use Rattle.std.specs.Prelude.{◌≡◌, ℕ, ◌<◌, List, Bool, true, false, Option, Some, None}
 use Rattle.pz_game.specs.declared.pattern.Item.{Item}
+pub use Rattle.pz_planes.specs.Next.{IsNext}
 use Rattle.pz_cells.specs.Pattern.{pattern_holds}
 use Rattle.pz_sheet.specs.Grid.{Grid, cell_at}
 
@@ -11,12 +12,6 @@ holds_in_row grid y pattern x = pattern_holds (cell_at grid x y) pattern
 -- a rule's cell holds in a row of a column
 abbrev pub holds_in_column : Grid → ℕ → List Item → ℕ → Bool
 holds_in_column grid x pattern y = pattern_holds (cell_at grid x y) pattern
-
--- the least number from one on and below another that passes a test, if there is one
-abbrev pub IsNext : (ℕ → Bool) → ℕ → ℕ → Option ℕ → Type 0
-IsNext test from end None = (number : ℕ) → from ≤ number → number < end → test number ≡ false
-IsNext test from end (Some found) =
-    (from ≤ found) × (found < end) × (test found ≡ true) × ((number : ℕ) → from ≤ number → number < found → test number ≡ false)
 
 -- the greatest number below another that passes a test, if there is one
 abbrev pub IsLast : (ℕ → Bool) → ℕ → Option ℕ → Type 0

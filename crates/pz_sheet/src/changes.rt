@@ -4,12 +4,13 @@ ghost use Rattle.std.specs.Prelude.{◌≡◌, true, ◌≤◌, ◌<◌, ◌+◌
 ghost use Rattle.pz_sheet.specs.Changes.{changed_from, changed_cells, change_seen, changes_seen, IsChangeOf, with_cell, restored, differ_in, cell_there};
 ghost use Rattle.pz_sheet.specs.Grid.{SameSize};
 ghost use Rattle.pz_sheet.specs.Searching.{IsNext};
-ghost use Rattle.pz_sheet.specs.Seen.{seen, IsSound, HeadNowhere};
+ghost use Rattle.pz_cells.specs.Lists.{seen, IsSound, HeadNowhere};
 
 use crate::Sheet;
-use crate::differing::next_differing;
-use crate::notes::are_empty;
+use crate::noting::note_heading;
 use pz_cells::cell::Cell;
+use pz_cells::differing::next_differing;
+use pz_planes::notes::are_empty;
 use std::alloc::{AllocError, Global};
 
 /// A cell of an older level, by its number: what stood there.
@@ -85,8 +86,11 @@ impl<const N: usize> Sheet<N> {
     {
         let before = self.cells[change.index];
         self.cells[change.index] = change.cell;
-        self.notes.note(change.index, &change.cell);
-        self.planes.note_at(change.index, &before, &change.cell);
+        note_heading(&mut self.notes, change.index, &change.cell);
+        // (brings the proof how many words a cell has)
+        let _ = (before.word_count(), change.cell.word_count());
+        self.planes
+            .note_at(change.index, &before.objects, &change.cell.objects);
     }
 
     /// The number of the first cell from one on in which another level of the same size differs.

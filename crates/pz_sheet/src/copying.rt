@@ -1,11 +1,10 @@
 //! Copies of levels.
 
-ghost use Rattle.std.specs.Prelude.{◌≡◌, ◌≤◌, length, vec_capacity, IfOk, OnOk, OnErr};
+ghost use Rattle.std.specs.Prelude.{◌≡◌, ◌≤◌, vec_capacity, IfOk, OnOk, OnErr};
 
 use crate::Sheet;
-use crate::notes::Notes;
-use crate::planes::Planes;
 use pz_cells::cell::Cell;
+use pz_planes::copying::{make_room, refill, renew};
 use pz_sets::set::NumberSet;
 use std::alloc::AllocError;
 
@@ -79,48 +78,4 @@ fn make_rooms<const N: usize>(
     make_room(layers, layer_count)?;
     make_room(sets, set_count)?;
     make_room(cells, cell_count)
-}
-
-/// Makes what is noted the same as elsewhere, in the memory that it has if that is enough. Err: more was refused, and it is as it was.
-fn renew(
-    notes: &mut Notes,
-    planes: &mut Planes,
-    other_notes: &Notes,
-    other_planes: &Planes,
-) -> Result<(), AllocError>
-    ensures notes { OnOk result (notes.new ≡ other_notes.now) }
-    ensures planes { OnOk result (planes.new ≡ other_planes.now) }
-    ensures notes_kept { OnErr result (notes.new ≡ notes.old) }
-    ensures planes_kept { OnErr result (planes.new ≡ planes.old) }
-{
-    if planes.has_room_of(other_planes) {
-        notes.copy_from(other_notes)?;
-        planes.overwrite(other_planes);
-        return Ok(());
-    }
-    let copy = other_planes.copy()?;
-    notes.copy_from(other_notes)?;
-    *planes = copy;
-    Ok(())
-}
-
-/// Makes room for so many items in all. Err: memory was refused.
-pub(crate) fn make_room<T>(items: &mut Vec<T>, count: usize) -> Result<(), AllocError>
-    ensures items { items.new.items ≡ items.old.items }
-    ensures room { OnOk result (count ≤ vec_capacity items.new) }
-{
-    let missing = count.saturating_sub(items.len());
-    items.reserve(missing)
-}
-
-/// Puts copies of others in the place of the items.
-pub(crate) fn refill<T: Copy + Drop>(items: &mut Vec<T>, others: &[T])
-    requires { length others.now ≤ vec_capacity items.old }
-    ensures { items.new.items ≡ others.now }
-{
-    items.clear();
-    match items.extend_from_slice(others) {
-        Ok(()) => {}
-        Err(_) => unreachable!(),
-    }
 }

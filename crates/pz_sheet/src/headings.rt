@@ -3,7 +3,7 @@
 ghost use Rattle.std.specs.Prelude.{◌≡◌, ◌<◌, List, All, true};
 ghost use Rattle.pz_game.specs.declared.pattern.Item.{Item};
 ghost use Rattle.pz_game.specs.Pattern.{AreOf, IsRowOf};
-ghost use Rattle.pz_game.specs.Segments.{AsksAmong};
+ghost use Rattle.pz_game.specs.Pattern.{AsksAmong};
 ghost use Rattle.pz_sheet.specs.Searching.{HoldsSomewhere, HoldsInRow, HoldsInColumn};
 
 use crate::Sheet;

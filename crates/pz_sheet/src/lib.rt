@@ -4,24 +4,21 @@
 ghost use Rattle.std.specs.Prelude.{◌≡◌, ◌+◌, ◌*◌, ◌<◌, length};
 ghost use Rattle.pz_sheet.specs.Grid.{IsLawful};
 
-use notes::Notes;
-use planes::Planes;
 use pz_cells::cell::Cell;
+use pz_planes::notes::Notes;
+use pz_planes::planes::Planes;
 use pz_sets::set::NumberSet;
 use std::marker::Model;
 
-mod bits;
 pub mod changes;
 mod copying;
-mod differing;
 mod headings;
 mod holding;
 mod lines;
 mod loading;
 mod movement;
-mod notes;
+mod noting;
 mod place;
-mod planes;
 mod pushing;
 mod reading;
 mod runs;

@@ -1,16 +1,13 @@
 //! The end of all movement.
 
-ghost use Rattle.std.specs.Prelude.{◌≡◌, ℕ, ◌<◌, ◌≤◌, true, false, All, length, map};
+ghost use Rattle.std.specs.Prelude.{◌≡◌, ℕ, ◌<◌, true, map};
 ghost use Rattle.pz_cells.specs.Cell.{still_place};
-ghost use Rattle.pz_cells.specs.Shown.{cell_of, AreLawful};
-ghost use Rattle.pz_sets.specs.Sets.{member};
 ghost use Rattle.pz_sheet.specs.Grid.{IsLawful, cell_at, place_at};
 ghost use Rattle.pz_sheet.specs.Movement.{stilled};
-ghost use Rattle.pz_sheet.specs.Seen.{IsSound, AreMapped, HeadNowhere, HaveSameObjects};
 
 use crate::Sheet;
-use crate::notes::is_empty;
-use pz_cells::cell::Cell;
+use pz_cells::stilling::still_cells;
+use pz_planes::notes::is_empty;
 
 impl<const N: usize> Sheet<N> {
     /// Whether nothing at a position of the map heads anywhere.
@@ -61,29 +58,4 @@ impl<const N: usize> Sheet<N> {
         still_cells(&mut self.cells, self.depth, &self.layers);
         self.notes.clear();
     }
-}
-
-fn still_cells<const N: usize>(cells: &mut Vec<Cell<N>>, depth: usize, layers: &[usize])
-    requires short { N ≤ 4 }
-    requires sound { All (IsSound N layers.now) cells.old.items }
-    ensures mapped { AreMapped N depth layers.now (map still_place) cells.old.items cells.new.items }
-    ensures nowhere { HeadNowhere N cells.new.items }
-    ensures objects { HaveSameObjects N cells.old.items cells.new.items }
-{
-    for index in 0..cells.len() {
-        still_cell(&mut cells[index], depth, layers);
-    }
-}
-
-fn still_cell<const N: usize>(cell: &mut Cell<N>, depth: usize, layers: &[usize])
-    requires lawful { AreLawful layers.now cell.old.objects cell.old.movement }
-    ensures lawful { AreLawful layers.now cell.new.objects cell.new.movement }
-    ensures cell { cell_of depth layers.now cell.new.objects cell.new.movement ≡ map still_place (cell_of depth layers.now cell.old.objects cell.old.movement) }
-    ensures none { (number : ℕ) → member cell.new.movement number ≡ false }
-    ensures objects { cell.new.objects ≡ cell.old.objects }
-{
-    // (the contract alone speaks of the layers)
-    let _ = depth;
-    let _ = layers;
-    cell.still_all();
 }

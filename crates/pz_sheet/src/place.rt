@@ -9,6 +9,7 @@ ghost use Rattle.pz_sheet.specs.Grid.{IsLawful, cell_at, place_at, with_place};
 ghost use Rattle.pz_sheet.specs.Rewriting.{with_rewritten, changes};
 
 use crate::Sheet;
+use crate::noting::note_heading;
 use pz_cells::piece::Piece;
 use pz_game::pattern::Pattern;
 
@@ -40,8 +41,11 @@ impl<const N: usize> Sheet<N> {
         let cell = &mut self.cells[index];
         let before = *cell;
         cell.put(&self.layers, layer, here, place);
-        self.notes.note(index, cell);
-        self.planes.note(x as usize, y as usize, &before, cell);
+        note_heading(&mut self.notes, index, cell);
+        // (brings the proof how many words a cell has)
+        let _ = (before.word_count(), cell.word_count());
+        self.planes
+            .note(x as usize, y as usize, &before.objects, &cell.objects);
     }
 
     /// Whether a rule's cell holds at a position of the map.
@@ -68,8 +72,11 @@ impl<const N: usize> Sheet<N> {
         let cell = &mut self.cells[index];
         let before = *cell;
         let changed = cell.rewrite(self.depth, &self.layers, &self.sets, left, right);
-        self.notes.note(index, cell);
-        self.planes.note(x as usize, y as usize, &before, cell);
+        note_heading(&mut self.notes, index, cell);
+        // (brings the proof how many words a cell has)
+        let _ = (before.word_count(), cell.word_count());
+        self.planes
+            .note(x as usize, y as usize, &before.objects, &cell.objects);
         changed
     }
 }

@@ -9,6 +9,7 @@ ghost use Rattle.pz_sheet.specs.Pushing.{pushed_place, pushed_at, pushed};
 
 use crate::Sheet;
 use crate::holding::set_of;
+use crate::noting::note_heading;
 use pz_cells::cell::Cell;
 use pz_game::direction::Dir;
 use pz_sets::set::NumberSet;
@@ -49,8 +50,10 @@ impl<const N: usize> Sheet<N> {
         let cell = &mut self.cells[index];
         let before = *cell;
         push_cell(cell, self.depth, &self.layers, players, dir);
-        self.notes.note(index, cell);
-        self.planes.note_at(index, &before, cell);
+        note_heading(&mut self.notes, index, cell);
+        // (brings the proof how many words a cell has)
+        let _ = (before.word_count(), cell.word_count());
+        self.planes.note_at(index, &before.objects, &cell.objects);
     }
 }
 

@@ -8,9 +8,10 @@ ghost use Rattle.pz_sheet.specs.Grid.{cell_at};
 ghost use Rattle.pz_sheet.specs.Runs.{on_map, along, holds_at, run_holds, runs_in_row, runs_in_column};
 ghost use Rattle.pz_sheet.specs.Searching.{IsNext};
 
-use crate::{Sheet, bits};
+use crate::Sheet;
 use pz_game::direction::Dir;
 use pz_game::pattern::Pattern;
+use pz_planes::bits;
 
 impl<const N: usize> Sheet<N> {
     /// Whether a rule's cell holds at a position, on the map or not.

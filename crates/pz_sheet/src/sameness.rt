@@ -1,12 +1,10 @@
 //! Whether two levels are the same.
 
-ghost use Rattle.std.specs.Prelude.{◌≡◌, ◌≤◌, ◌↔◌, IsTrue, true};
-ghost use Rattle.pz_sheet.specs.Seen.{HaveSame, HeadNowhere};
+ghost use Rattle.std.specs.Prelude.{◌≡◌, ◌↔◌, IsTrue};
 
 use crate::Sheet;
-use crate::differing::next_differing;
-use crate::notes::are_empty;
-use pz_cells::cell::Cell;
+use pz_cells::differing::same_cells;
+use pz_planes::notes::are_empty;
 
 impl<const N: usize> Sheet<N> {
     /// Whether both are of one size and over the same layers.
@@ -26,14 +24,4 @@ impl<const N: usize> Sheet<N> {
         let are_still = are_empty(&self.notes, &other.notes);
         self.same_size(other) && same_cells(&self.cells, &other.cells, are_still)
     }
-}
-
-/// Whether the words of the cells have the same numbers. Where no cell of either heads anywhere, the objects alone are looked at.
-fn same_cells<const N: usize>(a: &[Cell<N>], b: &[Cell<N>], are_still: bool) -> bool
-    requires short { N ≤ 4 }
-    requires still { are_still ≡ true → HeadNowhere N a.now }
-    requires others_still { are_still ≡ true → HeadNowhere N b.now }
-    ensures { IsTrue result ↔ HaveSame N a.now b.now }
-{
-    a.len() == b.len() && next_differing(a, b, are_still, 0).is_none()
 }

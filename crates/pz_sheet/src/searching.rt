@@ -5,8 +5,9 @@ ghost use Rattle.pz_sets.specs.Sets.{in_word};
 ghost use Rattle.pz_game.specs.Pattern.{AreOf};
 ghost use Rattle.pz_sheet.specs.Searching.{holds_in_row, holds_in_column, IsNext, IsLast};
 
-use crate::{Sheet, bits};
+use crate::Sheet;
 use pz_game::pattern::Pattern;
+use pz_planes::bits;
 
 impl<const N: usize> Sheet<N> {
     /// The columns of a row of the map in which a rule's cell may hold, by what is noted of the objects that it names: all in which it

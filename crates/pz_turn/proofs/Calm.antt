@@ -7,8 +7,8 @@ use Rattle.std.proofs.lemmas.List.Sums.{fold-append}
 use Rattle.std.proofs.lemmas.Nat.{or_comm, or_shr}
 use lib.Arith.{bin_ind}
 use lib.Bits.{or_step, or_self}
-use Rattle.pz_game.specs.declared.commands.Commands.{Commands}
-use Rattle.pz_game.specs.Commands.{either}
+use Rattle.pz_program.specs.declared.commands.Commands.{Commands}
+use Rattle.pz_program.specs.Commands.{either}
 use Rattle.pz_turn.specs.declared.outcome.StepFault.{StepFault}
 use Rattle.pz_turn.specs.Outcome.{Outcome, untouched, followed_by, joined}
 use Rattle.pz_turn.specs.Rest.{Runs, pass_of, ends}

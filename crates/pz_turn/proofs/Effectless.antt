@@ -4,9 +4,9 @@ use Rattle.std.specs.Prelude.{fold}
 use Rattle.std.specs.List.{zip}
 use Rattle.std.proofs.lemmas.Bool.{cases_lt}
 use Rattle.std.proofs.lemmas.List.{append-nil, length-map}
-use Rattle.pz_game.specs.declared.commands.Commands.{Commands}
-use Rattle.pz_game.specs.Commands.{no_commands}
-use Rattle.pz_game.specs.declared.instance.Instance.{Instance}
+use Rattle.pz_program.specs.declared.commands.Commands.{Commands}
+use Rattle.pz_program.specs.Commands.{no_commands}
+use Rattle.pz_program.specs.declared.instance.Instance.{Instance}
 use Rattle.pz_game.specs.Pattern.{RuleRow}
 use Rattle.pz_grid.specs.declared.places.GridFault.{GridFault}
 use Rattle.pz_grid.specs.declared.places.GridFault.TheVariants.{MatchLimit}

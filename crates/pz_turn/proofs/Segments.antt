@@ -3,19 +3,19 @@ use Rattle.std.proofs.Common.{◌≡◌, ℕ, zero, suc, Result, Ok, Err, List, 
 use Rattle.std.specs.List.{All, flat_map, find, range_with_len}
 use Rattle.std.proofs.lemmas.List.Elements.{All-nil, All-cons, All-head, All-tail}
 use Rattle.std.proofs.lemmas.List.Sums.{fold-append}
-use Rattle.pz_game.specs.declared.commands.Commands.{Commands}
-use Rattle.pz_game.specs.declared.instance.Instance.{Instance}
-use Rattle.pz_game.specs.Commands.{no_commands, either}
+use Rattle.pz_program.specs.declared.commands.Commands.{Commands}
+use Rattle.pz_program.specs.declared.instance.Instance.{Instance}
+use Rattle.pz_program.specs.Commands.{no_commands, either}
 use Rattle.pz_game.specs.declared.direction.Dir.{Dir}
-use Rattle.pz_game.specs.Instance.{IsInstanceOf, IsGroupOf}
+use Rattle.pz_program.specs.Instance.{IsInstanceOf, IsGroupOf}
 use Rattle.pz_game.specs.Masks.{IsLow}
-use Rattle.pz_game.specs.Pattern.{RuleRow, IsRowOf, AreRowsOf}
-use Rattle.pz_game.specs.Segments.{IsIdle, AsksAmong, IsMoving, IsLeftOut, instances_of}
+use Rattle.pz_game.specs.Pattern.{RuleRow, IsRowOf, AreRowsOf, AsksAmong}
+use Rattle.pz_program.specs.Segments.{IsIdle, IsMoving, IsLeftOut, instances_of}
 use Rattle.pz_cells.proofs.HoldLemmas.{low_of_game}
 use Rattle.pz_sheet.specs.Grid.{Grid, IsLawful}
 use Rattle.pz_grid.specs.Places.{places}
 use Rattle.pz_turn.specs.declared.outcome.StepFault.{StepFault}
-use Rattle.pz_turn.specs.Instance.{applied, HasNoEffect}
+use Rattle.pz_turn.specs.Instance.{applied}
 use Rattle.pz_turn.specs.Outcome.{Outcome, untouched, followed_by, joined}
 use Rattle.pz_turn.specs.Rest.{Runs, pass_of, passes, ends, ends_after, is_last, up_to, rest_of}
 use Rattle.pz_turn.proofs.Calm.{either_assoc, either_comm}

@@ -4,7 +4,7 @@ use Rattle.std.specs.Prelude.{fold, false}
 use Rattle.std.proofs.lemmas.Bool.{cases_lt}
 use Rattle.std.proofs.lemmas.List.{append-nil, length-map}
 use Rattle.pz_game.specs.declared.direction.Dir.{Dir}
-use Rattle.pz_game.specs.declared.instance.Instance.{Instance}
+use Rattle.pz_program.specs.declared.instance.Instance.{Instance}
 use Rattle.pz_game.specs.Pattern.{RuleRow}
 use Rattle.pz_grid.specs.declared.places.Place.{Place}
 use Rattle.pz_sheet.specs.Grid.{Grid}

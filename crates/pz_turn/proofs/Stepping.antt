@@ -1,7 +1,7 @@
 -- How a step ends.
 use Rattle.std.proofs.Common.{◌≡◌, Option, Ok, Err, ap, sym, ◌∙◌}
 use Rattle.pz_game.specs.declared.direction.Dir.{Dir}
-use Rattle.pz_game.specs.declared.instance.Program.{Program}
+use Rattle.pz_program.specs.declared.instance.Program.{Program}
 use Rattle.pz_game.specs.Game.{players_of}
 use Rattle.pz_game.specs.declared.game.GameParts.{GameParts}
 use Rattle.pz_sheet.specs.Grid.{Grid}

@@ -5,10 +5,10 @@ use Rattle.std.specs.List.{find, range_with_len}
 use Rattle.pz_game.specs.declared.direction.Dir.{Dir}
 use Rattle.pz_game.specs.Game.{players_of}
 use Rattle.pz_game.specs.declared.game.GameParts.{GameParts}
-use Rattle.pz_game.specs.declared.instance.Instance.{Instance}
-use Rattle.pz_game.specs.declared.instance.Block.{Block}
-use Rattle.pz_game.specs.declared.instance.Block.TheVariants.{One, Loop}
-use Rattle.pz_game.specs.declared.instance.Program.{Program}
+use Rattle.pz_program.specs.declared.instance.Instance.{Instance}
+use Rattle.pz_program.specs.declared.instance.Block.{Block}
+use Rattle.pz_program.specs.declared.instance.Block.TheVariants.{One, Loop}
+use Rattle.pz_program.specs.declared.instance.Program.{Program}
 use Rattle.pz_game.specs.Pattern.{RuleRow}
 use Rattle.pz_grid.specs.declared.places.GridFault.TheVariants as grid
 use Rattle.pz_grid.specs.declared.places.Place.{Place}

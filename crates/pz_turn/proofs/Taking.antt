@@ -1,7 +1,7 @@
 -- The places of rows, taken one row after another.
 use Rattle.std.proofs.Common.{◌≡◌, ℕ, ◌+◌, ◌<◌, List, [], ◌∷◌, ◌++◌, length, get_or, drop, ap, sym, ◌∙◌, Result, Ok, Err}
 use Rattle.std.proofs.lemmas.List.{at_drop_more}
-use Rattle.pz_game.specs.declared.instance.Instance.{Instance}
+use Rattle.pz_program.specs.declared.instance.Instance.{Instance}
 use Rattle.pz_game.specs.Pattern.{RuleRow}
 use Rattle.pz_grid.specs.declared.places.Place.{Place}
 use Rattle.pz_sheet.specs.Grid.{Grid}

@@ -9,13 +9,13 @@ use Rattle.pz_game.specs.declared.win_line.Quantifier.{Quantifier}
 use Rattle.pz_game.specs.declared.win_line.Quantifier.TheVariants as quantifier
 use Rattle.pz_game.specs.declared.win_line.WinLine.{WinLine}
 use Rattle.pz_game.specs.declared.game.GameParts.{GameParts}
-use Rattle.pz_game.specs.declared.commands.Commands.{Commands}
+use Rattle.pz_program.specs.declared.commands.Commands.{Commands}
 use Rattle.pz_game.specs.declared.pattern.Item.{Item}
 use Rattle.pz_game.specs.declared.pattern.Word.{Word}
 use Rattle.pz_game.specs.declared.pattern.Word.TheVariants.{Present, Toward, Absent}
-use Rattle.pz_game.specs.declared.instance.Instance.{Instance}
-use Rattle.pz_game.specs.declared.instance.Block.TheVariants.{One}
-use Rattle.pz_game.specs.declared.instance.Program.{Program}
+use Rattle.pz_program.specs.declared.instance.Instance.{Instance}
+use Rattle.pz_program.specs.declared.instance.Block.TheVariants.{One}
+use Rattle.pz_program.specs.declared.instance.Program.{Program}
 use Rattle.pz_game.specs.Pattern.{RuleRow}
 use Rattle.pz_cells.specs.declared.piece.Piece.{Piece}
 use Rattle.pz_sheet.specs.Grid.{Grid}
@@ -23,7 +23,7 @@ use Rattle.pz_grid.specs.Places.{searched}
 use Rattle.pz_turn.specs.declared.outcome.StepFault.TheVariants.{LoopLimit}
 use Rattle.pz_turn.specs.declared.rest.TheConstants.{PASSES}
 use Rattle.pz_turn.specs.Combinations.{combinations}
-use Rattle.pz_game.specs.Commands.{cancel, no_commands}
+use Rattle.pz_program.specs.Commands.{cancel, no_commands}
 use Rattle.pz_turn.specs.Instance.{applied}
 use Rattle.pz_turn.specs.Rest.{pass_of, rest_of, group_runs}
 use Rattle.pz_turn.specs.Step.{block_runs, blocks_run, rules_run, step_of}

@@ -1,7 +1,7 @@
 -- What needn't be run once more: on a level that it left as it is, with commands that it gave before, it does the same again.
 use Rattle.std.specs.Prelude.{◌≡◌, ℕ, ◌≤◌, ◌<◌, false, Ok, List, length, slice_index_or}
-use Rattle.pz_game.specs.declared.commands.Commands.{Commands}
-use Rattle.pz_game.specs.Commands.{either}
+use Rattle.pz_program.specs.declared.commands.Commands.{Commands}
+use Rattle.pz_program.specs.Commands.{either}
 use Rattle.pz_turn.specs.Rest.{Runs}
 
 -- a run on the level leaves it as it is, and gives no command but those that were given

@@ -4,8 +4,8 @@
 -- places, or if there are too many combinations.
 use Rattle.std.specs.Prelude.{◌≡◌, ◌⊎◌, ◌*◌, ◌≤◌, List, [], ◌∷◌, fold, length, false, None, Result, Ok, Err, nat_lt, if◌then◌else◌}
 use Rattle.pz_game.specs.declared.direction.Dir.{Dir}
-use Rattle.pz_game.specs.declared.commands.Commands.{Commands}
-use Rattle.pz_game.specs.declared.instance.Instance.{Instance}
+use Rattle.pz_program.specs.declared.commands.Commands.{Commands}
+use Rattle.pz_program.specs.declared.instance.Instance.{Instance}
 use Rattle.pz_game.specs.Pattern.{RuleRow}
 use Rattle.pz_grid.specs.declared.places.GridFault.{GridFault}
 use Rattle.pz_grid.specs.declared.places.GridFault.TheVariants as grid
@@ -17,7 +17,7 @@ use Rattle.pz_turn.specs.declared.outcome.StepFault.{StepFault}
 use Rattle.pz_turn.specs.declared.outcome.StepFault.TheVariants.{Memory, MatchLimit}
 use Rattle.pz_turn.specs.declared.instance.TheConstants.{COMBINATION_LIMIT, FEW_CELLS}
 use Rattle.pz_turn.specs.Combinations.{combinations}
-use Rattle.pz_game.specs.Commands.{no_commands}
+use Rattle.pz_program.specs.Commands.{no_commands}
 use Rattle.pz_turn.specs.Outcome.{Outcome}
 
 -- the stop of a search is a stop of the step

@@ -3,8 +3,8 @@ use Rattle.std.specs.Prelude.{◌≡◌, ◌≢◌, List, length, map, true, fal
 use Rattle.pz_game.specs.declared.direction.Dir.{Dir}
 use Rattle.pz_game.specs.declared.game.GameParts.{GameParts}
 use Rattle.pz_base.specs.Lists.{product_of}
-use Rattle.pz_game.specs.declared.instance.Instance.{Instance}
-use Rattle.pz_game.specs.declared.instance.Program.{Program}
+use Rattle.pz_program.specs.declared.instance.Instance.{Instance}
+use Rattle.pz_program.specs.declared.instance.Program.{Program}
 use Rattle.pz_grid.specs.declared.places.Place.{Place}
 use Rattle.pz_sheet.specs.Grid.{Grid}
 use Rattle.pz_turn.specs.declared.outcome.StepFault.TheVariants.{Memory}

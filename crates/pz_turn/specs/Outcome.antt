@@ -1,8 +1,8 @@
 -- What running something on a level gives: the level afterwards, the commands that were given, and whether some rewriting gave
 -- another cell; or a stop.
 use Rattle.std.specs.Prelude.{◌≡◌, ◌≢◌, Bool, false, ◌||◌, Result, Ok, Err}
-use Rattle.pz_game.specs.declared.commands.Commands.{Commands}
-use Rattle.pz_game.specs.Commands.{no_commands, either}
+use Rattle.pz_program.specs.declared.commands.Commands.{Commands}
+use Rattle.pz_program.specs.Commands.{no_commands, either}
 use Rattle.pz_turn.specs.declared.outcome.StepFault.{StepFault}
 use Rattle.pz_turn.specs.declared.outcome.StepFault.TheVariants.{Memory}
 use Rattle.pz_turn.specs.declared.outcome.Given.{Given}

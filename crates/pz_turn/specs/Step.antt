@@ -7,11 +7,11 @@ use Rattle.std.specs.List.{list_any, list_all, zip}
 use Rattle.pz_game.specs.declared.direction.Dir.{Dir}
 use Rattle.pz_game.specs.Game.{players_of}
 use Rattle.pz_game.specs.declared.game.GameParts.{GameParts}
-use Rattle.pz_game.specs.declared.commands.Commands.{Commands}
-use Rattle.pz_game.specs.declared.instance.Block.{Block}
-use Rattle.pz_game.specs.declared.instance.Block.TheVariants.{One, Loop}
-use Rattle.pz_game.specs.declared.instance.Program.{Program}
-use Rattle.pz_game.specs.Commands.{cancel, has, either}
+use Rattle.pz_program.specs.declared.commands.Commands.{Commands}
+use Rattle.pz_program.specs.declared.instance.Block.{Block}
+use Rattle.pz_program.specs.declared.instance.Block.TheVariants.{One, Loop}
+use Rattle.pz_program.specs.declared.instance.Program.{Program}
+use Rattle.pz_program.specs.Commands.{cancel, has, either}
 use Rattle.pz_cells.specs.declared.piece.Piece.{Piece}
 use Rattle.pz_sheet.specs.Grid.{Grid}
 use Rattle.pz_grid.specs.Movement.{resolved}

@@ -1,7 +1,7 @@
 //! Groups of instances, run to rest segment by segment.
 
 ghost use Rattle.std.specs.Prelude.{◌≡◌, Ok, IfOk, true, false};
-ghost use Rattle.pz_game.specs.Instance.{IsGroupOf};
+ghost use Rattle.pz_program.specs.Instance.{IsGroupOf};
 ghost use Rattle.pz_sheet.specs.Grid.{SameSize};
 ghost use Rattle.pz_turn.specs.Instance.{applied};
 ghost use Rattle.pz_turn.specs.Outcome.{GivesOutcome, untouched};
@@ -10,8 +10,8 @@ ghost use Rattle.pz_turn.specs.declared.rest.TheConstants.{PASSES};
 
 use crate::outcome::{Given, StepFault};
 use crate::rest::{Runnable, pass, to_rest};
-use pz_game::group::{Group, Segment};
 use pz_grid::Level;
+use pz_program::group::{Group, Segment};
 use std::alloc::Global;
 
 /// Whether it is told at once that all instances of a segment leave a level as it is: nothing heads in any of the directions for

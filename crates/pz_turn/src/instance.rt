@@ -2,7 +2,7 @@
 
 ghost use Rattle.std.specs.Prelude.{◌≡◌, ◌≢◌, ◌≤◌, ◌<◌, ◌+◌, ◌*◌, ◌++◌, ◌∷◌, IfOk, IfErr, Ok, Err, MatchOption, true, false, [], length, drop, map, fold, min};
 ghost use Rattle.pz_game.specs.declared.direction.Dir.{Dir};
-ghost use Rattle.pz_game.specs.Instance.{IsInstanceOf};
+ghost use Rattle.pz_program.specs.Instance.{IsInstanceOf};
 ghost use Rattle.pz_game.specs.Pattern.{IsRowOf, AreRowsOf};
 ghost use Rattle.pz_sheet.specs.Grid.{SameSize};
 ghost use Rattle.pz_grid.specs.Places.{places, searched};
@@ -16,12 +16,12 @@ use crate::outcome::{Given, StepFault};
 use crate::rest::Runnable;
 use bitflags::Flags;
 use pz_base::listed::Listed;
-use pz_game::commands::Commands;
 use pz_game::direction::Dir;
-use pz_game::instance::Instance;
 use pz_game::pattern::Row;
 use pz_grid::Level;
 use pz_grid::places::{GridFault, Place, places, still_matches};
+use pz_program::commands::Commands;
+use pz_program::instance::Instance;
 use std::alloc::Global;
 use std::slice;
 

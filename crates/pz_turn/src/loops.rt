@@ -1,7 +1,7 @@
 //! Loops of groups, run until a pass over all of them changes nothing.
 
 ghost use Rattle.std.specs.Prelude.{◌≡◌, ◌≢◌, Ok};
-ghost use Rattle.pz_game.specs.Instance.{AreGroupsOf};
+ghost use Rattle.pz_program.specs.Instance.{AreGroupsOf};
 ghost use Rattle.pz_sheet.specs.Grid.{IsLawful, IsOfGame, SameSize};
 ghost use Rattle.pz_turn.specs.Instance.{applied};
 ghost use Rattle.pz_turn.specs.Outcome.{GivesBoth};
@@ -9,10 +9,10 @@ ghost use Rattle.pz_turn.specs.Rest.{pass_of, rest_of, group_runs};
 
 use crate::outcome::StepFault;
 use crate::rest::{PASSES, to_rest};
-use pz_game::commands::Commands;
 use pz_game::game::Game;
-use pz_game::instance::Groups;
 use pz_grid::Level;
+use pz_program::commands::Commands;
+use pz_program::instance::Groups;
 use std::alloc::Global;
 
 /// Runs a loop of groups to rest: pass after pass over its groups, each of them run to rest, up to the first pass that changes

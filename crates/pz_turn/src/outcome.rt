@@ -1,10 +1,10 @@
 //! What running rules gives, and why it ends early.
 
 ghost use Rattle.std.specs.Prelude.{◌≡◌, ◌||◌, false};
-ghost use Rattle.pz_game.specs.Commands.{no_commands, either};
+ghost use Rattle.pz_program.specs.Commands.{no_commands, either};
 
 use bitflags::Flags;
-use pz_game::commands::{Commands, either};
+use pz_program::commands::{Commands, either};
 
 /// Why running rules ended early: memory was refused, a group or a loop still changed something in its last pass, or a row or
 /// an instance has more places or combinations than the limit.

@@ -1,7 +1,7 @@
 //! Groups of instances, run until a pass changes nothing.
 
 ghost use Rattle.std.specs.Prelude.{◌≡◌, ◌≢◌, Ok, Err, IfOk, IfErr, All, take, cond, true, false};
-ghost use Rattle.pz_game.specs.Instance.{IsGroupOf};
+ghost use Rattle.pz_program.specs.Instance.{IsGroupOf};
 ghost use Rattle.pz_sheet.specs.Grid.{IsLawful, IsOfGame, SameSize};
 ghost use Rattle.pz_turn.specs.Calm.{AreCalmFrom};
 ghost use Rattle.pz_turn.specs.Instance.{applied};
@@ -11,10 +11,10 @@ ghost use Rattle.pz_turn.specs.declared.outcome.StepFault.TheVariants.{Memory};
 
 use crate::group::rest_group;
 use crate::outcome::{Given, StepFault};
-use pz_game::commands::Commands;
 use pz_game::game::Game;
-use pz_game::group::Group;
 use pz_grid::Level;
+use pz_program::commands::Commands;
+use pz_program::group::Group;
 use std::alloc::Global;
 
 /// The greatest number of passes in which a group or a loop comes to rest: the last of them changes nothing.

@@ -3,7 +3,7 @@
 ghost use Rattle.std.specs.Prelude.{◌≡◌, ◌≢◌, ◌<◌, not, IfOk, IfErr, Ok, Err, length};
 ghost use Rattle.std.specs.List.{list_any, list_all, zip};
 ghost use Rattle.pz_game.specs.Game.{players_of};
-ghost use Rattle.pz_game.specs.Instance.{IsBlockOf, AreBlocksOf, IsProgramOf};
+ghost use Rattle.pz_program.specs.Instance.{IsBlockOf, AreBlocksOf, IsProgramOf};
 ghost use Rattle.pz_sheet.specs.Grid.{IsLawful, IsOfGame, SameSize};
 ghost use Rattle.pz_sheet.specs.Presence.{holds_one, cell_of};
 ghost use Rattle.pz_turn.specs.Outcome.{GivesOutcome};
@@ -14,11 +14,11 @@ use crate::group::rest_group;
 use crate::outcome::{Given, StepFault};
 use crate::rest::{Runnable, pass, to_rest};
 use bitflags::Flags;
-use pz_game::commands::Commands;
 use pz_game::direction::Dir;
 use pz_game::game::Game;
-use pz_game::instance::{Block, Program};
 use pz_grid::{Level, push_players, resolve};
+use pz_program::commands::Commands;
+use pz_program::instance::{Block, Program};
 use std::alloc::Global;
 
 /// How a step ends: with the level after it, the commands that were given, and whether that level is another than the one before.

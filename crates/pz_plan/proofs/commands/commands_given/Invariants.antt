@@ -1,5 +1,5 @@
 use Rattle.std.proofs.Common.{◌≡◌, drop, fold}
-use Rattle.pz_game.specs.Commands.{either, no_commands}
+use Rattle.pz_program.specs.Commands.{either, no_commands}
 use Rattle.pz_plan.specs.Commands.{flag_of}
 use Rattle.pz_plan.proofs.commands.commands_given.Given as goal
 

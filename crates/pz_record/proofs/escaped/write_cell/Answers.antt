@@ -3,7 +3,7 @@ use Rattle.json.specs.Print.{escape}
 use Rattle.pz_base.specs.NameSet.{number_in}
 use Rattle.pz_record.specs.declared.written.Written.{Written}
 use Rattle.pz_record.specs.Labels.{text_at}
-use Rattle.pz_record.specs.LevelText.{known_of, line_end, piece, with_cell}
+use Rattle.pz_record.specs.CellTexts.{known_of, line_end, piece, with_cell}
 use Rattle.pz_record.specs.Written.{AreWritten, code_of}
 use Rattle.pz_record.proofs.Escaping.{lent}
 use Rattle.pz_record.proofs.LabelTexts.{known_piece, new_piece, one_known}

@@ -2,7 +2,7 @@ use Rattle.std.proofs.Common.{◌≡◌, ℕ, ◌+◌, ◌++◌, Some, take, get
 use Rattle.json.specs.Print.{escape}
 use Rattle.pz_base.specs.NameSet.{number_in}
 use Rattle.pz_record.specs.Labels.{text_at}
-use Rattle.pz_record.specs.LevelText.{known_of, line_end}
+use Rattle.pz_record.specs.CellTexts.{known_of, line_end}
 use Rattle.pz_record.proofs.LabelTexts.{known_piece}
 use Rattle.pz_record.proofs.WrittenCells.{cell_more, coded_at, is_number, labelled}
 use Rattle.pz_record.proofs.escaped.write_known.Goals as goal

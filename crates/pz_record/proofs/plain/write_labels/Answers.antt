@@ -4,7 +4,7 @@ use Rattle.std.proofs.lemmas.List.{get_or-map, get_or_default, length-map}
 use Rattle.std.proofs.lemmas.List.Elements.{All-get_or}
 use Rattle.pz_base.specs.NameSet.{number_in}
 use Rattle.pz_record.specs.Labels.{text_at}
-use Rattle.pz_record.specs.LevelText.{known_of, piece, with_cell}
+use Rattle.pz_record.specs.CellTexts.{known_of, piece, with_cell}
 use Rattle.pz_record.proofs.KnownCells.{cell_written, cell_known}
 use Rattle.pz_record.proofs.LabelTexts.{none_numbered, one_known, known_piece, new_piece, numbers_more}
 use Rattle.pz_record.proofs.plain.write_labels.Goals as goal

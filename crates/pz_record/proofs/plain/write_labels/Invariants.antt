@@ -1,7 +1,7 @@
 use Rattle.std.proofs.Common.{◌≡◌, ◌<◌, ◌≤◌, ◌%◌, length, take, map, string_bytes}
 use Rattle.pz_base.specs.NameSet.{number_in}
 use Rattle.pz_record.specs.Labels.{text_at}
-use Rattle.pz_record.specs.LevelText.{known_of, text_to}
+use Rattle.pz_record.specs.CellTexts.{known_of, text_to}
 use Rattle.pz_record.proofs.plain.write_labels.Given as goal
 
 abbrev pub invariant-loop-cell : goal.invariant-loop-cell

@@ -16,7 +16,7 @@ pub returns-in_default-clause-opened : goal.returns-in_default-clause-opened
 returns-in_default-clause-opened g c = λ _. not_closed (Err Memory) refl
 
 pub new-requires : goal.new-requires
-new-requires g c = c.len-2.ensures.few
+new-requires g c = c.len-count.ensures.few
 
 pub returns-in_default-new-clause-workers : goal.returns-in_default-new-clause-workers
 returns-in_default-new-clause-workers g c = no_refusal c.args.workers MOST_WORKERS (Err Memory) c.if-workers-eq0.false c.if-workers-gt-MOST_WORKERS.false (not_workers (Err Memory) refl)

@@ -1,5 +1,5 @@
 use Rattle.std.proofs.Common.{map, ap, ◌∙◌, ◌-◌, refl, sym, Err}
-use Rattle.pz_replay.specs.Sent.{sessions_of}
+use Rattle.pz_case.specs.Playing.{sessions_of}
 use Rattle.pz_replay.specs.Recorded.{lane_of}
 use Rattle.pz_replay.specs.declared.fault.ReplayFault.TheVariants.{Memory}
 use Rattle.pz_replay.proofs.Joining.{lanes_left, last_ended, last_lane, made_of, moved_maker, moved_worked, none_left, not_closed, not_workers, one_fewer, one_there, opens, others_ended, recorded_as, settles, some_left, still_open, taken_off, unopened}
@@ -17,7 +17,7 @@ pub returns-then-left-eq0-clause-ended : goal.returns-then-left-eq0-clause-ended
 returns-then-left-eq0-clause-ended g t c = c.gather.ensures.ended
 
 pub returns-then-left-eq0-clause-whole : goal.returns-then-left-eq0-clause-whole
-returns-then-left-eq0-clause-whole g t c = none_left c.args.shared.now.job.now c.args.maker c.args.left c.gather.new.inboxes.items c.args.sessions c.gather.result c.if-left-eq0.true c.gather.ensures.done c.requires.recorded.1
+returns-then-left-eq0-clause-whole g t c = none_left g.P.Playable.items_of (g.P.Playable.job c.args.shared.now.played.now) c.args.maker c.args.left c.gather.new.inboxes.items c.args.sessions c.gather.result c.if-left-eq0.true c.gather.ensures.done c.requires.recorded.1
 
 pub returns-then-left-eq0-clause-workers : goal.returns-then-left-eq0-clause-workers
 returns-then-left-eq0-clause-workers g t c = not_workers c.gather.result c.gather.ensures.fault
@@ -105,14 +105,14 @@ unreachable-requires g t c =
 
 pub settle-requires-clause-maker : goal.settle-requires-clause-maker
 settle-requires-clause-maker g t c =
-    made_of (sessions_of c.args.shared.now.job.now) c.args.shared.now.claims.now c.args.maker c.split-maker.result.0 (c.args.left - 1) c.run_workers-below.new.inboxes.items c.run_workers-below.result c.split-maker.ensures.maker c.requires.maker.0 c.run_workers-below.ensures.whole
+    made_of (sessions_of g.P.Playable.items_of (g.P.Playable.job c.args.shared.now.played.now)) c.args.shared.now.claims.now c.args.maker c.split-maker.result.0 (c.args.left - 1) c.run_workers-below.new.inboxes.items c.run_workers-below.result c.split-maker.ensures.maker c.requires.maker.0 c.run_workers-below.ensures.whole
 
 pub settle-requires-clause-worked : goal.settle-requires-clause-worked
 settle-requires-clause-worked g t c =
     let e = c.in-Some-start.ensures in
     let lane = last_lane c.args.inboxes.now.items c.open_lane.new.inboxes.items c.run_workers-below.new.inboxes.items c.pop-2.new.self.items c.in-Some-pop.inbox c.in-Some.sender.lane c.in-Some.ensures.some.1 c.run_workers-below.ensures.lanes c.in-Some-pop.ensures.items in
     let promise = c.in-Some-start.worker.promise in
-    moved_worked promise.claims.now c.args.shared.now.claims.now promise.job.now c.args.shared.now.job.now promise.lane.value.lane c.in-Some.sender.lane c.in-Some-pop.inbox.taker.lane c.join-worked.result e.0 e.1 e.3 lane c.join-worked.ensures.0
+    moved_worked g.P.Playable.items_of g.P.Playable.job promise.claims.now c.args.shared.now.claims.now promise.played.now c.args.shared.now.played.now promise.lane.value.lane c.in-Some.sender.lane c.in-Some-pop.inbox.taker.lane c.join-worked.result e.0 e.1 e.3 lane c.join-worked.ensures.0
 
 pub settle-requires-clause-inbox : goal.settle-requires-clause-inbox
 settle-requires-clause-inbox g t c = last_ended c.run_workers-below.new.inboxes.items c.pop-2.new.self.items c.in-Some-pop.inbox c.in-Some-pop.ensures.items c.run_workers-below.ensures.ended
@@ -126,7 +126,7 @@ returns-clause-ended g t c = others_ended c.run_workers-below.new.inboxes.items 
 
 pub returns-clause-whole : goal.returns-clause-whole
 returns-clause-whole g t c =
-    settles (sessions_of c.args.shared.now.job.now) c.args.maker c.split-maker.result.0 c.args.left c.run_workers-below.new.inboxes.items c.pop-2.new.self.items c.in-Some-pop.inbox c.run_workers-below.result c.settle.result c.split-maker.ensures.maker (some_left c.args.left c.if-left-eq0.false) c.in-Some-pop.ensures.items
+    settles (sessions_of g.P.Playable.items_of (g.P.Playable.job c.args.shared.now.played.now)) c.args.maker c.split-maker.result.0 c.args.left c.run_workers-below.new.inboxes.items c.pop-2.new.self.items c.in-Some-pop.inbox c.run_workers-below.result c.settle.result c.split-maker.ensures.maker (some_left c.args.left c.if-left-eq0.false) c.in-Some-pop.ensures.items
     c.run_workers-below.ensures.whole c.settle.ensures.settled c.settle.ensures.below
 
 pub returns-clause-workers : goal.returns-clause-workers

@@ -7,4 +7,4 @@ use Rattle.pz_replay.proofs.workers.all_started.Goals as goal
 pub returns-clause-all : goal.returns-clause-all
 returns-clause-all g c =
     let m = c.requires.maker in
-    finishes c.args.shared.now.job.now c.args.shared.now.claims.now c.args.workers c.args.maker c.run_workers.new.inboxes.items c.run_workers.result (c.run_workers.ensures.lanes ∙ ap (map lane_of) c.new-inboxes.ensures.items) m.0 m.1 m.2 m.3 c.requires.job c.run_workers.ensures.whole
+    finishes g.P.Playable.items_of (g.P.Playable.job c.args.shared.now.played.now) c.args.shared.now.claims.now c.args.workers c.args.maker c.run_workers.new.inboxes.items c.run_workers.result (c.run_workers.ensures.lanes ∙ ap (map lane_of) c.new-inboxes.ensures.items) m.0 m.1 m.2 m.3 c.requires.job c.run_workers.ensures.whole

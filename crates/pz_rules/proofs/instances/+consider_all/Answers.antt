@@ -1,7 +1,7 @@
 use Rattle.std.proofs.Common.{◌≡◌, ◌<◌, List, [], ◌∷◌, ◌++◌, map, fold, length, slice_index_or, ap, sym, ◌∙◌, arith}
 use Rattle.std.proofs.lemmas.List.{get_or_default}
 use Rattle.std.proofs.lemmas.Grind.{common_steps}
-use Rattle.pz_game.specs.declared.instance.Instance.{Instance}
+use Rattle.pz_program.specs.declared.instance.Instance.{Instance}
 use Rattle.pz_rules.specs.declared.instances.Pick.{Pick}
 use Rattle.pz_rules.specs.declared.instances.Pick.TheVariants.{Object}
 use Rattle.pz_base.specs.Lists.{product}

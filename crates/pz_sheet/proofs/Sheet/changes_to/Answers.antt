@@ -3,8 +3,9 @@ use Rattle.std.proofs.lemmas.Result.{IfOk-weaker}
 use Rattle.pz_cells.specs.declared.cell.Cell.{Cell}
 use Rattle.pz_sheet.specs.Changes.{changed_cells, changes_seen, restored}
 use Rattle.pz_sheet.specs.Grid.{Grid, BareState, IsLawful}
-use Rattle.pz_sheet.specs.Seen.{IsSound, HeadNowhere}
-use Rattle.pz_sheet.proofs.SheetLemmas.{small_cell, lawful_seen}
+use Rattle.pz_cells.specs.Lists.{IsSound, HeadNowhere}
+use Rattle.pz_cells.proofs.ListLemmas.{small_cell}
+use Rattle.pz_sheet.proofs.SheetLemmas.{lawful_seen}
 use Rattle.pz_sheet.proofs.MapLemmas.{sound_read}
 use Rattle.pz_sheet.proofs.StillLemmas.{all_head_nowhere}
 use Rattle.pz_sheet.proofs.ChangeLemmas.{small_change, way_back_by}

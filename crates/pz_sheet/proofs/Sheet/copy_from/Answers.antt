@@ -1,7 +1,7 @@
 use Rattle.std.proofs.Common.{refl, arith, ap, ◌∙◌}
 use Rattle.pz_sheet.specs.Grid.{BareState}
 use Rattle.pz_sheet.proofs.CopyLemmas.{grid_same, sheet_same, on_fault}
-use Rattle.pz_sheet.proofs.SheetLemmas.{small_cell}
+use Rattle.pz_cells.proofs.ListLemmas.{small_cell}
 use Rattle.pz_sheet.proofs.Sheet.copy_from.Goals as goal
 
 pub make_rooms-requires : goal.make_rooms-requires

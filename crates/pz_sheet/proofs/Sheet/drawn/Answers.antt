@@ -1,9 +1,10 @@
 use Rattle.std.proofs.Common.{◌≡◌, ◌<◌, ℕ, List, length, ◌∙◌, ap, sym, arith, map, refl, subst}
 use Rattle.std.specs.List.{All}
 use Rattle.pz_cells.specs.declared.cell.Cell.{Cell}
-use Rattle.pz_sheet.specs.Loading.{glyph_cell}
-use Rattle.pz_sheet.specs.Planes.{ArePlaced}
-use Rattle.pz_sheet.proofs.SheetLemmas.{small_cell, IsTable}
+use Rattle.pz_cells.specs.Drawing.{glyph_cell}
+use Rattle.pz_sheet.specs.Noting.{ArePlaced}
+use Rattle.pz_cells.proofs.ListLemmas.{small_cell}
+use Rattle.pz_sheet.proofs.SheetLemmas.{IsTable}
 use Rattle.pz_sheet.proofs.MapLemmas.{noted_read}
 use Rattle.pz_sheet.proofs.LoadLemmas.{stored_drawn, drawn_covers, of_game_read}
 use Rattle.pz_sheet.proofs.Sheet.drawn.Goals as goal
@@ -37,8 +38,8 @@ layer_sets-requires g c =
     let lawful = c.layers-2.ensures.game in
     omega (arith, ap (λ (all : List ℕ). length all) c.layers-2.ensures.layers, lawful.laid, lawful.few)
 
-pub of-requires : goal.of-requires
-of-requires g c =
+pub notes_of-requires : goal.notes_of-requires
+notes_of-requires g c =
     let width = c.width-width.result in
     let height = c.height-height.result in
     let cells = c.in_ok-cells.cells.items in
@@ -46,8 +47,8 @@ of-requires g c =
     (record { sound = c.in_ok-cells.ensures.sound; cells_are = c.in_ok-cells.ensures.cells ∙ ap (map (glyph_cell c.args.game.now)) c.cells.ensures.cells }) in
     (small_cell _ c.requires.short, (c.requires.short, ap (λ (all : List (Cell g.row.N)). length all) c.deref-2.ensures.value ∙ covers))
 
-pub of-requires-2 : goal.of-requires-2
-of-requires-2 g c =
+pub planes_of-requires : goal.planes_of-requires
+planes_of-requires g c =
     let game = c.args.game.now in
     let width = c.width-width.result in
     let height = c.height-height.result in

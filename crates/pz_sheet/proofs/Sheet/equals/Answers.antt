@@ -2,9 +2,9 @@ use Rattle.std.proofs.Common.{List, ap, sym, subst}
 use Rattle.std.specs.Prelude.{IsTrue, ◌↔◌}
 use Rattle.pz_cells.specs.declared.cell.Cell.{Cell}
 use Rattle.pz_sheet.specs.Grid.{BareState}
-use Rattle.pz_sheet.specs.Seen.{HaveSame, HeadNowhere}
+use Rattle.pz_cells.specs.Lists.{HaveSame, HeadNowhere}
 use Rattle.pz_sheet.proofs.SameLemmas.{decided_both}
-use Rattle.pz_sheet.proofs.SheetLemmas.{small_cell}
+use Rattle.pz_cells.proofs.ListLemmas.{small_cell}
 use Rattle.pz_sheet.proofs.StillLemmas.{all_head_nowhere}
 use Rattle.pz_sheet.proofs.Sheet.equals.Goals as goal
 

@@ -4,11 +4,15 @@ use Rattle.pz_cells.specs.declared.cell.Cell.{Cell}
 use Rattle.pz_cells.specs.declared.piece.Piece.{Piece}
 use Rattle.pz_cells.specs.Cell.{IsOnLayer}
 use Rattle.pz_sheet.specs.Grid.{Grid, BareState}
-use Rattle.pz_sheet.specs.Loading.{filled_cell, filled}
-use Rattle.pz_sheet.specs.Planes.{AreKnown, AreAllThere}
+use Rattle.pz_cells.specs.Drawing.{filled_cell}
+use Rattle.pz_sheet.specs.Loading.{filled}
+use Rattle.pz_planes.specs.Planes.{AreKnown}
+use Rattle.pz_sheet.specs.Noting.{AreAllThere}
 use Rattle.pz_sheet.specs.Seen.{grid_of}
-use Rattle.pz_sheet.proofs.PlaneLemmas.{covers_all, all_known, placed_all}
-use Rattle.pz_sheet.proofs.SheetLemmas.{small_cell, set_read, lawful_seen}
+use Rattle.pz_planes.proofs.PlaneLemmas.{covers_all}
+use Rattle.pz_sheet.proofs.PlacedLemmas.{all_known, placed_all}
+use Rattle.pz_cells.proofs.ListLemmas.{small_cell}
+use Rattle.pz_sheet.proofs.SheetLemmas.{set_read, lawful_seen}
 use Rattle.pz_sheet.proofs.MapLemmas.{stored_mapped, mapped_read, sound_read, noted_read, noted_covers, all_mapped_long}
 use Rattle.pz_sheet.proofs.Sheet.fill.Goals as goal
 
@@ -52,8 +56,8 @@ note_all-requires g c =
     let a = c.self.inside in
     let cells = c.fill_cells.new.cells.items in
     let mapped = mapped_read _ a.depth a.layers.items c.deref.result.now (filled_cell c.args.layer c.args.piece) a.cells.items cells c.deref.ensures.value c.fill_cells.ensures in
-    let stored = stored_mapped _ a.width a.height a.depth a.layers.items a.sets.items (filled_cell c.args.layer c.args.piece) a.cells.items cells a.notes c.renew.new.self c.self.invariant.stored mapped
-    (noted_read _ a.width a.height _ _ c.renew.new.self cells c.deref-2.result.now c.self.invariant.stored.noted.column_count c.self.invariant.stored.noted.row_count c.deref-2.ensures.value c.renew.ensures) in
+    let stored = stored_mapped _ a.width a.height a.depth a.layers.items a.sets.items (filled_cell c.args.layer c.args.piece) a.cells.items cells a.notes c.renew_notes.new.notes c.self.invariant.stored mapped
+    (noted_read _ a.width a.height _ _ c.renew_notes.new.notes cells c.deref-2.result.now c.self.invariant.stored.noted.column_count c.self.invariant.stored.noted.row_count c.deref-2.ensures.value c.renew_notes.ensures) in
     let fits = c.self.invariant.placed.fits in
     let is = c.deref-3.ensures.value in (
       small_cell _ c.self.invariant.stored.short,
@@ -71,18 +75,18 @@ invariant_of-self g c =
     let a = c.self.inside in
     let cells = c.fill_cells.new.cells.items in
     record {
-      stored = stored_mapped _ a.width a.height a.depth a.layers.items a.sets.items (filled_cell c.args.layer c.args.piece) a.cells.items cells a.notes c.renew.new.self c.self.invariant.stored
+      stored = stored_mapped _ a.width a.height a.depth a.layers.items a.sets.items (filled_cell c.args.layer c.args.piece) a.cells.items cells a.notes c.renew_notes.new.notes c.self.invariant.stored
           (mapped_read _ a.depth a.layers.items c.deref.result.now (filled_cell c.args.layer c.args.piece) a.cells.items cells c.deref.ensures.value c.fill_cells.ensures)
-          (noted_read _ a.width a.height _ _ c.renew.new.self cells c.deref-2.result.now c.self.invariant.stored.noted.column_count c.self.invariant.stored.noted.row_count c.deref-2.ensures.value c.renew.ensures);
-      placed = placed_all _ (length a.layers.items) a.width a.height a.planes c.note_all.new.self cells c.self.invariant.placed.fits c.note_all.ensures.size
-          (subst (AreAllThere g.row.N a.planes.columns.count a.planes.rows.count c.note_all.new.self) c.deref-3.ensures.value c.note_all.ensures.there);
+          (noted_read _ a.width a.height _ _ c.renew_notes.new.notes cells c.deref-2.result.now c.self.invariant.stored.noted.column_count c.self.invariant.stored.noted.row_count c.deref-2.ensures.value c.renew_notes.ensures);
+      placed = placed_all _ (length a.layers.items) a.width a.height a.planes c.note_all.new.planes cells c.self.invariant.placed.fits c.note_all.ensures.size
+          (subst (AreAllThere g.row.N a.planes.columns.count a.planes.rows.count c.note_all.new.planes) c.deref-3.ensures.value c.note_all.ensures.there);
     }
 
 pub returns-clause-lawful : goal.returns-clause-lawful
 returns-clause-lawful g c = lawful_seen _ _ _ _ _ _ _ _ (invariant_of-self g c).stored
 
-pub renew-requires : goal.renew-requires
-renew-requires g c =
+pub renew_notes-requires : goal.renew_notes-requires
+renew_notes-requires g c =
     let a = c.self.inside in
     let stored = c.self.invariant.stored in
     let cells = c.fill_cells.new.cells.items in

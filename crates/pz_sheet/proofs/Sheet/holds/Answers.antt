@@ -5,7 +5,8 @@ use Rattle.pz_cells.specs.Pattern.{pattern_holds}
 use Rattle.std.specs.List.{All}
 use Rattle.pz_cells.specs.Shown.{cell_of, AreLawful}
 use Rattle.pz_sheet.specs.Grid.{Grid, BareState}
-use Rattle.pz_sheet.proofs.SheetLemmas.{seen_within, seen_at, sound_at, small_cell}
+use Rattle.pz_cells.proofs.ListLemmas.{sound_at, small_cell}
+use Rattle.pz_sheet.proofs.SheetLemmas.{seen_within, seen_at}
 use Rattle.pz_sheet.proofs.Sheet.holds.Goals as goal
 
 pub holds-requires : goal.holds-requires

@@ -7,7 +7,8 @@ use Rattle.pz_cells.specs.Standing.{standing}
 use Rattle.pz_cells.proofs.RewriteLemmas.{member_seen}
 use Rattle.pz_sheet.specs.Grid.{BareState}
 use Rattle.pz_sheet.specs.Presence.{is_in}
-use Rattle.pz_sheet.proofs.SheetLemmas.{seen_within, seen_at, sound_at}
+use Rattle.pz_cells.proofs.ListLemmas.{sound_at}
+use Rattle.pz_sheet.proofs.SheetLemmas.{seen_within, seen_at}
 use Rattle.pz_sheet.proofs.HoldingLemmas.{found_by_set, any_alike}
 use Rattle.pz_sheet.proofs.Sheet.holds_one.Goals as goal
 

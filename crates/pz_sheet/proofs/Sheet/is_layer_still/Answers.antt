@@ -2,7 +2,8 @@ use Rattle.std.proofs.Common.{◌<◌, Option, arith, ap, sym, ◌∙◌, refl}
 use Rattle.pz_cells.specs.declared.piece.Piece.{Piece}
 use Rattle.pz_cells.specs.Cell.{still_place}
 use Rattle.pz_sheet.specs.Grid.{Grid, BareState}
-use Rattle.pz_sheet.proofs.SheetLemmas.{seen_within, place_read, small_cell}
+use Rattle.pz_cells.proofs.ListLemmas.{small_cell}
+use Rattle.pz_sheet.proofs.SheetLemmas.{seen_within, place_read}
 use Rattle.pz_sheet.proofs.StillLemmas.{place_is_still}
 use Rattle.pz_sheet.proofs.Sheet.is_layer_still.Goals as goal
 

@@ -5,8 +5,8 @@ use Rattle.pz_cells.specs.declared.piece.Piece.{Piece}
 use Rattle.pz_cells.specs.Cell.{still_place}
 use Rattle.pz_cells.specs.Shown.{place_of, cell_of}
 use Rattle.pz_sheet.specs.Grid.{BareState, cell_at}
-use Rattle.pz_sheet.proofs.SheetLemmas.{seen_within, seen_at, sound_at, small_cell}
-use Rattle.pz_sheet.proofs.MapLemmas.{cell_mapped, still_shows}
+use Rattle.pz_cells.proofs.ListLemmas.{sound_at, small_cell, cell_mapped, still_shows}
+use Rattle.pz_sheet.proofs.SheetLemmas.{seen_within, seen_at}
 use Rattle.pz_sheet.proofs.Sheet.is_still.Goals as goal
 
 pub is_still-requires : goal.is_still-requires

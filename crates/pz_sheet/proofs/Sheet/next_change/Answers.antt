@@ -1,10 +1,10 @@
 use Rattle.std.proofs.Common.{List, length, ap, sym, ◌∙◌, subst}
 use Rattle.pz_cells.specs.declared.cell.Cell.{Cell}
-use Rattle.pz_sheet.specs.Differing.{IsNextDiffering}
+use Rattle.pz_cells.specs.Differing.{IsNextDiffering}
 use Rattle.pz_sheet.specs.Grid.{BareState}
-use Rattle.pz_sheet.specs.Seen.{HeadNowhere}
+use Rattle.pz_cells.specs.Lists.{HeadNowhere}
 use Rattle.pz_sheet.proofs.ChangeLemmas.{AreBoth, as_many, next_is}
-use Rattle.pz_sheet.proofs.SheetLemmas.{small_cell}
+use Rattle.pz_cells.proofs.ListLemmas.{small_cell}
 use Rattle.pz_sheet.proofs.StillLemmas.{all_head_nowhere}
 use Rattle.pz_sheet.proofs.Sheet.next_change.Goals as goal
 

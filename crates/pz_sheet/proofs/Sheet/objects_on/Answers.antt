@@ -3,7 +3,8 @@ use Rattle.pz_cells.specs.declared.piece.Piece.{Piece}
 use Rattle.pz_cells.specs.Standing.{standing}
 use Rattle.pz_cells.proofs.RewriteLemmas.{member_seen}
 use Rattle.pz_sheet.specs.Grid.{BareState}
-use Rattle.pz_sheet.proofs.SheetLemmas.{seen_within, seen_at, sound_at}
+use Rattle.pz_cells.proofs.ListLemmas.{sound_at}
+use Rattle.pz_sheet.proofs.SheetLemmas.{seen_within, seen_at}
 use Rattle.pz_sheet.proofs.Sheet.objects_on.Goals as goal
 
 pub returns : goal.returns

@@ -8,7 +8,8 @@ use Rattle.pz_cells.specs.Standing.{standing}
 use Rattle.pz_cells.specs.Shown.{AreLawful}
 use Rattle.pz_cells.proofs.HoldLemmas.{standing_seen, standing_by}
 use Rattle.pz_sheet.specs.Grid.{Grid, BareState}
-use Rattle.pz_sheet.proofs.SheetLemmas.{seen_within, seen_at, sound_at, standing_on_map, piece_seen, small_cell}
+use Rattle.pz_cells.proofs.ListLemmas.{sound_at, small_cell}
+use Rattle.pz_sheet.proofs.SheetLemmas.{seen_within, seen_at, standing_on_map, piece_seen}
 use Rattle.pz_sheet.proofs.Sheet.piece.Goals as goal
 
 pub piece-requires : goal.piece-requires

@@ -2,7 +2,8 @@ use Rattle.std.proofs.Common.{◌+◌, ◌*◌, ◌<◌, ℕ, List, [], length, 
 use Rattle.pz_cells.specs.Cell.{IsOnLayer}
 use Rattle.pz_cells.specs.Shown.{place_of, AreLawful}
 use Rattle.pz_sheet.specs.Grid.{Grid, BareState, IsLawful}
-use Rattle.pz_sheet.proofs.SheetLemmas.{seen_within, sound_at, small_cell, set_read, place_read, low_place, lawful_seen}
+use Rattle.pz_cells.proofs.ListLemmas.{sound_at, small_cell}
+use Rattle.pz_sheet.proofs.SheetLemmas.{seen_within, set_read, place_read, low_place, lawful_seen}
 use Rattle.pz_sheet.proofs.Sheet.place.Goals as goal
 
 pub place-requires : goal.place-requires

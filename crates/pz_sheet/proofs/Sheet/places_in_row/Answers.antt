@@ -2,7 +2,7 @@ use Rattle.std.proofs.Common.{◌≡◌, ◌<◌, ◌≤◌, true, arith, ap, sy
 use Rattle.pz_game.specs.Pattern.{AreOf}
 use Rattle.pz_cells.specs.Pattern.{pattern_holds}
 use Rattle.pz_sheet.specs.Grid.{Grid, BareState, cell_at}
-use Rattle.pz_sheet.specs.Planes.{LineSets, MayHold}
+use Rattle.pz_planes.specs.Planes.{LineSets, MayHold}
 use Rattle.pz_sheet.proofs.StartLemmas.{noted_in_row}
 use Rattle.pz_sheet.proofs.Sheet.places_in_row.Goals as goal
 

@@ -1,6 +1,5 @@
-use Rattle.std.proofs.Common.{◌<◌, length, arith}
+use Rattle.std.proofs.Common.{◌<◌, length, arith, rules}
 use Rattle.pz_sheet.proofs.PushLemmas.{pushed_long, pushed_on, pushed_end}
-use Rattle.std.proofs.Common.{rules}
 use Rattle.pz_sheet.proofs.Sheet.push_all.Goals as goal
 
 pub push_at-requires : goal.push_at-requires

@@ -4,7 +4,8 @@ use Rattle.pz_sets.specs.declared.set.TheConstants.{CAPACITY}
 use Rattle.pz_cells.specs.declared.piece.Piece.{Piece}
 use Rattle.pz_sheet.specs.Grid.{BareState}
 use Rattle.pz_sheet.specs.Pushing.{pushed_place}
-use Rattle.pz_sheet.proofs.SheetLemmas.{seen_within, seen_at, sound_at}
+use Rattle.pz_cells.proofs.ListLemmas.{sound_at}
+use Rattle.pz_sheet.proofs.SheetLemmas.{seen_within, seen_at}
 use Rattle.pz_sheet.proofs.HoldingLemmas.{each_missing}
 use Rattle.pz_sheet.proofs.PushLemmas.{absent_pushed, unpushed_at}
 use Rattle.pz_sheet.proofs.Sheet.push_at.Goals as goal

@@ -3,8 +3,10 @@ use Rattle.std.specs.List.{All}
 use Rattle.pz_cells.specs.Shown.{AreLawful, cell_of}
 use Rattle.pz_sheet.specs.Grid.{Grid, BareState}
 use Rattle.pz_sheet.specs.Pushing.{pushed_place, pushed_at}
-use Rattle.pz_sheet.proofs.PlaneLemmas.{within_at, known_of, there_at, placed_at}
-use Rattle.pz_sheet.proofs.SheetLemmas.{seen_within, sound_at, small_cell, stored_set, grid_set}
+use Rattle.pz_planes.proofs.PlaneLemmas.{within_at, known_of}
+use Rattle.pz_sheet.proofs.PlacedLemmas.{there_at, placed_at}
+use Rattle.pz_cells.proofs.ListLemmas.{sound_at, small_cell}
+use Rattle.pz_sheet.proofs.SheetLemmas.{seen_within, stored_set, grid_set}
 use Rattle.pz_sheet.proofs.MapLemmas.{noted_within}
 use Rattle.pz_sheet.proofs.Sheet.push_in.Goals as goal
 
@@ -39,22 +41,15 @@ note_at-requires g c =
     let covers = c.self.invariant.stored.covers in
     let within = seen_within _ _ _ a.depth a.layers.items a.cells.items _ at e c.requires in
     let sound = sound_at _ a.layers.items a.cells.items at old c.self.invariant.stored.sound within c.index_mut-cell.ensures.value in
-    let sound_new = subst (λ (layers : List ℕ). AreLawful layers new.objects new.movement) c.deref.ensures.value c.push_cell.ensures.lawful in (
-      small_cell _ c.self.invariant.stored.short,
-      (
-        c.self.invariant.stored.short,
-        (
-          within_at _ a.width a.height at _ a.planes placed.fits within covers,
-          (
-            known_of a.layers.items a.width a.height a.planes old.objects placed.fits sound.of_game,
-            (
-              known_of a.layers.items a.width a.height a.planes new.objects placed.fits sound_new.of_game,
-              there_at _ _ a.width a.height at a.planes a.cells.items old placed within covers c.index_mut-cell.ensures.value,
-            ),
-          ),
-        ),
-      ),
-    )
+    let sound_new = subst (λ (layers : List ℕ). AreLawful layers new.objects new.movement) c.deref.ensures.value c.push_cell.ensures.lawful in
+    record {
+      short_before = omega (arith, c.word_count.ensures.objects, c.self.invariant.stored.short);
+      short = omega (arith, c.word_count-2.ensures.objects, c.self.invariant.stored.short);
+      within = within_at _ a.width a.height at _ a.planes placed.fits within covers;
+      known_before = known_of a.layers.items a.width a.height a.planes old.objects placed.fits sound.of_game;
+      known = known_of a.layers.items a.width a.height a.planes new.objects placed.fits sound_new.of_game;
+      there = there_at _ _ a.width a.height at a.planes a.cells.items old placed within covers c.index_mut-cell.ensures.value;
+    }
 
 pub invariant_of-self : goal.invariant_of-self
 invariant_of-self g c =
@@ -63,8 +58,8 @@ invariant_of-self g c =
     let new = c.push_cell.new.cell in
     let within = seen_within _ _ _ a.depth a.layers.items a.cells.items _ c.args.index e c.requires in
     record {
-      stored = stored_set _ a.width a.height a.depth a.layers.items a.sets.items a.cells.items c.args.index new a.notes c.note.new.self c.self.invariant.stored
-          (subst (λ (layers : List ℕ). AreLawful layers new.objects new.movement) c.deref.ensures.value c.push_cell.ensures.lawful) c.note.ensures.noted c.note.ensures.wider;
+      stored = stored_set _ a.width a.height a.depth a.layers.items a.sets.items a.cells.items c.args.index new a.notes c.note_heading.new.notes c.self.invariant.stored
+          (subst (λ (layers : List ℕ). AreLawful layers new.objects new.movement) c.deref.ensures.value c.push_cell.ensures.lawful) c.note_heading.ensures.noted c.note_heading.ensures.wider;
       placed = placed_at _ (length a.layers.items) a.width a.height a.planes c.note_at.new.self a.cells.items c.args.index new c.self.invariant.placed within c.self.invariant.stored.covers c.note_at.ensures;
     }
 
@@ -80,8 +75,8 @@ returns g c =
     grid_set _ a.width a.height a.depth a.layers.items a.cells.items c.args.index c.args.index old new (map (pushed_place c.args.players.now c.args.dir)) within refl c.index_mut-cell.ensures.value seen_new
     ∙ ap (λ (grid : Grid). pushed_at c.args.players.now c.args.dir c.args.index grid) e
 
-pub note-requires : goal.note-requires
-note-requires g c =
+pub note_heading-requires : goal.note_heading-requires
+note_heading-requires g c =
     let a = c.self.inside in
     let e = ap (λ (s : BareState). s.grid) c.self.view_is in
     let stored = c.self.invariant.stored in

@@ -5,8 +5,10 @@ use Rattle.pz_cells.specs.Shown.{AreLawful, cell_of}
 use Rattle.pz_cells.specs.Rewriting.{rewritten_cell}
 use Rattle.pz_sheet.specs.Grid.{Grid, BareState}
 use Rattle.pz_sheet.specs.Rewriting.{with_rewritten}
-use Rattle.pz_sheet.proofs.PlaneLemmas.{inside_of, known_of, there_of, placed_set}
-use Rattle.pz_sheet.proofs.SheetLemmas.{IsTable, seen_within, sound_at, small_cell, stored_set, grid_set}
+use Rattle.pz_planes.proofs.PlaneLemmas.{inside_of, known_of}
+use Rattle.pz_sheet.proofs.PlacedLemmas.{there_of, placed_set}
+use Rattle.pz_cells.proofs.ListLemmas.{sound_at, small_cell}
+use Rattle.pz_sheet.proofs.SheetLemmas.{IsTable, seen_within, stored_set, grid_set}
 use Rattle.pz_sheet.proofs.MapLemmas.{noted_within}
 use Rattle.pz_sheet.proofs.Sheet.rewrite.Goals as goal
 
@@ -54,8 +56,8 @@ rewrite-changed-requires g c =
       ),
     )
 
-pub note-requires-2 : goal.note-requires-2
-note-requires-2 g c =
+pub note-requires : goal.note-requires
+note-requires g c =
     let a = c.self.inside in
     let e = ap (λ (s : BareState). s.grid) c.self.view_is in
     let old = c.index_mut-cell.result.now in
@@ -67,22 +69,15 @@ note-requires-2 g c =
     let y_in : c.args.y < a.height = omega (arith, c.requires.y_in, ap (λ (grid : Grid). grid.height) e) in
     let number : at ≡ c.args.y * a.width + c.args.x = c.index-index.ensures.index ∙ sym (ap (λ (grid : Grid). c.args.y * grid.width + c.args.x) e) in
     let sound = sound_at _ a.layers.items a.cells.items at old c.self.invariant.stored.sound within c.index_mut-cell.ensures.value in
-    let sound_new = subst (λ (layers : List ℕ). AreLawful layers new.objects new.movement) c.deref.ensures.value c.rewrite-changed.ensures.lawful in (
-      small_cell _ c.self.invariant.stored.short,
-      (
-        c.self.invariant.stored.short,
-        (
-          inside_of _ a.width a.height c.args.x c.args.y a.planes placed.fits x_in y_in,
-          (
-            known_of a.layers.items a.width a.height a.planes old.objects placed.fits sound.of_game,
-            (
-              known_of a.layers.items a.width a.height a.planes new.objects placed.fits sound_new.of_game,
-              there_of _ _ a.width a.height a.planes a.cells.items at c.args.x c.args.y old placed number x_in y_in c.index_mut-cell.ensures.value,
-            ),
-          ),
-        ),
-      ),
-    )
+    let sound_new = subst (λ (layers : List ℕ). AreLawful layers new.objects new.movement) c.deref.ensures.value c.rewrite-changed.ensures.lawful in
+    record {
+      short_before = omega (arith, c.word_count.ensures.objects, c.self.invariant.stored.short);
+      short = omega (arith, c.word_count-2.ensures.objects, c.self.invariant.stored.short);
+      inside = inside_of _ a.width a.height c.args.x c.args.y a.planes placed.fits x_in y_in;
+      known_before = known_of a.layers.items a.width a.height a.planes old.objects placed.fits sound.of_game;
+      known = known_of a.layers.items a.width a.height a.planes new.objects placed.fits sound_new.of_game;
+      there = there_of _ _ a.width a.height a.planes a.cells.items at c.args.x c.args.y old placed number x_in y_in c.index_mut-cell.ensures.value;
+    }
 
 pub invariant_of-self : goal.invariant_of-self
 invariant_of-self g c =
@@ -95,9 +90,9 @@ invariant_of-self g c =
     let y_in : c.args.y < a.height = omega (arith, c.requires.y_in, ap (λ (grid : Grid). grid.height) e) in
     let number : at ≡ c.args.y * a.width + c.args.x = c.index-index.ensures.index ∙ sym (ap (λ (grid : Grid). c.args.y * grid.width + c.args.x) e) in
     record {
-      stored = stored_set _ a.width a.height a.depth a.layers.items a.sets.items a.cells.items at new a.notes c.note.new.self c.self.invariant.stored
-          (subst (λ (layers : List ℕ). AreLawful layers new.objects new.movement) c.deref.ensures.value c.rewrite-changed.ensures.lawful) c.note.ensures.noted c.note.ensures.wider;
-      placed = placed_set _ (length a.layers.items) a.width a.height a.planes c.note-2.new.self a.cells.items at c.args.x c.args.y new c.self.invariant.placed number x_in y_in within c.note-2.ensures;
+      stored = stored_set _ a.width a.height a.depth a.layers.items a.sets.items a.cells.items at new a.notes c.note_heading.new.notes c.self.invariant.stored
+          (subst (λ (layers : List ℕ). AreLawful layers new.objects new.movement) c.deref.ensures.value c.rewrite-changed.ensures.lawful) c.note_heading.ensures.noted c.note_heading.ensures.wider;
+      placed = placed_set _ (length a.layers.items) a.width a.height a.planes c.note.new.self a.cells.items at c.args.x c.args.y new c.self.invariant.placed number x_in y_in within c.note.ensures;
     }
 
 pub returns-clause-level : goal.returns-clause-level
@@ -115,8 +110,8 @@ returns-clause-level g c =
     (subst (λ (layers : List ℕ). cell_of a.depth layers new.objects new.movement ≡ rewritten_cell left right (cell_of a.depth layers old.objects old.movement)) c.deref.ensures.value c.rewrite-changed.ensures.cell)
     ∙ ap (λ (grid : Grid). with_rewritten grid c.args.x c.args.y left right) e
 
-pub note-requires : goal.note-requires
-note-requires g c =
+pub note_heading-requires : goal.note_heading-requires
+note_heading-requires g c =
     let a = c.self.inside in
     let e = ap (λ (s : BareState). s.grid) c.self.view_is in
     let stored = c.self.invariant.stored in

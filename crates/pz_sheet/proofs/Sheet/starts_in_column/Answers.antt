@@ -4,7 +4,7 @@ use Rattle.pz_game.specs.declared.direction.Dir.{Dir}
 use Rattle.pz_game.specs.declared.direction.Dir.TheVariants.{Down, Up}
 use Rattle.pz_game.specs.Pattern.{AreOf}
 use Rattle.pz_sheet.specs.Grid.{Grid, BareState}
-use Rattle.pz_sheet.specs.Planes.{LineSets, MayRunAhead, MayRunBack}
+use Rattle.pz_planes.specs.Planes.{LineSets, MayRunAhead, MayRunBack}
 use Rattle.pz_sheet.specs.Runs.{run_holds}
 use Rattle.pz_sheet.proofs.StartLemmas.{ahead_in_column, back_in_column}
 use Rattle.pz_sheet.proofs.Sheet.starts_in_column.Goals as goal

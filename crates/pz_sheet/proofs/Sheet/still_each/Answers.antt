@@ -1,7 +1,8 @@
 use Rattle.std.proofs.Common.{length, map, ◌∙◌}
 use Rattle.pz_cells.specs.Cell.{still_place}
-use Rattle.pz_sheet.proofs.PlaneLemmas.{placed_same}
-use Rattle.pz_sheet.proofs.SheetLemmas.{small_cell, lawful_seen}
+use Rattle.pz_sheet.proofs.PlacedLemmas.{placed_same}
+use Rattle.pz_cells.proofs.ListLemmas.{small_cell}
+use Rattle.pz_sheet.proofs.SheetLemmas.{lawful_seen}
 use Rattle.pz_sheet.proofs.MapLemmas.{stored_mapped, mapped_read, sound_read}
 use Rattle.pz_sheet.proofs.StillLemmas.{noted_nowhere}
 use Rattle.pz_sheet.proofs.Sheet.still_each.Goals as goal

@@ -2,7 +2,7 @@ use Rattle.std.proofs.Common.{arith, List, Option, ap, sym, ◌∙◌, subst}
 use Rattle.pz_cells.specs.declared.piece.Piece.{Piece}
 use Rattle.pz_sheet.specs.Changes.{with_cell}
 use Rattle.pz_sheet.specs.Grid.{Grid, BareState}
-use Rattle.pz_sheet.specs.Seen.{seen, IsSound}
+use Rattle.pz_cells.specs.Lists.{seen, IsSound}
 use Rattle.pz_sheet.proofs.ChangeLemmas.{small_change, AreBoth, in_second, sound_there, seen_there}
 use Rattle.pz_sheet.proofs.Sheet.take_cell.Goals as goal
 

@@ -1,4 +1,3 @@
-use Rattle.std.proofs.Common.{sym, ◌∙◌}
 use Rattle.pz_turn.proofs.Segments.{left_out_pass}
 use Rattle.pz_turn.proofs.Unchanged.{not_from}
 use Rattle.pz_turn.proofs.group.is_left_out.Goals as goal

@@ -1,6 +1,6 @@
 use Rattle.std.proofs.Common.{◌≡◌, ◌+◌, ℕ, true, false, not, List, ◌||◌, refl, arith, sym, ◌∙◌, subst, ap}
 use Rattle.std.proofs.lemmas.Result.{err_from_is_err_and}
-use Rattle.pz_game.specs.Commands.{either}
+use Rattle.pz_program.specs.Commands.{either}
 use Rattle.pz_sheet.specs.Grid.{Grid}
 use Rattle.pz_grid.proofs.MovementLemmas.{same_size_on}
 use Rattle.pz_turn.specs.Outcome.{Outcome}

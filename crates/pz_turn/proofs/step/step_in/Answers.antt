@@ -1,6 +1,6 @@
 use Rattle.std.proofs.Common.{ap, sym, ◌∙◌, Ok}
 use Rattle.std.proofs.lemmas.Result.{err_from_is_err_and, IfOk-weaker}
-use Rattle.pz_game.specs.declared.commands.Commands.{Commands}
+use Rattle.pz_program.specs.declared.commands.Commands.{Commands}
 use Rattle.pz_turn.specs.Step.{ended, with_cancel}
 use Rattle.pz_turn.proofs.Stepping.{step_stops, step_ends}
 use Rattle.pz_turn.proofs.step.step_in.Goals as goal

@@ -3,7 +3,8 @@ use Rattle.std.specs.Prelude.{IfOk}
 use Rattle.std.proofs.lemmas.List.{get_or_default}
 use Rattle.pz_game.specs.declared.level.LevelEntry.{LevelEntry}
 use Rattle.pz_game.specs.declared.level.LevelEntry.TheVariants.{Message, Level}
-use Rattle.pz_grid.specs.Loading.{entry_at, drawing_of, loaded_from}
+use Rattle.pz_game.specs.Level.{entry_at}
+use Rattle.pz_grid.specs.Loading.{drawing_of, loaded_from}
 use Rattle.pz_grid.proofs.LoadingLemmas.{playable_within}
 use Rattle.pz_grid.proofs.bare.BareLevel.load.Goals as goal
 

@@ -2,7 +2,7 @@ use Rattle.std.proofs.Common.{◌≡◌, ℕ, Bool, true, List, ap, sym, subst, 
 use Rattle.std.specs.List.{All}
 use Rattle.pz_game.specs.declared.pattern.Item.{Item}
 use Rattle.pz_game.specs.Pattern.{AreOf}
-use Rattle.pz_game.specs.Segments.{AsksAmong}
+use Rattle.pz_game.specs.Pattern.{AsksAmong}
 use Rattle.pz_sheet.specs.Grid.{BareState}
 use Rattle.pz_sheet.specs.Searching.{HoldsSomewhere}
 use Rattle.pz_grid.specs.Bare.{state_in}

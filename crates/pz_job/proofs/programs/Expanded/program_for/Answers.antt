@@ -1,6 +1,6 @@
 use Rattle.std.proofs.Common.{◌≡◌, ap, sym, ◌∙◌, subst, Ok}
 use Rattle.std.specs.Arc.{arc_value}
-use Rattle.pz_game.specs.Instance.{IsProgramOf}
+use Rattle.pz_program.specs.Instance.{IsProgramOf}
 use Rattle.pz_rules.specs.Drafts.{program_of}
 use Rattle.pz_job.proofs.SameRules.{same_program}
 use Rattle.pz_job.proofs.programs.Expanded.program_for.Goals as goal

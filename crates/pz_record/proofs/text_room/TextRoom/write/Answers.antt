@@ -1,6 +1,6 @@
 use Rattle.std.proofs.Common.{[], refl, arith, map, take}
 use Rattle.pz_record.specs.Labels.{text_at}
-use Rattle.pz_record.specs.LevelText.{text_of_cells}
+use Rattle.pz_record.specs.CellTexts.{text_of_cells}
 use Rattle.pz_record.proofs.Quoting.{room_says}
 use Rattle.pz_record.proofs.text_room.TextRoom.write.Goals as goal
 

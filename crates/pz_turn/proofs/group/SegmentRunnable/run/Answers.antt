@@ -1,5 +1,5 @@
 use Rattle.std.proofs.Common.{Ok, ap, sym, subst, ◌∙◌}
-use Rattle.pz_game.specs.Instance.{IsGroupOf}
+use Rattle.pz_program.specs.Instance.{IsGroupOf}
 use Rattle.pz_turn.specs.declared.outcome.Given.{Given}
 use Rattle.pz_turn.proofs.Unchanged.{pass_given_leaves}
 use Rattle.pz_turn.proofs.group.SegmentRunnable.run.Goals as goal

@@ -1,5 +1,5 @@
 use Rattle.std.proofs.Common.{subst}
-use Rattle.pz_game.specs.Instance.{IsBlockOf}
+use Rattle.pz_program.specs.Instance.{IsBlockOf}
 use Rattle.pz_turn.proofs.step.BlockRunnable.run.Goals as goal
 
 pub rest_group-requires : goal.rest_group-requires

@@ -1,0 +1,2 @@
+pub mod FirstLevel
+pub mod WorkedLevels

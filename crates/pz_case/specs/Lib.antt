@@ -1,0 +1,4 @@
+pub mod FirstLevel
+pub mod Rulebook
+pub mod Plan
+pub mod Playing

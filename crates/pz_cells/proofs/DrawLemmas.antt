@@ -1,0 +1,57 @@
+-- Cells that are drawn and filled.
+use Rattle.std.proofs.Common.{◌≡◌, ℕ, ◌+◌, ◌<◌, List, [], ◌∷◌, ◌++◌, map, take, Option, Some, None, Bool, true, false, set, length, get_or, ap, sym, ◌∙◌, subst}
+use Rattle.std.specs.Prelude.{unwrap_or}
+use Rattle.std.specs.List.{All}
+use Rattle.std.proofs.lemmas.List.{length-replicate, get_or-replicate, map-append, map_more}
+use Rattle.std.proofs.lemmas.List.Elements.{All-append, All-cons, All-nil}
+use Rattle.pz_sets.specs.Sets.{member}
+use Rattle.pz_game.specs.Headings.{heads, flag}
+use Rattle.pz_cells.specs.declared.cell.Cell.{Cell}
+use Rattle.pz_cells.specs.declared.piece.Piece.{Piece}
+use Rattle.pz_cells.specs.Cell.{empty_cell}
+use Rattle.pz_cells.specs.Shown.{place_of, cell_of, Shows, AreLawful, Changes}
+use Rattle.pz_cells.proofs.HoldLemmas.{place_seen}
+use Rattle.pz_cells.proofs.ShowLemmas.{lawful_from_shows, cell_from_shows}
+use Rattle.pz_cells.proofs.PlaceLemmas.{cell_changed}
+use Rattle.pz_cells.specs.Drawing.{filled_cell}
+use Rattle.pz_cells.specs.Lists.{seen, IsSound}
+
+-- words without a number
+pub record AreEmpty (objects movement : List ℕ) : Type 0 where
+  pub objects_none : (object : ℕ) → member objects object ≡ false
+  pub movement_none : (number : ℕ) → member movement number ≡ false
+
+never : {X : Type 0} (has : ℕ → Bool) (object : ℕ) → has object ≡ false → has object ≡ true → X
+never has object none here = absurd (let e : false ≡ true = sym none ∙ here in cc)
+
+empty_shows : (layers objects movement : List ℕ) (layer : ℕ) → AreEmpty objects movement → Shows layers (member objects) (heads movement layer) layer None
+empty_shows layers objects movement layer e = (λ object here on. never (member objects) object (e.objects_none object) here, λ dir. e.movement_none (flag layer dir))
+
+pub lawful_empty : (layers objects movement : List ℕ) → AreEmpty objects movement → AreLawful layers objects movement
+lawful_empty layers objects movement e =
+    lawful_from_shows layers objects movement (λ layer. None) (λ object here. never (member objects) object (e.objects_none object) here) (λ layer. empty_shows layers objects movement layer e) (λ number high. e.movement_none number)
+
+pub cell_empty : (depth : ℕ) (layers objects movement : List ℕ) → AreEmpty objects movement → cell_of depth layers objects movement ≡ empty_cell depth
+cell_empty depth layers objects movement e =
+    let none : Option Piece = None in
+    cell_from_shows depth layers objects movement (empty_cell depth) (length-replicate depth none) (λ object here. never (member objects) object (e.objects_none object) here)
+    (λ layer low. subst (Shows layers (member objects) (heads movement layer) layer) (sym (get_or-replicate depth layer none none low)) (empty_shows layers objects movement layer e))
+
+-- a layer is filled where nothing stands
+pub cell_filled : (depth : ℕ) (layers objects movement objects_new movement_new : List ℕ) (layer : ℕ) (piece : Piece) → layer < depth → AreLawful layers objects movement → Changes layers objects movement objects_new movement_new layer (Some (unwrap_or (place_of layers objects movement layer) piece)) → cell_of depth layers objects_new movement_new ≡ filled_cell layer piece (cell_of depth layers objects movement)
+cell_filled depth layers objects movement objects_new movement_new layer piece low lawful change =
+    cell_changed depth layers objects movement objects_new movement_new layer (Some (unwrap_or (place_of layers objects movement layer) piece)) lawful change
+    ∙ ap (λ (p : Option Piece). set (cell_of depth layers objects movement) layer (Some (unwrap_or p piece))) (sym (place_seen depth layers objects movement layer low))
+
+-- one more cell of a glyph
+pub record AreGlyphs (N depth : ℕ) (layers : List ℕ) (f : ℕ → List (Option Piece)) (numbers : List ℕ) (cells : List (Cell N)) : Type 0 where
+  pub sound : All (IsSound N layers) cells
+  pub cells_are : map (seen N depth layers) cells ≡ map f numbers
+
+pub glyphs_more : (N depth : ℕ) (layers : List ℕ) (f : ℕ → List (Option Piece)) (numbers : List ℕ) (index d : ℕ) (cells now : List (Cell N)) (cell : Cell N) → index < length numbers → AreGlyphs N depth layers f (take index numbers) cells → IsSound N layers cell → seen N depth layers cell ≡ f (get_or numbers index d) → now ≡ cells ++ cell ∷ [] → AreGlyphs N depth layers f (take (index + 1) numbers) now
+glyphs_more N depth layers f numbers index d cells now cell within are sound e is = record {
+  sound = subst (All (IsSound N layers)) (sym is) (All-append (IsSound N layers) cells (cell ∷ []) are.sound (All-cons (IsSound N layers) cell [] sound (All-nil (IsSound N layers))));
+  cells_are = ap (map (seen N depth layers)) is ∙ (map-append (seen N depth layers) cells (cell ∷ [])
+      ∙ (ap (λ (ys : List (List (Option Piece))). ys ++ seen N depth layers cell ∷ []) are.cells_are
+      ∙ (ap (λ (y : List (Option Piece)). map f (take index numbers) ++ y ∷ []) e ∙ sym (map_more f numbers index d within))));
+}

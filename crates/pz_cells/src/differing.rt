@@ -1,0 +1,76 @@
+//! The next cell in which two lists of cells differ, and whether there is one.
+
+ghost use Rattle.std.specs.Prelude.{◌≡◌, ◌≤◌, ◌↔◌, IsTrue, ℕ, true, length};
+ghost use Rattle.pz_cells.specs.Differing.{IsNextDiffering};
+ghost use Rattle.pz_cells.specs.Lists.{HaveSame, HeadNowhere};
+
+use crate::cell::Cell;
+use pz_sets::words::same;
+
+/// The number of the first cell from one on in which two lists differ. Where no cell of either heads anywhere, the objects alone are looked at.
+pub fn next_differing<const N: usize>(
+    cells: &[Cell<N>],
+    others: &[Cell<N>],
+    are_still: bool,
+    from: usize,
+) -> Option<usize>
+    requires short { N ≤ 4 }
+    requires long { length cells.now ≡ length others.now }
+    requires still { are_still ≡ true → HeadNowhere N cells.now }
+    requires others_still { are_still ≡ true → HeadNowhere N others.now }
+    ensures { IsNextDiffering N cells.now others.now from result }
+{
+    if are_still {
+        next_of_objects(cells, others, from)
+    } else {
+        next_of_cells(cells, others, from)
+    }
+}
+
+/// The same of cells that head nowhere.
+fn next_of_objects<const N: usize>(
+    cells: &[Cell<N>],
+    others: &[Cell<N>],
+    from: usize,
+) -> Option<usize>
+    requires short { N ≤ 4 }
+    requires long { length cells.now ≡ length others.now }
+    requires still { HeadNowhere N cells.now }
+    requires others_still { HeadNowhere N others.now }
+    ensures { IsNextDiffering N cells.now others.now from result }
+{
+    for index in from..cells.len() {
+        if !same(&cells[index].objects, &others[index].objects) {
+            return Some(index);
+        }
+    }
+    None
+}
+
+/// The same of all cells.
+fn next_of_cells<const N: usize>(
+    cells: &[Cell<N>],
+    others: &[Cell<N>],
+    from: usize,
+) -> Option<usize>
+    requires short { N ≤ 4 }
+    requires long { length cells.now ≡ length others.now }
+    ensures { IsNextDiffering N cells.now others.now from result }
+{
+    for index in from..cells.len() {
+        if !cells[index].same(&others[index]) {
+            return Some(index);
+        }
+    }
+    None
+}
+
+/// Whether the words of the cells have the same numbers. Where no cell of either heads anywhere, the objects alone are looked at.
+pub fn same_cells<const N: usize>(a: &[Cell<N>], b: &[Cell<N>], are_still: bool) -> bool
+    requires short { N ≤ 4 }
+    requires still { are_still ≡ true → HeadNowhere N a.now }
+    requires others_still { are_still ≡ true → HeadNowhere N b.now }
+    ensures { IsTrue result ↔ HaveSame N a.now b.now }
+{
+    a.len() == b.len() && next_differing(a, b, are_still, 0).is_none()
+}

@@ -1,0 +1,212 @@
+-- The texts of a level's cells, where one cell has changed since it was seen.
+use Rattle.std.proofs.Common.{◌≡◌, ◌≢◌, ℕ, ◌+◌, ◌*◌, ◌/◌, ◌%◌, ◌<◌, ◌≤◌, List, [], ◌∷◌, Option, None, Bool, true, false, not, ◌&&◌, cond, length, take, map, set, get_or, All, refl, ap, ap₂, sym, ◌∙◌, arith, inl, inr, is_some, get_or-set_same, get_or-set_other}
+use Rattle.std.specs.Prelude.{nat_lt}
+use Rattle.std.proofs.lemmas.Bool.{cases_eq, cases_lt}
+use Rattle.std.proofs.lemmas.List.{length-take, get_or-take, length-set, ext_get_or}
+use Rattle.std.proofs.lemmas.List.Elements.{All-head, All-tail}
+use Rattle.std.proofs.Math.Nat.{div-lt_iff_lt-mul}
+use Rattle.std.proofs.lemmas.Nat.{div-add-mod', div-mul-add, mod-mul-add}
+use Rattle.pz_cells.specs.declared.piece.Piece.{Piece}
+use Rattle.pz_cells.specs.Sameness.{same_cell}
+use Rattle.pz_cells.specs.Standing.{standing}
+use Rattle.pz_cells.proofs.SameLemmas.{same_cell_is}
+use Rattle.pz_game.specs.declared.game.GameParts.{GameParts}
+use Rattle.pz_sets.specs.Sets.{member}
+use Rattle.pz_sheet.specs.Changes.{with_cell, cell_there, differ_in}
+use Rattle.pz_sheet.specs.Grid.{Grid, IsLawful, SameSize, cell_at}
+use Rattle.pz_sheet.specs.Presence.{cell_of}
+use Rattle.pz_sheet.specs.Standing.{stands}
+use Rattle.pz_record.specs.declared.order.Order.{Order}
+use Rattle.pz_record.specs.declared.order.Order.TheVariants.{Rows, Columns}
+use Rattle.pz_record.specs.CellNames.{set_of}
+use Rattle.pz_level_text.specs.LevelNames.{standing_names}
+use Rattle.pz_record.specs.CellTexts.{joined}
+use Rattle.pz_record.specs.Labels.{text_at}
+use Rattle.pz_level_text.specs.Labels.{set_text, texts_in}
+use Rattle.pz_level_text.specs.CellOrder.{column_of, row_of, number_of}
+use Rattle.pz_level_text.proofs.Labelling.{chosen_same}
+use Rattle.pz_level_text.proofs.Ordered.{text_at_number, length-texts_in}
+use Rattle.pz_level_text.proofs.Walking.{on_map}
+
+-- ---- labels among more texts
+text_still : (texts more : List (List ℕ)) (label : ℕ) → take (length texts) more ≡ texts → label < length texts → (label < length more) × (text_at more label ≡ text_at texts label)
+text_still texts more label e h =
+    let at : get_or (take (length texts) more) label [] ≡ get_or more label [] = get_or-take (length texts) more label [] h in
+    let long : length (take (length texts) more) ≡ length texts = ap length e in
+    (omega (arith, h, long, length-take (length texts) more), sym at ∙ ap (λ (l : List (List ℕ)). get_or l label []) e)
+
+abbrev Known : List (List ℕ) → ℕ → Type 0
+Known texts label = label < length texts
+
+pub labels_still : (texts more : List (List ℕ)) (labels : List ℕ) → All (Known texts) labels → take (length texts) more ≡ texts → map (text_at more) labels ≡ map (text_at texts) labels
+labels_still texts more [] all e = refl
+labels_still texts more (label ∷ labels) all e =
+    ap₂ (λ x xs. x ∷ xs) (text_still texts more label e (All-head (Known texts) label labels all)).1 (labels_still texts more labels (All-tail (Known texts) label labels all) e)
+
+pub known_still : (texts more : List (List ℕ)) (labels : List ℕ) → All (Known texts) labels → take (length texts) more ≡ texts → All (Known more) labels
+known_still texts more labels all e = λ k other h. (text_still texts more (get_or labels k other) e (all k other h)).0
+
+-- the text of the objects that stand at a position
+pub set_standing : (names : List (List ℕ)) (grid : Grid) (x y : ℕ) (objects : List ℕ) → ((object : ℕ) → member objects object ≡ stands grid x y object) → set_text names objects ≡ joined (set_of (standing_names names grid (x, y)))
+unfolding standing_names
+set_standing names grid x y objects same = ap (λ (l : List (List ℕ)). joined (set_of l)) (chosen_same (member objects) (stands grid x y) same 0 names)
+
+-- ---- numbers and positions
+pub number_back : (order : Order) (grid : Grid) (k : ℕ) → number_of order grid (column_of order grid k) (row_of order grid k) ≡ k
+number_back Rows grid k = omega (arith, div-add-mod' k grid.width)
+number_back Columns grid k = omega (arith, div-add-mod' k grid.height)
+
+pub position_back : (order : Order) (grid : Grid) (x y : ℕ) → x < grid.width → y < grid.height → (column_of order grid (number_of order grid x y) ≡ x) × (row_of order grid (number_of order grid x y) ≡ y)
+position_back Rows grid x y wide high = (mod-mul-add y grid.width x wide, div-mul-add y grid.width x wide)
+position_back Columns grid x y wide high = (div-mul-add x grid.height y high, mod-mul-add x grid.height y high)
+
+pub number_within : (order : Order) (grid : Grid) (x y : ℕ) → x < grid.width → y < grid.height → number_of order grid x y < grid.width * grid.height
+number_within Rows grid x y wide high =
+    let some : 0 < grid.width = omega (arith, wide) in
+    let line : (y * grid.width + x) / grid.width < grid.height = omega (arith, div-mul-add y grid.width x wide, high) in
+    let all : y * grid.width + x < grid.height * grid.width = (div-lt_iff_lt-mul some).0 line in
+    omega (arith, all)
+number_within Columns grid x y wide high =
+    let some : 0 < grid.height = omega (arith, high) in
+    let line : (x * grid.height + y) / grid.height < grid.width = omega (arith, div-mul-add x grid.height y high, wide) in
+    let all : x * grid.height + y < grid.width * grid.height = (div-lt_iff_lt-mul some).0 line in
+    omega (arith, all)
+
+-- a position of the map, as it is read off a number that is counted row by row
+pub record IsRead (grid : Grid) (index x y : ℕ) : Type 0 where
+  pub wide : x < grid.width
+  pub high : y < grid.height
+  pub number : y * grid.width + x ≡ index
+
+pub read_at : (grid : Grid) (index x y : ℕ) → IsLawful grid → index < grid.width * grid.height → x ≡ column_of Rows grid index → y ≡ row_of Rows grid index → IsRead grid index x y
+read_at grid index x y lawful within column row =
+    let on = on_map Rows grid index x y within lawful.size.some_width lawful.size.some_height (record { column = column; row = row }) in
+    record {
+      wide = on.0;
+      high = on.1;
+      number = ap₂ (λ (b a : ℕ). b * grid.width + a) row column ∙ number_back Rows grid index;
+    }
+
+-- positions are a matter of the size alone
+same_column : (order : Order) (grid : Grid) (cells : List (List (Option Piece))) (k : ℕ) → column_of order (record grid { cells = cells }) k ≡ column_of order grid k
+same_column Rows grid cells k = refl
+same_column Columns grid cells k = refl
+
+same_row : (order : Order) (grid : Grid) (cells : List (List (Option Piece))) (k : ℕ) → row_of order (record grid { cells = cells }) k ≡ row_of order grid k
+same_row Rows grid cells k = refl
+same_row Columns grid cells k = refl
+
+-- ---- the names of a cell
+stands_alike : (a b : Grid) (x y : ℕ) → a.width ≡ b.width → a.height ≡ b.height → cell_at a x y ≡ cell_at b x y → (object : ℕ) → stands a x y object ≡ stands b x y object
+stands_alike a b x y width height cell object = λ i. is_some (cond (nat_lt x (width i) && nat_lt y (height i)) (standing (cell i) object) None)
+
+names_alike : (names : List (List ℕ)) (a b : Grid) (x y : ℕ) → a.width ≡ b.width → a.height ≡ b.height → cell_at a x y ≡ cell_at b x y → standing_names names a (x, y) ≡ standing_names names b (x, y)
+unfolding standing_names
+names_alike names a b x y width height cell = chosen_same (stands a x y) (stands b x y) (stands_alike a b x y width height cell) 0 names
+
+-- a cell of a number, counted row by row, that is put in
+module _ (game : GameParts) (order : Order) (grid level : Grid) (index x y : ℕ) (size : SameSize grid level) (wide : x < grid.width) (high : y < grid.height) (number : y * grid.width + x ≡ index) (within : index < length grid.cells) where
+  abbrev text_of : Grid → ℕ × ℕ → List ℕ
+  text_of there position = joined (set_of (standing_names game.objects there position))
+
+  -- there stands what is put in
+  put_in : text_of level (x, y) ≡ text_of (with_cell grid (cell_there level index)) (x, y)
+  put_in =
+      let there : level.width ≡ grid.width = size.width in
+      let at : y * level.width + x ≡ index = ap (λ (w : ℕ). y * w + x) there ∙ number in
+      let cell : cell_at level x y ≡ cell_at (with_cell grid (cell_there level index)) x y =
+      ap (λ (j : ℕ). get_or level.cells j []) at
+      ∙ (sym (get_or-set_same grid.cells index (cell_of level index) [] within)
+      ∙ ap (λ (j : ℕ). get_or (set grid.cells index (cell_of level index)) j []) (sym number)) in
+      ap (λ (l : List (List ℕ)). joined (set_of l)) (names_alike game.objects level (with_cell grid (cell_there level index)) x y there size.height cell)
+
+  -- and elsewhere what stood there
+  elsewhere : (xk yk : ℕ) → yk * grid.width + xk ≢ index → text_of grid (xk, yk) ≡ text_of (with_cell grid (cell_there level index)) (xk, yk)
+  elsewhere xk yk apart =
+      let cell : cell_at grid xk yk ≡ cell_at (with_cell grid (cell_there level index)) xk yk = sym (get_or-set_other grid.cells index (yk * grid.width + xk) (cell_of level index) [] apart) in
+      ap (λ (l : List (List ℕ)). joined (set_of l)) (names_alike game.objects grid (with_cell grid (cell_there level index)) xk yk refl refl cell)
+
+  -- a number other than that of the position is of another cell
+  other_cell : (k : ℕ) → k < grid.width * grid.height → k ≢ number_of order grid x y → row_of order grid k * grid.width + column_of order grid k ≢ index
+  other_cell k inside apart here =
+      let some_width : 0 < grid.width = omega (arith, wide) in
+      let some_height : 0 < grid.height = omega (arith, high) in
+      let on = on_map order grid k (column_of order grid k) (row_of order grid k) inside some_width some_height (record { column = refl; row = refl }) in
+      let same : row_of order grid k * grid.width + column_of order grid k ≡ y * grid.width + x = here ∙ sym number in
+      let column : column_of order grid k ≡ x = sym (mod-mul-add (row_of order grid k) grid.width (column_of order grid k) on.0) ∙ (ap (λ (n : ℕ). n % grid.width) same ∙ mod-mul-add y grid.width x wide) in
+      let row : row_of order grid k ≡ y = sym (div-mul-add (row_of order grid k) grid.width (column_of order grid k) on.0) ∙ (ap (λ (n : ℕ). n / grid.width) same ∙ div-mul-add y grid.width x wide) in
+      apart (sym (number_back order grid k) ∙ ap₂ (number_of order grid) column row)
+
+  changed_texts : set (texts_in game order grid) (number_of order grid x y) (joined (set_of (standing_names game.objects level (x, y)))) ≡ texts_in game order (with_cell grid (cell_there level index))
+  changed_texts =
+      let after : Grid = with_cell grid (cell_there level index) in
+      let n = number_of order grid x y in
+      let text = joined (set_of (standing_names game.objects level (x, y))) in
+      let old = texts_in game order grid in
+      let long : length (set old n text) ≡ grid.width * grid.height = length-set old n text ∙ length-texts_in game order grid in
+      ext_get_or [] (set old n text) (texts_in game order after) (long ∙ sym (length-texts_in game order after)) (λ k h.
+      let inside : k < grid.width * grid.height = omega (arith, h, long) in
+      let xk = column_of order grid k in
+      let yk = row_of order grid k in
+      let there : get_or (texts_in game order after) k [] ≡ text_of after (xk, yk) = text_at_number game order after k xk yk inside (sym (same_column order grid after.cells k)) (sym (same_row order grid after.cells k)) in
+      elim (cases_eq k n) [
+        | inl same ↦ (let back = position_back order grid x y wide high in
+            let column : x ≡ xk = sym back.0 ∙ ap (column_of order grid) (sym same) in
+            let row : y ≡ yk = sym back.1 ∙ ap (row_of order grid) (sym same) in
+            ap (λ (j : ℕ). get_or (set old n text) j []) same
+            ∙ (get_or-set_same old n text [] (omega (arith, length-texts_in game order grid, number_within order grid x y wide high))
+            ∙ (put_in ∙ (ap₂ (λ (a b : ℕ). text_of after (a, b)) column row ∙ sym there))))
+        | inr apart ↦ get_or-set_other old n k text [] apart ∙ (text_at_number game order grid k xk yk inside refl refl ∙ (elsewhere xk yk (other_cell k inside apart) ∙ sym there))
+      ])
+
+-- ---- one cell looked at
+read_seen : (grid level : Grid) (index x y : ℕ) → SameSize grid level → IsRead level index x y → IsRead grid index x y
+read_seen grid level index x y size read = record {
+  wide = omega (arith, read.wide, size.width);
+  high = omega (arith, read.high, size.height);
+  number = ap (λ (w : ℕ). y * w + x) (sym size.width) ∙ read.number;
+}
+
+same_number : (order : Order) (grid level : Grid) (x y : ℕ) → SameSize grid level → number_of order level x y ≡ number_of order grid x y
+same_number Rows grid level x y size = ap (λ (w : ℕ). y * w + x) size.width
+same_number Columns grid level x y size = ap (λ (h : ℕ). x * h + y) size.height
+
+pub look_within : (game : GameParts) (order : Order) (grid level : Grid) (index x y : ℕ) → SameSize grid level → IsRead level index x y → number_of order level x y < length (texts_in game order grid)
+look_within game order grid level index x y size read =
+    let there = read_seen grid level index x y size read in
+    omega (arith, same_number order grid level x y size, number_within order grid x y there.wide there.high, length-texts_in game order grid)
+
+pub looked : (game : GameParts) (order : Order) (grid level : Grid) (index x y : ℕ) → SameSize grid level → index < length grid.cells → IsRead level index x y
+    → set (texts_in game order grid) (number_of order level x y) (joined (set_of (standing_names game.objects level (x, y)))) ≡ texts_in game order (with_cell grid (cell_there level index))
+looked game order grid level index x y size within read =
+    let there = read_seen grid level index x y size read in
+    ap (λ (n : ℕ). set (texts_in game order grid) n (joined (set_of (standing_names game.objects level (x, y))))) (same_number order grid level x y size)
+    ∙ changed_texts game order grid level index x y size there.wide there.high there.number within
+
+-- ---- all cells looked at
+not_false : (b : Bool) → not b ≡ false → b ≡ true
+not_false true e = refl
+not_false false e = cc
+
+pub as_many : (grid level : Grid) → SameSize grid level → IsLawful grid → IsLawful level → length grid.cells ≡ length level.cells
+as_many grid level size lawful lawful_level = lawful.covers ∙ (ap₂ (λ (w h : ℕ). w * h) (sym size.width) (sym size.height) ∙ sym lawful_level.covers)
+
+pub all_seen : (grid level : Grid) (from : ℕ) → SameSize grid level → IsLawful grid → IsLawful level → ((k : ℕ) → k < from → cell_of grid k ≡ cell_of level k) → ((k : ℕ) → from ≤ k → k < length grid.cells → differ_in grid level k ≡ false) → grid ≡ level
+all_seen grid level from size lawful lawful_level front rest =
+    let long = as_many grid level size lawful lawful_level in
+    let cells : grid.cells ≡ level.cells = ext_get_or [] grid.cells level.cells long (λ k h. elim (cases_lt k from) [
+      | inl before ↦ front k before
+      | inr past ↦ same_cell_is (cell_of grid k) (cell_of level k) (not_false (same_cell (cell_of grid k) (cell_of level k)) (rest k past h))
+    ]) in
+    λ i. record { width = sym size.width i; height = sym size.height i; depth = sym size.depth i; layers = sym size.layers i; cells = cells i }
+
+-- one more cell is as it was seen
+pub front_more : (grid level : Grid) (from index : ℕ) → length grid.cells ≡ length level.cells → index < length grid.cells → ((k : ℕ) → k < from → cell_of grid k ≡ cell_of level k) → ((k : ℕ) → from ≤ k → k < index → differ_in grid level k ≡ false)
+    → (k : ℕ) → k < index + 1 → cell_of (with_cell grid (cell_there level index)) k ≡ cell_of level k
+front_more grid level from index long within front rest k h = elim (cases_eq k index) [
+  | inl same ↦ ap (λ (j : ℕ). get_or (set grid.cells index (cell_of level index)) j []) same ∙ (get_or-set_same grid.cells index (cell_of level index) [] within ∙ ap (λ (j : ℕ). get_or level.cells j []) (sym same))
+  | inr apart ↦ get_or-set_other grid.cells index k (cell_of level index) [] apart ∙ elim (cases_lt k from) [
+    | inl before ↦ front k before
+    | inr past ↦ same_cell_is (cell_of grid k) (cell_of level k) (not_false (same_cell (cell_of grid k) (cell_of level k)) (rest k past (omega (arith, h, apart))))
+  ]
+]

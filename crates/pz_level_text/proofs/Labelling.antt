@@ -1,0 +1,17 @@
+-- The labels of sets of objects.
+use Rattle.std.proofs.Common.{◌≡◌, ℕ, suc, Bool, List, [], ◌∷◌, length, take, get_or, refl, ap, sym, ◌∙◌, arith}
+use Rattle.std.proofs.lemmas.List.{get_or-take, length-take}
+use Rattle.pz_level_text.specs.LevelNames.{chosen_from}
+use Rattle.pz_level_text.specs.Labels.{IsLabelOf}
+
+-- tests that agree choose the same names
+pub chosen_same : (f g : ℕ → Bool) → ((n : ℕ) → f n ≡ g n) → (k : ℕ) (names : List (List ℕ)) → chosen_from f k names ≡ chosen_from g k names
+chosen_same f g e k [] = refl
+chosen_same f g e k (name ∷ names) = rw (e k, chosen_same f g e (suc k) names) refl
+
+-- a label stays a label among more texts
+pub label_kept : (names texts more : List (List ℕ)) (objects : List ℕ) (label : ℕ) → take (length texts) more ≡ texts → IsLabelOf names texts objects label → IsLabelOf names more objects label
+label_kept names texts more objects label e is =
+    let at : get_or (take (length texts) more) label [] ≡ get_or more label [] = get_or-take (length texts) more label [] is.0 in
+    let long : length (take (length texts) more) ≡ length texts = ap length e in
+    (omega (arith, is.0, long, length-take (length texts) more), sym at ∙ ap (λ l. get_or l label []) e ∙ is.1)

@@ -1,0 +1,42 @@
+use Rattle.std.proofs.Common.{◌≡◌, length, slice_set, arith, ap, sym, ◌∙◌}
+use Rattle.pz_record.specs.declared.order.Order.{Order}
+use Rattle.pz_level_text.specs.Labels.{WriterView, texts_in}
+use Rattle.pz_level_text.specs.CellOrder.{number_of}
+use Rattle.pz_level_text.proofs.Changing.{read_at, look_within, looked}
+use Rattle.pz_level_text.proofs.cell_labels.CellLabels.look.Goals as goal
+
+pub number_at-number-requires-clause-x_in : goal.number_at-number-requires-clause-x_in
+number_at-number-requires-clause-x_in c = (read_at c.args.level.now.grid c.args.index c.position-x.result.0 c.position-x.result.1 c.width.ensures.lawful c.requires.on_map c.position-x.ensures.column c.position-x.ensures.row).wide
+
+pub number_at-number-requires-clause-y_in : goal.number_at-number-requires-clause-y_in
+number_at-number-requires-clause-y_in c = (read_at c.args.level.now.grid c.args.index c.position-x.result.0 c.position-x.result.1 c.width.ensures.lawful c.requires.on_map c.position-x.ensures.column c.position-x.ensures.row).high
+
+pub put-requires-clause-within : goal.put-requires-clause-within
+put-requires-clause-within c =
+    let game = c.args.self.now.table.game in
+    let order = c.args.self.now.order in
+    let level = c.args.level.now.grid in
+    let seen = c.args.seen.now.grid in
+    let x = c.position-x.result.0 in
+    let y = c.position-x.result.1 in
+    let read = read_at c.args.level.now.grid c.args.index c.position-x.result.0 c.position-x.result.1 c.width.ensures.lawful c.requires.on_map c.position-x.ensures.column c.position-x.ensures.row in
+    let kept : c.self.inside.order ≡ order = ap (λ (s : WriterView). s.order) c.self.view_is ∙ c.label_at.ensures.order in
+    let number : c.number_at-number.result ≡ number_of order level x y = c.number_at-number.ensures ∙ ap (λ (o : Order). number_of o level x y) kept in
+    let before : c.label_at.new.self.cells ≡ texts_in game order seen = c.label_at.ensures.cells ∙ c.requires.known in
+    omega (arith, number, look_within game order seen level c.args.index x y c.requires.size read, ap length before)
+
+pub returns-clause-known : goal.returns-clause-known
+returns-clause-known c =
+    let game = c.args.self.now.table.game in
+    let order = c.args.self.now.order in
+    let level = c.args.level.now.grid in
+    let seen = c.args.seen.now.grid in
+    let x = c.position-x.result.0 in
+    let y = c.position-x.result.1 in
+    let read = read_at c.args.level.now.grid c.args.index c.position-x.result.0 c.position-x.result.1 c.width.ensures.lawful c.requires.on_map c.position-x.ensures.column c.position-x.ensures.row in
+    let kept : c.self.inside.order ≡ order = ap (λ (s : WriterView). s.order) c.self.view_is ∙ c.label_at.ensures.order in
+    let number : c.number_at-number.result ≡ number_of order level x y = c.number_at-number.ensures ∙ ap (λ (o : Order). number_of o level x y) kept in
+    let before : c.label_at.new.self.cells ≡ texts_in game order seen = c.label_at.ensures.cells ∙ c.requires.known in
+    c.put.ensures.cells
+    ∙ ((λ i. slice_set (before i) (number i) (c.in_ok-label.ensures.text i))
+    ∙ (looked game order seen level c.args.index x y c.requires.size c.requires.within read ∙ ap (texts_in game order) (sym c.take_cell.ensures)))

@@ -1,0 +1,18 @@
+use Rattle.std.proofs.Common.{◌≡◌, ◌<◌, ◌*◌, ◌-◌, ℕ}
+use Rattle.pz_sheet.specs.Grid.{SameSize}
+use Rattle.pz_sheet.specs.Presence.{cell_of}
+use Rattle.pz_level_text.specs.Labels.{texts_in}
+use Rattle.pz_level_text.proofs.cell_labels.CellLabels.look_at_changes.Given as goal
+
+abbrev pub invariant-changes : goal.invariant-changes
+invariant-changes l = record {
+  size : SameSize l.seen.grid l.level.grid;
+  known : l.self.cells ≡ texts_in l.fn.self.table.game l.fn.self.order l.seen.grid;
+  front : (k : ℕ) → k < l.from → cell_of l.seen.grid k ≡ cell_of l.level.grid k;
+  same : l.from ≡ 0 → l.self.cells ≡ l.fn.self.cells;
+  game : l.self.table.game ≡ l.fn.self.table.game;
+  order : l.self.order ≡ l.fn.self.order;
+}
+
+abbrev pub decreases-changes : goal.decreases-changes
+decreases-changes l = l.level.grid.width * l.level.grid.height - l.from

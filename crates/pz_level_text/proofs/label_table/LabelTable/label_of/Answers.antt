@@ -1,0 +1,17 @@
+use Rattle.std.proofs.Common.{◌≡◌, ℕ, List, ap, sym, ◌∙◌}
+use Rattle.pz_sets.specs.Sets.{member}
+use Rattle.pz_sheet.specs.Standing.{stands}
+use Rattle.pz_record.specs.CellNames.{set_of}
+use Rattle.pz_level_text.specs.LevelNames.{chosen_from, standing_names}
+use Rattle.pz_record.specs.CellTexts.{joined}
+use Rattle.pz_level_text.proofs.Labelling.{chosen_same}
+use Rattle.pz_level_text.proofs.label_table.LabelTable.label_of.Goals as goal
+
+pub returns-clause-label : goal.returns-clause-label
+unfolding standing_names
+returns-clause-label c =
+    let names = c.self.inside.game.now.objects in
+    let grid = c.args.level.now.grid in
+    let text : List (List ℕ) → List ℕ = λ ns. joined (set_of (chosen_from (stands grid c.args.x c.args.y) 0 ns)) in
+    let same : chosen_from (stands grid c.args.x c.args.y) 0 names ≡ chosen_from (member c.args.objects) 0 names = chosen_same (stands grid c.args.x c.args.y) (member c.args.objects) (λ object. sym (c.requires object)) 0 names in
+    (c.in_ok-label.ensures.label.0, c.in_ok-label.ensures.label.1 ∙ c.in_ok-text.ensures ∙ ap text c.objects.ensures.objects ∙ ap (λ l. joined (set_of l)) same)

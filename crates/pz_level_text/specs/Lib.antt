@@ -1,0 +1,5 @@
+pub mod CellOrder
+pub mod LevelNames
+pub mod LevelText
+pub mod Equality
+pub mod Labels

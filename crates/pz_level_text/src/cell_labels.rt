@@ -1,0 +1,185 @@
+//! The labels of the cells of a level, in the order of its text.
+
+ghost use Rattle.std.specs.Prelude.{◌≡◌, ◌*◌, ◌<◌, ◌++◌, ◌∷◌, [], length, map, slice_set, false, All, IfOk, OnOk};
+ghost use Rattle.pz_sheet.specs.Changes.{with_cell, cell_there};
+ghost use Rattle.pz_sheet.specs.Grid.{SameSize};
+ghost use Rattle.pz_record.specs.CellNames.{set_of};
+ghost use Rattle.pz_record.specs.Labels.{text_at};
+ghost use Rattle.pz_level_text.specs.Labels.{texts_in};
+ghost use Rattle.pz_level_text.specs.LevelNames.{standing_names};
+ghost use Rattle.pz_record.specs.CellTexts.{joined};
+
+use crate::cell_order::{number_at, position};
+use crate::label_table::LabelTable;
+use pz_game::game::Game;
+use pz_grid::{Level, SeenLevel};
+use pz_record::labels::KnownTexts;
+use pz_record::order::Order;
+use std::alloc::{AllocError, Global};
+use std::marker::Model;
+
+/// The labels of the cells of the last level in an order, and the texts of the sets that were met.
+pub(crate) struct CellLabels<'a> {
+    alloc: Global,
+    order: Order,
+    table: LabelTable<'a>,
+    labels: Vec<usize>,
+}
+
+/// Written out, so that each place where one goes out of scope is one call.
+impl Drop for CellLabels<'_> {
+    fn drop(self) {
+        let CellLabels {
+            alloc: _,
+            order: _,
+            table,
+            labels,
+        } = self;
+        drop(table);
+        drop(labels);
+    }
+}
+
+impl<'a> Model for CellLabels<'a> {
+    ghost use Rattle.std.specs.Prelude.{◌<◌, All, length, map};
+    ghost use Rattle.pz_record.specs.Labels.{text_at};
+    ghost use Rattle.pz_level_text.specs.Labels.{WriterView};
+
+    ghost Value = { WriterView };
+
+    ghost view = { λ c. record { table = c.table; order = c.order; cells = map (text_at c.table.texts) c.labels.items } };
+
+    ghost invariant = { λ c. All (λ label. label < length c.table.texts) c.labels.items };
+}
+
+impl<'a> CellLabels<'a> {
+    pub fn new(alloc: Global, game: &'a Game, order: Order) -> CellLabels<'a>
+        ensures { result ≡ record { table = record { game = game.now; texts = [] }; order = order; cells = [] } }
+    {
+        CellLabels {
+            alloc,
+            order,
+            table: LabelTable::new(alloc, game),
+            labels: Vec::new(alloc),
+        }
+    }
+
+    /// The texts by their labels.
+    pub fn texts(&self) -> &KnownTexts
+        ensures { result.now ≡ self.now.table.texts }
+    {
+        self.table.texts()
+    }
+
+    /// The labels, cell by cell.
+    pub fn labels(&self) -> &[usize]
+        ensures cells { map (text_at self.now.table.texts) result.now ≡ self.now.cells }
+        ensures known { All (λ label. label < length self.now.table.texts) result.now }
+    {
+        self.labels.as_slice()
+    }
+
+    /// The label of what stands at a position.
+    fn label_at(&mut self, level: &Level, x: u32, y: u32) -> Result<usize, AllocError>
+        ensures known { IfOk result (λ label. label < length self.new.table.texts) }
+        ensures text { IfOk result (λ label. text_at self.new.table.texts label ≡ joined (set_of (standing_names self.old.table.game.objects level.now.grid (x, y)))) }
+        ensures cells { self.new.cells ≡ self.old.cells }
+        ensures game { self.new.table.game ≡ self.old.table.game }
+        ensures order { self.new.order ≡ self.old.order }
+    {
+        let objects = level.objects_at(x, y);
+        let label = self.table.label_at(self.alloc, level, x, y, objects)?;
+        Ok(label)
+    }
+
+    /// Gives the cell of a number another label.
+    fn put(&mut self, number: usize, label: usize)
+        requires within { number < length self.old.cells }
+        requires known { label < length self.old.table.texts }
+        ensures cells { self.new.cells ≡ slice_set self.old.cells number (text_at self.old.table.texts label) }
+        ensures table { self.new.table ≡ self.old.table }
+        ensures order { self.new.order ≡ self.old.order }
+    {
+        self.labels[number] = label;
+    }
+
+    /// Gives one more cell a label.
+    fn push(&mut self, label: usize) -> Result<(), AllocError>
+        requires known { label < length self.old.table.texts }
+        ensures cells { OnOk result (self.new.cells ≡ self.old.cells ++ text_at self.old.table.texts label ∷ []) }
+        ensures table { self.new.table ≡ self.old.table }
+        ensures order { self.new.order ≡ self.old.order }
+    {
+        self.labels.push(label)?;
+        Ok(())
+    }
+
+    /// Forgets all cells.
+    fn clear(&mut self)
+        ensures cells { self.new.cells ≡ [] }
+        ensures table { self.new.table ≡ self.old.table }
+        ensures order { self.new.order ≡ self.old.order }
+    {
+        self.labels.clear();
+    }
+
+    /// Looks at each cell of a level.
+    pub fn look_at_all(&mut self, level: &Level) -> Result<(), AllocError>
+        ensures cells { OnOk result (self.new.cells ≡ texts_in self.old.table.game self.old.order level.now.grid) }
+        ensures game { self.new.table.game ≡ self.old.table.game }
+        ensures order { self.new.order ≡ self.old.order }
+    {
+        self.clear();
+        for number in 0..level.width() * level.height() {
+            let (x, y) = position(self.order, level, number);
+            let label = self.label_at(level, x, y)?;
+            self.push(label)?;
+        }
+        Ok(())
+    }
+
+    /// Looks at the cell of a number, counted row by row, where a level may have changed since it was seen.
+    fn look(&mut self, seen: &mut SeenLevel, level: &Level, index: usize) -> Result<(), AllocError>
+        requires size { SameSize seen.old.grid level.now.grid }
+        requires within { index < length seen.old.grid.cells }
+        requires on_map { index < level.now.grid.width * level.now.grid.height }
+        requires known { self.old.cells ≡ texts_in self.old.table.game self.old.order seen.old.grid }
+        ensures known { OnOk result (self.new.cells ≡ texts_in self.old.table.game self.old.order seen.new.grid) }
+        ensures seen { OnOk result (seen.new.grid ≡ with_cell seen.old.grid (cell_there level.now.grid index)) }
+        ensures game { self.new.table.game ≡ self.old.table.game }
+        ensures order { self.new.order ≡ self.old.order }
+    {
+        // (brings the proof the law of the level)
+        let _ = level.width();
+        let (x, y) = position(Order::Rows, level, index as u32);
+        let label = self.label_at(level, x, y)?;
+        let number = number_at(self.order, level, x, y);
+        self.put(number, label);
+        seen.take_cell(level, index);
+        Ok(())
+    }
+
+    /// Looks at each cell of a level that has changed since it was seen, and says whether one has.
+    pub fn look_at_changes(
+        &mut self,
+        seen: &mut SeenLevel,
+        level: &Level,
+    ) -> Result<bool, AllocError>
+        requires size { SameSize seen.old.grid level.now.grid }
+        requires known { self.old.cells ≡ texts_in self.old.table.game self.old.order seen.old.grid }
+        ensures cells { OnOk result (self.new.cells ≡ texts_in self.old.table.game self.old.order level.now.grid) }
+        ensures seen { OnOk result (seen.new.grid ≡ level.now.grid) }
+        ensures same { IfOk result (λ changed. changed ≡ false → self.new.cells ≡ self.old.cells) }
+        ensures game { self.new.table.game ≡ self.old.table.game }
+        ensures order { self.new.order ≡ self.old.order }
+    {
+        // (brings the proof the law of the level)
+        let _ = level.width();
+        let mut from = 0;
+        'changes: while let Some(index) = seen.next_change(level, from) {
+            self.look(seen, level, index)?;
+            from = index + 1;
+        }
+        Ok(from > 0)
+    }
+}

@@ -1,0 +1,154 @@
+//! The sets of objects of a game that were met, and the labels of their texts.
+
+ghost use Rattle.std.specs.Prelude.{◌≡◌, ℕ, [], length, take, IfOk, IfSome};
+ghost use Rattle.pz_sets.specs.Sets.{member};
+ghost use Rattle.pz_sheet.specs.Standing.{stands};
+ghost use Rattle.pz_level_text.specs.Labels.{IsLabelOf};
+
+use crate::labelled_set::LabelledSet;
+use crate::level_names::text_at;
+use pz_game::game::Game;
+use pz_grid::Level;
+use pz_record::labels::KnownTexts;
+use pz_sets::set::NumberSet;
+use std::alloc::{AllocError, Global};
+use std::collections::HashMap;
+use std::marker::Model;
+
+/// The texts of the sets of a game's objects that were met. Where a set stands among the known ones is a hint: it is looked at
+/// before it is believed.
+pub(crate) struct LabelTable<'a> {
+    game: &'a Game,
+    texts: KnownTexts,
+    known: Vec<LabelledSet>,
+    places: HashMap<NumberSet, usize>,
+}
+
+/// Written out, so that each place where one goes out of scope is one call.
+impl Drop for LabelTable<'_> {
+    fn drop(self) {
+        let LabelTable {
+            game: _,
+            texts,
+            known,
+            places,
+        } = self;
+        drop(texts);
+        drop(known);
+        drop(places);
+    }
+}
+
+impl<'a> Model for LabelTable<'a> {
+    ghost use Rattle.std.specs.Prelude.{All};
+    ghost use Rattle.pz_level_text.specs.Labels.{TableView, IsLabelOf};
+
+    ghost Value = { TableView };
+
+    ghost view = { λ t. record { game = t.game.now; texts = t.texts } };
+
+    ghost invariant = { λ t. All (λ k. IsLabelOf t.game.now.objects t.texts k.objects k.label) t.known.items };
+}
+
+impl<'a> LabelTable<'a> {
+    pub fn new(alloc: Global, game: &'a Game) -> LabelTable<'a>
+        ensures { result ≡ record { game = game.now; texts = [] } }
+    {
+        LabelTable {
+            game,
+            texts: KnownTexts::new(alloc),
+            known: Vec::new(alloc),
+            places: HashMap::new(alloc),
+        }
+    }
+
+    /// The texts by their labels.
+    pub fn texts(&self) -> &KnownTexts
+        ensures { result.now ≡ self.now.texts }
+    {
+        &self.texts
+    }
+
+    /// The label of a set that was met.
+    fn known(&self, objects: &NumberSet) -> Option<usize>
+        ensures { IfSome result (λ label. IsLabelOf self.now.game.objects self.now.texts objects.now label) }
+    {
+        let place = self.places.get(objects)?;
+        let known = self.known.get(*place)?;
+        if known.objects.same(objects) {
+            Some(known.label)
+        } else {
+            None
+        }
+    }
+
+    /// The label of the text of the set that stands at a position.
+    fn label_of(
+        &mut self,
+        alloc: Global,
+        level: &Level,
+        x: u32,
+        y: u32,
+        objects: NumberSet,
+    ) -> Result<usize, AllocError>
+        requires { (object : ℕ) → member objects object ≡ stands level.now.grid x y object }
+        ensures label { IfOk result (λ label. IsLabelOf self.new.game.objects self.new.texts objects label) }
+        ensures kept { take (length self.old.texts) self.new.texts ≡ self.old.texts }
+        ensures game { self.new.game ≡ self.old.game }
+    {
+        let _ = objects;
+        let text = text_at(alloc, self.game.objects(), level, x, y)?;
+        let label = self.texts.label_of(alloc, text)?;
+        Ok(label)
+    }
+
+    /// Notes the label of a set.
+    fn note(&mut self, objects: NumberSet, label: usize) -> Result<(), AllocError>
+        requires { IsLabelOf self.old.game.objects self.old.texts objects label }
+        ensures { self.new ≡ self.old }
+    {
+        let place = self.known.len();
+        self.known.push(LabelledSet { objects, label })?;
+        self.places.insert(objects, place)?;
+        Ok(())
+    }
+
+    /// The label of the set that stands at a position, which is met there.
+    fn learn(
+        &mut self,
+        alloc: Global,
+        level: &Level,
+        x: u32,
+        y: u32,
+        objects: NumberSet,
+    ) -> Result<usize, AllocError>
+        requires { (object : ℕ) → member objects object ≡ stands level.now.grid x y object }
+        ensures label { IfOk result (λ label. IsLabelOf self.new.game.objects self.new.texts objects label) }
+        ensures kept { take (length self.old.texts) self.new.texts ≡ self.old.texts }
+        ensures game { self.new.game ≡ self.old.game }
+    {
+        let label = self.label_of(alloc, level, x, y, objects)?;
+        self.note(objects, label)?;
+        Ok(label)
+    }
+
+    /// The label of the set that stands at a position.
+    pub fn label_at(
+        &mut self,
+        alloc: Global,
+        level: &Level,
+        x: u32,
+        y: u32,
+        objects: NumberSet,
+    ) -> Result<usize, AllocError>
+        requires { (object : ℕ) → member objects object ≡ stands level.now.grid x y object }
+        ensures label { IfOk result (λ label. IsLabelOf self.new.game.objects self.new.texts objects label) }
+        ensures kept { take (length self.old.texts) self.new.texts ≡ self.old.texts }
+        ensures game { self.new.game ≡ self.old.game }
+    {
+        match self.known(&objects) {
+            Some(label) => Ok(label),
+            None => self.learn(alloc, level, x, y, objects),
+        }
+    }
+}

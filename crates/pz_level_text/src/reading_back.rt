@@ -1,0 +1,31 @@
+//! The text of one level, which reads back.
+
+ghost use Rattle.std.specs.Prelude.{◌≡◌, IfOk, Some};
+ghost use Rattle.pz_level_text.specs.LevelNames.{sets_in};
+ghost use Rattle.pz_level_text.specs.LevelText.{text_of_level, HasNoComma};
+ghost use Rattle.pz_entries.specs.Reading.{reading};
+
+use crate::text_writer::TextWriter;
+use pz_base::text::Text;
+use pz_game::game::Game;
+use pz_grid::Level;
+use pz_record::order::Order;
+use std::alloc::{AllocError, Global};
+
+/// The text of a level, which stands by itself: as a `TextWriter` writes it that has met nothing yet.
+pub fn level_text(
+    alloc: Global,
+    game: &Game,
+    order: Order,
+    level: &Level,
+) -> Result<Text, AllocError>
+    ensures text { IfOk result (λ text. text ≡ text_of_level game.now order level.now.grid) }
+    ensures reads_back { IfOk result (λ text. HasNoComma game.now → reading text ≡ Some (sets_in game.now order level.now.grid)) }
+{
+    // (brings the proof the laws of games and of levels)
+    let _objects = game.objects();
+    let _height = level.height();
+    let mut writer = TextWriter::new(alloc, game, order);
+    let text = writer.write_plain(level)?;
+    Ok(text)
+}

@@ -1,0 +1,100 @@
+-- Objects that are noted one after another.
+use Rattle.std.proofs.Common.{◌≡◌, ◌≢◌, inl, inr, ℕ, ◌+◌, ◌-◌, ◌*◌, ◌/◌, ◌%◌, ◌<◌, ◌≤◌, List, Bool, true, false, not, ◌&&◌, ◌||◌, nat_eq, eq-eqb, length, get_or, arith, ap, sym, ◌∙◌, refl, subst}
+use Rattle.std.specs.Prelude.{nat_lt}
+use Rattle.std.proofs.lemmas.Bool.{cases_eq, cases_lt, ne_eqb, lt-ltb, le-ltb}
+use Rattle.pz_sets.specs.Sets.{member}
+use Rattle.pz_game.specs.declared.pattern.Item.{Item}
+use Rattle.pz_game.specs.Items.{names}
+use Rattle.pz_planes.specs.Planes.{LineSets, PlaneSets, stands_in, AreChanged, IsInside, IsKnown, AreItemsOf, MayHold}
+use Rattle.pz_planes.proofs.PlaneLemmas.{column_in, row_in}
+
+pub inside_still : (start now : PlaneSets) (x y : ℕ) (noted : ℕ → Bool → Bool) → AreChanged start now x y noted → IsInside start x y → IsInside now x y
+inside_still start now x y noted changed inside = record {
+  x_in = omega (arith, inside.x_in, changed.columns.count);
+  y_in = omega (arith, inside.y_in, changed.rows.count);
+}
+
+pub object_still : (start now : PlaneSets) (x y object : ℕ) (noted : ℕ → Bool → Bool) → AreChanged start now x y noted → IsKnown start object → IsKnown now object
+object_still start now x y object noted changed known = record {
+  in_rows = omega (arith, known.in_rows, changed.rows.objects);
+  in_columns = omega (arith, known.in_columns, changed.columns.objects);
+}
+
+pub low_object : (object count : ℕ) → object / 128 < count → count ≤ 4 → object + 1 ≤ 512
+low_object object count within short = omega (arith, within, short)
+
+pub less_left : (from object : ℕ) → from ≤ object → object + 1 ≤ 512 → 512 - (object + 1) < 512 - from
+less_left from object above low = omega (arith, above, low)
+
+-- ---- the objects of a set that are below a number
+abbrev pub below_in : ℕ → List ℕ → ℕ → Bool
+below_in from objects object = nat_lt object from && member objects object
+
+pub below_none : (objects : List ℕ) (object : ℕ) → below_in 0 objects object ≡ false
+below_none objects object = ap (λ (b : Bool). b && member objects object) (le-ltb object 0 (omega arith))
+
+-- one object more
+pub below_more : (from found : ℕ) (objects : List ℕ) → from ≤ found → member objects found ≡ true → ((number : ℕ) → from ≤ number → number < found → member objects number ≡ false) → (object : ℕ) → below_in (found + 1) objects object ≡ (nat_eq object found || below_in from objects object)
+below_more from found objects above is none object = elim (cases_eq object found) [
+  | inl same ↦ ap (λ (b : Bool). b && member objects object) (lt-ltb object (found + 1) (omega (arith, same))) ∙ ap (member objects) same ∙ is ∙ sym (ap (λ (b : Bool). b || below_in from objects object) (eq-eqb object found same))
+  | inr other ↦ below_other other ∙ sym (ap (λ (b : Bool). b || below_in from objects object) (ne_eqb object found other))
+] where
+  none_of : (a : Bool) → member objects object ≡ false → (a && member objects object) ≡ false
+  none_of true e = e
+  none_of false e = refl
+
+  below_other : object ≢ found → below_in (found + 1) objects object ≡ below_in from objects object
+  below_other other = elim (cases_lt object from) [
+    | inl low ↦ ap (λ (b : Bool). b && member objects object) (lt-ltb object (found + 1) (omega (arith, low, above)) ∙ sym (lt-ltb object from low))
+    | inr high ↦ elim (cases_lt object found) [
+      | inl between ↦ none_of (nat_lt object (found + 1)) (none object high between) ∙ sym (none_of (nat_lt object from) (none object high between))
+      | inr past ↦ ap (λ (b : Bool). b && member objects object) (le-ltb object (found + 1) (omega (arith, past, other)) ∙ sym (le-ltb object from high))
+    ]
+  ]
+
+-- all of them
+pub below_all : (from : ℕ) (objects : List ℕ) → ((number : ℕ) → from ≤ number → member objects number ≡ false) → (object : ℕ) → below_in from objects object ≡ member objects object
+below_all from objects none object = elim (cases_lt object from) [
+  | inl low ↦ ap (λ (b : Bool). b && member objects object) (lt-ltb object from low)
+  | inr high ↦ ap (λ (b : Bool). b && member objects object) (le-ltb object from high) ∙ sym (none object high)
+]
+
+-- ---- what is noted there, one object after another
+pub arrived : (one rest was : Bool) → (one || (rest || was)) ≡ ((one || rest) || was)
+arrived true rest was = refl
+arrived false rest was = refl
+
+pub left : (one rest stays was : Bool) → (not (one && not stays) && (not (rest && not stays) && was)) ≡ (not ((one || rest) && not stays) && was)
+left true true true was = refl
+left true false true was = refl
+left true rest false was = refl
+left false rest stays was = refl
+
+-- where those of a cell were there, those of the next one are
+pub replaced : (before after : Bool) → (after || (not (before && not after) && before)) ≡ after
+replaced true true = refl
+replaced true false = refl
+replaced false true = refl
+replaced false false = refl
+
+-- the same in the cell of a number, counted row by row
+pub inside_at : (planes : PlaneSets) (index width : ℕ) → width ≡ planes.columns.count → index < planes.columns.count * planes.rows.count → IsInside planes (index % width) (index / width)
+inside_at planes index width is within = subst (λ (w : ℕ). IsInside planes (index % w) (index / w)) (sym is) (record {
+  x_in = column_in index planes.columns.count planes.rows.count within;
+  y_in = row_in index planes.columns.count planes.rows.count within;
+})
+
+pub wide_at : (planes : PlaneSets) (index width : ℕ) → width ≡ planes.columns.count → index < planes.columns.count * planes.rows.count → 0 < width
+wide_at planes index width is within = omega (arith, column_in index planes.columns.count planes.rows.count within, is)
+
+-- what a rule's cell says of one of its items
+pub item_of : (sets : LineSets) (pattern items : List Item) (index : ℕ) (other : Item) → items ≡ pattern → index < length items → AreItemsOf sets pattern → (get_or items index other).object < sets.objects
+item_of sets pattern items index other same within of_game =
+    let all : AreItemsOf sets items = subst (AreItemsOf sets) (sym same) of_game in all index other within
+
+pub item_admits : (sets : LineSets) (line at : ℕ) (pattern items : List Item) (index : ℕ) (other : Item) → items ≡ pattern → index < length items → MayHold sets line at pattern → stands_in sets (get_or items index other).object line at ≡ names (get_or items index other).word
+item_admits sets line at pattern items index other same within may =
+    let all : MayHold sets line at items = subst (MayHold sets line at) (sym same) may in all index other within
+
+pub both_true : (a b c : Bool) → c ≡ (a && b) → a ≡ true → b ≡ true → c ≡ true
+both_true a b c is p q = is ∙ (ap (λ (x : Bool). x && b) p ∙ q)

@@ -1,0 +1,3 @@
+pub mod BitLemmas
+pub mod PlaneLemmas
+pub mod ArriveLemmas

@@ -1,0 +1,22 @@
+use Rattle.std.proofs.Common.{◌≡◌, ℕ, ◌/◌, ◌%◌, ◌||◌, ap, ◌∙◌, subst}
+use Rattle.pz_sets.specs.Sets.{member}
+use Rattle.pz_planes.specs.Planes.{PlaneSets, AreChanged}
+use Rattle.pz_planes.proofs.ArriveLemmas.{inside_at, wide_at}
+use Rattle.pz_planes.proofs.planes.Planes.arrive_at.Goals as goal
+
+pub nonzero_rem-index : goal.nonzero_rem-index
+nonzero_rem-index c = wide_at c.args.self.now c.args.index c.count-width.result (c.count-width.ensures ∙ ap (λ (p : PlaneSets). p.columns.count) c.self.view_is) c.requires.within
+
+pub nonzero_div-index : goal.nonzero_div-index
+nonzero_div-index c = wide_at c.args.self.now c.args.index c.count-width.result (c.count-width.ensures ∙ ap (λ (p : PlaneSets). p.columns.count) c.self.view_is) c.requires.within
+
+pub arrive-requires-clause-inside : goal.arrive-requires-clause-inside
+arrive-requires-clause-inside c = inside_at c.args.self.now c.args.index c.count-width.result (c.count-width.ensures ∙ ap (λ (p : PlaneSets). p.columns.count) c.self.view_is) c.requires.within
+
+pub arrive-requires-clause-known : goal.arrive-requires-clause-known
+arrive-requires-clause-known c = c.requires.known
+
+pub returns : goal.returns
+returns c =
+    let width : c.count-width.result ≡ c.args.self.now.columns.count = c.count-width.ensures ∙ ap (λ (p : PlaneSets). p.columns.count) c.self.view_is in
+    subst (λ (w : ℕ). AreChanged c.args.self.now c.arrive.new.self (c.args.index % w) (c.args.index / w) (λ object was. member c.args.objects.now object || was)) width c.arrive.ensures

@@ -1,0 +1,22 @@
+-- Where something may head in a level, by its lines. What is noted holds at least what is there.
+use Rattle.std.specs.Prelude.{◌≡◌, ℕ, List, [], length, nat_eq, ◌&&◌, ◌||◌, slice_index_or}
+use Rattle.pz_sets.specs.Sets.{member, IsWithin}
+
+-- sets of headings: of the whole level, of each row and of each column
+pub record HeadingSets : Type 0 where
+  pub whole : List ℕ
+  pub rows : List (List ℕ)
+  pub columns : List (List ℕ)
+
+-- sets of lines with more in one line, and the same in all others
+pub record IsMoreIn (old new : List (List ℕ)) (line : ℕ) (headings : List ℕ) : Type 0 where
+  pub count : length new ≡ length old
+  pub sets : (other number : ℕ) → member (slice_index_or new other []) number ≡ (member (slice_index_or old other []) number || (nat_eq other line && member headings number))
+
+-- the sets have all that they had before
+pub record IsWider (old new : HeadingSets) : Type 0 where
+  pub row_count : length new.rows ≡ length old.rows
+  pub column_count : length new.columns ≡ length old.columns
+  pub whole : IsWithin old.whole new.whole
+  pub rows : (line : ℕ) → IsWithin (slice_index_or old.rows line []) (slice_index_or new.rows line [])
+  pub columns : (line : ℕ) → IsWithin (slice_index_or old.columns line []) (slice_index_or new.columns line [])

@@ -1,0 +1,99 @@
+-- At which positions of each row and each column the objects of a level stand. What is noted is exactly that, of the positions below 128: others are not.
+use Rattle.std.specs.Prelude.{◌≡◌, ◌≢◌, ℕ, ◌+◌, ◌-◌, ◌*◌, ◌<◌, ◌≤◌, List, Bool, true, false, length, slice_index_or, All}
+use Rattle.pz_sets.specs.Sets.{member}
+use Rattle.pz_game.specs.declared.limits.TheConstants.{MAX_OBJECTS, MAX_SIDE}
+use Rattle.pz_game.specs.declared.pattern.Item.{Item}
+use Rattle.pz_game.specs.Items.{names}
+
+-- for each of so many objects and each of so many lines the positions at which it stands, as one set of numbers: 128 for each line
+pub record LineSets : Type 0 where
+  pub objects : ℕ
+  pub count : ℕ
+  pub words : List ℕ
+
+-- the columns of each row, and the rows of each column
+pub record PlaneSets : Type 0 where
+  pub rows : LineSets
+  pub columns : LineSets
+
+-- there is a word for each object and each line
+pub record HasLines (objects count : ℕ) (words : List ℕ) : Type 0 where
+  pub few : objects ≤ MAX_OBJECTS
+  pub short : count ≤ MAX_SIDE
+  pub covers : length words ≡ objects * count
+
+-- an object is noted at a position of a line
+abbrev pub stands_in : LineSets → ℕ → ℕ → ℕ → Bool
+stands_in sets object line at = member sets.words ((object * sets.count + line) * 128 + at)
+
+-- nothing is noted at all
+abbrev pub IsEmpty : LineSets → Type 0
+IsEmpty sets = (object line at : ℕ) → stands_in sets object line at ≡ false
+
+-- sets of as many objects and lines that have what they had, but at one position of a line: a function says which objects are noted there, by those that were
+pub record IsChanged (old new : LineSets) (line at : ℕ) (noted : ℕ → Bool → Bool) : Type 0 where
+  pub objects : new.objects ≡ old.objects
+  pub count : new.count ≡ old.count
+  pub here : (object : ℕ) → at < 128 → stands_in new object line at ≡ noted object (stands_in old object line at)
+  pub others : (object other place : ℕ) → other < old.count → place < 128 → (other ≡ line → place ≢ at) → stands_in new object other place ≡ stands_in old object other place
+
+-- the same of both orders, at a position of the map
+pub record AreChanged (old new : PlaneSets) (x y : ℕ) (noted : ℕ → Bool → Bool) : Type 0 where
+  pub rows : IsChanged old.rows new.rows y x noted
+  pub columns : IsChanged old.columns new.columns x y noted
+
+-- a position of the map, in both orders
+pub record IsInside (planes : PlaneSets) (x y : ℕ) : Type 0 where
+  pub x_in : x < planes.columns.count
+  pub y_in : y < planes.rows.count
+
+-- an object that both orders have
+pub record IsKnown (planes : PlaneSets) (object : ℕ) : Type 0 where
+  pub in_rows : object < planes.rows.objects
+  pub in_columns : object < planes.columns.objects
+
+-- all objects of a set are such
+abbrev pub AreKnown : PlaneSets → List ℕ → Type 0
+AreKnown planes objects = (object : ℕ) → member objects object ≡ true → IsKnown planes object
+
+-- the objects that pass a test are noted at a position of the map, and no others
+pub record AreThere (planes : PlaneSets) (x y : ℕ) (test : ℕ → Bool) : Type 0 where
+  pub row : (object : ℕ) → x < 128 → stands_in planes.rows object y x ≡ test object
+  pub column : (object : ℕ) → y < 128 → stands_in planes.columns object x y ≡ test object
+
+-- sets of as many objects and lines
+pub record HaveSameLines (old new : PlaneSets) : Type 0 where
+  pub row_objects : new.rows.objects ≡ old.rows.objects
+  pub row_count : new.rows.count ≡ old.rows.count
+  pub column_objects : new.columns.objects ≡ old.columns.objects
+  pub column_count : new.columns.count ≡ old.columns.count
+
+-- there are as many words in one as in another, for each object and each line
+pub record HasRoomOf (sets other : LineSets) : Type 0 where
+  pub objects : sets.objects ≡ other.objects
+  pub count : sets.count ≡ other.count
+
+-- sets for so many objects, for each row and for each column
+pub record IsFor (objects width height : ℕ) (planes : PlaneSets) : Type 0 where
+  pub row_objects : planes.rows.objects ≡ objects
+  pub row_count : planes.rows.count ≡ height
+  pub column_objects : planes.columns.objects ≡ objects
+  pub column_count : planes.columns.count ≡ width
+
+-- the items of a rule's cell are of objects that the sets have
+abbrev pub AreItemsOf : LineSets → List Item → Type 0
+AreItemsOf sets pattern = All (λ item. item.object < sets.objects) pattern
+
+-- each object that a rule's cell names as present is noted at a position of a line, and none that it names as absent
+abbrev pub MayHold : LineSets → ℕ → ℕ → List Item → Type 0
+MayHold sets line at pattern = All (λ item. stands_in sets item.object line at ≡ names item.word) pattern
+
+-- so it is with rules' cells one after another, from a position of a line on
+pub record MayRunAhead (sets : LineSets) (line : ℕ) (patterns : List (List Item)) (at : ℕ) : Type 0 where
+  pub within : at + length patterns ≤ 128
+  pub each : (index : ℕ) (pattern : List Item) → index < length patterns → MayHold sets line (at + index) (slice_index_or patterns index pattern)
+
+-- the same from a position of a line back
+pub record MayRunBack (sets : LineSets) (line : ℕ) (patterns : List (List Item)) (at : ℕ) : Type 0 where
+  pub within : length patterns ≤ at + 1
+  pub each : (index : ℕ) (pattern : List Item) → index < length patterns → MayHold sets line (at - index) (slice_index_or patterns index pattern)

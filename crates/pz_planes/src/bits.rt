@@ -1,0 +1,73 @@
+//! Positions of a line as the bits of a word: the position n, counted from 0, is in the set if bit n of the word is set.
+
+ghost use Rattle.std.specs.Prelude.{◌≡◌, ℕ, ◌+◌, ◌-◌, ◌<◌, ◌≤◌, ◌&&◌, true, not};
+ghost use Rattle.pz_sets.specs.Sets.{in_word};
+ghost use Rattle.pz_planes.specs.Next.{IsNext};
+
+use pz_sets::words;
+
+/// How many positions a word has room for: those below 128.
+pub const ROOM: u32 = 128;
+
+/// All positions.
+pub fn all() -> u128
+    ensures { (at : ℕ) → at < 128 → in_word result at ≡ true }
+{
+    u128::MAX
+}
+
+/// The positions of both sets.
+pub fn both(set: u128, other: u128) -> u128
+    ensures { (at : ℕ) → in_word result at ≡ (in_word set at && in_word other at) }
+{
+    set & other
+}
+
+/// The positions that are not in the set.
+pub fn others(set: u128) -> u128
+    ensures { (at : ℕ) → at < 128 → in_word result at ≡ not (in_word set at) }
+{
+    !set
+}
+
+/// The positions from which one of the set is so many steps ahead.
+pub fn ahead(set: u128, steps: usize) -> u128
+    requires { steps < 128 }
+    ensures { (at : ℕ) → at + steps < 128 → in_word result at ≡ in_word set (at + steps) }
+{
+    set >> steps
+}
+
+/// The positions from which one of the set is so many steps back.
+pub fn back(set: u128, steps: usize) -> u128
+    requires { steps < 128 }
+    ensures { (at : ℕ) → at < 128 → steps ≤ at → in_word result at ≡ in_word set (at - steps) }
+{
+    set << steps
+}
+
+/// Whether a position is in the set.
+pub fn has(set: u128, at: u32) -> bool
+    requires { at < 128 }
+    ensures { result ≡ in_word set at }
+{
+    set >> at & 1 == 1
+}
+
+/// The first position of a set from one on and below an end, if there is one.
+pub fn next(set: u128, from: u32, end: u32) -> Option<u32>
+    requires { end ≤ 128 }
+    ensures { IsNext (in_word set) from end result }
+{
+    if from >= end {
+        return None;
+    }
+    match words::next(&[set], from as usize) {
+        None => None,
+        Some(found) => if found < end as usize {
+            Some(found as u32)
+        } else {
+            None
+        },
+    }
+}

@@ -1,0 +1,161 @@
+//! Where something may head in a level, by its lines: sets of headings, that is of numbers of the layers and the directions in which they head, of the whole level, of each row and
+//! of each column.
+
+ghost use Rattle.std.specs.Prelude.{◌≡◌, ◌<◌, ◌*◌, ◌/◌, ◌%◌, ◌||◌, ℕ, [], true, false, length, slice_index_or, IfOk, OnOk, OnErr};
+ghost use Rattle.pz_sets.specs.Sets.{member};
+ghost use Rattle.pz_planes.specs.Notes.{IsMoreIn};
+
+use crate::copying::{make_room, refill};
+use pz_sets::set::NumberSet;
+use std::alloc::{AllocError, Global};
+use std::marker::Model;
+
+/// At least the headings of all cells of a level, of those of each row and of those of each column.
+pub struct Notes {
+    whole: NumberSet,
+    rows: Vec<NumberSet>,
+    columns: Vec<NumberSet>,
+}
+
+/// Written out, as for planes.
+impl Drop for Notes {
+    fn drop(self) {
+        let Notes {
+            whole: _,
+            rows,
+            columns,
+        } = self;
+        drop(rows);
+        drop(columns);
+    }
+}
+
+impl Model for Notes {
+    ghost use Rattle.pz_planes.specs.Notes.{HeadingSets};
+
+    ghost Value = { HeadingSets };
+
+    ghost view = { λ n. record { whole = n.whole; rows = n.rows.items; columns = n.columns.items } };
+}
+
+impl Notes {
+    /// No headings at all, of a map of so many columns and rows. Err: memory was refused.
+    pub fn empty(alloc: Global, width: usize, height: usize) -> Result<Notes, AllocError>
+        ensures rows { IfOk result (λ notes. length notes.rows ≡ height) }
+        ensures columns { IfOk result (λ notes. length notes.columns ≡ width) }
+    {
+        let rows = vec![in alloc; NumberSet::empty(); height]?;
+        let columns = vec![in alloc; NumberSet::empty(); width]?;
+        Ok(Notes {
+            whole: NumberSet::empty(),
+            rows,
+            columns,
+        })
+    }
+
+    /// The headings of all cells.
+    pub fn whole(&self) -> &NumberSet
+        ensures { result.now ≡ self.now.whole }
+    {
+        &self.whole
+    }
+
+    /// The headings of a row.
+    pub fn row(&self, y: u32) -> &NumberSet
+        requires { y < length self.now.rows }
+        ensures { result.now ≡ slice_index_or self.now.rows y [] }
+    {
+        &self.rows[y as usize]
+    }
+
+    /// The headings of a column.
+    pub fn column(&self, x: u32) -> &NumberSet
+        requires { x < length self.now.columns }
+        ensures { result.now ≡ slice_index_or self.now.columns x [] }
+    {
+        &self.columns[x as usize]
+    }
+
+    /// Notes headings for the cell of a number, counted row by row: they are added to those of the level, of its row and of its column.
+    pub fn add(&mut self, index: usize, headings: &NumberSet)
+        requires within { index < length self.old.columns * length self.old.rows }
+        ensures whole { (number : ℕ) → member self.new.whole number ≡ (member self.old.whole number || member headings.now number) }
+        ensures rows { IsMoreIn self.old.rows self.new.rows (index / length self.old.columns) headings.now }
+        ensures columns { IsMoreIn self.old.columns self.new.columns (index % length self.old.columns) headings.now }
+    {
+        let width = self.columns.len();
+        self.whole = self.whole.union(headings);
+        widen(&mut self.rows, index / width, headings);
+        widen(&mut self.columns, index % width, headings);
+    }
+
+    /// Forgets all headings.
+    pub fn clear(&mut self)
+        ensures rows { length self.new.rows ≡ length self.old.rows }
+        ensures columns { length self.new.columns ≡ length self.old.columns }
+    {
+        self.whole = NumberSet::empty();
+        clear(&mut self.rows);
+        clear(&mut self.columns);
+    }
+
+    /// The same once more. Err: memory was refused.
+    pub fn copy(&self) -> Result<Notes, AllocError>
+        ensures { IfOk result (λ notes. notes ≡ self.now) }
+    {
+        let alloc = *self.rows.allocator();
+        let rows = Vec::from_slice(alloc, &self.rows)?;
+        let columns = Vec::from_slice(alloc, &self.columns)?;
+        Ok(Notes {
+            whole: self.whole,
+            rows,
+            columns,
+        })
+    }
+
+    /// Becomes the same as another, in the memory that it has if that is enough. Err: more was refused, and it is as it was.
+    pub fn copy_from(&mut self, other: &Notes) -> Result<(), AllocError>
+        ensures copied { OnOk result (self.new ≡ other.now) }
+        ensures kept { OnErr result (self.new ≡ self.old) }
+    {
+        make_room(&mut self.rows, other.rows.len())?;
+        make_room(&mut self.columns, other.columns.len())?;
+        self.whole = other.whole;
+        refill(&mut self.rows, &other.rows);
+        refill(&mut self.columns, &other.columns);
+        Ok(())
+    }
+}
+
+/// Whether a set of headings has none.
+pub fn is_empty(headings: &NumberSet) -> bool
+    ensures { result ≡ true → (number : ℕ) → member headings.now number ≡ false }
+{
+    headings.same(&NumberSet::empty())
+}
+
+/// Whether no heading is noted of two levels.
+pub fn are_empty(notes: &Notes, others: &Notes) -> bool
+    ensures first { result ≡ true → (number : ℕ) → member notes.now.whole number ≡ false }
+    ensures second { result ≡ true → (number : ℕ) → member others.now.whole number ≡ false }
+{
+    is_empty(notes.whole()) && is_empty(others.whole())
+}
+
+/// Adds headings to the set of a line.
+fn widen(sets: &mut Vec<NumberSet>, line: usize, headings: &NumberSet)
+    requires { line < length sets.old.items }
+    ensures { IsMoreIn sets.old.items sets.new.items line headings.now }
+{
+    sets[line] = sets[line].union(headings);
+}
+
+/// Empties each set.
+fn clear(sets: &mut Vec<NumberSet>)
+    ensures count { length sets.new.items ≡ length sets.old.items }
+    ensures none { (line number : ℕ) → line < length sets.old.items → member (slice_index_or sets.new.items line []) number ≡ false }
+{
+    for line in 0..sets.len() {
+        sets[line] = NumberSet::empty();
+    }
+}

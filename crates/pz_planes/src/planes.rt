@@ -1,0 +1,391 @@
+//! At which positions of each row and each column the objects of a level stand, by which its lines are searched. Objects, columns and rows
+//! are counted from 0; a position of a row is a column, and one of a column is a row.
+
+ghost use Rattle.std.specs.Prelude.{◌≡◌, ℕ, ◌+◌, ◌*◌, ◌/◌, ◌%◌, ◌<◌, ◌≤◌, ◌&&◌, ◌||◌, true, false, not, nat_eq, All, length, IfOk};
+ghost use Rattle.pz_game.specs.declared.limits.TheConstants.{MAX_OBJECTS, MAX_SIDE};
+ghost use Rattle.pz_game.specs.Items.{names};
+ghost use Rattle.pz_sets.specs.Sets.{in_word, member};
+ghost use Rattle.pz_planes.specs.Planes.{stands_in, IsEmpty, IsChanged, AreChanged, IsInside, IsKnown, AreKnown, AreThere, HaveSameLines, HasRoomOf, IsFor, AreItemsOf, MayHold, MayRunAhead, MayRunBack};
+
+use crate::bits;
+use pz_game::masks::names;
+use pz_game::pattern::{Item, Pattern};
+use pz_sets::words;
+use std::alloc::{AllocError, Global};
+use std::marker::Model;
+
+/// For each object and each line, exactly the positions below 128 at which the object stands: a word for each line, those of one object
+/// one after another. Sets of positions that it gives are the bits of a word.
+#[derive(Drop)]
+pub struct LinePlanes {
+    objects: usize,
+    count: usize,
+    words: Vec<u128>,
+}
+
+impl Model for LinePlanes {
+    ghost use Rattle.pz_planes.specs.Planes.{LineSets, HasLines};
+
+    ghost Value = { LineSets };
+
+    ghost view = { λ p. record { objects = p.objects; count = p.count; words = p.words.items } };
+
+    ghost invariant = { λ p. HasLines p.objects p.count p.words.items };
+}
+
+/// The same by rows and by columns. Since what is noted is exact, a search can look for a cell that has some objects and lacks others.
+pub struct Planes {
+    rows: LinePlanes,
+    columns: LinePlanes,
+}
+
+/// Written out, so that each place where planes go out of scope is one call, and not the ways through all their fields.
+impl Drop for Planes {
+    fn drop(self) {
+        let Planes { rows, columns } = self;
+        drop(rows);
+        drop(columns);
+    }
+}
+
+impl Model for Planes {
+    ghost use Rattle.pz_planes.specs.Planes.{PlaneSets};
+
+    ghost Value = { PlaneSets };
+
+    ghost view = { λ p. record { rows = p.rows; columns = p.columns } };
+}
+
+impl LinePlanes {
+    /// Nothing is noted. Err: memory was refused.
+    fn empty(alloc: Global, objects: usize, count: usize) -> Result<LinePlanes, AllocError>
+        requires few { objects ≤ MAX_OBJECTS }
+        requires short { count ≤ MAX_SIDE }
+        ensures objects { IfOk result (λ planes. planes.objects ≡ objects) }
+        ensures count { IfOk result (λ planes. planes.count ≡ count) }
+    {
+        let words = vec![in alloc; 0; objects * count]?;
+        Ok(LinePlanes {
+            objects,
+            count,
+            words,
+        })
+    }
+
+    /// The number of lines.
+    fn count(&self) -> usize
+        ensures { result ≡ self.now.count }
+    {
+        self.count
+    }
+
+    /// The number of the word of an object and a line.
+    fn index(&self, object: usize, line: usize) -> usize
+        requires object_in { object < self.now.objects }
+        requires line_in { line < self.now.count }
+        ensures index { result ≡ object * self.now.count + line }
+        ensures within { result < length self.now.words }
+        ensures low { result < 131072 }
+    {
+        let _ = &self.words;
+        object * self.count + line
+    }
+
+    /// Notes an object at a position of a line.
+    fn insert(&mut self, object: usize, line: usize, at: usize)
+        requires object_in { object < self.old.objects }
+        requires line_in { line < self.old.count }
+        ensures { IsChanged self.old self.new line at (λ other was. nat_eq other object || was) }
+    {
+        if at < bits::ROOM as usize {
+            let index = self.index(object, line);
+            words::insert(&mut self.words, index * 128 + at);
+        }
+    }
+
+    /// Notes an object at a position of a line no longer.
+    fn remove(&mut self, object: usize, line: usize, at: usize)
+        requires object_in { object < self.old.objects }
+        requires line_in { line < self.old.count }
+        ensures { IsChanged self.old self.new line at (λ other was. not (nat_eq other object) && was) }
+    {
+        if at < bits::ROOM as usize {
+            let index = self.index(object, line);
+            words::remove(&mut self.words, index * 128 + at);
+        }
+    }
+
+    /// Nothing is noted any longer.
+    fn clear(&mut self)
+        ensures objects { self.new.objects ≡ self.old.objects }
+        ensures count { self.new.count ≡ self.old.count }
+        ensures none { IsEmpty self.new }
+    {
+        clear(&mut self.words);
+    }
+
+    /// The positions of a line that an item admits: those at which its object is noted, or all others, where it names that as absent.
+    fn item_places(&self, line: usize, item: &Item) -> u128
+        requires line_in { line < self.now.count }
+        requires object_in { item.now.object < self.now.objects }
+        ensures { (at : ℕ) → at < 128 → stands_in self.now item.now.object line at ≡ names item.now.word → in_word result at ≡ true }
+    {
+        let word = self.words[self.index(item.object, line)];
+        if names(item.word) {
+            word
+        } else {
+            bits::others(word)
+        }
+    }
+
+    /// The positions of a line at which a rule's cell may hold: all at which each object that it names as present is noted, and none that
+    /// it names as absent.
+    pub fn places(&self, line: usize, pattern: &Pattern) -> u128
+        requires line_in { line < self.now.count }
+        requires of_game { AreItemsOf self.now pattern.now }
+        ensures { (at : ℕ) → at < 128 → MayHold self.now line at pattern.now → in_word result at ≡ true }
+    {
+        let mut places = bits::all();
+        for item in pattern.items() {
+            places = bits::both(places, self.item_places(line, item));
+        }
+        places
+    }
+
+    /// The positions of a line from which rules' cells may hold one after another ahead: to the right in a row, down in a column.
+    pub fn starts_ahead(&self, line: usize, patterns: &[Pattern]) -> u128
+        requires line_in { line < self.now.count }
+        requires of_game { All (AreItemsOf self.now) patterns.now }
+        ensures { (at : ℕ) → at < 128 → MayRunAhead self.now line patterns.now at → in_word result at ≡ true }
+    {
+        let mut starts = bits::all();
+        for index in 0..patterns.len().min(bits::ROOM as usize) {
+            let places = self.places(line, &patterns[index]);
+            starts = bits::both(starts, bits::ahead(places, index));
+        }
+        starts
+    }
+
+    /// The positions of a line from which rules' cells may hold one after another back: to the left in a row, up in a column.
+    pub fn starts_back(&self, line: usize, patterns: &[Pattern]) -> u128
+        requires line_in { line < self.now.count }
+        requires of_game { All (AreItemsOf self.now) patterns.now }
+        ensures { (at : ℕ) → at < 128 → MayRunBack self.now line patterns.now at → in_word result at ≡ true }
+    {
+        let mut starts = bits::all();
+        for index in 0..patterns.len().min(bits::ROOM as usize) {
+            let places = self.places(line, &patterns[index]);
+            starts = bits::both(starts, bits::back(places, index));
+        }
+        starts
+    }
+
+    /// Whether another has as many objects and lines, so that its notes fit in this one's memory.
+    fn has_room_of(&self, other: &LinePlanes) -> bool
+        ensures { result ≡ true → HasRoomOf self.now other.now }
+    {
+        self.objects == other.objects && self.count == other.count
+    }
+
+    /// Becomes the same as another of as many objects and lines.
+    fn overwrite(&mut self, other: &LinePlanes)
+        requires { HasRoomOf self.old other.now }
+        ensures { self.new ≡ other.now }
+    {
+        self.words.copy_from_slice(&other.words);
+    }
+
+    /// The same once more. Err: memory was refused.
+    fn copy(&self) -> Result<LinePlanes, AllocError>
+        ensures { IfOk result (λ planes. planes ≡ self.now) }
+    {
+        let alloc = *self.words.allocator();
+        let words = Vec::from_slice(alloc, &self.words)?;
+        Ok(LinePlanes {
+            objects: self.objects,
+            count: self.count,
+            words,
+        })
+    }
+}
+
+impl Planes {
+    /// Nothing is noted yet, of so many objects on a map of so many columns and rows. Err: memory was refused.
+    pub fn empty(
+        alloc: Global,
+        objects: usize,
+        width: usize,
+        height: usize,
+    ) -> Result<Planes, AllocError>
+        requires few { objects ≤ MAX_OBJECTS }
+        requires narrow { width ≤ MAX_SIDE }
+        requires low { height ≤ MAX_SIDE }
+        ensures { IfOk result (λ planes. IsFor objects width height planes) }
+    {
+        let rows = LinePlanes::empty(alloc, objects, height)?;
+        let columns = LinePlanes::empty(alloc, objects, width)?;
+        Ok(Planes { rows, columns })
+    }
+
+    /// The columns of each row at which objects stand.
+    pub fn rows(&self) -> &LinePlanes
+        ensures { result.now ≡ self.now.rows }
+    {
+        &self.rows
+    }
+
+    /// The rows of each column at which objects stand.
+    pub fn columns(&self) -> &LinePlanes
+        ensures { result.now ≡ self.now.columns }
+    {
+        &self.columns
+    }
+
+    fn insert(&mut self, object: usize, x: usize, y: usize)
+        requires inside { IsInside self.old x y }
+        requires known { IsKnown self.old object }
+        ensures { AreChanged self.old self.new x y (λ other was. nat_eq other object || was) }
+    {
+        self.rows.insert(object, y, x);
+        self.columns.insert(object, x, y);
+    }
+
+    fn remove(&mut self, object: usize, x: usize, y: usize)
+        requires inside { IsInside self.old x y }
+        requires known { IsKnown self.old object }
+        ensures { AreChanged self.old self.new x y (λ other was. not (nat_eq other object) && was) }
+    {
+        self.rows.remove(object, y, x);
+        self.columns.remove(object, x, y);
+    }
+
+    /// Notes an object no longer, unless it is one of some.
+    fn remove_unless(&mut self, object: usize, x: usize, y: usize, after: &[u128])
+        requires inside { IsInside self.old x y }
+        requires known { IsKnown self.old object }
+        ensures { AreChanged self.old self.new x y (λ other was. not (nat_eq other object && not (member after.now other)) && was) }
+    {
+        if !words::contains(after, object) {
+            self.remove(object, x, y);
+        }
+    }
+
+    /// Takes away the notes of the objects that a cell had and has no longer.
+    fn leave(&mut self, x: usize, y: usize, before: &[u128], after: &[u128])
+        requires short { length before.now ≤ 4 }
+        requires inside { IsInside self.old x y }
+        requires known { AreKnown self.old before.now }
+        ensures { AreChanged self.old self.new x y (λ object was. not (member before.now object && not (member after.now object)) && was) }
+    {
+        let mut from = 0;
+        'objects: while let Some(object) = words::next(before, from) {
+            self.remove_unless(object, x, y, after);
+            from = object + 1;
+        }
+    }
+
+    /// Notes the objects of a cell.
+    fn arrive(&mut self, x: usize, y: usize, objects: &[u128])
+        requires short { length objects.now ≤ 4 }
+        requires inside { IsInside self.old x y }
+        requires known { AreKnown self.old objects.now }
+        ensures { AreChanged self.old self.new x y (λ object was. member objects.now object || was) }
+    {
+        let mut from = 0;
+        'objects: while let Some(object) = words::next(objects, from) {
+            self.insert(object, x, y);
+            from = object + 1;
+        }
+    }
+
+    /// Notes the objects of the cell of a column and a row of the map, and none of those that were noted there before and are gone. Both sets
+    /// are in at most four words. (Where it is called the number of words is known.)
+    #[inline(always)]
+    pub fn note(&mut self, x: usize, y: usize, before: &[u128], after: &[u128])
+        requires short_before { length before.now ≤ 4 }
+        requires short { length after.now ≤ 4 }
+        requires inside { IsInside self.old x y }
+        requires known_before { AreKnown self.old before.now }
+        requires known { AreKnown self.old after.now }
+        requires there { AreThere self.old x y (member before.now) }
+        ensures { AreChanged self.old self.new x y (λ object was. member after.now object) }
+    {
+        if words::same(before, after) {
+            return;
+        }
+        self.leave(x, y, before, after);
+        self.arrive(x, y, after);
+    }
+
+    /// The same in the cell of a number, counted row by row.
+    #[inline(always)]
+    pub fn note_at(&mut self, index: usize, before: &[u128], after: &[u128])
+        requires short_before { length before.now ≤ 4 }
+        requires short { length after.now ≤ 4 }
+        requires within { index < self.old.columns.count * self.old.rows.count }
+        requires known_before { AreKnown self.old before.now }
+        requires known { AreKnown self.old after.now }
+        requires there { AreThere self.old (index % self.old.columns.count) (index / self.old.columns.count) (member before.now) }
+        ensures { AreChanged self.old self.new (index % self.old.columns.count) (index / self.old.columns.count) (λ object was. member after.now object) }
+    {
+        let width = self.columns.count();
+        self.note(index % width, index / width, before, after);
+    }
+
+    /// Notes the objects of the cell of a number, counted row by row: a set in at most four words. What was noted there stays so.
+    pub fn arrive_at(&mut self, index: usize, objects: &[u128])
+        requires short { length objects.now ≤ 4 }
+        requires within { index < self.old.columns.count * self.old.rows.count }
+        requires known { AreKnown self.old objects.now }
+        ensures { AreChanged self.old self.new (index % self.old.columns.count) (index / self.old.columns.count) (λ object was. member objects.now object || was) }
+    {
+        let width = self.columns.count();
+        self.arrive(index % width, index / width, objects);
+    }
+
+    /// Nothing is noted any longer, of as many objects and lines.
+    pub fn clear(&mut self)
+        ensures size { HaveSameLines self.old self.new }
+        ensures rows { IsEmpty self.new.rows }
+        ensures columns { IsEmpty self.new.columns }
+    {
+        self.rows.clear();
+        self.columns.clear();
+    }
+
+    /// Whether another has as many objects and lines, so that its notes fit in this one's memory.
+    pub fn has_room_of(&self, other: &Planes) -> bool
+        ensures { result ≡ true → HasRoomOf self.now.rows other.now.rows × HasRoomOf self.now.columns other.now.columns }
+    {
+        self.rows.has_room_of(&other.rows) && self.columns.has_room_of(&other.columns)
+    }
+
+    /// Becomes the same as another of as many objects and lines.
+    pub fn overwrite(&mut self, other: &Planes)
+        requires rows { HasRoomOf self.old.rows other.now.rows }
+        requires columns { HasRoomOf self.old.columns other.now.columns }
+        ensures { self.new ≡ other.now }
+    {
+        self.rows.overwrite(&other.rows);
+        self.columns.overwrite(&other.columns);
+    }
+
+    /// The same once more. Err: memory was refused.
+    pub fn copy(&self) -> Result<Planes, AllocError>
+        ensures { IfOk result (λ planes. planes ≡ self.now) }
+    {
+        let rows = self.rows.copy()?;
+        let columns = self.columns.copy()?;
+        Ok(Planes { rows, columns })
+    }
+}
+
+/// Empties each word of a set.
+fn clear(words: &mut [u128])
+    ensures length { length words.new ≡ length words.old }
+    ensures none { (number : ℕ) → member words.new number ≡ false }
+{
+    for index in 0..words.len() {
+        words[index] = 0;
+    }
+}

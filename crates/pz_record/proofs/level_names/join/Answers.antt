@@ -1,8 +1,0 @@
-use Rattle.std.proofs.Common.{◌≡◌, rules}
-use Rattle.pz_record.proofs.Joining.{joins}
-use Rattle.pz_record.proofs.level_names.join.Goals as goal
-
-pub returns : goal.returns
-returns c =
-    let all : c.in_ok-names.names.items ≡ c.args.names.keys = search rules in
-    rw (← all, ← joins c.in_ok-names.names.items) (search rules)

@@ -1,8 +1,0 @@
-use Rattle.std.proofs.Common.{◌≡◌, drop, map, fold}
-use Rattle.pz_sheet.specs.Standing.{stands}
-use Rattle.pz_record.specs.CellNames.{with_name, set_of}
-use Rattle.pz_record.specs.LevelNames.{chosen_from, standing_names}
-use Rattle.pz_record.proofs.level_names.names_at.Given as goal
-
-abbrev pub invariant-loop-object : goal.invariant-loop-object
-invariant-loop-object l = fold with_name (map (λ name. name.now) l.names.keys) (chosen_from (stands l.level.grid l.x l.y) l.object (drop l.object l.objects)) ≡ set_of (standing_names l.objects l.level.grid (l.x, l.y))

@@ -1,0 +1,43 @@
+-- The text of cells: for each its names, and from the second time on their number.
+use Rattle.std.specs.Prelude.{ℕ, ◌+◌, ◌%◌, ◌==◌, List, [], ◌∷◌, ◌++◌, length, take, slice_index_or, fold, flat_map, if◌then◌else◌, Option, Some, None, decimal}
+use Rattle.std.specs.List.{join_with_byte, range_with_len}
+use Rattle.pz_base.specs.NameSet.{number_in}
+
+-- the text of a set of names: a space between two
+abbrev pub joined : List (List ℕ) → List ℕ
+joined names = join_with_byte 32 names
+
+abbrev pub or_added : List (List ℕ) → List ℕ → Option ℕ → List (List ℕ)
+or_added known cell None = known ++ cell ∷ []
+or_added known cell (Some k) = known
+
+-- the sets that are known, and this one where it is new
+unfoldable pub with_cell : List (List ℕ) → List ℕ → List (List ℕ)
+with_cell known cell = or_added known cell (number_in known cell)
+
+-- each set of the cells once, in the order of first appearance
+abbrev pub known_of : List (List ℕ) → List (List ℕ)
+known_of cells = fold with_cell [] cells
+
+abbrev pub numbered : List (List ℕ) → List ℕ → Option ℕ → List ℕ
+numbered known cell None = cell ++ 58 ∷ [] ++ decimal (length known) ++ 44 ∷ []
+numbered known cell (Some k) = decimal k ++ 44 ∷ []
+
+-- a known set by its number, a new one by its names and the next number; a comma ends each
+unfoldable pub piece : List (List ℕ) → List ℕ → List ℕ
+piece known cell = numbered known cell (number_in known cell)
+
+-- a line break after every width cells
+abbrev pub line_end : ℕ → ℕ → List ℕ
+line_end width count = if count % width == 0 then 10 ∷ [] else []
+
+abbrev pub cell_text : ℕ → List (List ℕ) → ℕ → List ℕ
+cell_text width cells k = piece (known_of (take k cells)) (slice_index_or cells k []) ++ line_end width (k + 1)
+
+-- the text of the first n cells
+abbrev pub text_to : ℕ → List (List ℕ) → ℕ → List ℕ
+text_to width cells n = flat_map (cell_text width cells) (range_with_len 0 n)
+
+-- the text of cells that have these texts
+abbrev pub text_of_cells : ℕ → List (List ℕ) → List ℕ
+text_of_cells width cells = text_to width cells (length cells)

@@ -1,0 +1,112 @@
+-- The objects of the cells of a level, noted where they stand.
+use Rattle.std.proofs.Common.{◌≡◌, inl, inr, ℕ, ◌+◌, ◌*◌, ◌/◌, ◌%◌, ◌<◌, ◌≤◌, List, Bool, true, false, ◌||◌, set, length, get_or, arith, ap, sym, ◌∙◌, refl, subst, get_or-set_same, get_or-set_other}
+use Rattle.std.specs.List.{All}
+use Rattle.std.proofs.lemmas.Bool.{cases_eq}
+use Rattle.std.proofs.lemmas.List.{get_or_default}
+use Rattle.std.proofs.lemmas.Nat.{mul-add-lt, same_from_place, div-mul-add, mod-mul-add}
+use Rattle.pz_sets.specs.Sets.{member}
+use Rattle.pz_planes.specs.Planes.{PlaneSets, AreChanged, AreThere, HaveSameLines, AreKnown, IsFor}
+use Rattle.pz_planes.proofs.PlaneLemmas.{AreThereAt, there_now, still_there, still_there_at, number_of, column_in, row_in, known_of}
+use Rattle.pz_cells.specs.declared.cell.Cell.{Cell}
+use Rattle.pz_sheet.specs.Noting.{AreAllThere, ArePlaced}
+use Rattle.pz_cells.specs.Lists.{IsSound, HaveSameObjects}
+
+-- the objects of one more cell are noted
+pub all_there_more : (N : ℕ) (start old new : PlaneSets) (cells : List (Cell N)) (index : ℕ) (here : Cell N) → index < length cells → here ≡ get_or cells index here → HaveSameLines start old → length cells ≡ start.columns.count * start.rows.count → AreChanged old new (index % old.columns.count) (index / old.columns.count) (λ object was. member here.objects object || was) → AreThereAt start old index (λ object. false)
+    → ((k : ℕ) (cell : Cell N) → k < index → AreThereAt start old k (member (get_or cells k cell).objects)) → (k : ℕ) (cell : Cell N) → k < index + 1 → AreThereAt start new k (member (get_or cells k cell).objects)
+all_there_more N start old new cells index here within is size covers changed none before k cell below = elim (cases_eq k index) [
+  | inl same ↦
+      let here_is : here ≡ get_or cells k cell = is ∙ get_or_default cells index here cell within ∙ ap (λ (i : ℕ). get_or cells i cell) (sym same) in
+      subst (λ (i : ℕ). AreThereAt start new i (member (get_or cells k cell).objects)) (sym same) (subst (λ (it : Cell N). AreThereAt start new index (member it.objects)) here_is
+      (there_now old new (index % start.columns.count) (index / start.columns.count) (λ object. false) (member here.objects) (λ object was. member here.objects object || was) none
+      (subst (λ (w : ℕ). AreChanged old new (index % w) (index / w) (λ object was. member here.objects object || was)) size.column_count changed) (λ object. or_false (member here.objects object))))
+  | inr other ↦
+      still_there_at start old new index k (λ object was. member here.objects object || was) (member (get_or cells k cell).objects) size (omega (arith, below, within, covers)) other changed (before k cell (omega (arith, below, other)))
+] where
+  or_false : (b : Bool) → (b || false) ≡ b
+  or_false true = refl
+  or_false false = refl
+
+pub all_there : (N : ℕ) (start now : PlaneSets) (cells : List (Cell N)) (index : ℕ) → length cells ≤ index → length cells ≡ start.columns.count * start.rows.count → ((k : ℕ) (cell : Cell N) → k < index → AreThereAt start now k (member (get_or cells k cell).objects)) → AreAllThere N start.columns.count start.rows.count now cells
+all_there N start now cells index past covers before x y cell x_in y_in =
+    let width = start.columns.count in
+    let k = y * width + x in
+    let below : k < index = omega (arith, mul-add-lt y width x start.rows.count y_in x_in, covers, past) in
+    let test = member (get_or cells k cell).objects in
+    subst (λ (p : ℕ). AreThere now p y test) (mod-mul-add y width x x_in) (subst (λ (q : ℕ). AreThere now (k % width) q test) (div-mul-add y width x x_in) (before k cell below))
+
+-- ---- the objects of a cell
+-- one cell anew
+pub placed_set : (N objects width height : ℕ) (planes next : PlaneSets) (cells : List (Cell N)) (at x y : ℕ) (new : Cell N) → ArePlaced N objects width height planes cells → at ≡ y * width + x → x < width → y < height → at < length cells → AreChanged planes next x y (λ object was. member new.objects object) → ArePlaced N objects width height next (set cells at new)
+placed_set N objects width height planes next cells at x y new s number x_in y_in within changed = record {
+  fits = record {
+    row_objects = changed.rows.objects ∙ s.fits.row_objects;
+    row_count = changed.rows.count ∙ s.fits.row_count;
+    column_objects = changed.columns.objects ∙ s.fits.column_objects;
+    column_count = changed.columns.count ∙ s.fits.column_count;
+  };
+  there = each;
+} where
+  there_new : AreThere next x y (member new.objects)
+  there_new = record { row = changed.rows.here; column = changed.columns.here }
+
+  each : AreAllThere N width height next (set cells at new)
+  each p q cell p_in q_in = elim (cases_eq (q * width + p) at) [
+    | inl same ↦
+        let place = same_from_place q p y x width p_in x_in (same ∙ number) in
+        let is : get_or (set cells at new) (q * width + p) cell ≡ new = ap (λ (k : ℕ). get_or (set cells at new) k cell) same ∙ get_or-set_same cells at new cell within in
+        subst (λ (it : Cell N). AreThere next p q (member it.objects)) (sym is)
+        (subst (λ (k : ℕ). AreThere next k q (member new.objects)) (sym place.1) (subst (λ (k : ℕ). AreThere next x k (member new.objects)) (sym place.0) there_new))
+    | inr other ↦
+        let is : get_or (set cells at new) (q * width + p) cell ≡ get_or cells (q * width + p) cell = get_or-set_other cells at (q * width + p) new cell other in
+        subst (λ (it : Cell N). AreThere next p q (member it.objects)) (sym is)
+        (still_there planes next x y p q (λ object was. member new.objects object) (member (get_or cells (q * width + p) cell).objects) changed (omega (arith, p_in, s.fits.column_count)) (omega (arith, q_in, s.fits.row_count))
+        (λ same_x same_y. other (ap (λ (k : ℕ). k * width + p) same_y ∙ ap (λ (k : ℕ). y * width + k) same_x ∙ sym number))
+        (s.there p q cell p_in q_in))
+  ]
+
+-- cells with the same objects
+pub placed_same : (N objects width height : ℕ) (planes : PlaneSets) (old new : List (Cell N)) → HaveSameObjects N old new → ArePlaced N objects width height planes old → ArePlaced N objects width height planes new
+placed_same N objects width height planes old new same s = record {
+  fits = s.fits;
+  there = λ x y cell x_in y_in. subst (λ (words : List ℕ). AreThere planes x y (member words)) (sym (same (y * width + x) cell)) (s.there x y cell x_in y_in);
+}
+
+-- ---- a cell of a level whose objects are noted
+pub there_of : (N objects width height : ℕ) (planes : PlaneSets) (cells : List (Cell N)) (at x y : ℕ) (cell : Cell N) → ArePlaced N objects width height planes cells → at ≡ y * width + x → x < width → y < height → cell ≡ get_or cells at cell → AreThere planes x y (member cell.objects)
+there_of N objects width height planes cells at x y cell s number x_in y_in is =
+    subst (λ (it : Cell N). AreThere planes x y (member it.objects)) (ap (λ (k : ℕ). get_or cells k cell) (sym number) ∙ sym is) (s.there x y cell x_in y_in)
+
+-- the same in the cell of a number, counted row by row
+pub there_at : (N objects width height at : ℕ) (planes : PlaneSets) (cells : List (Cell N)) (cell : Cell N) → ArePlaced N objects width height planes cells → at < length cells → length cells ≡ width * height → cell ≡ get_or cells at cell → AreThere planes (at % planes.columns.count) (at / planes.columns.count) (member cell.objects)
+there_at N objects width height at planes cells cell s within covers is =
+    let inside : at < width * height = omega (arith, within, covers) in
+    subst (λ (w : ℕ). AreThere planes (at % w) (at / w) (member cell.objects)) (sym s.fits.column_count)
+    (there_of N objects width height planes cells at (at % width) (at / width) cell s (number_of at width) (column_in at width height inside) (row_in at width height inside) is)
+
+pub placed_at : (N objects width height : ℕ) (planes next : PlaneSets) (cells : List (Cell N)) (at : ℕ) (new : Cell N) → ArePlaced N objects width height planes cells → at < length cells → length cells ≡ width * height → AreChanged planes next (at % planes.columns.count) (at / planes.columns.count) (λ object was. member new.objects object) → ArePlaced N objects width height next (set cells at new)
+placed_at N objects width height planes next cells at new s within covers changed =
+    let inside : at < width * height = omega (arith, within, covers) in
+    placed_set N objects width height planes next cells at (at % width) (at / width) new s (number_of at width) (column_in at width height inside) (row_in at width height inside) within
+    (subst (λ (w : ℕ). AreChanged planes next (at % w) (at / w) (λ object was. member new.objects object)) s.fits.column_count changed)
+
+-- all cells anew
+pub placed_all : (N objects width height : ℕ) (planes next : PlaneSets) (cells : List (Cell N)) → IsFor objects width height planes → HaveSameLines planes next → AreAllThere N planes.columns.count planes.rows.count next cells → ArePlaced N objects width height next cells
+placed_all N objects width height planes next cells fits size there = record {
+  fits = record {
+    row_objects = size.row_objects ∙ fits.row_objects;
+    row_count = size.row_count ∙ fits.row_count;
+    column_objects = size.column_objects ∙ fits.column_objects;
+    column_count = size.column_count ∙ fits.column_count;
+  };
+  there = subst (λ (w : ℕ). AreAllThere N w height next cells) fits.column_count (subst (λ (h : ℕ). AreAllThere N planes.columns.count h next cells) fits.row_count there);
+}
+
+pub all_known : (N : ℕ) (layers : List ℕ) (width height : ℕ) (planes : PlaneSets) (cells : List (Cell N)) → IsFor (length layers) width height planes → All (IsSound N layers) cells → All (λ cell. AreKnown planes cell.objects) cells
+all_known N layers width height planes cells fits sound k cell within = known_of layers width height planes (get_or cells k cell).objects fits (sound k cell within).of_game
+
+-- the objects of all cells
+pub known_all : (N objects width height : ℕ) (planes : PlaneSets) (cells : List (Cell N)) → IsFor objects width height planes → All (λ (cell : Cell N). (object : ℕ) → member cell.objects object ≡ true → object < objects) cells → All (λ (cell : Cell N). AreKnown planes cell.objects) cells
+known_all N objects width height planes cells fits low k cell within object e =
+    let is = low k cell within object e in
+    record { in_rows = omega (arith, is, fits.row_objects); in_columns = omega (arith, is, fits.column_objects) }

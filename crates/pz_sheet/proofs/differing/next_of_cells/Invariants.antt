@@ -1,5 +1,0 @@
-use Rattle.pz_sheet.specs.Differing.{AreAlikeBetween}
-use Rattle.pz_sheet.proofs.differing.next_of_cells.Given as goal
-
-abbrev pub invariant-loop-index : goal.invariant-loop-index
-invariant-loop-index g l = AreAlikeBetween g.row.N l.cells l.others l.from l.index

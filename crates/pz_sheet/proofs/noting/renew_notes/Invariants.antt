@@ -1,0 +1,11 @@
+use Rattle.std.proofs.Common.{ℕ, ◌≡◌, ◌<◌, length, get_or}
+use Rattle.pz_cells.specs.declared.cell.Cell.{Cell}
+use Rattle.pz_sheet.specs.Seen.{IsNoted}
+use Rattle.pz_sheet.proofs.noting.renew_notes.Given as goal
+
+abbrev pub invariant-loop-index : goal.invariant-loop-index
+invariant-loop-index g l = record {
+  row_count : length l.notes.rows ≡ length l.initial.notes.rows;
+  column_count : length l.notes.columns ≡ length l.initial.notes.columns;
+  each : (number : ℕ) (cell : Cell g.row.N) → number < l.index → IsNoted g.row.N (length l.initial.notes.columns) l.notes number (get_or l.cells number cell);
+}
