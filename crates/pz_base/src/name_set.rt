@@ -1,6 +1,6 @@
 //! Sets of names, in the order of first mention.
 
-ghost use Rattle.std.specs.Prelude.{◌≡◌, ◌<◌, ◌^◌, ◌++◌, ◌∷◌, [], length, OnOk, false};
+ghost use Rattle.std.specs.Prelude.{◌≡◌, ◌<◌, ◌^◌, ◌++◌, ◌∷◌, [], length, OnOk, OnErr, false};
 ghost use Rattle.pz_base.specs.NameSet.{is_name_of, number_in};
 
 use indexmap::IndexSet;
@@ -22,6 +22,7 @@ impl Model for NameSet {
 }
 
 impl NameSet {
+    /// No names.
     pub fn new(alloc: Global) -> NameSet
         ensures { result ≡ [] }
     {
@@ -30,6 +31,7 @@ impl NameSet {
         }
     }
 
+    /// How many names it has.
     pub fn len(&self) -> usize
         ensures count { result ≡ length self.now }
         ensures small { result < 2 ^ 63 }
@@ -44,16 +46,18 @@ impl NameSet {
         self.texts.get_index_of(name)
     }
 
+    /// Whether it has a name.
     pub fn contains(&self, name: &str) -> bool
         ensures { result ≡ is_name_of self.now name.now }
     {
         self.texts.contains(name)
     }
 
-    /// Puts a new name behind the others.
+    /// Puts a new name behind the others. Err: memory was refused, and they are as they were.
     pub fn add(&mut self, alloc: Global, name: &str) -> Result<(), AllocError>
         requires { is_name_of self.old name.now ≡ false }
-        ensures { OnOk result (self.new ≡ self.old ++ name.now ∷ []) }
+        ensures added { OnOk result (self.new ≡ self.old ++ name.now ∷ []) }
+        ensures kept { OnErr result (self.new ≡ self.old) }
     {
         let text = String::from_str(alloc, name)?;
         self.texts.insert(text)?;

@@ -1,6 +1,6 @@
 //! The next cell in which two lists of cells differ, and whether there is one.
 
-ghost use Rattle.std.specs.Prelude.{◌≡◌, ◌≤◌, ◌↔◌, IsTrue, ℕ, true, length};
+ghost use Rattle.std.specs.Prelude.{◌≡◌, ◌≤◌, ◌↔◌, IsTrue, true, length};
 ghost use Rattle.pz_cells.specs.Differing.{IsNextDiffering};
 ghost use Rattle.pz_cells.specs.Lists.{HaveSame, HeadNowhere};
 

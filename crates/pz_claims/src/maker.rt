@@ -1,3 +1,5 @@
+//! The maker of the seats of a claim table.
+
 ghost use Rattle.std.specs.Prelude.{◌≡◌};
 
 use crate::view::View;

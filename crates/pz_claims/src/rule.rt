@@ -1,3 +1,5 @@
+//! The rule of a claim table, and the steps that its holders take by it.
+
 use crate::view::View;
 use atomic_table::{Join, Play, Split, TableRule};
 

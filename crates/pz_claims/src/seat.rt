@@ -1,3 +1,5 @@
+//! The seats of a claim table, and those that have ended.
+
 use crate::view::View;
 use atomic_table::Seat as Token;
 use std::marker::Model;

@@ -1,4 +1,6 @@
-ghost use Rattle.std.specs.Prelude.{◌≡◌, ℕ, ◌+◌, ◌<◌, ◌≤◌, [], ◌∷◌, ◌++◌, All, IfOk};
+//! A table of numbers, which threads claim.
+
+ghost use Rattle.std.specs.Prelude.{◌≡◌, ◌+◌, ◌<◌, ◌≤◌, [], ◌++◌, IfOk};
 ghost use Rattle.pz_claims.specs.Rule.{Once, Apart};
 ghost use Rattle.pz_claims.specs.Answers.{IsClaim};
 ghost use Rattle.pz_claims.specs.declared.limits.TheConstants.{MOST_NUMBERS, MOST_SEATS};

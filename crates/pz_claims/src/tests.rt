@@ -1,3 +1,5 @@
+//! Tests of a table by its public calls.
+
 ghost use Rattle.std.specs.Prelude.{◌≡◌, ◌≤◌, ◌+◌, IfOk};
 ghost use Rattle.std.specs.Thread.{IsSync};
 ghost use Rattle.pz_claims.specs.declared.limits.TheConstants.{MOST_NUMBERS};

@@ -1,3 +1,5 @@
+//! What the holders of a claim table know.
+
 use std::collections::LinkedList;
 
 /// What a holder of a claim table knows. Proofs alone have such values: none is ever made. Each but the last begins with the number of

@@ -1,8 +1,7 @@
 //! Where the objects of layers head, as sets of numbers: five for each layer, those of 25 layers in a word.
 
-ghost use Rattle.std.specs.Prelude.{◌≡◌, ℕ, ◌+◌, ◌/◌, ◌%◌, ◌<◌, ◌↔◌, IsTrue, true, false, MatchOption, ◌≤◌, not, ◌&&◌, ◌||◌, nat_eq, length};
+ghost use Rattle.std.specs.Prelude.{◌≡◌, ℕ, ◌+◌, ◌/◌, ◌%◌, ◌<◌, not, ◌&&◌, ◌||◌, nat_eq, length};
 ghost use Rattle.pz_game.specs.declared.limits.TheConstants.{MAX_LAYERS};
-ghost use Rattle.pz_sets.specs.Sets.{member};
 ghost use Rattle.pz_sets.specs.declared.set.TheConstants.{CAPACITY};
 ghost use Rattle.pz_game.specs.declared.direction.Dir.{Dir};
 ghost use Rattle.pz_game.specs.Direction.{same_dir};
@@ -93,17 +92,4 @@ pub fn clear(set: &mut [u128], layer: usize)
     unset(set, layer, Dir::Left);
     unset(set, layer, Dir::Right);
     unset(set, layer, Dir::Action);
-}
-
-/// The next layer from one on that heads somewhere.
-pub fn next(set: &[u128], start: usize) -> Option<usize>
-    requires short { length set.now ≤ 4 }
-    requires low { start ≤ MAX_LAYERS }
-    requires proper { IsProper set.now }
-    ensures { MatchOption result ((layer : ℕ) (dir : Dir) → start ≤ layer → heads set.now layer dir ≡ false) (λ found. (start ≤ found) × (found < MAX_LAYERS) × ((layer : ℕ) (dir : Dir) → start ≤ layer → layer < found → heads set.now layer dir ≡ false)) }
-{
-    match words::next(set, start / 25 * 128 + start % 25 * 5) {
-        None => None,
-        Some(flag) => Some(flag / 128 * 25 + flag % 128 / 5),
-    }
 }

@@ -1,6 +1,6 @@
 //! The texts of sources, the games that they are, and their levels.
 
-ghost use Rattle.std.specs.Prelude.{◌≡◌, IfOk};
+ghost use Rattle.std.specs.Prelude.{IfOk};
 ghost use Rattle.pz_sheet.specs.Grid.{IsOfGame};
 
 use pz_base::fault::SourceFault;

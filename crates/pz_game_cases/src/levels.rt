@@ -1,12 +1,13 @@
 //! A level, loaded, pushed and moved. No test owns a game or a level, and no function both: such a one is dear to prove.
 
-ghost use Rattle.std.specs.Prelude.{◌≡◌, IfOk};
+ghost use Rattle.std.specs.Prelude.{IfOk};
 ghost use Rattle.pz_sheet.specs.Grid.{IsOfGame};
 
 use crate::game::{game_of, joined, loaded};
+use pz_bare::past::Past;
 use pz_game::direction::Dir;
 use pz_game::game::Game;
-use pz_grid::{Level, Past, push_players, resolve};
+use pz_grid::{Level, push_players, resolve};
 use std::alloc::Global;
 use std::test::Fail;
 
@@ -142,7 +143,7 @@ fn moves_the_player(rt: HostRuntime) -> Result<(), Fail> {
 
 /// Keeps a level, which goes by a call.
 fn keep(past: &mut Past, level: Level) -> Result<(), Fail> {
-    let kept = past.push(&level);
+    let kept = past.push(level.bare());
     drop(level);
     Ok(kept?)
 }
@@ -157,19 +158,28 @@ fn kept(alloc: Global, game: &Game) -> Result<Past, Fail> {
 }
 
 /// Of the newest level, whether the player heads where it was loaded, and whether it stands beside; None: no level is left.
-fn taken(past: &mut Past) -> Result<Option<(bool, bool)>, Fail> {
-    match past.pop()? {
-        None => Ok(None),
-        Some(level) => Ok(Some((level.dir_of(0, 0, 1).is_some(), level.has(1, 0, 1)))),
-    }
+fn newest(past: &Past) -> Option<(bool, bool)> {
+    let level = past.newest()?;
+    let heads = match level.piece(0, 0, 1) {
+        Some(piece) => piece.heading.is_some(),
+        None => false,
+    };
+    Some((heads, level.piece(1, 0, 1).is_some()))
+}
+
+/// The same, and then it is forgotten.
+fn taken(past: &mut Past) -> Option<(bool, bool)> {
+    let found = newest(past);
+    past.forget();
+    found
 }
 
 fn all_taken_in(alloc: Global, game: &Game) -> Result<[Option<(bool, bool)>; 4], Fail> {
     let mut past = kept(alloc, game)?;
-    let moved = taken(&mut past)?;
-    let pushed = taken(&mut past)?;
-    let loaded = taken(&mut past)?;
-    let none = taken(&mut past)?;
+    let moved = taken(&mut past);
+    let pushed = taken(&mut past);
+    let loaded = taken(&mut past);
+    let none = taken(&mut past);
     Ok([moved, pushed, loaded, none])
 }
 

@@ -1,6 +1,6 @@
 //! The rule of a line.
 
-ghost use Rattle.std.specs.Prelude.{◌≡◌, ◌≤◌, ◌++◌, List, Option, Some, None, IfOk, IfSome, MatchOption, length};
+ghost use Rattle.std.specs.Prelude.{◌≡◌, Option, Some, None, IfOk, MatchOption};
 ghost use Rattle.pz_grammar.specs.Parsed.{parsed, command_of, commands_of, begins_joined, after_joined, prefixes_of, after_prefixes, after_arrow};
 ghost use Rattle.pz_grammar.specs.Written.{is_direction, is_prefix, IsWritten, IsNoRule};
 

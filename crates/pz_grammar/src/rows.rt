@@ -1,9 +1,9 @@
 //! Rows, token by token.
 
-ghost use Rattle.std.specs.Prelude.{◌≡◌, ◌≤◌, ◌<◌, ◌++◌, ◌∷◌, [], List, Option, Some, None, true, IfOk, IfSome, MatchOption, length};
+ghost use Rattle.std.specs.Prelude.{◌≡◌, ◌≤◌, ◌<◌, ◌∷◌, [], Option, Some, None, true, IfOk, IfSome, MatchOption, length};
 ghost use Rattle.pz_grammar.specs.Parsed.{inside, led, outside, with_phrase, with_gap, with_bar, with_close};
 ghost use Rattle.pz_grammar.specs.Written.{has_cells};
-ghost use Rattle.pz_grammar.specs.Steps.{before, row_before, rows_before, StepIs, StepFits, after_open};
+ghost use Rattle.pz_grammar.specs.Steps.{before, row_before, StepIs, StepFits, after_open};
 
 use crate::rule::{Cell, Phrase};
 use crate::token::{Class, Lead, Token};

@@ -6,7 +6,6 @@ pub mod SettleLemmas
 pub mod StayLemmas
 pub mod MarkLemmas
 pub mod MoveLemmas
-pub mod LoadingLemmas
 pub mod FoldLemmas
 pub mod FoundLemmas
 pub mod PlaceLemmas
@@ -17,4 +16,3 @@ pub mod GapLemmas
 pub mod SkipLemmas
 pub mod SomewhereLemmas
 pub mod CountLemmas
-pub mod PastLemmas

@@ -1,9 +1,6 @@
-pub mod Bare
 pub mod Movement
-pub mod Loading
 pub mod Places
 pub mod Rewriting
 pub mod Marks
 pub mod Staying
 pub mod Admitted
-pub mod Past

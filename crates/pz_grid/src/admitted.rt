@@ -1,4 +1,4 @@
-// The lines in which a row of a rule may start.
+//! The lines in which a row of a rule may start.
 
 ghost use Rattle.std.specs.Prelude.{◌≡◌, ◌<◌, All, true, false, []};
 ghost use Rattle.std.specs.List.{list_all};
@@ -9,7 +9,7 @@ ghost use Rattle.pz_grid.specs.Places.{line_count, places};
 ghost use Rattle.pz_game.specs.declared.direction.Dir.{Dir};
 
 use crate::Level;
-use crate::bare::{BareLevel, Sized};
+use pz_bare::{BareLevel, Sized};
 use pz_game::direction::Dir;
 use pz_game::masks::names;
 use pz_game::pattern::{Item, Pattern, Row};
@@ -123,7 +123,7 @@ fn may_head(bare: &BareLevel, row: &Row, dir: Dir, line: u32) -> bool
     requires line_in { line < line_count bare.now.grid dir }
     ensures none { result ≡ false → StartsNowhere bare.now.grid row.now dir line }
 {
-    match &bare.sheet {
+    match bare.sheet() {
         Sized::Small(sheet) => line_may_head(sheet, row, dir, line),
         Sized::Middle(sheet) => line_may_head(sheet, row, dir, line),
         Sized::Large(sheet) => line_may_head(sheet, row, dir, line),

@@ -1,28 +1,11 @@
 //! What a level's headings tell of all rows that ask for one of a set.
 
-ghost use Rattle.std.specs.Prelude.{◌≡◌, [], List, All, true, false};
+ghost use Rattle.std.specs.Prelude.{◌≡◌, [], false};
 ghost use Rattle.pz_game.specs.declared.direction.Dir.{Dir};
-ghost use Rattle.pz_game.specs.declared.pattern.Item.{Item};
-ghost use Rattle.pz_game.specs.Pattern.{RuleRow, AreOf, IsRowOf};
-ghost use Rattle.pz_game.specs.Pattern.{AsksAmong};
-ghost use Rattle.pz_sheet.specs.Searching.{HoldsSomewhere};
+ghost use Rattle.pz_game.specs.Pattern.{RuleRow, IsRowOf, AsksAmong};
 ghost use Rattle.pz_grid.specs.Places.{places};
 
 use crate::Level;
-use crate::bare::{BareLevel, Sized};
-
-impl BareLevel {
-    /// Whether something may head in a direction of a set: true where cells that ask for one of them all hold somewhere.
-    fn may_head_in(&self, asked: &[u128]) -> bool
-        ensures { (cells : List (List Item)) → All (AreOf self.now.grid.layers) cells → AsksAmong asked.now cells → All (HoldsSomewhere self.now.grid) cells → result ≡ true }
-    {
-        match &self.sheet {
-            Sized::Small(sheet) => sheet.may_head_in(asked),
-            Sized::Middle(sheet) => sheet.may_head_in(asked),
-            Sized::Large(sheet) => sheet.may_head_in(asked),
-        }
-    }
-}
 
 impl Level {
     /// Whether something may head in a direction of a set, as far as the level's headings tell: false says that no row that asks for

@@ -1,37 +1,30 @@
-//! Levels of a game: loaded, read, compared, matched, rewritten, pushed and moved.
+//! Levels of a game: loaded, read, compared, matched, rewritten, pushed and moved; with the marks by which the search skips.
 #![tactic(auto)]
 
-ghost use Rattle.std.specs.Prelude.{◌≡◌, ◌+◌, ◌*◌, ◌<◌, ℕ, length, Some, None, MatchOption, IfOk};
+ghost use Rattle.std.specs.Prelude.{◌≡◌, ◌<◌, ℕ, Some, None, MatchOption};
 ghost use Rattle.pz_sets.specs.Sets.{member};
 ghost use Rattle.pz_sheet.specs.Grid.{IsLawful};
 ghost use Rattle.pz_grid.specs.Marks.{IsMarked};
 ghost use Rattle.pz_sheet.specs.Standing.{standing_at, stands, heading_at};
 
+use pz_bare::BareLevel;
 use pz_cells::piece::Piece;
 use pz_game::direction::Dir;
 use pz_sets::set::NumberSet;
 use std::marker::Model;
 
 mod admitted;
-mod bare;
 mod headed;
-mod loading;
 mod marks;
 mod movement;
-mod older;
-mod past;
 pub mod places;
 mod presence;
 mod pushing;
 pub mod rewriting;
 mod sameness;
-mod seen;
 
-use bare::BareLevel;
 pub use movement::resolve;
-pub use past::Past;
 pub use pushing::push_players;
-pub use seen::SeenLevel;
 
 /// A level: what stands in its cells, and its marks: for each row, for each column and for the whole a set of objects that holds at least
 /// those that stand there.
@@ -69,6 +62,13 @@ impl Model for Level {
 }
 
 impl Level {
+    /// What stands in its cells.
+    pub fn bare(&self) -> &BareLevel
+        ensures { result.now.grid ≡ self.now.grid }
+    {
+        &self.bare
+    }
+
     /// The number of columns.
     pub fn width(&self) -> u32
         ensures width { result ≡ self.now.grid.width }

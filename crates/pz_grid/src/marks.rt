@@ -1,21 +1,35 @@
 //! The objects that each row and each column of a level may have.
 
-ghost use Rattle.std.specs.Prelude.{◌≡◌, ◌≤◌, ℕ, ◌<◌, ◌&&◌, ◌||◌, Bool, All, IfOk, OnOk, true, length, nat_eq, Option, IfSome, [], ◌∷◌};
+ghost use Rattle.std.specs.Prelude.{◌≡◌, ℕ, ◌<◌, ◌&&◌, All, IfOk, OnOk, true, length, nat_eq, []};
 ghost use Rattle.pz_sets.specs.Sets.{member};
 ghost use Rattle.pz_sets.specs.declared.set.TheConstants.{CAPACITY};
 ghost use Rattle.pz_sheet.specs.Grid.{IsLawful};
 ghost use Rattle.pz_sheet.specs.Presence.{in_row, in_column};
 ghost use Rattle.pz_game.specs.Items.{names, names_object};
+ghost use Rattle.pz_game.specs.Level.{is_playable, entry_at};
+ghost use Rattle.pz_bare.specs.Loading.{loaded};
 ghost use Rattle.pz_grid.specs.Marks.{is_marked, IsExact, IsMore};
 
 use crate::Level;
-use crate::bare::BareLevel;
+use pz_bare::BareLevel;
+use pz_game::game::Game;
 use pz_game::masks::names;
 use pz_game::pattern::{Item, Pattern};
 use pz_sets::set::NumberSet;
 use std::alloc::{AllocError, Global};
 
 impl Level {
+    /// The level of the entry of LEVELS of a number, which is not a message. Err: memory was refused.
+    pub fn load(alloc: Global, game: &Game, index: usize) -> Result<Level, AllocError>
+        requires { is_playable (entry_at game.now index) ≡ true }
+        ensures loaded { IfOk result (λ level. level.grid ≡ loaded game.now index) }
+        ensures lawful { IfOk result (λ level. IsLawful level.grid) }
+        ensures exact { IfOk result IsExact }
+    {
+        let bare = BareLevel::load(alloc, game, index)?;
+        Level::marked(alloc, bare)
+    }
+
     /// The same level once more, each set exactly what stands in its line. Err: memory was refused.
     pub fn copy(&self) -> Result<Level, AllocError>
         ensures copied { IfOk result (λ level. level.grid ≡ self.now.grid) }
@@ -43,7 +57,7 @@ impl Level {
     }
 
     /// A level with its marks, each set exactly what stands in its line. Err: memory was refused.
-    pub(crate) fn marked(alloc: Global, bare: BareLevel) -> Result<Level, AllocError>
+    pub fn marked(alloc: Global, bare: BareLevel) -> Result<Level, AllocError>
         ensures grid { IfOk result (λ level. level.grid ≡ bare.grid) }
         ensures lawful { IfOk result (λ level. IsLawful level.grid) }
         ensures exact { IfOk result IsExact }

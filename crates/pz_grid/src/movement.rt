@@ -1,8 +1,7 @@
-// The movement of pieces that head somewhere.
+//! The movement of pieces that head somewhere.
 
 ghost use Rattle.std.specs.Prelude.{◌≡◌, ℕ, ◌<◌, IfSome, MatchOption, fold, map, nat_eq, true};
 ghost use Rattle.pz_cells.specs.Cell.{IsOnLayer, still_place};
-ghost use Rattle.pz_sets.specs.declared.set.TheConstants.{CAPACITY};
 ghost use Rattle.pz_sheet.specs.Grid.{cell_at, IsLawful, IsOfGame, SameSize, place_at, with_place};
 ghost use Rattle.pz_sheet.specs.Presence.{in_row, in_column};
 ghost use Rattle.pz_grid.specs.Marks.{IsMarked, IsMarkedAt, IsWidened};
@@ -11,7 +10,7 @@ ghost use Rattle.pz_grid.specs.Movement.{neighbour, heading_goal, spot, in_pass,
 ghost use Rattle.pz_sheet.specs.Movement.{stilled};
 
 use crate::Level;
-use crate::bare::{BareLevel, Sized};
+use pz_bare::Sized;
 use pz_cells::piece::Piece;
 use pz_game::direction::Dir;
 use pz_game::game::Game;
@@ -99,22 +98,6 @@ fn leaving<const N: usize>(
     }
 }
 
-impl BareLevel {
-    /// The piece that leaves a layer of a position of the map, and where it goes, if one does.
-    fn leaving(&self, x: u32, y: u32, layer: usize) -> Option<(Piece, (u32, u32))>
-        requires x_in { x < self.now.grid.width }
-        requires y_in { y < self.now.grid.height }
-        requires layer_in { layer < self.now.grid.depth }
-        ensures { MatchOption result (Stays self.now.grid (spot x y layer)) (λ leaves. Leaves self.now.grid (spot x y layer) leaves.0 leaves.1) }
-    {
-        match &self.sheet {
-            Sized::Small(sheet) => leaving(sheet, x, y, layer),
-            Sized::Middle(sheet) => leaving(sheet, x, y, layer),
-            Sized::Large(sheet) => leaving(sheet, x, y, layer),
-        }
-    }
-}
-
 impl Level {
     fn depth(&self) -> usize
         ensures { result ≡ self.now.grid.depth }
@@ -129,7 +112,11 @@ impl Level {
         requires layer_in { layer < self.now.grid.depth }
         ensures { MatchOption result (Stays self.now.grid (spot x y layer)) (λ leaves. Leaves self.now.grid (spot x y layer) leaves.0 leaves.1) }
     {
-        self.bare.leaving(x, y, layer)
+        match self.bare.sheet() {
+            Sized::Small(sheet) => leaving(sheet, x, y, layer),
+            Sized::Middle(sheet) => leaving(sheet, x, y, layer),
+            Sized::Large(sheet) => leaving(sheet, x, y, layer),
+        }
     }
 
     /// Whether nothing at a position of the map heads anywhere.

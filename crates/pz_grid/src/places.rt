@@ -1,15 +1,15 @@
 //! The places of a row of a rule: where it holds.
 
 ghost use Rattle.std.specs.List.{list_all, enumerate_from};
-ghost use Rattle.std.specs.Prelude.{◌≡◌, ◌≢◌, All, take, true, ℕ, ◌+◌, ◌*◌, ◌<◌, ◌≤◌, cond, [], ◌∷◌, ◌++◌, ◌^◌, filter, length, OnOk, IfOk, IfErr, IfSome, Ok, Err};
+ghost use Rattle.std.specs.Prelude.{◌≡◌, ◌≢◌, All, take, true, ◌+◌, ◌*◌, ◌<◌, ◌≤◌, cond, [], ◌∷◌, ◌++◌, ◌^◌, filter, length, OnOk, IfOk, IfErr, IfSome, Ok, Err};
 ghost use Rattle.pz_game.specs.declared.limits.TheConstants.{MAX_SIDE};
 ghost use Rattle.pz_game.specs.Pattern.{AreOf, IsRowOf, AreRowsOf};
 ghost use Rattle.pz_grid.specs.Admitted.{admitted, searches_line, starts_in, start_count};
 ghost use Rattle.pz_grid.specs.Places.{on_map, along, position_of, distance, cell_holds, row_holds, line_count, line_length, place_in, holds_behind, pairs_at, head_of, pairs_in, places, searched, starts_with, still_holds, still_matches};
-ghost use Rattle.pz_sheet.specs.Searching.{IsNext};
+ghost use Rattle.pz_sets.specs.Next.{IsNext};
 
 use crate::Level;
-use crate::bare::{BareLevel, Sized};
+use pz_bare::{BareLevel, Sized};
 use pz_game::direction::Dir;
 use pz_game::pattern::{Pattern, Row};
 use pz_program::instance::Instance;
@@ -41,7 +41,7 @@ pub enum GridFault {
     MatchLimit,
 }
 
-impl BareLevel {
+impl Level {
     fn on_map(&self, x: usize, y: usize) -> Option<(u32, u32)>
         ensures position { result ≡ on_map self.now.grid x y }
         ensures inside { IfSome result (λ at. (at.0 < self.now.grid.width) × (at.1 < self.now.grid.height)) }
@@ -78,23 +78,6 @@ impl BareLevel {
     }
 
     /// Where the cell of a number of a row stands that starts at a place, if that is on the map.
-    fn position_of(
-        &self,
-        dir: Dir,
-        gap_at: Option<u32>,
-        place: Place,
-        index: usize,
-    ) -> Option<(u32, u32)>
-        requires near { index < 2 ^ 32 }
-        ensures position { result ≡ position_of self.now.grid dir gap_at place index }
-        ensures inside { IfSome result (λ at. (at.0 < self.now.grid.width) × (at.1 < self.now.grid.height)) }
-    {
-        self.along(dir, place.x, place.y, distance(gap_at, place.gap, index))
-    }
-}
-
-impl Level {
-    /// Where the cell of a number of a row stands that starts at a place, if that is on the map.
     pub fn position_of(
         &self,
         dir: Dir,
@@ -106,7 +89,7 @@ impl Level {
         ensures position { result ≡ position_of self.now.grid dir gap_at place index }
         ensures inside { IfSome result (λ at. (at.0 < self.now.grid.width) × (at.1 < self.now.grid.height)) }
     {
-        self.bare.position_of(dir, gap_at, place, index)
+        self.along(dir, place.x, place.y, distance(gap_at, place.gap, index))
     }
 }
 
@@ -160,7 +143,7 @@ fn row_holds(bare: &BareLevel, row: &Row, dir: Dir, place: Place) -> bool
     requires of_game { IsRowOf bare.now.grid.layers row.now }
     ensures { result ≡ row_holds bare.now.grid row.now dir place }
 {
-    match &bare.sheet {
+    match bare.sheet() {
         Sized::Small(sheet) => holds_in(sheet, row, dir, place),
         Sized::Middle(sheet) => holds_in(sheet, row, dir, place),
         Sized::Large(sheet) => holds_in(sheet, row, dir, place),
@@ -425,7 +408,7 @@ fn search_line(
     ensures room { OnOk result (length found.new.items ≤ MATCH_LIMIT) }
     ensures limit { result ≡ Err GridFault.MatchLimit → MATCH_LIMIT < length (found.old.items ++ filter (row_holds bare.now.grid row.now line.dir) (pairs_in bare.now.grid row.now line.dir line.number)) }
 {
-    match &bare.sheet {
+    match bare.sheet() {
         Sized::Small(sheet) => add_places_in(sheet, row, line, found, tested),
         Sized::Middle(sheet) => add_places_in(sheet, row, line, found, tested),
         Sized::Large(sheet) => add_places_in(sheet, row, line, found, tested),

@@ -1,4 +1,4 @@
-// Which objects are in a cell.
+//! Which objects are in a cell.
 
 ghost use Rattle.std.specs.Prelude.{◌≡◌, ◌<◌, length};
 ghost use Rattle.std.specs.List.{list_any, list_all};

@@ -1,10 +1,10 @@
-// The direction of an input, given to the player.
+//! The direction of an input, given to the player.
 
-ghost use Rattle.std.specs.Prelude.{◌≡◌, map};
+ghost use Rattle.std.specs.Prelude.{◌≡◌};
 ghost use Rattle.pz_game.specs.Game.{players_of};
 ghost use Rattle.pz_sheet.specs.Grid.{IsLawful, IsOfGame, SameSize};
 ghost use Rattle.pz_grid.specs.Marks.{IsMarked};
-ghost use Rattle.pz_sheet.specs.Pushing.{is_one_of, pushed_place, pushed};
+ghost use Rattle.pz_sheet.specs.Pushing.{pushed};
 
 use crate::Level;
 use pz_game::direction::Dir;

@@ -1,4 +1,4 @@
-// Whether two levels are the same.
+//! Whether two levels are the same.
 
 ghost use Rattle.std.specs.Prelude.{◌≡◌, ◌↔◌, IsTrue};
 ghost use Rattle.pz_sheet.specs.Sameness.{same_grid};

@@ -15,7 +15,7 @@ use Rattle.pz_sheet.specs.Standing.{stands, heading_at}
 use Rattle.pz_sheet.specs.Sameness.{same_grid}
 use Rattle.pz_sheet.specs.Pushing.{pushed}
 use Rattle.pz_grid.specs.Movement.{resolved}
-use Rattle.pz_grid.specs.Loading.{loaded}
+use Rattle.pz_bare.specs.Loading.{loaded}
 
 -- objects: background 0, grass 1, player 2, wall 3, crate 4, spike 5; layers: 0 and 1, then the others
 abbrev layers : List ℕ

@@ -1,7 +1,7 @@
 //! Equal instances of a rule.
 
 ghost use Rattle.std.specs.Prelude.{◌≡◌};
-ghost use Rattle.std.specs.List.{list_all, list_any, zip};
+ghost use Rattle.std.specs.List.{list_all, zip};
 ghost use lib.Pointwise.{pointwise};
 ghost use Rattle.pz_instances.specs.Equal.{same_meaning, same_item, has_item, within_cell, same_cell, same_row, same_instance};
 

@@ -1,6 +1,6 @@
 //! The programs that games share.
 
-ghost use Rattle.std.specs.Prelude.{◌≡◌, Ok, IfOk, IfSome};
+ghost use Rattle.std.specs.Prelude.{◌≡◌, Ok, IfSome};
 ghost use Rattle.std.specs.Arc.{arc_value};
 ghost use Rattle.pz_rules.specs.Drafts.{program_of};
 ghost use Rattle.pz_job.specs.Rulebooks.{IsProgramFor};

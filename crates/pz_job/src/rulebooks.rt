@@ -1,6 +1,6 @@
 //! The rulebooks of sources.
 
-ghost use Rattle.std.specs.Prelude.{◌≡◌, ◌≢◌, IfOk, IfErr, IfSome, Ok, Err};
+ghost use Rattle.std.specs.Prelude.{◌≡◌, ◌≢◌, IfOk, IfErr, Ok, Err};
 ghost use Rattle.pz_rules.specs.Drafts.{program_of};
 ghost use Rattle.std.specs.Arc.{arc_value};
 ghost use Rattle.pz_job.specs.Rulebooks.{or_refused, rulebook_of, shared_in, AreKept, IsProgramFor};

@@ -1,6 +1,6 @@
 //! The sources of a file, read and their rules expanded by several threads.
 
-ghost use Rattle.std.specs.Prelude.{◌≡◌, ◌≤◌, ◌<◌, ℕ, List, length};
+ghost use Rattle.std.specs.Prelude.{◌≤◌, ◌<◌, ℕ, List, length};
 ghost use Rattle.pz_job.specs.Sources.{IsKnown};
 
 use crate::same::same_rules;

@@ -11,8 +11,9 @@ ghost use Rattle.pz_record.specs.CellTexts.{joined};
 
 use crate::cell_order::{number_at, position};
 use crate::label_table::LabelTable;
+use pz_bare::BareLevel;
 use pz_game::game::Game;
-use pz_grid::{Level, SeenLevel};
+use pz_grid::Level;
 use pz_record::labels::KnownTexts;
 use pz_record::order::Order;
 use std::alloc::{AllocError, Global};
@@ -139,7 +140,7 @@ impl<'a> CellLabels<'a> {
     }
 
     /// Looks at the cell of a number, counted row by row, where a level may have changed since it was seen.
-    fn look(&mut self, seen: &mut SeenLevel, level: &Level, index: usize) -> Result<(), AllocError>
+    fn look(&mut self, seen: &mut BareLevel, level: &Level, index: usize) -> Result<(), AllocError>
         requires size { SameSize seen.old.grid level.now.grid }
         requires within { index < length seen.old.grid.cells }
         requires on_map { index < level.now.grid.width * level.now.grid.height }
@@ -155,14 +156,14 @@ impl<'a> CellLabels<'a> {
         let label = self.label_at(level, x, y)?;
         let number = number_at(self.order, level, x, y);
         self.put(number, label);
-        seen.take_cell(level, index);
+        seen.take_cell(level.bare(), index);
         Ok(())
     }
 
     /// Looks at each cell of a level that has changed since it was seen, and says whether one has.
     pub fn look_at_changes(
         &mut self,
-        seen: &mut SeenLevel,
+        seen: &mut BareLevel,
         level: &Level,
     ) -> Result<bool, AllocError>
         requires size { SameSize seen.old.grid level.now.grid }
@@ -176,7 +177,7 @@ impl<'a> CellLabels<'a> {
         // (brings the proof the law of the level)
         let _ = level.width();
         let mut from = 0;
-        'changes: while let Some(index) = seen.next_change(level, from) {
+        'changes: while let Some(index) = seen.next_change(level.bare(), from) {
             self.look(seen, level, index)?;
             from = index + 1;
         }

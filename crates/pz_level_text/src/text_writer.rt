@@ -7,9 +7,10 @@ ghost use Rattle.pz_record.specs.CellTexts.{text_of_cells};
 ghost use Rattle.pz_level_text.specs.LevelText.{text_of_level};
 
 use crate::cell_labels::CellLabels;
+use pz_bare::BareLevel;
 use pz_base::text::Text;
 use pz_game::game::Game;
-use pz_grid::{Level, SeenLevel};
+use pz_grid::Level;
 use pz_record::order::Order;
 use pz_record::plain::plain_text;
 use pz_record::quoted::QuotedText;
@@ -23,7 +24,7 @@ use std::marker::Model;
 pub struct TextWriter<'a> {
     alloc: Global,
     cells: CellLabels<'a>,
-    seen: Option<SeenLevel>,
+    seen: Option<BareLevel>,
     room: TextRoom,
     last: Option<u32>,
 }
@@ -110,13 +111,13 @@ impl<'a> TextWriter<'a> {
         self.last = None;
         self.seen = None;
         self.cells.look_at_all(level)?;
-        let seen = SeenLevel::of(level)?;
+        let seen = level.bare().copy()?;
         self.seen = Some(seen);
         Ok(())
     }
 
     /// Looks at each cell of a level that has changed since it was seen.
-    fn look_at_changes(&mut self, seen: SeenLevel, level: &Level) -> Result<(), AllocError>
+    fn look_at_changes(&mut self, seen: BareLevel, level: &Level) -> Result<(), AllocError>
         requires size { SameSize seen.grid level.now.grid }
         requires known { self.old.cells ≡ texts_in self.old.table.game self.old.order seen.grid }
         ensures cells { OnOk result (self.new.cells ≡ texts_in self.old.table.game self.old.order level.now.grid) }
@@ -141,7 +142,7 @@ impl<'a> TextWriter<'a> {
         ensures order { self.new.order ≡ self.old.order }
     {
         match self.seen.take() {
-            Some(seen) if seen.same_size(level) => self.look_at_changes(seen, level),
+            Some(seen) if seen.same_size(level.bare()) => self.look_at_changes(seen, level),
             _ => self.look_at_all(level),
         }
     }

@@ -1,6 +1,6 @@
 //! The line of an item: compact JSON, its keys in the order of their bytes, and a line feed. It is written behind the lines before it.
 
-ghost use Rattle.std.specs.Prelude.{◌≡◌, ◌++◌, IfOk, OnOk, codes, decimal};
+ghost use Rattle.std.specs.Prelude.{◌≡◌, ◌++◌, IfOk, OnOk, decimal};
 ghost use Rattle.json.specs.Print.{quoted};
 ghost use Rattle.pz_lines.specs.Lines.{frame_count, frame_line, close_line, item_line, with_cause};
 ghost use Rattle.pz_lines.specs.Naming.{cause_name};

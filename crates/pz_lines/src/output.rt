@@ -1,9 +1,7 @@
 //! A writer whose failures are kept in mind.
 
-ghost use Rattle.std.specs.Prelude.{◌≡◌, ◌≤◌, ◌<◌, false, [], length, take, IfErr, IfOk, OnErr, OnOk};
-ghost use Rattle.std.specs.Io.KnownBytes.{Appends, Keeps};
+ghost use Rattle.std.specs.Prelude.{◌≡◌, ◌≤◌, ◌<◌, false, [], length, take, IfErr, IfOk, OnOk};
 ghost use Rattle.pz_lines.specs.Writing.{HasFailed, HasWritten};
-ghost use Rattle.pz_lines.specs.declared.fault.Cause.TheVariants.{Memory};
 
 use crate::fault::{Cause, WriteFault};
 use std::io::Write;

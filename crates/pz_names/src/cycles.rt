@@ -1,7 +1,6 @@
 //! Names that reach themselves.
 
-ghost use Rattle.std.specs.Prelude.{◌≡◌, ◌≢◌, ◌<◌, ◌+◌, ◌^◌, ◌==◌, ◌||◌, ℕ, length, [], None, OnOk, IfOk, IfSome, true, false};
-ghost use Rattle.std.specs.List.{list_any};
+ghost use Rattle.std.specs.Prelude.{◌≡◌, ◌≢◌, ◌<◌, ◌+◌, ◌^◌, ℕ, length, [], None, OnOk, IfOk, IfSome, true, false};
 ghost use Rattle.pz_base.specs.Fault.{first_fault};
 ghost use Rattle.pz_base.specs.declared.fault.Code.TheVariants as code;
 ghost use Rattle.pz_names.specs.Legend.{line_at};

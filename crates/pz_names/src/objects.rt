@@ -1,10 +1,10 @@
 //! OBJECTS: its objects, and the names that they have.
 
-ghost use Rattle.std.specs.Prelude.{◌≡◌, ◌≢◌, ◌≤◌, ◌++◌, ◌∷◌, [], ℕ, suc, length, map, option_to_list, IfOk, IfErr, IfSome, OnOk, Ok, Err, Some, None, false, All};
+ghost use Rattle.std.specs.Prelude.{◌≡◌, ◌≢◌, ◌≤◌, ◌++◌, ◌∷◌, [], ℕ, suc, length, map, IfOk, IfErr, IfSome, OnOk, Ok, Err, Some, None, false, All};
 ghost use Rattle.std.specs.List.{list_all};
 ghost use Rattle.pz_base.specs.Fault.{first_fault};
 ghost use Rattle.pz_base.specs.declared.fault.Code.TheVariants as code;
-ghost use Rattle.pz_names.specs.Objects.{object_names, is_blank, is_pixel, is_sprite_row, sprite_rows, is_wide, is_sprite, is_whole, behind_paragraph, paragraph_of, paragraphs_within, paragraphs_of, name_line_of, has_repeat, paragraph_at, misnamed, misnames, objects_of, IsNamed};
+ghost use Rattle.pz_names.specs.Objects.{object_names, is_blank, is_pixel, is_sprite_row, sprite_rows, is_wide, is_sprite, is_whole, behind_paragraph, paragraphs_within, paragraphs_of, name_line_of, has_repeat, paragraph_at, misnamed, misnames, objects_of, IsNamed};
 
 use crate::name_line::NameLine;
 use pz_base::fault::{Code, SourceFault};

@@ -1,7 +1,7 @@
 //! Which choice of the left decides an item of the right.
 
-ghost use Rattle.std.specs.Prelude.{◌≡◌, ◌++◌, ◌+◌, List, Option, IfOk, map, length};
-ghost use Rattle.pz_plan.specs.Deciding.{same_spot, is_member, is_direction, is_direction_on, is_here, the_only, member_choice, direction_choice, decided_lead, decided_name, decided_term, decided_terms, decided_cells, decided_row, decided_rows, fits, fits_within};
+ghost use Rattle.std.specs.Prelude.{◌≡◌, Option, IfOk};
+ghost use Rattle.pz_plan.specs.Deciding.{is_member, is_direction, is_direction_on, is_here, the_only, member_choice, direction_choice, decided_lead, decided_name, decided_term, decided_terms, decided_cells, decided_row, decided_rows, fits, fits_within};
 
 use crate::numbering::{lead_of, name_of};
 use crate::plan::{Asked, Choice, Mention, PlanRow, Spot, Subject, Term, TermName};

@@ -1,7 +1,6 @@
 //! The choices of a left side, numbered in the order of its text.
 
-ghost use Rattle.std.specs.Prelude.{◌≡◌, ◌++◌, ◌+◌, List, OnOk, IfOk, map, length};
-ghost use Rattle.std.specs.List.{flat_map};
+ghost use Rattle.std.specs.Prelude.{◌≡◌, ◌++◌, ◌+◌, OnOk, IfOk, map, length};
 ghost use Rattle.pz_plan.specs.Numbering.{asked_by_mark, asked_by_subject, asked_by, choices_at, choices_in_row, choices_in_rows, lead_of, name_of, term_of, terms_of, cells_of, asked_in, asked_count, rows_of};
 
 use crate::plan::{Asked, Choice, Mention, PlanRow, Spot, Subject, Term, TermName};

@@ -1,10 +1,10 @@
 //! The prefixes of a rule.
 
-ghost use Rattle.std.specs.Prelude.{◌≡◌, IfOk, ◌++◌, OnOk};
-ghost use Rattle.std.specs.List.{list_any, flat_map};
-ghost use Rattle.pz_plan.specs.Prefix.{is_late_word, is_late_rule, prefix_directions, mentioned_directions, or_all, directions_of};
+ghost use Rattle.std.specs.Prelude.{◌≡◌, IfOk, OnOk};
+ghost use Rattle.std.specs.List.{list_any};
+ghost use Rattle.pz_plan.specs.Prefix.{is_late_word, is_late_rule, prefix_directions, mentioned_directions, directions_of};
 ghost use Rattle.pz_game.specs.Direction.{same_dir};
-ghost use Rattle.pz_base.specs.Lists.{firsts, added_all};
+ghost use Rattle.pz_base.specs.Lists.{added_all};
 
 use pz_base::listed::Listed;
 use pz_game::direction::Dir;

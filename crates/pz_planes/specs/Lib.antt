@@ -1,3 +1,2 @@
-pub mod Next
 pub mod Notes
 pub mod Planes

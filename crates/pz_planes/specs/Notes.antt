@@ -1,5 +1,5 @@
 -- Where something may head in a level, by its lines. What is noted holds at least what is there.
-use Rattle.std.specs.Prelude.{◌≡◌, ℕ, List, [], length, nat_eq, ◌&&◌, ◌||◌, slice_index_or}
+use Rattle.std.specs.Prelude.{◌≡◌, ℕ, ◌<◌, List, [], false, length, nat_eq, ◌&&◌, ◌||◌, slice_index_or}
 use Rattle.pz_sets.specs.Sets.{member, IsWithin}
 
 -- sets of headings: of the whole level, of each row and of each column
@@ -7,6 +7,12 @@ pub record HeadingSets : Type 0 where
   pub whole : List ℕ
   pub rows : List (List ℕ)
   pub columns : List (List ℕ)
+
+-- no heading is noted at all
+pub record HaveNone (sets : HeadingSets) : Type 0 where
+  pub whole : (number : ℕ) → member sets.whole number ≡ false
+  pub rows : (line number : ℕ) → line < length sets.rows → member (slice_index_or sets.rows line []) number ≡ false
+  pub columns : (line number : ℕ) → line < length sets.columns → member (slice_index_or sets.columns line []) number ≡ false
 
 -- sets of lines with more in one line, and the same in all others
 pub record IsMoreIn (old new : List (List ℕ)) (line : ℕ) (headings : List ℕ) : Type 0 where

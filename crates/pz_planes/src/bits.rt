@@ -2,7 +2,7 @@
 
 ghost use Rattle.std.specs.Prelude.{◌≡◌, ℕ, ◌+◌, ◌-◌, ◌<◌, ◌≤◌, ◌&&◌, true, not};
 ghost use Rattle.pz_sets.specs.Sets.{in_word};
-ghost use Rattle.pz_planes.specs.Next.{IsNext};
+ghost use Rattle.pz_sets.specs.Next.{IsNext};
 
 use pz_sets::words;
 

@@ -3,7 +3,7 @@
 
 ghost use Rattle.std.specs.Prelude.{◌≡◌, ◌<◌, ◌*◌, ◌/◌, ◌%◌, ◌||◌, ℕ, [], true, false, length, slice_index_or, IfOk, OnOk, OnErr};
 ghost use Rattle.pz_sets.specs.Sets.{member};
-ghost use Rattle.pz_planes.specs.Notes.{IsMoreIn};
+ghost use Rattle.pz_planes.specs.Notes.{HaveNone, IsMoreIn};
 
 use crate::copying::{make_room, refill};
 use pz_sets::set::NumberSet;
@@ -43,6 +43,7 @@ impl Notes {
     pub fn empty(alloc: Global, width: usize, height: usize) -> Result<Notes, AllocError>
         ensures rows { IfOk result (λ notes. length notes.rows ≡ height) }
         ensures columns { IfOk result (λ notes. length notes.columns ≡ width) }
+        ensures none { IfOk result HaveNone }
     {
         let rows = vec![in alloc; NumberSet::empty(); height]?;
         let columns = vec![in alloc; NumberSet::empty(); width]?;
@@ -93,6 +94,7 @@ impl Notes {
     pub fn clear(&mut self)
         ensures rows { length self.new.rows ≡ length self.old.rows }
         ensures columns { length self.new.columns ≡ length self.old.columns }
+        ensures none { HaveNone self.new }
     {
         self.whole = NumberSet::empty();
         clear(&mut self.rows);

@@ -63,6 +63,7 @@ impl LinePlanes {
         requires short { count ≤ MAX_SIDE }
         ensures objects { IfOk result (λ planes. planes.objects ≡ objects) }
         ensures count { IfOk result (λ planes. planes.count ≡ count) }
+        ensures none { IfOk result IsEmpty }
     {
         let words = vec![in alloc; 0; objects * count]?;
         Ok(LinePlanes {
@@ -220,7 +221,9 @@ impl Planes {
         requires few { objects ≤ MAX_OBJECTS }
         requires narrow { width ≤ MAX_SIDE }
         requires low { height ≤ MAX_SIDE }
-        ensures { IfOk result (λ planes. IsFor objects width height planes) }
+        ensures size { IfOk result (λ planes. IsFor objects width height planes) }
+        ensures rows { IfOk result (λ planes. IsEmpty planes.rows) }
+        ensures columns { IfOk result (λ planes. IsEmpty planes.columns) }
     {
         let rows = LinePlanes::empty(alloc, objects, height)?;
         let columns = LinePlanes::empty(alloc, objects, width)?;
@@ -299,7 +302,7 @@ impl Planes {
     }
 
     /// Notes the objects of the cell of a column and a row of the map, and none of those that were noted there before and are gone. Both sets
-    /// are in at most four words. (Where it is called the number of words is known.)
+    /// are in at most four words. (Inlined, since the number of words is known where it is called.)
     #[inline(always)]
     pub fn note(&mut self, x: usize, y: usize, before: &[u128], after: &[u128])
         requires short_before { length before.now ≤ 4 }

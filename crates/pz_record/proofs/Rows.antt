@@ -1,10 +1,9 @@
 -- Worked cases: the texts of cells, and names as sets.
-use Rattle.std.proofs.Common.{◌≡◌, ℕ, List, [], ◌∷◌, ◌++◌, Some, None, map, codes, true, false, refl}
+use Rattle.std.proofs.Common.{◌≡◌, ℕ, List, [], ◌∷◌, ◌++◌, codes, true, false, refl}
 use Rattle.std.specs.Fmt.{digits}
 use Rattle.json.specs.Print.{escape, escape_byte}
 use Rattle.pz_record.specs.CellNames.{with_name, set_of, same_set}
 use Rattle.pz_record.specs.CellTexts.{joined, text_of_cells, piece, with_cell}
-use Rattle.pz_record.specs.Written.{code_of}
 
 abbrev background : List ℕ
 background = codes "background"
@@ -28,10 +27,6 @@ in_columns = refl
 as_json : escape (text_of_cells 2 (codes "wa\"ll" ∷ codes "wa\"ll" ∷ [])) ≡ codes "wa" ++ 92 ∷ 34 ∷ codes "ll:0,0," ++ 92 ∷ 110 ∷ []
 unfolding piece with_cell digits escape_byte
 as_json = refl
-
--- a text that has no number stands for the largest word, and a number for itself
-no_number : map code_of (None ∷ Some 3 ∷ []) ≡ 18_446_744_073_709_551_615 ∷ 3 ∷ []
-no_number = refl
 
 sorted : set_of (wall ∷ player ∷ background ∷ player ∷ []) ≡ background ∷ player ∷ wall ∷ []
 unfolding with_name

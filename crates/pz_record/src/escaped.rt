@@ -1,6 +1,6 @@
 //! The text of cells as it stands in a JSON string, its escapes made. It is written into room that is kept from text to text.
 
-ghost use Rattle.std.specs.Prelude.{◌≡◌, ℕ, ◌+◌, ◌-◌, ◌*◌, ◌%◌, ◌^◌, ◌<◌, ◌≤◌, ◌++◌, ◌∷◌, [], length, map, replicate, take, All, IfOk, OnOk, decimal};
+ghost use Rattle.std.specs.Prelude.{◌≡◌, ℕ, ◌+◌, ◌-◌, ◌*◌, ◌%◌, ◌^◌, ◌<◌, ◌≤◌, ◌++◌, ◌∷◌, [], length, map, replicate, take, None, All, IfOk, OnOk, decimal};
 ghost use Rattle.json.specs.Print.{escape};
 ghost use Rattle.pz_record.specs.Labels.{text_at};
 ghost use Rattle.pz_record.specs.CellTexts.{line_end, text_of_cells};
@@ -112,11 +112,10 @@ fn end_line(json: &mut [u8], end: usize, width: usize, column: usize) -> (usize,
     (end + 2, 0)
 }
 
-/// Writes cells that have a number of one digit or two, up to the first other one. The numbers are those of the texts; where a text has none, the
-/// largest stands, so that one comparison finds both.
+/// Writes cells that have a number of one digit or two, up to the first other one. The numbers are those that were given to the texts.
 fn write_known(
     json: &mut [u8],
-    numbers: &[usize],
+    numbers: &[Option<usize>],
     texts: &KnownTexts,
     labels: &[usize],
     width: usize,
@@ -132,10 +131,11 @@ fn write_known(
     let _ = texts;
     let mut at = from;
     'cells: while at.cells < labels.len() {
-        let number = numbers[labels[at.cells]];
-        if number >= 100 {
-            return at;
-        }
+        let given = numbers[labels[at.cells]];
+        let number = match given {
+            Some(number) if number < 100 => number,
+            _ => return at,
+        };
         let next = put_number(json, at.end, number);
         let (end, column) = end_line(json, next, width, at.column);
         at = Written {
@@ -181,7 +181,7 @@ fn put_new(
 /// Writes the cell behind those that are written, whatever its text.
 fn write_cell(
     json: &mut Vec<u8>,
-    numbers: &mut Vec<usize>,
+    numbers: &mut Vec<Option<usize>>,
     texts: &KnownTexts,
     labels: &[usize],
     width: usize,
@@ -194,15 +194,15 @@ fn write_cell(
     ensures onward { IfOk result (λ next. next.cells ≡ at.cells + 1) }
 {
     let label = labels[at.cells];
-    let number = numbers[label];
     let mut known = at.known;
-    let end = if number < known {
-        put_large(json, at.end, number)?
-    } else {
-        let end = put_new(json, at.end, texts.quoted(label), known)?;
-        numbers[label] = known;
-        known += 1;
-        end
+    let end = match numbers[label] {
+        Some(number) => put_large(json, at.end, number)?,
+        None => {
+            let end = put_new(json, at.end, texts.quoted(label), known)?;
+            numbers[label] = Some(known);
+            known += 1;
+            end
+        }
     };
     make_way(json, end, 2)?;
     let (end, column) = end_line(json.as_mut_slice(), end, width, at.column);
@@ -215,18 +215,18 @@ fn write_cell(
 }
 
 /// As yet no label has a number.
-fn clear_numbers(numbers: &mut Vec<usize>, count: usize) -> Result<(), AllocError>
-    ensures { OnOk result (numbers.new.items ≡ replicate count 18_446_744_073_709_551_615) }
+fn clear_numbers(numbers: &mut Vec<Option<usize>>, count: usize) -> Result<(), AllocError>
+    ensures { OnOk result (numbers.new.items ≡ replicate count None) }
 {
     numbers.clear();
-    numbers.resize(count, usize::MAX)?;
+    numbers.resize(count, None)?;
     Ok(())
 }
 
 /// Writes the text of cells of these labels over what was written before, and says where it ends. The numbers are room for those of the labels.
 pub(crate) fn write_labels(
     json: &mut Vec<u8>,
-    numbers: &mut Vec<usize>,
+    numbers: &mut Vec<Option<usize>>,
     texts: &KnownTexts,
     labels: &[usize],
     width: usize,

@@ -32,7 +32,7 @@ impl Recorded {
         Recorded { sets, cells }
     }
 
-    /// The number of cells.
+    /// How many cells the level has, those without names among them.
     pub fn len(&self) -> usize
         ensures { result ≡ length self.now }
     {

@@ -16,7 +16,7 @@ use std::marker::Model;
 pub struct TextRoom {
     json: Vec<u8>,
     end: usize,
-    numbers: Vec<usize>,
+    numbers: Vec<Option<usize>>,
 }
 
 impl Model for TextRoom {

@@ -1,6 +1,6 @@
 //! The run of a worker: it claims a session, plays it, sends its items, and claims again.
 
-ghost use Rattle.std.specs.Prelude.{◌≡◌, ◌≢◌, ◌<◌, ◌++◌, ◌∷◌, [], All, IfErr, IfSome, OnOk, ℕ, length, take};
+ghost use Rattle.std.specs.Prelude.{◌≡◌, ◌≢◌, ◌<◌, ◌++◌, ◌∷◌, [], IfErr, IfSome, OnOk, ℕ, length, take};
 ghost use Rattle.pz_case.specs.Playing.{items_at, sessions_of};
 ghost use Rattle.pz_replay.specs.Sent.{messages_of};
 ghost use Rattle.pz_replay.specs.Worked.{IsWorked};

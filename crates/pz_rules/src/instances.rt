@@ -1,6 +1,6 @@
 //! The instances of a plan.
 
-ghost use Rattle.std.specs.Prelude.{◌≡◌, ◌++◌, [], IfOk, OnOk, map, fold, slice_get};
+ghost use Rattle.std.specs.Prelude.{◌≡◌, ◌++◌, [], IfOk, OnOk, map, fold};
 ghost use Rattle.std.specs.List.{list_all};
 ghost use Rattle.pz_base.specs.Lists.{product};
 ghost use Rattle.pz_plan.specs.Shape.{IsShaped, AreShaped};

@@ -1,5 +1,5 @@
 -- All levels of a session are its game's, and a step that is cancelled leaves the level.
-use Rattle.std.proofs.Common.{◌≡◌, ℕ, List, [], ◌∷◌, Option, Some, None, MatchOption, Bool, true, false, not, cond, Result, Ok, Err, All, drop, refl, ap, sym, ◌∙◌, subst}
+use Rattle.std.proofs.Common.{◌≡◌, ℕ, List, ◌∷◌, Option, Some, None, Bool, true, false, not, cond, Result, Ok, Err, All, drop, refl, ap, sym, ◌∙◌, subst}
 use Rattle.std.specs.Prelude.{IfOk}
 use Rattle.std.proofs.lemmas.List.Elements.{All-head, All-tail}
 use Rattle.pz_game.specs.declared.game.GameParts.{GameParts}
@@ -8,9 +8,9 @@ use Rattle.pz_game.specs.declared.direction.Dir.{Dir}
 use Rattle.pz_program.specs.declared.instance.Program.{Program}
 use Rattle.pz_program.specs.Commands.{has, cancel, restart}
 use Rattle.pz_game.specs.Game.{players_of}
-use Rattle.pz_sheet.specs.Grid.{Grid, IsOfGame, LevelState}
+use Rattle.pz_sheet.specs.Grid.{Grid, IsOfGame}
 use Rattle.pz_sheet.specs.Sameness.{same_grid}
-use Rattle.pz_grid.specs.Loading.{loaded}
+use Rattle.pz_bare.specs.Loading.{loaded}
 use Rattle.pz_turn.specs.declared.outcome.StepFault.{StepFault}
 use Rattle.pz_turn.specs.declared.step.StepEnd.{StepEnd}
 use Rattle.pz_turn.specs.Outcome.{Outcome}
@@ -32,11 +32,10 @@ loaded_of_game game index grid e =
     subst P (sym e) own
 
 -- what holds of the past holds of the newest of it and of the rest
-pub taken : (P : Grid → Type 0) (old new : List Grid) (found : Option LevelState) (level : LevelState) → All P old → found ≡ Some level → MatchOption found (old ≡ []) (λ newest. old ≡ newest.grid ∷ drop 1 old) → new ≡ drop 1 old → P level.grid × All P new
-taken P old new found level all is newest rest =
-    let first : old ≡ level.grid ∷ drop 1 old = subst (λ (o : Option LevelState). MatchOption o (old ≡ []) (λ newest. old ≡ newest.grid ∷ drop 1 old)) is newest in
-    let held : All P (level.grid ∷ drop 1 old) = subst (All P) first all in
-    (All-head P level.grid (drop 1 old) held, subst (All P) (sym rest) (All-tail P level.grid (drop 1 old) held))
+pub taken : (P : Grid → Type 0) (old new : List Grid) (newest level : Grid) → All P old → old ≡ newest ∷ drop 1 old → level ≡ newest → new ≡ drop 1 old → P level × All P new
+taken P old new newest level all first same rest =
+    let held : All P (newest ∷ drop 1 old) = subst (All P) first all in
+    (subst P (sym same) (All-head P newest (drop 1 old) held), subst (All P) (sym rest) (All-tail P newest (drop 1 old) held))
 
 -- ---- a step that is cancelled
 abbrev end_by : Bool → Grid → Grid → Commands → Outcome Grid

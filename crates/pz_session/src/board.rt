@@ -5,7 +5,7 @@ ghost use Rattle.pz_program.specs.Commands.{has, cancel, checkpoint};
 ghost use Rattle.pz_game.specs.Level.{is_playable, entry_at};
 ghost use Rattle.pz_program.specs.Instance.{IsProgramOf};
 ghost use Rattle.pz_sheet.specs.Grid.{IsOfGame};
-ghost use Rattle.pz_grid.specs.Loading.{loaded};
+ghost use Rattle.pz_bare.specs.Loading.{loaded};
 ghost use Rattle.pz_turn.specs.Step.{step_of};
 ghost use Rattle.pz_turn.specs.declared.outcome.StepFault.TheVariants.{Memory};
 ghost use Rattle.pz_case.specs.FirstLevel.{level_from};
@@ -15,11 +15,12 @@ use crate::chain::{PlayFault, Shown};
 use crate::place::{put_aside, put_before, put_copy};
 use crate::turn::is_idle;
 use bitflags::Flags;
+use pz_bare::past::Past;
 use pz_case::first_level::level_after;
 use pz_case::item::{Frame, FrameKind, Verdict};
 use pz_game::direction::Dir;
 use pz_game::game::Game;
-use pz_grid::{Level, Past};
+use pz_grid::Level;
 use pz_level_text::equality::equals;
 use pz_level_text::text_writer::TextWriter;
 use pz_program::commands::Commands;
@@ -351,8 +352,9 @@ impl<'a> Board<'a> {
     fn step_back(&mut self) -> Result<(), AllocError>
         ensures { OnOk result (self.new ≡ undone self.old self.old.past) }
     {
-        if let Some(level) = self.past.pop()? {
-            self.level = level;
+        if let Some(newest) = self.past.newest() {
+            self.level = Level::marked(self.alloc, newest.copy()?)?;
+            self.past.forget();
         }
         Ok(())
     }
@@ -404,7 +406,7 @@ impl<'a> Board<'a> {
     {
         if let Some(before) = self.before.take() {
             if !before.same(&self.level) {
-                self.past.push(&before)?;
+                self.past.push(before.bare())?;
             }
             put_aside(&mut self.spare, before);
         }

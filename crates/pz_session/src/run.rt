@@ -1,6 +1,6 @@
 //! The items of a case, one by one.
 
-ghost use Rattle.std.specs.Prelude.{◌≡◌, ◌+◌, ◌++◌, ◌<◌, ◌^◌, [], true, false, length, MatchResult, IsErr, IfOk, OnOk};
+ghost use Rattle.std.specs.Prelude.{◌≡◌, ◌+◌, ◌++◌, ◌<◌, ◌^◌, [], true, false, length, MatchResult, IsErr, IfOk};
 ghost use Rattle.pz_session.specs.Case.{items_of, played_items};
 ghost use Rattle.pz_session.specs.Player.{left};
 

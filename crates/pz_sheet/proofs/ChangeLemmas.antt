@@ -17,7 +17,7 @@ use Rattle.pz_sheet.specs.Changes.{CellChange, changed_from, changed_cells, chan
 use Rattle.pz_cells.specs.Differing.{AreAlikeBetween, Differ, IsNextDiffering}
 use Rattle.pz_sheet.specs.Grid.{Grid, IsLawful, SameSize}
 use Rattle.pz_sheet.specs.Presence.{cell_of}
-use Rattle.pz_sheet.specs.Searching.{IsNext}
+use Rattle.pz_sets.specs.Next.{IsNext}
 use Rattle.pz_cells.specs.Lists.{seen, IsSound, AreAlike}
 use Rattle.pz_sheet.specs.Seen.{grid_of}
 use Rattle.pz_cells.proofs.ListLemmas.{no_cell, sound_at}

@@ -1,7 +1,6 @@
 -- The next cell of a line where a rule's cell holds, and the last one before a place in it.
 use Rattle.std.specs.Prelude.{◌≡◌, ℕ, ◌<◌, List, Bool, true, false, Option, Some, None}
 use Rattle.pz_game.specs.declared.pattern.Item.{Item}
-pub use Rattle.pz_planes.specs.Next.{IsNext}
 use Rattle.pz_cells.specs.Pattern.{pattern_holds}
 use Rattle.pz_sheet.specs.Grid.{Grid, cell_at}
 

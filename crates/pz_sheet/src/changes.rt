@@ -1,9 +1,9 @@
 //! The cells in which a level differs from an older one, and the way back to that.
 
-ghost use Rattle.std.specs.Prelude.{◌≡◌, true, ◌≤◌, ◌<◌, ◌+◌, ◌++◌, All, IfOk, OnOk, OnErr, length, map, drop};
+ghost use Rattle.std.specs.Prelude.{◌≡◌, true, ◌≤◌, ◌<◌, ◌+◌, All, IfOk, OnOk, OnErr, length, map};
 ghost use Rattle.pz_sheet.specs.Changes.{changed_from, changed_cells, change_seen, changes_seen, IsChangeOf, with_cell, restored, differ_in, cell_there};
 ghost use Rattle.pz_sheet.specs.Grid.{SameSize};
-ghost use Rattle.pz_sheet.specs.Searching.{IsNext};
+ghost use Rattle.pz_sets.specs.Next.{IsNext};
 ghost use Rattle.pz_cells.specs.Lists.{seen, IsSound, HeadNowhere};
 
 use crate::Sheet;

@@ -5,7 +5,7 @@ ghost use Rattle.pz_sets.specs.declared.set.TheConstants.{CAPACITY};
 ghost use Rattle.pz_game.specs.Pattern.{AreOf};
 ghost use Rattle.pz_cells.specs.Cell.{IsOnLayer};
 ghost use Rattle.pz_cells.specs.Pattern.{pattern_holds};
-ghost use Rattle.pz_sheet.specs.Grid.{IsLawful, cell_at, place_at, with_place};
+ghost use Rattle.pz_sheet.specs.Grid.{cell_at, place_at, with_place};
 ghost use Rattle.pz_sheet.specs.Rewriting.{with_rewritten, changes};
 
 use crate::Sheet;

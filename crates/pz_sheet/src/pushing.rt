@@ -1,6 +1,6 @@
 //! The direction of an input, given to the player.
 
-ghost use Rattle.std.specs.Prelude.{◌≡◌, ◌≤◌, ◌<◌, ◌*◌, ℕ, All, [], ◌∷◌, length, map};
+ghost use Rattle.std.specs.Prelude.{◌≡◌, ◌≤◌, ◌<◌, ◌*◌, All, [], ◌∷◌, length, map};
 ghost use Rattle.pz_game.specs.declared.limits.TheConstants.{MAX_LAYERS};
 ghost use Rattle.pz_cells.specs.Shown.{cell_of, AreLawful};
 ghost use Rattle.pz_sheet.specs.Grid.{IsLawful};

@@ -6,7 +6,7 @@ ghost use Rattle.pz_game.specs.Pattern.{AreOf};
 ghost use Rattle.pz_cells.specs.Pattern.{pattern_holds};
 ghost use Rattle.pz_sheet.specs.Grid.{cell_at};
 ghost use Rattle.pz_sheet.specs.Runs.{on_map, along, holds_at, run_holds, runs_in_row, runs_in_column};
-ghost use Rattle.pz_sheet.specs.Searching.{IsNext};
+ghost use Rattle.pz_sets.specs.Next.{IsNext};
 
 use crate::Sheet;
 use pz_game::direction::Dir;

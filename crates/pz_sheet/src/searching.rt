@@ -3,7 +3,8 @@
 ghost use Rattle.std.specs.Prelude.{◌≡◌, ℕ, ◌<◌, ◌≤◌, true};
 ghost use Rattle.pz_sets.specs.Sets.{in_word};
 ghost use Rattle.pz_game.specs.Pattern.{AreOf};
-ghost use Rattle.pz_sheet.specs.Searching.{holds_in_row, holds_in_column, IsNext, IsLast};
+ghost use Rattle.pz_sets.specs.Next.{IsNext};
+ghost use Rattle.pz_sheet.specs.Searching.{holds_in_row, holds_in_column, IsLast};
 
 use crate::Sheet;
 use pz_game::pattern::Pattern;

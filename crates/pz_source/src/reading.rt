@@ -3,7 +3,6 @@
 ghost use Rattle.std.specs.Prelude.{◌≡◌, ◌≢◌, ◌≤◌, ◌<◌, length, All, [], get_or, IfOk, IfErr, Ok, Err};
 ghost use Rattle.pz_base.specs.declared.fault.Code.TheVariants as code;
 ghost use Rattle.pz_names.specs.Objects.{IsNamed, object_names};
-ghost use Rattle.pz_game.specs.Word.{IsWord};
 ghost use Rattle.pz_game.specs.Denotation.{IsDenoted};
 ghost use Rattle.pz_base.specs.Fault.{and_then};
 ghost use Rattle.pz_game.specs.Game.{IsGame};

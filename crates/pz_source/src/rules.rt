@@ -5,7 +5,7 @@ ghost use Rattle.pz_base.specs.Name.{name_of};
 ghost use Rattle.pz_text.specs.Characters.{trimmed};
 ghost use Rattle.pz_text.specs.Comment.{ends_word, word_after, is_first_after};
 ghost use Rattle.pz_text.specs.declared.line.Section.TheVariants.{Rules};
-ghost use Rattle.pz_source.specs.Rules.{closed, ended, words_from, rule_words, rule_line_of, rule_lines};
+ghost use Rattle.pz_source.specs.Rules.{closed, ended, words_from, rule_words, rule_lines};
 
 use pz_base::listed::Listed;
 use pz_base::name::Name;

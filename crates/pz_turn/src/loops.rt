@@ -1,6 +1,6 @@
 //! Loops of groups, run until a pass over all of them changes nothing.
 
-ghost use Rattle.std.specs.Prelude.{◌≡◌, ◌≢◌, Ok};
+ghost use Rattle.std.specs.Prelude.{Ok};
 ghost use Rattle.pz_program.specs.Instance.{AreGroupsOf};
 ghost use Rattle.pz_sheet.specs.Grid.{IsLawful, IsOfGame, SameSize};
 ghost use Rattle.pz_turn.specs.Instance.{applied};

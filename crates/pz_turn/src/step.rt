@@ -1,6 +1,6 @@
 //! A step: the input, the early blocks, the movement, the late blocks.
 
-ghost use Rattle.std.specs.Prelude.{◌≡◌, ◌≢◌, ◌<◌, not, IfOk, IfErr, Ok, Err, length};
+ghost use Rattle.std.specs.Prelude.{◌≡◌, ◌≢◌, ◌<◌, IfOk, IfErr, Ok, Err, length};
 ghost use Rattle.std.specs.List.{list_any, list_all, zip};
 ghost use Rattle.pz_game.specs.Game.{players_of};
 ghost use Rattle.pz_program.specs.Instance.{IsBlockOf, AreBlocksOf, IsProgramOf};

@@ -1,10 +1,10 @@
-use Rattle.std.proofs.Common.{◌≡◌, ℕ, ◌+◌, ◌++◌, Some, take, get_or, map, refl, arith, ap, sym, ◌∙◌}
+use Rattle.std.proofs.Common.{◌≡◌, ℕ, ◌+◌, ◌++◌, None, Some, take, get_or, map, refl, arith, ap, sym, ◌∙◌}
 use Rattle.json.specs.Print.{escape}
 use Rattle.pz_base.specs.NameSet.{number_in}
 use Rattle.pz_record.specs.Labels.{text_at}
 use Rattle.pz_record.specs.CellTexts.{known_of, line_end}
 use Rattle.pz_record.proofs.LabelTexts.{known_piece}
-use Rattle.pz_record.proofs.WrittenCells.{cell_more, coded_at, is_number, labelled}
+use Rattle.pz_record.proofs.WrittenCells.{cell_more, numbered_at, labelled}
 use Rattle.pz_record.proofs.escaped.write_known.Goals as goal
 
 pub cells-preserved : goal.cells-preserved
@@ -18,9 +18,8 @@ cells-preserved c =
     let known = known_of (take k all) in
     let before = c.cells.invariant.written in
     let is = labelled texts items k c.cells-test.true c.requires.within in
-    let n = get_or c.args.numbers.now label 0 in
-    let found : number_in known cell ≡ Some n =
-    is_number (number_in known cell) n 100 (coded_at texts known c.args.numbers.now label 0 before.numbers is.1) (omega arith) (omega arith) in
+    let n = c.in-Some.number in
+    let found : number_in known cell ≡ Some n = sym (numbered_at texts known c.args.numbers.now label None before.numbers is.1) ∙ c.in-Some.is in
     let parts = known_piece known cell n found in
     record {
       room = omega (arith, c.put_number-next.ensures.end, c.end_line-end.ensures.end);

@@ -6,8 +6,8 @@ use Rattle.pz_base.specs.NameSet.{is_name_of}
 use Rattle.pz_base.proofs.NameLemmas.{is_name_of-texts}
 use Rattle.pz_base.proofs.name_set.NameSet.add.Goals as goal
 
-pub returns : goal.returns
-returns c =
+pub returns-clause-added : goal.returns-clause-added
+returns-clause-added c =
     let keys = c.self.inside.texts.keys in
     let text = c.in_ok-text.text in
     let bytes : string_bytes text ≡ c.args.name.now = c.in_ok-text.ensures.ok in

@@ -1,5 +1,7 @@
 use Rattle.std.proofs.Common.{◌≡◌, length, slice_set, arith, ap, sym, ◌∙◌}
 use Rattle.pz_record.specs.declared.order.Order.{Order}
+use Rattle.pz_sheet.specs.Changes.{with_cell, cell_there}
+use Rattle.pz_sheet.specs.Grid.{Grid}
 use Rattle.pz_level_text.specs.Labels.{WriterView, texts_in}
 use Rattle.pz_level_text.specs.CellOrder.{number_of}
 use Rattle.pz_level_text.proofs.Changing.{read_at, look_within, looked}
@@ -39,4 +41,4 @@ returns-clause-known c =
     let before : c.label_at.new.self.cells ≡ texts_in game order seen = c.label_at.ensures.cells ∙ c.requires.known in
     c.put.ensures.cells
     ∙ ((λ i. slice_set (before i) (number i) (c.in_ok-label.ensures.text i))
-    ∙ (looked game order seen level c.args.index x y c.requires.size c.requires.within read ∙ ap (texts_in game order) (sym c.take_cell.ensures)))
+    ∙ (looked game order seen level c.args.index x y c.requires.size c.requires.within read ∙ ap (texts_in game order) (sym (c.take_cell.ensures ∙ ap (λ (g : Grid). with_cell seen (cell_there g c.args.index)) c.bare.ensures))))

@@ -1,0 +1,3 @@
+pub mod Sized
+pub mod Loading
+pub mod Past

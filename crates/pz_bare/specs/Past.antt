@@ -1,0 +1,51 @@
+-- The levels that were: what gives each back from the one after it, and what a past is to its callers.
+use Rattle.std.specs.Prelude.{◌≡◌, ℕ, ◌≤◌, List, [], ◌∷◌, Option, Some, None, All, ⊤, length}
+use Rattle.pz_sheet.specs.declared.changes.Change.{Change}
+use Rattle.pz_sheet.specs.Changes.{changed_cells, changes_seen, IsChangeOf, restored}
+use Rattle.pz_sheet.specs.Grid.{Grid, BareState, SameSize}
+use Rattle.pz_bare.specs.declared.older.Older.{Older}
+use Rattle.pz_bare.specs.declared.older.Older.TheVariants.{Small, Middle, Large, Whole}
+
+-- the older level that is given back from the one after it
+abbrev pub given_back : Older → Grid → Grid
+given_back (Small changes) grid = restored (changes_seen 1 grid changes.items) grid
+given_back (Middle changes) grid = restored (changes_seen 2 grid changes.items) grid
+given_back (Large changes) grid = restored (changes_seen 4 grid changes.items) grid
+given_back (Whole level) grid = level.value.grid
+
+-- changes are those to an older level of the same size: the cells in which it differs, and no other
+pub record AreChangesTo (N : ℕ) (grid older : Grid) (changes : List (Change N)) : Type 0 where
+  pub size : SameSize grid older
+  pub all : changes_seen N grid changes ≡ changed_cells grid older
+  pub of_level : All (IsChangeOf N grid) changes
+
+-- a level has so many objects and layers at most
+abbrev pub IsFor : ℕ → ℕ → Grid → Type 0
+IsFor objects layers grid = (length grid.layers ≤ objects) × (grid.depth ≤ layers)
+
+-- what gives an older level back from another is no more than their difference: it is the older one whole only where their sizes differ
+abbrev pub Leads : Older → Grid → Grid → Type 0
+Leads (Small changes) grid older = IsFor 128 25 grid × AreChangesTo 1 grid older changes.items
+Leads (Middle changes) grid older = (IsFor 128 25 grid → ⊥) × IsFor 256 50 grid × AreChangesTo 2 grid older changes.items
+Leads (Large changes) grid older = (IsFor 256 50 grid → ⊥) × AreChangesTo 4 grid older changes.items
+Leads (Whole level) grid older = (level.value.grid ≡ older) × (SameSize grid older → ⊥)
+
+-- the levels before one, the newest first
+abbrev pub grids_before : List Older → Grid → List Grid
+grids_before [] grid = []
+grids_before (way ∷ ways) grid = given_back way grid ∷ grids_before ways (given_back way grid)
+
+-- each leads to the level that it gives back
+abbrev pub AreWays : List Older → Grid → Type 0
+AreWays [] grid = ⊤
+AreWays (way ∷ ways) grid = Leads way grid (given_back way grid) × AreWays ways (given_back way grid)
+
+-- a past: its newest level, and the levels before that
+abbrev pub grids_of : Option BareState → List Older → List Grid
+grids_of None ways = []
+grids_of (Some newest) ways = newest.grid ∷ grids_before ways newest.grid
+
+-- what holds of a past
+abbrev pub IsPast : Option BareState → List Older → Type 0
+IsPast None ways = ways ≡ []
+IsPast (Some newest) ways = AreWays ways newest.grid

@@ -1,0 +1,52 @@
+//! The cells in which another level of the same size differs.
+
+ghost use Rattle.std.specs.Prelude.{◌≡◌, ◌<◌, ◌↔◌, IsTrue, length};
+ghost use Rattle.pz_sheet.specs.Changes.{with_cell, differ_in, cell_there};
+ghost use Rattle.pz_sheet.specs.Grid.{IsLawful, SameSize};
+ghost use Rattle.pz_sets.specs.Next.{IsNext};
+
+use crate::{BareLevel, Sized};
+
+impl BareLevel {
+    /// Whether both are of one size and over the same layers.
+    pub fn same_size(&self, other: &BareLevel) -> bool
+        ensures { IsTrue result ↔ SameSize self.now.grid other.now.grid }
+    {
+        match (&self.sheet, &other.sheet) {
+            (Sized::Small(sheet), Sized::Small(other)) => sheet.same_size(other),
+            (Sized::Middle(sheet), Sized::Middle(other)) => sheet.same_size(other),
+            (Sized::Large(sheet), Sized::Large(other)) => sheet.same_size(other),
+            _ => false,
+        }
+    }
+
+    /// The number of the first cell from one on, counted row by row, in which a level of the same size is another.
+    pub fn next_change(&self, other: &BareLevel, from: usize) -> Option<usize>
+        requires size { SameSize self.now.grid other.now.grid }
+        ensures lawful { IsLawful self.now.grid }
+        ensures next { IsNext (differ_in self.now.grid other.now.grid) from (length self.now.grid.cells) result }
+    {
+        // (brings the proof the law of the level)
+        let _ = self.width();
+        match (&self.sheet, &other.sheet) {
+            (Sized::Small(sheet), Sized::Small(other)) => sheet.next_change(other, from),
+            (Sized::Middle(sheet), Sized::Middle(other)) => sheet.next_change(other, from),
+            (Sized::Large(sheet), Sized::Large(other)) => sheet.next_change(other, from),
+            _ => unreachable!(),
+        }
+    }
+
+    /// Takes over what stands in the cell of a number of a level of the same size.
+    pub fn take_cell(&mut self, other: &BareLevel, index: usize)
+        requires size { SameSize self.old.grid other.now.grid }
+        requires within { index < length self.old.grid.cells }
+        ensures { self.new.grid ≡ with_cell self.old.grid (cell_there other.now.grid index) }
+    {
+        match (&mut self.sheet, &other.sheet) {
+            (Sized::Small(sheet), Sized::Small(other)) => sheet.take_cell(other, index),
+            (Sized::Middle(sheet), Sized::Middle(other)) => sheet.take_cell(other, index),
+            (Sized::Large(sheet), Sized::Large(other)) => sheet.take_cell(other, index),
+            _ => unreachable!(),
+        }
+    }
+}

@@ -1,0 +1,345 @@
+//! Bare levels: levels without their marks, in as many words a cell as their game needs. Loaded, copied, compared, read and changed; and the past
+//! of one.
+#![tactic(auto)]
+
+ghost use Rattle.std.specs.Prelude.{◌≡◌, ℕ, ◌<◌, ◌↔◌, List, IsTrue, true, map, length, All, IfOk, OnOk, OnErr, Some, None, MatchOption};
+ghost use Rattle.std.specs.List.{list_any, list_all};
+ghost use Rattle.pz_sets.specs.Sets.{member};
+ghost use Rattle.pz_game.specs.declared.pattern.Item.{Item};
+ghost use Rattle.pz_game.specs.Pattern.{AreOf, AsksAmong, IsRowOf};
+ghost use Rattle.pz_cells.specs.Cell.{IsOnLayer, still_place};
+ghost use Rattle.pz_sheet.specs.Grid.{IsLawful, cell_at, place_at, with_place};
+ghost use Rattle.pz_sheet.specs.Movement.{stilled};
+ghost use Rattle.pz_sheet.specs.Presence.{is_in, cell_of, holds_both, holds_if, in_row, in_column};
+ghost use Rattle.pz_sheet.specs.Pushing.{pushed};
+ghost use Rattle.pz_sheet.specs.Rewriting.{with_rewritten, changes};
+ghost use Rattle.pz_sheet.specs.Searching.{HoldsSomewhere};
+ghost use Rattle.pz_sheet.specs.Standing.{standing_at, stands};
+ghost use Rattle.pz_bare.specs.Sized.{state_in};
+
+use pz_cells::piece::Piece;
+use pz_game::direction::Dir;
+use pz_game::pattern::{Pattern, Row};
+use pz_sets::set::NumberSet;
+use pz_sheet::Sheet;
+use std::alloc::AllocError;
+use std::marker::Model;
+
+mod differing;
+mod loading;
+mod older;
+pub mod past;
+
+/// The cells of a level: of a game of up to 128 objects and 25 layers, of up to 256 and 50, or of more.
+pub enum Sized {
+    Small(Sheet<1>),
+    Middle(Sheet<2>),
+    Large(Sheet<4>),
+}
+
+/// Written out, as for a sheet.
+impl Drop for Sized {
+    fn drop(self) {
+        match self {
+            Sized::Small(sheet) => drop(sheet),
+            Sized::Middle(sheet) => drop(sheet),
+            Sized::Large(sheet) => drop(sheet),
+        }
+    }
+}
+
+/// A level without its marks: what stands in its cells, and where it heads.
+#[derive(Drop)]
+pub struct BareLevel {
+    sheet: Sized,
+}
+
+impl Model for BareLevel {
+    ghost use Rattle.pz_sheet.specs.Grid.{BareState};
+    ghost use Rattle.pz_bare.specs.Sized.{state_in, IsFitting};
+
+    ghost Value = { BareState };
+
+    ghost view = { λ b. state_in b.sheet };
+
+    ghost invariant = { λ b. IsFitting b.sheet };
+}
+
+impl BareLevel {
+    /// The sheet that it has.
+    pub fn sheet(&self) -> &Sized
+        ensures { state_in result.now ≡ self.now }
+    {
+        &self.sheet
+    }
+
+    /// The same cells once more. Err: memory was refused.
+    pub fn copy(&self) -> Result<BareLevel, AllocError>
+        ensures copied { IfOk result (λ bare. bare.grid ≡ self.now.grid) }
+    {
+        let sheet = match &self.sheet {
+            Sized::Small(sheet) => Sized::Small(sheet.copy()?),
+            Sized::Middle(sheet) => Sized::Middle(sheet.copy()?),
+            Sized::Large(sheet) => Sized::Large(sheet.copy()?),
+        };
+        Ok(BareLevel { sheet })
+    }
+
+    /// Becomes the same as another, in the memory that it has if that is enough. Err: memory was refused, and it is as it was.
+    pub fn copy_from(&mut self, other: &BareLevel) -> Result<(), AllocError>
+        ensures copied { OnOk result (self.new.grid ≡ other.now.grid) }
+        ensures kept { OnErr result (self.new.grid ≡ self.old.grid) }
+    {
+        match (&mut self.sheet, &other.sheet) {
+            (Sized::Small(sheet), Sized::Small(other)) => sheet.copy_from(other),
+            (Sized::Middle(sheet), Sized::Middle(other)) => sheet.copy_from(other),
+            (Sized::Large(sheet), Sized::Large(other)) => sheet.copy_from(other),
+            _ => {
+                *self = other.copy()?;
+                Ok(())
+            }
+        }
+    }
+
+    /// Whether another is the same, cell by cell, with the headings.
+    pub fn equals(&self, other: &BareLevel) -> bool
+        ensures { IsTrue result ↔ (self.now.grid ≡ other.now.grid) }
+    {
+        match (&self.sheet, &other.sheet) {
+            (Sized::Small(sheet), Sized::Small(other)) => sheet.equals(other),
+            (Sized::Middle(sheet), Sized::Middle(other)) => sheet.equals(other),
+            (Sized::Large(sheet), Sized::Large(other)) => sheet.equals(other),
+            _ => false,
+        }
+    }
+
+    /// The number of columns.
+    pub fn width(&self) -> u32
+        ensures width { result ≡ self.now.grid.width }
+        ensures lawful { IsLawful self.now.grid }
+    {
+        match &self.sheet {
+            Sized::Small(sheet) => sheet.width(),
+            Sized::Middle(sheet) => sheet.width(),
+            Sized::Large(sheet) => sheet.width(),
+        }
+    }
+
+    /// The number of rows.
+    pub fn height(&self) -> u32
+        ensures height { result ≡ self.now.grid.height }
+        ensures lawful { IsLawful self.now.grid }
+    {
+        match &self.sheet {
+            Sized::Small(sheet) => sheet.height(),
+            Sized::Middle(sheet) => sheet.height(),
+            Sized::Large(sheet) => sheet.height(),
+        }
+    }
+
+    /// The number of layers.
+    pub fn depth(&self) -> usize
+        ensures { result ≡ self.now.grid.depth }
+    {
+        match &self.sheet {
+            Sized::Small(sheet) => sheet.depth(),
+            Sized::Middle(sheet) => sheet.depth(),
+            Sized::Large(sheet) => sheet.depth(),
+        }
+    }
+
+    /// The number of cells.
+    pub fn cell_count(&self) -> usize
+        ensures { result ≡ length self.now.grid.cells }
+    {
+        match &self.sheet {
+            Sized::Small(sheet) => sheet.cell_count(),
+            Sized::Middle(sheet) => sheet.cell_count(),
+            Sized::Large(sheet) => sheet.cell_count(),
+        }
+    }
+
+    /// Whether an object is in the cell of a number, counted row by row.
+    pub fn is_in(&self, index: usize, object: usize) -> bool
+        requires { index < length self.now.grid.cells }
+        ensures { result ≡ is_in (cell_of self.now.grid index) object }
+    {
+        match &self.sheet {
+            Sized::Small(sheet) => sheet.is_in(index, object),
+            Sized::Middle(sheet) => sheet.is_in(index, object),
+            Sized::Large(sheet) => sheet.is_in(index, object),
+        }
+    }
+
+    /// The objects that stand at a position: off the map, none.
+    pub fn objects_at(&self, x: u32, y: u32) -> NumberSet
+        ensures { (object : ℕ) → member result object ≡ stands self.now.grid x y object }
+    {
+        match &self.sheet {
+            Sized::Small(sheet) => sheet.objects_at(x, y),
+            Sized::Middle(sheet) => sheet.objects_at(x, y),
+            Sized::Large(sheet) => sheet.objects_at(x, y),
+        }
+    }
+
+    /// The piece of an object at a position, if it stands there: off the map, and for no object of the game, it does not.
+    pub fn piece(&self, x: u32, y: u32, object: usize) -> Option<Piece>
+        ensures { MatchOption result (standing_at self.now.grid x y object ≡ None) (λ piece. standing_at self.now.grid x y object ≡ Some piece.heading) }
+    {
+        match &self.sheet {
+            Sized::Small(sheet) => sheet.piece(x, y, object),
+            Sized::Middle(sheet) => sheet.piece(x, y, object),
+            Sized::Large(sheet) => sheet.piece(x, y, object),
+        }
+    }
+
+    /// Puts a piece, or nothing, on a layer of a position of the map.
+    pub fn put(&mut self, x: u32, y: u32, layer: usize, place: Option<Piece>)
+        requires x_in { x < self.old.grid.width }
+        requires y_in { y < self.old.grid.height }
+        requires layer_in { layer < self.old.grid.depth }
+        requires on_layer { IsOnLayer self.old.grid.layers layer place }
+        ensures put { self.new.grid ≡ with_place self.old.grid x y layer place }
+        ensures there { place_at self.new.grid x y layer ≡ place }
+    {
+        match &mut self.sheet {
+            Sized::Small(sheet) => sheet.put(x, y, layer, place),
+            Sized::Middle(sheet) => sheet.put(x, y, layer, place),
+            Sized::Large(sheet) => sheet.put(x, y, layer, place),
+        }
+    }
+
+    /// Whether something may head as the cells of a row ask: true where each of them holds somewhere.
+    pub fn may_hold(&self, row: &Row) -> bool
+        requires of_game { IsRowOf self.now.grid.layers row.now }
+        ensures { All (HoldsSomewhere self.now.grid) row.now.cells → result ≡ true }
+    {
+        match &self.sheet {
+            Sized::Small(sheet) => sheet.may_hold(row),
+            Sized::Middle(sheet) => sheet.may_hold(row),
+            Sized::Large(sheet) => sheet.may_hold(row),
+        }
+    }
+
+    /// Whether something may head in a direction of a set: true where cells that ask for one of them all hold somewhere.
+    pub fn may_head_in(&self, asked: &[u128]) -> bool
+        ensures { (cells : List (List Item)) → All (AreOf self.now.grid.layers) cells → AsksAmong asked.now cells → All (HoldsSomewhere self.now.grid) cells → result ≡ true }
+    {
+        match &self.sheet {
+            Sized::Small(sheet) => sheet.may_head_in(asked),
+            Sized::Middle(sheet) => sheet.may_head_in(asked),
+            Sized::Large(sheet) => sheet.may_head_in(asked),
+        }
+    }
+
+    /// Rewrites the cell at a position, and says whether that gave another one.
+    pub fn rewrite(&mut self, x: u32, y: u32, left: &Pattern, right: &Pattern) -> bool
+        requires x_in { x < self.old.grid.width }
+        requires y_in { y < self.old.grid.height }
+        requires left_of { AreOf self.old.grid.layers left.now }
+        requires right_of { AreOf self.old.grid.layers right.now }
+        ensures level { self.new.grid ≡ with_rewritten self.old.grid x y left.now right.now }
+        ensures changed { result ≡ changes self.old.grid x y left.now right.now }
+    {
+        match &mut self.sheet {
+            Sized::Small(sheet) => sheet.rewrite(x, y, left, right),
+            Sized::Middle(sheet) => sheet.rewrite(x, y, left, right),
+            Sized::Large(sheet) => sheet.rewrite(x, y, left, right),
+        }
+    }
+
+    /// Lets each of some objects head in a direction.
+    pub fn push_all(&mut self, players: &[usize], dir: Dir)
+        ensures pushed { self.new.grid ≡ pushed players.now dir self.old.grid }
+        ensures lawful { IsLawful self.new.grid }
+    {
+        match &mut self.sheet {
+            Sized::Small(sheet) => sheet.push_all(players, dir),
+            Sized::Middle(sheet) => sheet.push_all(players, dir),
+            Sized::Large(sheet) => sheet.push_all(players, dir),
+        }
+    }
+
+    /// Whether nothing at a position of the map heads anywhere.
+    pub fn is_still(&self, x: u32, y: u32) -> bool
+        requires x_in { x < self.now.grid.width }
+        requires y_in { y < self.now.grid.height }
+        ensures { result ≡ true → cell_at self.now.grid x y ≡ map still_place (cell_at self.now.grid x y) }
+    {
+        match &self.sheet {
+            Sized::Small(sheet) => sheet.is_still(x, y),
+            Sized::Middle(sheet) => sheet.is_still(x, y),
+            Sized::Large(sheet) => sheet.is_still(x, y),
+        }
+    }
+
+    /// Stills every piece.
+    pub fn still_all(&mut self)
+        ensures stilled { self.new.grid ≡ stilled self.old.grid }
+        ensures lawful { IsLawful self.new.grid }
+    {
+        match &mut self.sheet {
+            Sized::Small(sheet) => sheet.still_all(),
+            Sized::Middle(sheet) => sheet.still_all(),
+            Sized::Large(sheet) => sheet.still_all(),
+        }
+    }
+
+    /// The objects that stand in a row of the map.
+    pub fn row_objects(&self, y: u32) -> NumberSet
+        requires { y < self.now.grid.height }
+        ensures { (object : ℕ) → member result object ≡ in_row self.now.grid y object }
+    {
+        match &self.sheet {
+            Sized::Small(sheet) => sheet.row_objects(y),
+            Sized::Middle(sheet) => sheet.row_objects(y),
+            Sized::Large(sheet) => sheet.row_objects(y),
+        }
+    }
+
+    /// The objects that stand in a column of the map.
+    pub fn column_objects(&self, x: u32) -> NumberSet
+        requires { x < self.now.grid.width }
+        ensures { (object : ℕ) → member result object ≡ in_column self.now.grid x object }
+    {
+        match &self.sheet {
+            Sized::Small(sheet) => sheet.column_objects(x),
+            Sized::Middle(sheet) => sheet.column_objects(x),
+            Sized::Large(sheet) => sheet.column_objects(x),
+        }
+    }
+
+    /// Whether no heading is noted for a column of the map: where that is true, nothing in it heads anywhere.
+    pub fn is_column_still(&self, x: u32) -> bool
+        requires { x < self.now.grid.width }
+        ensures { result ≡ true → (y : ℕ) → y < self.now.grid.height → cell_at self.now.grid x y ≡ map still_place (cell_at self.now.grid x y) }
+    {
+        match &self.sheet {
+            Sized::Small(sheet) => sheet.is_column_still(x),
+            Sized::Middle(sheet) => sheet.is_column_still(x),
+            Sized::Large(sheet) => sheet.is_column_still(x),
+        }
+    }
+
+    /// Whether some cell holds one of some objects, and one of others.
+    pub fn some_holds(&self, objects: &[usize], others: &[usize]) -> bool
+        ensures { result ≡ list_any (holds_both objects.now others.now) self.now.grid.cells }
+    {
+        match &self.sheet {
+            Sized::Small(sheet) => sheet.some_holds(objects, others),
+            Sized::Middle(sheet) => sheet.some_holds(objects, others),
+            Sized::Large(sheet) => sheet.some_holds(objects, others),
+        }
+    }
+
+    /// Whether each cell that holds one of some objects holds one of others.
+    pub fn all_hold(&self, objects: &[usize], others: &[usize]) -> bool
+        ensures { result ≡ list_all (holds_if objects.now others.now) self.now.grid.cells }
+    {
+        match &self.sheet {
+            Sized::Small(sheet) => sheet.all_hold(objects, others),
+            Sized::Middle(sheet) => sheet.all_hold(objects, others),
+            Sized::Large(sheet) => sheet.all_hold(objects, others),
+        }
+    }
+}

@@ -1,0 +1,99 @@
+//! What gives back an older level from the one after it.
+
+ghost use Rattle.std.specs.Prelude.{◌≡◌, IfOk, OnOk, OnErr, All};
+ghost use Rattle.pz_bare.specs.Past.{given_back, Leads, IsFor};
+ghost use Rattle.pz_sheet.specs.Changes.{changes_seen, IsChangeOf, restored};
+ghost use Rattle.pz_sheet.specs.Grid.{SameSize};
+
+use crate::{BareLevel, Sized};
+use pz_sheet::changes::Change;
+use std::alloc::{AllocError, Global};
+
+/// What gives back an older level from the one after it: the cells in which that differs, in as many words as a cell of the level has. Where
+/// the two aren't of one size, it is the older level whole.
+#[derive(Drop)]
+pub(crate) enum Older {
+    Small(Vec<Change<1>>),
+    Middle(Vec<Change<2>>),
+    Large(Vec<Change<4>>),
+    Whole(Box<BareLevel>),
+}
+
+impl BareLevel {
+    /// Becomes a newer level, and gives the way back. Err: memory was refused, and it is as it was.
+    pub(crate) fn go_on(&mut self, alloc: Global, newer: &BareLevel) -> Result<Older, AllocError>
+        ensures newer { OnOk result (self.new.grid ≡ newer.now.grid) }
+        ensures kept { OnErr result (self.new.grid ≡ self.old.grid) }
+        ensures leads { IfOk result (λ way. Leads way newer.now.grid self.old.grid) }
+        ensures given { IfOk result (λ way. given_back way newer.now.grid ≡ self.old.grid) }
+    {
+        if newer.same_size(self) {
+            return self.change_to(newer);
+        }
+        let whole = Box::new(alloc, self.copy()?)?;
+        self.copy_from(newer)?;
+        Ok(Older::Whole(whole))
+    }
+
+    /// Becomes a newer level of the same size, and gives the way back. Err: memory was refused, and it is as it was.
+    fn change_to(&mut self, newer: &BareLevel) -> Result<Older, AllocError>
+        requires size { SameSize newer.now.grid self.old.grid }
+        ensures newer { OnOk result (self.new.grid ≡ newer.now.grid) }
+        ensures kept { OnErr result (self.new.grid ≡ self.old.grid) }
+        ensures leads { IfOk result (λ way. Leads way newer.now.grid self.old.grid) }
+        ensures given { IfOk result (λ way. given_back way newer.now.grid ≡ self.old.grid) }
+    {
+        match (&mut self.sheet, &newer.sheet) {
+            (Sized::Small(sheet), Sized::Small(newer)) => sheet.go_on(newer).map(Older::Small),
+            (Sized::Middle(sheet), Sized::Middle(newer)) => sheet.go_on(newer).map(Older::Middle),
+            (Sized::Large(sheet), Sized::Large(newer)) => sheet.go_on(newer).map(Older::Large),
+            _ => unreachable!(),
+        }
+    }
+
+    /// Becomes the older level that is given back.
+    pub(crate) fn give_back(&mut self, way: Older)
+        requires { Leads way self.old.grid (given_back way self.old.grid) }
+        ensures { self.new.grid ≡ given_back way self.old.grid }
+    {
+        match way {
+            Older::Small(changes) => self.take_small(&changes),
+            Older::Middle(changes) => self.take_middle(&changes),
+            Older::Large(changes) => self.take_large(&changes),
+            Older::Whole(bare) => *self = Box::into_inner(bare),
+        }
+    }
+
+    fn take_small(&mut self, changes: &[Change<1>])
+        requires room { IsFor 128 25 self.old.grid }
+        requires of_level { All (IsChangeOf 1 self.old.grid) changes.now }
+        ensures { self.new.grid ≡ restored (changes_seen 1 self.old.grid changes.now) self.old.grid }
+    {
+        match &mut self.sheet {
+            Sized::Small(sheet) => sheet.take_changes(changes),
+            _ => unreachable!(),
+        }
+    }
+
+    fn take_middle(&mut self, changes: &[Change<2>])
+        requires room { (IsFor 128 25 self.old.grid → ⊥) × IsFor 256 50 self.old.grid }
+        requires of_level { All (IsChangeOf 2 self.old.grid) changes.now }
+        ensures { self.new.grid ≡ restored (changes_seen 2 self.old.grid changes.now) self.old.grid }
+    {
+        match &mut self.sheet {
+            Sized::Middle(sheet) => sheet.take_changes(changes),
+            _ => unreachable!(),
+        }
+    }
+
+    fn take_large(&mut self, changes: &[Change<4>])
+        requires room { IsFor 256 50 self.old.grid → ⊥ }
+        requires of_level { All (IsChangeOf 4 self.old.grid) changes.now }
+        ensures { self.new.grid ≡ restored (changes_seen 4 self.old.grid changes.now) self.old.grid }
+    {
+        match &mut self.sheet {
+            Sized::Large(sheet) => sheet.take_changes(changes),
+            _ => unreachable!(),
+        }
+    }
+}
