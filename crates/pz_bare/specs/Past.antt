@@ -8,16 +8,16 @@ use Rattle.pz_bare.specs.declared.older.Older.TheVariants.{Small, Middle, Large,
 
 -- the older level that is given back from the one after it
 abbrev pub given_back : Older → Grid → Grid
-given_back (Small changes) grid = restored (changes_seen 1 grid changes.items) grid
-given_back (Middle changes) grid = restored (changes_seen 2 grid changes.items) grid
-given_back (Large changes) grid = restored (changes_seen 4 grid changes.items) grid
+given_back (Small changes) grid = restored (changes_seen grid changes.items) grid
+given_back (Middle changes) grid = restored (changes_seen grid changes.items) grid
+given_back (Large changes) grid = restored (changes_seen grid changes.items) grid
 given_back (Whole level) grid = level.value.grid
 
 -- changes are those to an older level of the same size: the cells in which it differs, and no other
 pub record AreChangesTo (N : ℕ) (grid older : Grid) (changes : List (Change N)) : Type 0 where
   pub size : SameSize grid older
-  pub all : changes_seen N grid changes ≡ changed_cells grid older
-  pub of_level : All (IsChangeOf N grid) changes
+  pub all : changes_seen grid changes ≡ changed_cells grid older
+  pub of_level : All (IsChangeOf grid) changes
 
 -- a level has so many objects and layers at most
 abbrev pub IsFor : ℕ → ℕ → Grid → Type 0

@@ -66,8 +66,8 @@ impl BareLevel {
 
     fn take_small(&mut self, changes: &[Change<1>])
         requires room { IsFor 128 25 self.old.grid }
-        requires of_level { All (IsChangeOf 1 self.old.grid) changes.now }
-        ensures { self.new.grid ≡ restored (changes_seen 1 self.old.grid changes.now) self.old.grid }
+        requires of_level { All (IsChangeOf self.old.grid) changes.now }
+        ensures { self.new.grid ≡ restored (changes_seen self.old.grid changes.now) self.old.grid }
     {
         match &mut self.sheet {
             Sized::Small(sheet) => sheet.take_changes(changes),
@@ -77,8 +77,8 @@ impl BareLevel {
 
     fn take_middle(&mut self, changes: &[Change<2>])
         requires room { (IsFor 128 25 self.old.grid → ⊥) × IsFor 256 50 self.old.grid }
-        requires of_level { All (IsChangeOf 2 self.old.grid) changes.now }
-        ensures { self.new.grid ≡ restored (changes_seen 2 self.old.grid changes.now) self.old.grid }
+        requires of_level { All (IsChangeOf self.old.grid) changes.now }
+        ensures { self.new.grid ≡ restored (changes_seen self.old.grid changes.now) self.old.grid }
     {
         match &mut self.sheet {
             Sized::Middle(sheet) => sheet.take_changes(changes),
@@ -88,8 +88,8 @@ impl BareLevel {
 
     fn take_large(&mut self, changes: &[Change<4>])
         requires room { IsFor 256 50 self.old.grid → ⊥ }
-        requires of_level { All (IsChangeOf 4 self.old.grid) changes.now }
-        ensures { self.new.grid ≡ restored (changes_seen 4 self.old.grid changes.now) self.old.grid }
+        requires of_level { All (IsChangeOf self.old.grid) changes.now }
+        ensures { self.new.grid ≡ restored (changes_seen self.old.grid changes.now) self.old.grid }
     {
         match &mut self.sheet {
             Sized::Large(sheet) => sheet.take_changes(changes),

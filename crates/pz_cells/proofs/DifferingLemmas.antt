@@ -15,7 +15,7 @@ pub record AreRead (N : ℕ) (a b : List (Cell N)) (index : ℕ) (x y : Cell N) 
   pub long : length a ≡ length b
   pub is_x : x ≡ get_or a index x
   pub is_y : y ≡ get_or b index y
-  pub decides : IsTrue r ↔ AreAlike N x y
+  pub decides : IsTrue r ↔ AreAlike x y
 
 module _ (N : ℕ) (a b : List (Cell N)) (index : ℕ) (x y : Cell N) (r : Bool) (read : AreRead N a b index x y r) where
   first_is : (cell : Cell N) → x ≡ get_or a index cell
@@ -25,22 +25,22 @@ module _ (N : ℕ) (a b : List (Cell N)) (index : ℕ) (x y : Cell N) (r : Bool)
   second_is other = read.is_y ∙ get_or_default b index y other (omega (arith, read.within, read.long))
 
   -- they have
-  pub alike_more : r ≡ true → (from : ℕ) → AreAlikeBetween N a b from index → AreAlikeBetween N a b from (index + 1)
+  pub alike_more : r ≡ true → (from : ℕ) → AreAlikeBetween a b from index → AreAlikeBetween a b from (index + 1)
   alike_more is from before k cell other low h = elim (cases_eq k index) [
     | inl here ↦ (let p : x ≡ get_or a k cell = first_is cell ∙ ap (λ (i : ℕ). get_or a i cell) (sym here) in
         let q : y ≡ get_or b k other = second_is other ∙ ap (λ (i : ℕ). get_or b i other) (sym here) in
-        subst (λ (c : Cell N). AreAlike N c (get_or b k other)) p (subst (λ (c : Cell N). AreAlike N x c) q (read.decides.0 is)))
+        subst (λ (c : Cell N). AreAlike c (get_or b k other)) p (subst (λ (c : Cell N). AreAlike x c) q (read.decides.0 is)))
     | inr apart ↦ before k cell other low (omega (arith, h, apart))
   ]
 
   -- they haven't
-  pub differ_here : r ≡ false → Differ N a b index
+  pub differ_here : r ≡ false → Differ a b index
   differ_here differs cell other same =
-      let alike : AreAlike N x y = subst (λ (c : Cell N). AreAlike N c y) (sym (first_is cell)) (subst (λ (c : Cell N). AreAlike N (get_or a index cell) c) (sym (second_is other)) same) in
+      let alike : AreAlike x y = subst (λ (c : Cell N). AreAlike c y) (sym (first_is cell)) (subst (λ (c : Cell N). AreAlike (get_or a index cell) c) (sym (second_is other)) same) in
       let f : false ≡ true = sym differs ∙ read.decides.1 alike in cc
 
 -- cells that head nowhere are decided by their objects
-pub read_objects : (N : ℕ) (a b : List (Cell N)) (index : ℕ) (x y : Cell N) (r : Bool) → index < length a → length a ≡ length b → x ≡ get_or a index x → y ≡ get_or b index y → HeadNowhere N a → HeadNowhere N b → (IsTrue r ↔ AreSame (get_or a index x).objects (get_or b index y).objects) → AreRead N a b index x y r
+pub read_objects : (N : ℕ) (a b : List (Cell N)) (index : ℕ) (x y : Cell N) (r : Bool) → index < length a → length a ≡ length b → x ≡ get_or a index x → y ≡ get_or b index y → HeadNowhere a → HeadNowhere b → (IsTrue r ↔ AreSame (get_or a index x).objects (get_or b index y).objects) → AreRead N a b index x y r
 read_objects N a b index x y r within long is_x is_y still others_still decides =
     let none_x : (number : ℕ) → member x.movement number ≡ false = λ number. ap (λ (c : Cell N). member c.movement number) is_x ∙ still index x number within in
     let none_y : (number : ℕ) → member y.movement number ≡ false = λ number. ap (λ (c : Cell N). member c.movement number) is_y ∙ others_still index y number (omega (arith, within, long)) in
@@ -55,7 +55,7 @@ read_objects N a b index x y r within long is_x is_y still others_still decides 
     }
 
 -- none is found exactly where all are the same
-pub none_differs : (N : ℕ) (a b : List (Cell N)) (found : Option ℕ) (r : Bool) → length a ≡ length b → is_some found ≡ not r → IsNextDiffering N a b 0 found → IsTrue r ↔ HaveSame N a b
+pub none_differs : (N : ℕ) (a b : List (Cell N)) (found : Option ℕ) (r : Bool) → length a ≡ length b → is_some found ≡ not r → IsNextDiffering a b 0 found → IsTrue r ↔ HaveSame a b
 none_differs N a b None true long e same = (λ t. record { long = long; alike = λ k cell other h. same k cell other (omega arith) h }, λ all. refl)
 none_differs N a b None false long e same = absurd (let f : false ≡ true = e in cc)
 none_differs N a b (Some found) true long e next = absurd (let f : true ≡ false = e in cc)

@@ -1,6 +1,8 @@
 -- Cells that are drawn and filled.
 use Rattle.std.proofs.Common.{◌≡◌, ℕ, ◌+◌, ◌<◌, List, [], ◌∷◌, ◌++◌, map, take, Option, Some, None, Bool, true, false, set, length, get_or, ap, sym, ◌∙◌, subst}
-use Rattle.std.specs.Prelude.{unwrap_or}
+use Rattle.std.specs.Prelude.{unwrap_or, replicate}
+use Rattle.std.proofs.Common.{arith}
+use Rattle.std.proofs.lemmas.Grind.{common_steps}
 use Rattle.std.specs.List.{All}
 use Rattle.std.proofs.lemmas.List.{length-replicate, get_or-replicate, map-append, map_more}
 use Rattle.std.proofs.lemmas.List.Elements.{All-append, All-cons, All-nil}
@@ -14,12 +16,19 @@ use Rattle.pz_cells.proofs.HoldLemmas.{place_seen}
 use Rattle.pz_cells.proofs.ShowLemmas.{lawful_from_shows, cell_from_shows}
 use Rattle.pz_cells.proofs.PlaceLemmas.{cell_changed}
 use Rattle.pz_cells.specs.Drawing.{filled_cell}
+use Rattle.pz_cells.specs.Layering.{Layering}
 use Rattle.pz_cells.specs.Lists.{seen, IsSound}
 
 -- words without a number
 pub record AreEmpty (objects movement : List ℕ) : Type 0 where
   pub objects_none : (object : ℕ) → member objects object ≡ false
   pub movement_none : (number : ℕ) → member movement number ≡ false
+
+pub no_number : (n number : ℕ) → member (replicate n 0) number ≡ false
+no_number n number = grind (arith, common_steps)
+
+pub none_drawn : (n : ℕ) → AreEmpty (replicate n 0) (replicate n 0)
+none_drawn n = record { objects_none = no_number n; movement_none = no_number n }
 
 never : {X : Type 0} (has : ℕ → Bool) (object : ℕ) → has object ≡ false → has object ≡ true → X
 never has object none here = absurd (let e : false ≡ true = sym none ∙ here in cc)
@@ -44,14 +53,14 @@ cell_filled depth layers objects movement objects_new movement_new layer piece l
     ∙ ap (λ (p : Option Piece). set (cell_of depth layers objects movement) layer (Some (unwrap_or p piece))) (sym (place_seen depth layers objects movement layer low))
 
 -- one more cell of a glyph
-pub record AreGlyphs (N depth : ℕ) (layers : List ℕ) (f : ℕ → List (Option Piece)) (numbers : List ℕ) (cells : List (Cell N)) : Type 0 where
-  pub sound : All (IsSound N layers) cells
-  pub cells_are : map (seen N depth layers) cells ≡ map f numbers
+pub record AreGlyphs {N : ℕ} (layering : Layering) (f : ℕ → List (Option Piece)) (numbers : List ℕ) (cells : List (Cell N)) : Type 0 where
+  pub sound : All (IsSound layering) cells
+  pub cells_are : map (seen layering) cells ≡ map f numbers
 
-pub glyphs_more : (N depth : ℕ) (layers : List ℕ) (f : ℕ → List (Option Piece)) (numbers : List ℕ) (index d : ℕ) (cells now : List (Cell N)) (cell : Cell N) → index < length numbers → AreGlyphs N depth layers f (take index numbers) cells → IsSound N layers cell → seen N depth layers cell ≡ f (get_or numbers index d) → now ≡ cells ++ cell ∷ [] → AreGlyphs N depth layers f (take (index + 1) numbers) now
-glyphs_more N depth layers f numbers index d cells now cell within are sound e is = record {
-  sound = subst (All (IsSound N layers)) (sym is) (All-append (IsSound N layers) cells (cell ∷ []) are.sound (All-cons (IsSound N layers) cell [] sound (All-nil (IsSound N layers))));
-  cells_are = ap (map (seen N depth layers)) is ∙ (map-append (seen N depth layers) cells (cell ∷ [])
-      ∙ (ap (λ (ys : List (List (Option Piece))). ys ++ seen N depth layers cell ∷ []) are.cells_are
+pub glyphs_more : {N : ℕ} (layering : Layering) (f : ℕ → List (Option Piece)) (numbers : List ℕ) (index d : ℕ) (cells now : List (Cell N)) (cell : Cell N) → index < length numbers → AreGlyphs layering f (take index numbers) cells → IsSound layering cell → seen layering cell ≡ f (get_or numbers index d) → now ≡ cells ++ cell ∷ [] → AreGlyphs layering f (take (index + 1) numbers) now
+glyphs_more layering f numbers index d cells now cell within are sound e is = record {
+  sound = subst (All (IsSound layering)) (sym is) (All-append (IsSound layering) cells (cell ∷ []) are.sound (All-cons (IsSound layering) cell [] sound (All-nil (IsSound layering))));
+  cells_are = ap (map (seen layering)) is ∙ (map-append (seen layering) cells (cell ∷ [])
+      ∙ (ap (λ (ys : List (List (Option Piece))). ys ++ seen layering cell ∷ []) are.cells_are
       ∙ (ap (λ (y : List (Option Piece)). map f (take index numbers) ++ y ∷ []) e ∙ sym (map_more f numbers index d within))));
 }

@@ -110,6 +110,16 @@ changes_nothing layers objects movement layer lawful free = record {
 pub place_changed : (layers objects movement objects_new movement_new : List ℕ) (layer : ℕ) (place : Option Piece) → Changes layers objects movement objects_new movement_new layer place → place_of layers objects_new movement_new layer ≡ place
 place_changed layers objects movement objects_new movement_new layer place c = place_shown layers objects_new movement_new layer place c.of_game c.here
 
+-- a layer that changed changes again
+pub changes_again : (layers objects movement objects_mid movement_mid objects_new movement_new : List ℕ) (layer : ℕ) (first second : Option Piece) → Changes layers objects movement objects_mid movement_mid layer first → Changes layers objects_mid movement_mid objects_new movement_new layer second → Changes layers objects movement objects_new movement_new layer second
+changes_again layers objects movement objects_mid movement_mid objects_new movement_new layer first second a b = record {
+  of_game = b.of_game;
+  here = b.here;
+  same_objects = λ object apart. b.same_objects object apart ∙ a.same_objects object apart;
+  proper = b.proper;
+  same_movement = λ other dir apart. b.same_movement other dir apart ∙ a.same_movement other dir apart;
+}
+
 -- the object that a set of a layer's objects has in common with a cell
 pub on_layer : (layers objects set : List ℕ) (layer : ℕ) → ((object : ℕ) → member objects object ≡ true → object < length layers) → IsSetOf layers set layer → (found : Option ℕ) → MatchOption found ((object : ℕ) → (member objects object && member set object) ≡ false) (λ first. (first / 128 < length objects) × ((member objects first && member set first) ≡ true)) → MatchOption found ((object : ℕ) → member objects object ≡ true → get_or layers object 0 ≡ layer → ⊥) (λ object. (member objects object ≡ true) × (get_or layers object 0 ≡ layer))
 on_layer layers objects set layer of_game table None none =

@@ -4,6 +4,7 @@ pub mod Sameness
 pub mod Pattern
 pub mod Rewriting
 pub mod Shown
+pub mod Layering
 pub mod Rewrites
 pub mod Lists
 pub mod Differing

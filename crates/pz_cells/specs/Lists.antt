@@ -3,34 +3,43 @@ use Rattle.std.specs.Prelude.{◌≡◌, ℕ, ◌<◌, List, map, Option, false,
 use Rattle.pz_sets.specs.Sets.{member, AreSame}
 use Rattle.pz_cells.specs.declared.cell.Cell.{Cell}
 use Rattle.pz_cells.specs.declared.piece.Piece.{Piece}
-use Rattle.pz_cells.specs.Shown.{cell_of, AreLawful}
+use Rattle.pz_cells.specs.Shown.{place_of, cell_of, AreLawful, Changes}
+use Rattle.pz_cells.specs.Layering.{Layering}
 
 -- a cell, seen by layers
-abbrev pub seen : (N : ℕ) → ℕ → List ℕ → Cell N → List (Option Piece)
-seen N depth layers cell = cell_of depth layers cell.objects cell.movement
+abbrev pub seen : {N : ℕ} → Layering → Cell N → List (Option Piece)
+seen layering cell = cell_of layering.depth layering.layers cell.objects cell.movement
 
--- the words of a cell are of the game
-abbrev pub IsSound : (N : ℕ) → List ℕ → Cell N → Type 0
-IsSound N layers cell = AreLawful layers cell.objects cell.movement
+-- the words of a cell are of these layers
+abbrev pub IsSound : {N : ℕ} → Layering → Cell N → Type 0
+IsSound layering cell = AreLawful layering.layers cell.objects cell.movement
 
 -- no cell heads anywhere
-abbrev pub HeadNowhere : (N : ℕ) → List (Cell N) → Type 0
-HeadNowhere N cells = (index : ℕ) (cell : Cell N) (number : ℕ) → index < length cells → member (slice_index_or cells index cell).movement number ≡ false
+abbrev pub HeadNowhere : {N : ℕ} → List (Cell N) → Type 0
+HeadNowhere {N} cells = (index : ℕ) (cell : Cell N) (number : ℕ) → index < length cells → member (slice_index_or cells index cell).movement number ≡ false
 
 -- cells of which each has the objects of the other of its number
-abbrev pub HaveSameObjects : (N : ℕ) → List (Cell N) → List (Cell N) → Type 0
-HaveSameObjects N old new = (index : ℕ) (cell : Cell N) → (slice_index_or new index cell).objects ≡ (slice_index_or old index cell).objects
+abbrev pub HaveSameObjects : {N : ℕ} → List (Cell N) → List (Cell N) → Type 0
+HaveSameObjects {N} old new = (index : ℕ) (cell : Cell N) → (slice_index_or new index cell).objects ≡ (slice_index_or old index cell).objects
 
 -- cells of words that are seen as others, each made from one of those by a function
-pub record AreMapped (N depth : ℕ) (layers : List ℕ) (f : List (Option Piece) → List (Option Piece)) (old new : List (Cell N)) : Type 0 where
-  pub sound : All (IsSound N layers) new
-  pub cells : map (seen N depth layers) new ≡ map f (map (seen N depth layers) old)
+pub record AreMapped {N : ℕ} (layering : Layering) (f : List (Option Piece) → List (Option Piece)) (old new : List (Cell N)) : Type 0 where
+  pub sound : All (IsSound layering) new
+  pub cells : map (seen layering) new ≡ map f (map (seen layering) old)
 
 -- the words of two cells have the same numbers
-abbrev pub AreAlike : (N : ℕ) → Cell N → Cell N → Type 0
-AreAlike N cell other = AreSame cell.objects other.objects × AreSame cell.movement other.movement
+abbrev pub AreAlike : {N : ℕ} → Cell N → Cell N → Type 0
+AreAlike cell other = AreSame cell.objects other.objects × AreSame cell.movement other.movement
 
 -- cells of words that have the same numbers, cell by cell
-pub record HaveSame (N : ℕ) (a b : List (Cell N)) : Type 0 where
+pub record HaveSame {N : ℕ} (a b : List (Cell N)) : Type 0 where
   pub long : length a ≡ length b
-  pub alike : (index : ℕ) (cell other : Cell N) → index < length a → AreAlike N (slice_index_or a index cell) (slice_index_or b index other)
+  pub alike : (index : ℕ) (cell other : Cell N) → index < length a → AreAlike (slice_index_or a index cell) (slice_index_or b index other)
+
+-- what the words of a cell say of a layer
+abbrev pub place_in : {N : ℕ} → Layering → Cell N → ℕ → Option Piece
+place_in layering cell layer = place_of layering.layers cell.objects cell.movement layer
+
+-- a cell becomes one in which a layer has another place
+abbrev pub Becomes : {N : ℕ} → Layering → Cell N → Cell N → ℕ → Option Piece → Type 0
+Becomes layering cell new layer place = Changes layering.layers cell.objects cell.movement new.objects new.movement layer place

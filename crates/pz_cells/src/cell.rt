@@ -1,13 +1,14 @@
 //! A cell in words.
 
-ghost use Rattle.std.specs.Prelude.{◌≡◌, ℕ, ◌*◌, ◌/◌, ◌<◌, ◌≤◌, true, ◌&&◌, ◌||◌, nat_eq, length, slice_index, MatchOption, Some, None};
-ghost use Rattle.pz_game.specs.declared.limits.TheConstants.{MAX_LAYERS, MAX_OBJECTS};
+ghost use Rattle.std.specs.Prelude.{◌≡◌, ℕ, ◌/◌, ◌<◌, true, ◌&&◌, ◌||◌, nat_eq, length, slice_index, slice_index_or, slice_set, MatchOption, Some, None};
+ghost use Rattle.pz_game.specs.declared.limits.TheConstants.{MAX_LAYERS};
 ghost use Rattle.pz_sets.specs.Sets.{member};
 ghost use Rattle.pz_game.specs.declared.direction.Dir.{Dir};
 ghost use Rattle.pz_game.specs.Headings.{is_toward, heads, IsProper};
 ghost use Rattle.pz_cells.specs.Cell.{IsOnLayer};
-ghost use Rattle.pz_cells.specs.Shown.{place_of, IsSetOf, AreLawful, Changes};
+ghost use Rattle.pz_cells.specs.Lists.{seen, IsSound, place_in, Becomes};
 
+use crate::layers::Layers;
 use crate::piece::Piece;
 use pz_game::direction::Dir;
 use pz_game::headings;
@@ -31,28 +32,33 @@ impl<const N: usize> Cell<N> {
         N
     }
 
-    /// The object of a layer, where a set has the objects of the layer.
-    fn object_on(&self, layers: &[usize], set: &[u128], layer: usize) -> Option<usize>
-        requires short { N ≤ 4 }
-        requires lawful { AreLawful layers.now self.now.objects self.now.movement }
-        requires set { IsSetOf layers.now set.now layer }
-        ensures { MatchOption result ((object : ℕ) → member self.now.objects object ≡ true → slice_index layers.now object ≡ layer → ⊥) (λ object. (member self.now.objects object ≡ true) × (slice_index layers.now object ≡ layer)) }
+    /// The object of a layer.
+    fn object_on(&self, layers: &Layers<N>, layer: usize) -> Option<usize>
+        requires low { layer < layers.now.depth }
+        requires sound { IsSound layers.now self.now }
+        ensures { MatchOption result ((object : ℕ) → member self.now.objects object ≡ true → slice_index layers.now.layers object ≡ layer → ⊥) (λ object. (member self.now.objects object ≡ true) × (slice_index layers.now.layers object ≡ layer)) }
     {
-        let _ = layers;
-        let _ = layer;
-        words::first_common(&self.objects, set)
+        words::first_common(&self.objects, layers.objects_of(layer))
     }
 
     /// What stands on a layer.
-    pub fn place(&self, layers: &[usize], set: &[u128], layer: usize) -> Option<Piece>
-        requires short { N ≤ 4 }
-        requires few { length layers.now ≤ MAX_OBJECTS }
-        requires low { layer < MAX_LAYERS }
-        requires lawful { AreLawful layers.now self.now.objects self.now.movement }
-        requires set { IsSetOf layers.now set.now layer }
-        ensures { result ≡ place_of layers.now self.now.objects self.now.movement layer }
+    pub fn place(&self, layers: &Layers<N>, layer: usize) -> Option<Piece>
+        requires low { layer < layers.now.depth }
+        requires sound { IsSound layers.now self.now }
+        ensures { result ≡ slice_index_or (seen layers.now self.now) layer None }
     {
-        match self.object_on(layers, set, layer) {
+        self.piece_on(layers, layer)
+    }
+
+    /// What stands on a layer, as the words say it.
+    pub(crate) fn piece_on(&self, layers: &Layers<N>, layer: usize) -> Option<Piece>
+        requires low { layer < layers.now.depth }
+        requires sound { IsSound layers.now self.now }
+        ensures { result ≡ place_in layers.now self.now layer }
+    {
+        // (brings the proof the law of the layers)
+        let _ = layers.depth();
+        match self.object_on(layers, layer) {
             None => None,
             Some(object) => {
                 let heading = headings::heading(&self.movement, layer);
@@ -65,11 +71,11 @@ impl<const N: usize> Cell<N> {
     }
 
     /// Takes what stands on a layer away.
-    fn lift(&mut self, layers: &[usize], layer: usize, here: Option<Piece>)
+    fn lift(&mut self, layers: &Layers<N>, layer: usize, here: Option<Piece>)
         requires low { layer < MAX_LAYERS }
-        requires lawful { AreLawful layers.now self.old.objects self.old.movement }
-        requires here { here ≡ place_of layers.now self.old.objects self.old.movement layer }
-        ensures { Changes layers.now self.old.objects self.old.movement self.new.objects self.new.movement layer None }
+        requires sound { IsSound layers.now self.old }
+        requires here { here ≡ place_in layers.now self.old layer }
+        ensures { Becomes layers.now self.old self.new layer None }
     {
         let _ = layers;
         match here {
@@ -96,37 +102,52 @@ impl<const N: usize> Cell<N> {
     }
 
     /// Puts a piece on a layer where nothing stands.
-    fn land(&mut self, layers: &[usize], layer: usize, piece: Piece)
-        requires short { N ≤ 4 }
-        requires low { layer < MAX_LAYERS }
-        requires object_within { piece.object / 128 < N }
-        requires within { layer / 25 < N }
-        requires lawful { AreLawful layers.now self.old.objects self.old.movement }
-        requires free { place_of layers.now self.old.objects self.old.movement layer ≡ None }
-        requires object_in { piece.object < length layers.now }
-        requires on { slice_index layers.now piece.object ≡ layer }
-        ensures { Changes layers.now self.old.objects self.old.movement self.new.objects self.new.movement layer (Some piece) }
+    fn land(&mut self, layers: &Layers<N>, layer: usize, piece: Piece)
+        requires low { layer < layers.now.depth }
+        requires sound { IsSound layers.now self.old }
+        requires free { place_in layers.now self.old layer ≡ None }
+        requires on_layer { IsOnLayer layers.now.layers layer (Some piece) }
+        ensures { Becomes layers.now self.old self.new layer (Some piece) }
     {
-        let _ = layers;
+        // (brings the proof the law of the layers)
+        let _ = layers.depth();
         words::insert(&mut self.objects, piece.object as usize);
         self.head(layer, piece.heading);
     }
 
     /// Puts a piece, or nothing, on a layer, in the place of what stands there.
-    pub fn put(&mut self, layers: &[usize], layer: usize, here: Option<Piece>, place: Option<Piece>)
-        requires short { N ≤ 4 }
-        requires low { layer < MAX_LAYERS }
-        requires object_words { length layers.now ≤ 128 * N }
-        requires within { layer / 25 < N }
-        requires lawful { AreLawful layers.now self.old.objects self.old.movement }
-        requires here { here ≡ place_of layers.now self.old.objects self.old.movement layer }
-        requires on_layer { IsOnLayer layers.now layer place }
-        ensures { Changes layers.now self.old.objects self.old.movement self.new.objects self.new.movement layer place }
+    pub(crate) fn exchange(
+        &mut self,
+        layers: &Layers<N>,
+        layer: usize,
+        here: Option<Piece>,
+        place: Option<Piece>,
+    )
+        requires low { layer < layers.now.depth }
+        requires sound { IsSound layers.now self.old }
+        requires here { here ≡ place_in layers.now self.old layer }
+        requires on_layer { IsOnLayer layers.now.layers layer place }
+        ensures sound { IsSound layers.now self.new }
+        ensures cell { seen layers.now self.new ≡ slice_set (seen layers.now self.old) layer place }
     {
+        // (brings the proof the law of the layers)
+        let _ = layers.depth();
         self.lift(layers, layer, here);
         match place {
             None => {}
             Some(piece) => self.land(layers, layer, piece),
         }
+    }
+
+    /// Puts a piece, or nothing, on a layer.
+    pub fn put(&mut self, layers: &Layers<N>, layer: usize, place: Option<Piece>)
+        requires low { layer < layers.now.depth }
+        requires sound { IsSound layers.now self.old }
+        requires on_layer { IsOnLayer layers.now.layers layer place }
+        ensures sound { IsSound layers.now self.new }
+        ensures cell { seen layers.now self.new ≡ slice_set (seen layers.now self.old) layer place }
+    {
+        let here = self.piece_on(layers, layer);
+        self.exchange(layers, layer, here, place);
     }
 }

@@ -16,9 +16,9 @@ pub fn next_differing<const N: usize>(
 ) -> Option<usize>
     requires short { N ≤ 4 }
     requires long { length cells.now ≡ length others.now }
-    requires still { are_still ≡ true → HeadNowhere N cells.now }
-    requires others_still { are_still ≡ true → HeadNowhere N others.now }
-    ensures { IsNextDiffering N cells.now others.now from result }
+    requires still { are_still ≡ true → HeadNowhere cells.now }
+    requires others_still { are_still ≡ true → HeadNowhere others.now }
+    ensures { IsNextDiffering cells.now others.now from result }
 {
     if are_still {
         next_of_objects(cells, others, from)
@@ -35,9 +35,9 @@ fn next_of_objects<const N: usize>(
 ) -> Option<usize>
     requires short { N ≤ 4 }
     requires long { length cells.now ≡ length others.now }
-    requires still { HeadNowhere N cells.now }
-    requires others_still { HeadNowhere N others.now }
-    ensures { IsNextDiffering N cells.now others.now from result }
+    requires still { HeadNowhere cells.now }
+    requires others_still { HeadNowhere others.now }
+    ensures { IsNextDiffering cells.now others.now from result }
 {
     for index in from..cells.len() {
         if !same(&cells[index].objects, &others[index].objects) {
@@ -55,7 +55,7 @@ fn next_of_cells<const N: usize>(
 ) -> Option<usize>
     requires short { N ≤ 4 }
     requires long { length cells.now ≡ length others.now }
-    ensures { IsNextDiffering N cells.now others.now from result }
+    ensures { IsNextDiffering cells.now others.now from result }
 {
     for index in from..cells.len() {
         if !cells[index].same(&others[index]) {
@@ -68,9 +68,9 @@ fn next_of_cells<const N: usize>(
 /// Whether the words of the cells have the same numbers. Where no cell of either heads anywhere, the objects alone are looked at.
 pub fn same_cells<const N: usize>(a: &[Cell<N>], b: &[Cell<N>], are_still: bool) -> bool
     requires short { N ≤ 4 }
-    requires still { are_still ≡ true → HeadNowhere N a.now }
-    requires others_still { are_still ≡ true → HeadNowhere N b.now }
-    ensures { IsTrue result ↔ HaveSame N a.now b.now }
+    requires still { are_still ≡ true → HeadNowhere a.now }
+    requires others_still { are_still ≡ true → HeadNowhere b.now }
+    ensures { IsTrue result ↔ HaveSame a.now b.now }
 {
     a.len() == b.len() && next_differing(a, b, are_still, 0).is_none()
 }

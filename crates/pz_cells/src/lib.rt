@@ -6,6 +6,7 @@ pub mod cell;
 mod changing;
 pub mod differing;
 pub mod drawing;
+pub mod layers;
 mod matching;
 pub mod piece;
 mod reading;

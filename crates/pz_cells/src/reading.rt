@@ -1,12 +1,13 @@
 //! What stands in a cell.
 
-ghost use Rattle.std.specs.Prelude.{◌≡◌, ℕ, ◌<◌, ◌≤◌, ◌↔◌, IsTrue, All, true, false, length, slice_index, None, MatchOption};
-ghost use Rattle.pz_game.specs.declared.limits.TheConstants.{MAX_LAYERS, MAX_OBJECTS};
+ghost use Rattle.std.specs.Prelude.{◌≡◌, ℕ, ◌<◌, ◌≤◌, ◌↔◌, IsTrue, true, false, slice_index, None, MatchOption};
+ghost use Rattle.pz_game.specs.declared.limits.TheConstants.{MAX_LAYERS};
 ghost use Rattle.pz_sets.specs.Sets.{member, AreSame};
 ghost use Rattle.pz_game.specs.Headings.{heading_in};
-ghost use Rattle.pz_cells.specs.Shown.{AreLawful};
+ghost use Rattle.pz_cells.specs.Lists.{IsSound};
 
 use crate::cell::Cell;
+use crate::layers::Layers;
 use crate::piece::Piece;
 use pz_game::direction::Dir;
 use pz_game::headings;
@@ -64,17 +65,16 @@ impl<const N: usize> Cell<N> {
         }
     }
 
-    /// The object's piece, if it stands in the cell. The layers are those of the game's objects.
-    pub fn piece(&self, layers: &[usize], object: usize) -> Option<Piece>
-        requires few { length layers.now ≤ MAX_OBJECTS }
-        requires low { All (λ layer. layer < MAX_LAYERS) layers.now }
-        requires lawful { AreLawful layers.now self.now.objects self.now.movement }
-        ensures { MatchOption result (member self.now.objects object ≡ false) (λ piece. (member self.now.objects object ≡ true) × (piece.object ≡ object) × (piece.heading ≡ heading_in self.now.movement (slice_index layers.now object))) }
+    /// The object's piece, if it stands in the cell.
+    pub fn piece(&self, layers: &Layers<N>, object: usize) -> Option<Piece>
+        requires sound { IsSound layers.now self.now }
+        ensures { MatchOption result (member self.now.objects object ≡ false) (λ piece. (member self.now.objects object ≡ true) × (piece.object ≡ object) × (piece.heading ≡ heading_in self.now.movement (slice_index layers.now.layers object))) }
     {
         if self.has(object) {
+            let layer = layers.layer_of(object);
             Some(Piece {
                 object: object as u16,
-                heading: headings::heading(&self.movement, layers[object]),
+                heading: headings::heading(&self.movement, layer),
             })
         } else {
             None

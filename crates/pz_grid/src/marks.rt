@@ -1,6 +1,6 @@
 //! The objects that each row and each column of a level may have.
 
-ghost use Rattle.std.specs.Prelude.{◌≡◌, ℕ, ◌<◌, ◌&&◌, All, IfOk, OnOk, true, length, nat_eq, []};
+ghost use Rattle.std.specs.Prelude.{◌≡◌, ℕ, ◌<◌, ◌&&◌, All, IfOk, OnOk, OnErr, true, length, nat_eq, []};
 ghost use Rattle.pz_sets.specs.Sets.{member};
 ghost use Rattle.pz_sets.specs.declared.set.TheConstants.{CAPACITY};
 ghost use Rattle.pz_sheet.specs.Grid.{IsLawful};
@@ -40,10 +40,11 @@ impl Level {
     }
 
     /// Becomes the same as another, each set exactly what stands in its line: in the memory that it has, where both are of one size. Err:
-    /// memory was refused.
+    /// memory was refused, and its cells are as they were.
     pub fn copy_from(&mut self, other: &Level) -> Result<(), AllocError>
         ensures copied { OnOk result (self.new.grid ≡ other.now.grid) }
         ensures exact { OnOk result (IsExact self.new) }
+        ensures kept { OnErr result (self.new.grid ≡ self.old.grid) }
     {
         if !self.bare.same_size(&other.bare) {
             *self = other.copy()?;

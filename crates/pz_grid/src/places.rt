@@ -14,6 +14,7 @@ use pz_game::direction::Dir;
 use pz_game::pattern::{Pattern, Row};
 use pz_program::instance::Instance;
 use pz_sheet::Sheet;
+use pz_sheet::line::{self, Axis, Way};
 use std::alloc::Global;
 
 /// The greatest number of places that a search gives.
@@ -212,13 +213,43 @@ fn next_start<const N: usize>(
     ensures { IsNext (starts_with sheet.now.grid line.dir line.number head.now) from (line_length sheet.now.grid line.dir) result }
 {
     match line.dir {
-        Dir::Up | Dir::Down => sheet.next_run_in_column(line.dir, line.number, from, head),
-        Dir::Left | Dir::Right | Dir::Action => sheet.next_run_in_row(
-            line.dir,
-            line.number,
+        Dir::Right => sheet.next_run(
+            line::Line {
+                axis: Axis::Horizontal,
+                number: line.number,
+            },
+            Way::Ahead,
             from,
             head,
         ),
+        Dir::Left => sheet.next_run(
+            line::Line {
+                axis: Axis::Horizontal,
+                number: line.number,
+            },
+            Way::Back,
+            from,
+            head,
+        ),
+        Dir::Down => sheet.next_run(
+            line::Line {
+                axis: Axis::Vertical,
+                number: line.number,
+            },
+            Way::Ahead,
+            from,
+            head,
+        ),
+        Dir::Up => sheet.next_run(
+            line::Line {
+                axis: Axis::Vertical,
+                number: line.number,
+            },
+            Way::Back,
+            from,
+            head,
+        ),
+        Dir::Action => None,
     }
 }
 
@@ -279,21 +310,49 @@ fn next_gap<const N: usize>(
     }
     match dir {
         Dir::Right => {
-            let x = sheet.next_in_row(from.y, from.x + steps as u32, behind)?;
+            let x = sheet.next_in_line(
+                line::Line {
+                    axis: Axis::Horizontal,
+                    number: from.y,
+                },
+                from.x + steps as u32,
+                behind,
+            )?;
             Some(x - from.x - at)
         }
         Dir::Left => {
             let end = (from.x + 1).saturating_sub(steps as u32);
-            let x = sheet.last_in_row(from.y, end, behind)?;
+            let x = sheet.last_in_line(
+                line::Line {
+                    axis: Axis::Horizontal,
+                    number: from.y,
+                },
+                end,
+                behind,
+            )?;
             Some(from.x - at - x)
         }
         Dir::Down => {
-            let y = sheet.next_in_column(from.x, from.y + steps as u32, behind)?;
+            let y = sheet.next_in_line(
+                line::Line {
+                    axis: Axis::Vertical,
+                    number: from.x,
+                },
+                from.y + steps as u32,
+                behind,
+            )?;
             Some(y - from.y - at)
         }
         Dir::Up => {
             let end = (from.y + 1).saturating_sub(steps as u32);
-            let y = sheet.last_in_column(from.x, end, behind)?;
+            let y = sheet.last_in_line(
+                line::Line {
+                    axis: Axis::Vertical,
+                    number: from.x,
+                },
+                end,
+                behind,
+            )?;
             Some(from.y - at - y)
         }
         Dir::Action => None,
@@ -464,7 +523,7 @@ pub fn places(alloc: Global, level: &Level, row: &Row, dir: Dir) -> Result<Vec<P
 }
 
 /// The places of a row as `places` gives them, and how many start cells were tested for them. Tested are only cells of lines (rows for left
-/// and right, columns for up and down) that `admitted` counts, each once, and each is counted before its test.
+/// and right, columns for up and down) that `admitted` counts, each once. A line that is searched counts with all its cells.
 pub fn places_counted(
     alloc: Global,
     level: &Level,

@@ -1,4 +1,5 @@
 -- The cells in which an older level differs are found one by one, and give it back.
+use Rattle.pz_cells.specs.Layering.{Layering}
 use Rattle.std.proofs.Common.{◌≡◌, inl, inr, ℕ, zero, suc, ◌+◌, ◌*◌, ◌^◌, ◌<◌, ◌≤◌, List, [], ◌∷◌, ◌++◌, Option, Some, None, Bool, true, false, not, cond, map, set, drop, length, get_or, ap, sym, ◌∙◌, refl, subst, arith}
 use Rattle.std.specs.Prelude.{IsTrue, ◌↔◌, fold}
 use Rattle.std.proofs.lemmas.List.{append-nil, length-append, length-map, get_or_default}
@@ -71,61 +72,61 @@ only_false : (b : Bool) → (b ≡ true → false ≡ true) → b ≡ false
 only_false true h = sym (h refl)
 only_false false h = refl
 
-seen_more : (N depth : ℕ) (layers : List ℕ) (changes now : List (Change N)) (change : Change N) (rest : List CellChange) → now ≡ changes ++ change ∷ [] → map (change_seen N depth layers) now ++ rest ≡ map (change_seen N depth layers) changes ++ change_seen N depth layers change ∷ rest
-seen_more N depth layers changes now change rest e = ap (λ (all : List (Change N)). map (change_seen N depth layers) all ++ rest) e ∙ more changes where
-  more : (all : List (Change N)) → map (change_seen N depth layers) (all ++ change ∷ []) ++ rest ≡ map (change_seen N depth layers) all ++ change_seen N depth layers change ∷ rest
+seen_more : (N : ℕ) (layering : Layering) (changes now : List (Change N)) (change : Change N) (rest : List CellChange) → now ≡ changes ++ change ∷ [] → map (change_seen layering) now ++ rest ≡ map (change_seen layering) changes ++ change_seen layering change ∷ rest
+seen_more N layering changes now change rest e = ap (λ (all : List (Change N)). map (change_seen layering) all ++ rest) e ∙ more changes where
+  more : (all : List (Change N)) → map (change_seen layering) (all ++ change ∷ []) ++ rest ≡ map (change_seen layering) all ++ change_seen layering change ∷ rest
   more [] = refl
-  more (x ∷ xs) = ap (λ (l : List CellChange). change_seen N depth layers x ∷ l) (more xs)
+  more (x ∷ xs) = ap (λ (l : List CellChange). change_seen layering x ∷ l) (more xs)
 
 -- what is left from a cell on
-abbrev pub left_from : (N : ℕ) → ℕ → List ℕ → List (Cell N) → List (Cell N) → ℕ → List CellChange
-left_from N depth layers cells older index = changed_from index (map (seen N depth layers) (drop index cells)) (map (seen N depth layers) (drop index older))
+abbrev pub left_from : (N : ℕ) → Layering → List (Cell N) → List (Cell N) → ℕ → List CellChange
+left_from N layering cells older index = changed_from index (map (seen layering) (drop index cells)) (map (seen layering) (drop index older))
 
-module _ (N depth : ℕ) (layers : List ℕ) (low : All (λ l. l < depth) layers) where
+module _ (N : ℕ) (layering : Layering) (low : All (λ l. l < layering.depth) layering.layers) where
   -- the words tell what is seen
-  pub test_is : (cell other : Cell N) (r : Bool) → IsSound N layers cell → IsSound N layers other → (IsTrue r ↔ AreAlike N cell other) → same_cell (seen N depth layers cell) (seen N depth layers other) ≡ r
+  pub test_is : (cell other : Cell N) (r : Bool) → IsSound layering cell → IsSound layering other → (IsTrue r ↔ AreAlike cell other) → same_cell (seen layering cell) (seen layering other) ≡ r
   test_is cell other true sound sound_other decides =
-      ap (same_cell (seen N depth layers cell)) (sym (seen_alike N depth layers cell other sound sound_other (decides.0 refl))) ∙ same_cell_self (seen N depth layers cell)
+      ap (same_cell (seen layering cell)) (sym (seen_alike N layering cell other sound sound_other (decides.0 refl))) ∙ same_cell_self (seen layering cell)
   test_is cell other false sound sound_other decides =
-      only_false (same_cell (seen N depth layers cell) (seen N depth layers other)) (λ t. decides.1 (alike_seen N depth layers cell other low sound sound_other (same_cell_is _ _ t)))
+      only_false (same_cell (seen layering cell) (seen layering other)) (λ t. decides.1 (alike_seen N layering cell other low sound sound_other (same_cell_is _ _ t)))
 
-  left_more : (cells older : List (Cell N)) (index : ℕ) (x y : Cell N) (r : Bool) → index < length cells → length cells ≡ length older → x ≡ get_or cells index x → y ≡ get_or older index y → All (IsSound N layers) cells → All (IsSound N layers) older → (IsTrue r ↔ AreAlike N x y)
-      → left_from N depth layers cells older index ≡ cond r (left_from N depth layers cells older (index + 1)) (record { number = index; cell = seen N depth layers y } ∷ left_from N depth layers cells older (index + 1))
+  left_more : (cells older : List (Cell N)) (index : ℕ) (x y : Cell N) (r : Bool) → index < length cells → length cells ≡ length older → x ≡ get_or cells index x → y ≡ get_or older index y → All (IsSound layering) cells → All (IsSound layering) older → (IsTrue r ↔ AreAlike x y)
+      → left_from N layering cells older index ≡ cond r (left_from N layering cells older (index + 1)) (record { number = index; cell = seen layering y } ∷ left_from N layering cells older (index + 1))
   left_more cells older index x y r within long is_x is_y sound sound_older decides =
-      let f = seen N depth layers in
+      let f = seen layering in
       let within_older : index < length older = omega (arith, within, long) in
-      let sound_x : IsSound N layers x = subst (IsSound N layers) (sym is_x) (sound index x within) in
-      let sound_y : IsSound N layers y = subst (IsSound N layers) (sym is_y) (sound_older index y within_older) in
-      let rest = left_from N depth layers cells older (index + 1) in
+      let sound_x : IsSound layering x = subst (IsSound layering) (sym is_x) (sound index x within) in
+      let sound_y : IsSound layering y = subst (IsSound layering) (sym is_y) (sound_older index y within_older) in
+      let rest = left_from N layering cells older (index + 1) in
       ap (λ (xs : List (Cell N)). changed_from index (map f xs) (map f (drop index older))) (drop-next cells index x within is_x)
       ∙ (ap (λ (ys : List (Cell N)). changed_from index (map f (x ∷ drop (index + 1) cells)) (map f ys)) (drop-next older index y within_older is_y)
       ∙ ap (λ (b : Bool). cond b rest (record { number = index; cell = f y } ∷ rest)) (test_is x y r sound_x sound_y decides))
 
 -- the changes that are found among the first cells, and what is left
-pub record AreFound (N depth : ℕ) (layers : List ℕ) (cells older : List (Cell N)) (changes : List (Change N)) (index : ℕ) : Type 0 where
-  pub changes_are : map (change_seen N depth layers) changes ++ left_from N depth layers cells older index ≡ changed_from 0 (map (seen N depth layers) cells) (map (seen N depth layers) older)
-  pub within : All (λ change. (change.index < length cells) × IsSound N layers change.cell) changes
+pub record AreFound (N : ℕ) (layering : Layering) (cells older : List (Cell N)) (changes : List (Change N)) (index : ℕ) : Type 0 where
+  pub changes_are : map (change_seen layering) changes ++ left_from N layering cells older index ≡ changed_from 0 (map (seen layering) cells) (map (seen layering) older)
+  pub within : All (λ change. (change.index < length cells) × IsSound layering change.cell) changes
   pub low : index ≤ length cells
 
 -- as many cells of one game
-pub record ArePaired (N depth : ℕ) (layers : List ℕ) (cells older : List (Cell N)) : Type 0 where
-  pub low : All (λ l. l < depth) layers
+pub record ArePaired (N : ℕ) (layering : Layering) (cells older : List (Cell N)) : Type 0 where
+  pub low : All (λ l. l < layering.depth) layering.layers
   pub long : length cells ≡ length older
-  pub sound : All (IsSound N layers) cells
-  pub sound_older : All (IsSound N layers) older
+  pub sound : All (IsSound layering) cells
+  pub sound_older : All (IsSound layering) older
 
-module _ (N depth : ℕ) (layers : List ℕ) (cells older : List (Cell N)) (p : ArePaired N depth layers cells older) where
+module _ (N : ℕ) (layering : Layering) (cells older : List (Cell N)) (p : ArePaired N layering cells older) where
   abbrev left : ℕ → List CellChange
-  left = left_from N depth layers cells older
+  left = left_from N layering cells older
 
-  left_alike : (index : ℕ) → index < length cells → AreAlike N (get_or cells index (no_cell N)) (get_or older index (no_cell N)) → left index ≡ left (index + 1)
+  left_alike : (index : ℕ) → index < length cells → AreAlike (get_or cells index (no_cell N)) (get_or older index (no_cell N)) → left index ≡ left (index + 1)
   left_alike index within same =
       let x = get_or cells index (no_cell N) in
       let y = get_or older index (no_cell N) in
-      left_more N depth layers p.low cells older index x y true within p.long (get_or_default cells index (no_cell N) x within) (get_or_default older index (no_cell N) y (omega (arith, within, p.long))) p.sound p.sound_older (λ _. same, λ _. refl)
+      left_more N layering p.low cells older index x y true within p.long (get_or_default cells index (no_cell N) x within) (get_or_default older index (no_cell N) y (omega (arith, within, p.long))) p.sound p.sound_older (λ _. same, λ _. refl)
 
   -- cells that are alike leave nothing
-  left_behind : (from index : ℕ) → from ≤ index → index ≤ length cells → AreAlikeBetween N cells older from index → left from ≡ left index
+  left_behind : (from index : ℕ) → from ≤ index → index ≤ length cells → AreAlikeBetween cells older from index → left from ≡ left index
   left_behind from zero low high same = let here : from ≡ zero = omega (arith, low) in ap left here
   left_behind from (suc index) low high same = elim (cases_eq from (suc index)) [
     | inl here ↦ ap left here
@@ -135,33 +136,33 @@ module _ (N depth : ℕ) (layers : List ℕ) (cells older : List (Cell N)) (p : 
   ]
 
   -- one more is found
-  pub found_more : (changes now : List (Change N)) (from index : ℕ) (cell : Cell N) → from ≤ index → index < length cells → AreAlikeBetween N cells older from index → Differ N cells older index → cell ≡ get_or older index cell → now ≡ changes ++ record { index = index; cell = cell } ∷ []
-      → AreFound N depth layers cells older changes from → AreFound N depth layers cells older now (index + 1)
+  pub found_more : (changes now : List (Change N)) (from index : ℕ) (cell : Cell N) → from ≤ index → index < length cells → AreAlikeBetween cells older from index → Differ cells older index → cell ≡ get_or older index cell → now ≡ changes ++ record { index = index; cell = cell } ∷ []
+      → AreFound N layering cells older changes from → AreFound N layering cells older now (index + 1)
   found_more changes now from index cell low within same differ is more f =
       let new : Change N = record { index = index; cell = cell } in
-      let P : Change N → Type 0 = λ change. (change.index < length cells) × IsSound N layers change.cell in
+      let P : Change N → Type 0 = λ change. (change.index < length cells) × IsSound layering change.cell in
       let within_older : index < length older = omega (arith, within, p.long) in
-      let sound : IsSound N layers cell = subst (IsSound N layers) (sym is) (p.sound_older index cell within_older) in
+      let sound : IsSound layering cell = subst (IsSound layering) (sym is) (p.sound_older index cell within_older) in
       let x = get_or cells index cell in
-      let decides : IsTrue false ↔ AreAlike N x cell = (λ (e : false ≡ true). cc, λ alike. absurd (differ cell cell (subst (λ (c : Cell N). AreAlike N x c) is alike))) in
-      let here : left index ≡ change_seen N depth layers new ∷ left (index + 1) =
-      left_more N depth layers p.low cells older index x cell false within p.long (get_or_default cells index cell x within) is p.sound p.sound_older decides in
+      let decides : IsTrue false ↔ AreAlike x cell = (λ (e : false ≡ true). cc, λ alike. absurd (differ cell cell (subst (λ (c : Cell N). AreAlike x c) is alike))) in
+      let here : left index ≡ change_seen layering new ∷ left (index + 1) =
+      left_more N layering p.low cells older index x cell false within p.long (get_or_default cells index cell x within) is p.sound p.sound_older decides in
       record {
-        changes_are = seen_more N depth layers changes now new (left (index + 1)) more
-            ∙ (ap (λ (l : List CellChange). map (change_seen N depth layers) changes ++ l) (sym (left_behind from index low (omega (arith, within)) same ∙ here)) ∙ f.changes_are);
+        changes_are = seen_more N layering changes now new (left (index + 1)) more
+            ∙ (ap (λ (l : List CellChange). map (change_seen layering) changes ++ l) (sym (left_behind from index low (omega (arith, within)) same ∙ here)) ∙ f.changes_are);
         within = subst (All P) (sym more) (All-append P changes (new ∷ []) f.within (All-cons P new [] (within, sound) (All-nil P)));
         low = omega (arith, within);
       }
 
   left_none : left (length cells) ≡ []
-  left_none = ap (λ (xs : List (Cell N)). changed_from (length cells) (map (seen N depth layers) xs) (map (seen N depth layers) (drop (length cells) older))) (drop-length cells)
+  left_none = ap (λ (xs : List (Cell N)). changed_from (length cells) (map (seen layering) xs) (map (seen layering) (drop (length cells) older))) (drop-length cells)
 
   -- all are found
-  pub all_found : (changes : List (Change N)) (from : ℕ) → AreAlikeBetween N cells older from (length cells) → AreFound N depth layers cells older changes from
-      → map (change_seen N depth layers) changes ≡ changed_from 0 (map (seen N depth layers) cells) (map (seen N depth layers) older)
+  pub all_found : (changes : List (Change N)) (from : ℕ) → AreAlikeBetween cells older from (length cells) → AreFound N layering cells older changes from
+      → map (change_seen layering) changes ≡ changed_from 0 (map (seen layering) cells) (map (seen layering) older)
   all_found changes from same f =
-      sym (append-nil (map (change_seen N depth layers) changes))
-      ∙ (ap (λ (l : List CellChange). map (change_seen N depth layers) changes ++ l) (sym (left_behind from (length cells) f.low (omega arith) same ∙ left_none)) ∙ f.changes_are)
+      sym (append-nil (map (change_seen layering) changes))
+      ∙ (ap (λ (l : List CellChange). map (change_seen layering) changes ++ l) (sym (left_behind from (length cells) f.low (omega arith) same ∙ left_none)) ∙ f.changes_are)
 
 -- a change of a cell of up to four words is no larger than memory
 pub small_change : (n : ℕ) → n ≤ 4 → up 16 (16 + up 16 (up 16 (0 + n * 16) + n * 16)) < 2 ^ 63
@@ -177,19 +178,19 @@ pub as_long : (wa ha wb hb na nb : ℕ) → wa ≡ wb → ha ≡ hb → na ≡ w
 as_long wa ha wb hb na nb width height a b = a ∙ (ap (λ (w : ℕ). w * ha) width ∙ (ap (λ (h : ℕ). wb * h) height ∙ sym b))
 
 -- two levels in words, of one size
-pub record AreBoth (N wa ha da : ℕ) (la : List ℕ) (ca : List (Cell N)) (wb hb db : ℕ) (lb : List ℕ) (cb : List (Cell N)) (grid other : Grid) : Type 0 where
+pub record AreBoth (N wa ha : ℕ) (la : Layering) (ca : List (Cell N)) (wb hb : ℕ) (lb : Layering) (cb : List (Cell N)) (grid other : Grid) : Type 0 where
   pub size : SameSize grid other
-  pub is : grid_of N wa ha da la ca ≡ grid
-  pub is_other : grid_of N wb hb db lb cb ≡ other
+  pub is : grid_of wa ha la ca ≡ grid
+  pub is_other : grid_of wb hb lb cb ≡ other
   pub covers : length ca ≡ wa * ha
   pub covers_other : length cb ≡ wb * hb
-  pub layered : All (λ l. l < da) la
-  pub sound : All (IsSound N la) ca
-  pub sound_other : All (IsSound N lb) cb
+  pub layered : All (λ l. l < la.depth) la.layers
+  pub sound : All (IsSound la) ca
+  pub sound_other : All (IsSound lb) cb
 
-module _ (N wa ha da : ℕ) (la : List ℕ) (ca : List (Cell N)) (wb hb db : ℕ) (lb : List ℕ) (cb : List (Cell N)) (grid other : Grid) (a : AreBoth N wa ha da la ca wb hb db lb cb grid other) where
+module _ (N wa ha : ℕ) (la : Layering) (ca : List (Cell N)) (wb hb : ℕ) (lb : Layering) (cb : List (Cell N)) (grid other : Grid) (a : AreBoth N wa ha la ca wb hb lb cb grid other) where
   many : length grid.cells ≡ length ca
-  many = ap (λ (g : Grid). length g.cells) (sym a.is) ∙ length-map ca (seen N da la)
+  many = ap (λ (g : Grid). length g.cells) (sym a.is) ∙ length-map ca (seen la)
 
   pub as_many : length ca ≡ length cb
   as_many =
@@ -197,44 +198,44 @@ module _ (N wa ha da : ℕ) (la : List ℕ) (ca : List (Cell N)) (wb hb db : ℕ
       let height : ha ≡ hb = ap (λ (g : Grid). g.height) a.is ∙ (sym a.size.height ∙ sym (ap (λ (g : Grid). g.height) a.is_other)) in
       as_long wa ha wb hb (length ca) (length cb) width height a.covers a.covers_other
 
-  over_layers : la ≡ lb
-  over_layers = ap (λ (g : Grid). g.layers) a.is ∙ (sym a.size.layers ∙ sym (ap (λ (g : Grid). g.layers) a.is_other))
-
-  over_depth : da ≡ db
-  over_depth = ap (λ (g : Grid). g.depth) a.is ∙ (sym a.size.depth ∙ sym (ap (λ (g : Grid). g.depth) a.is_other))
+  pub over_layers : la ≡ lb
+  over_layers =
+      let layers : la.layers ≡ lb.layers = ap (λ (g : Grid). g.layers) a.is ∙ (sym a.size.layers ∙ sym (ap (λ (g : Grid). g.layers) a.is_other)) in
+      let depth : la.depth ≡ lb.depth = ap (λ (g : Grid). g.depth) a.is ∙ (sym a.size.depth ∙ sym (ap (λ (g : Grid). g.depth) a.is_other)) in
+      λ i. record { depth = depth i; layers = layers i }
 
   pub in_second : (index : ℕ) → index < length grid.cells → index < length cb
   in_second index within = omega (arith, within, many, as_many)
 
   -- the other's cell is of the first one's game
-  pub sound_there : (index : ℕ) (y : Cell N) → index < length cb → y ≡ get_or cb index y → IsSound N la y
-  sound_there index y within is_y = subst (λ (l : List ℕ). IsSound N l y) (sym over_layers) (sound_at N lb cb index y a.sound_other within is_y)
+  pub sound_there : (index : ℕ) (y : Cell N) → index < length cb → y ≡ get_or cb index y → IsSound la y
+  sound_there index y within is_y = subst (λ (l : Layering). IsSound l y) (sym over_layers) (sound_at lb cb index y a.sound_other within is_y)
 
   -- and is seen so as in the other
-  pub seen_there : (index : ℕ) (y : Cell N) → index < length cb → y ≡ get_or cb index y → seen N da la y ≡ cell_of other index
+  pub seen_there : (index : ℕ) (y : Cell N) → index < length cb → y ≡ get_or cb index y → seen la y ≡ cell_of other index
   seen_there index y within is_y =
-      ap (λ (d : ℕ). seen N d la y) over_depth ∙ (ap (λ (l : List ℕ). seen N db l y) over_layers ∙ seen_at N wb hb db lb cb other index y a.is_other within is_y)
+      ap (λ (l : Layering). seen l y) over_layers ∙ seen_at N wb hb lb cb other index y a.is_other within is_y
 
   -- the words tell whether the cells of a number are the same
-  same_there : (index : ℕ) (r : Bool) → index < length ca → (IsTrue r ↔ AreAlike N (get_or ca index (no_cell N)) (get_or cb index (no_cell N))) → r ≡ same_cell (cell_of grid index) (cell_of other index)
+  same_there : (index : ℕ) (r : Bool) → index < length ca → (IsTrue r ↔ AreAlike (get_or ca index (no_cell N)) (get_or cb index (no_cell N))) → r ≡ same_cell (cell_of grid index) (cell_of other index)
   same_there index r within decides =
       let x = get_or ca index (no_cell N) in
       let y = get_or cb index (no_cell N) in
       let within_other : index < length cb = omega (arith, within, as_many) in
       let is_x : x ≡ get_or ca index x = get_or_default ca index (no_cell N) x within in
       let is_y : y ≡ get_or cb index y = get_or_default cb index (no_cell N) y within_other in
-      sym (test_is N da la a.layered x y r (sound_at N la ca index x a.sound within is_x) (sound_there index y within_other is_y) decides)
-      ∙ (ap (λ (cell : List (Option Piece)). same_cell cell (seen N da la y)) (seen_at N wa ha da la ca grid index x a.is within is_x) ∙ ap (same_cell (cell_of grid index)) (seen_there index y within_other is_y))
+      sym (test_is N la a.layered x y r (sound_at la ca index x a.sound within is_x) (sound_there index y within_other is_y) decides)
+      ∙ (ap (λ (cell : List (Option Piece)). same_cell cell (seen la y)) (seen_at N wa ha la ca grid index x a.is within is_x) ∙ ap (same_cell (cell_of grid index)) (seen_there index y within_other is_y))
 
-  alike_same : (index : ℕ) → index < length ca → AreAlike N (get_or ca index (no_cell N)) (get_or cb index (no_cell N)) → differ_in grid other index ≡ false
+  alike_same : (index : ℕ) → index < length ca → AreAlike (get_or ca index (no_cell N)) (get_or cb index (no_cell N)) → differ_in grid other index ≡ false
   alike_same index within same = ap not (sym (same_there index true within (λ _. same, λ _. refl)))
 
-  other_differs : (index : ℕ) → index < length ca → Differ N ca cb index → differ_in grid other index ≡ true
+  other_differs : (index : ℕ) → index < length ca → Differ ca cb index → differ_in grid other index ≡ true
   other_differs index within differ =
       ap not (sym (same_there index false within (λ (e : false ≡ true). cc, λ same. absurd (differ (no_cell N) (no_cell N) same))))
 
   -- the next cell whose words differ is the next that is seen to differ
-  pub next_is : (from : ℕ) (found : Option ℕ) → IsNextDiffering N ca cb from found → IsNext (differ_in grid other) from (length grid.cells) found
+  pub next_is : (from : ℕ) (found : Option ℕ) → IsNextDiffering ca cb from found → IsNext (differ_in grid other) from (length grid.cells) found
   next_is from None same =
       λ number low high. alike_same number (omega (arith, high, many)) (same number (no_cell N) (no_cell N) low (omega (arith, high, many)))
   next_is from (Some found) n = (

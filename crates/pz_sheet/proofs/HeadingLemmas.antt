@@ -1,4 +1,5 @@
 -- A level notes each heading that a row of a rule asks for whose cells all hold somewhere, for the whole and for each line.
+use Rattle.pz_cells.specs.Layering.{Layering}
 use Rattle.std.proofs.Common.{◌≡◌, ◌+◌, ◌*◌, ◌%◌, ◌<◌, ℕ, List, [], ◌∷◌, Bool, true, false, not, inl, inr, suc, length, get_or, arith, ap, sym, ◌∙◌, refl, subst}
 use Rattle.std.specs.Prelude.{IsTrue, ◌↔◌}
 use Rattle.std.specs.List.{All, list_any}
@@ -34,30 +35,30 @@ record IsWhere (N : ℕ) (cells : List (Cell N)) (grid : Grid) (headings : List 
   holds : pattern_holds (get_or grid.cells at []) items ≡ true
   noted : HeadsWithin N headings (get_or cells at (no_cell N))
 
-module _ (N width height depth : ℕ) (layers : List ℕ) (sets : List (List ℕ)) (cells : List (Cell N)) (notes : HeadingSets) (s : IsStored N width height depth layers sets cells notes) where
+module _ (N width height : ℕ) (layering : Layering) (cells : List (Cell N)) (notes : HeadingSets) (s : IsStored N width height layering cells notes) where
   abbrev grid : Grid
-  grid = grid_of N width height depth layers cells
+  grid = grid_of width height layering cells
 
   module _ (headings : List ℕ) (Holds : List Item → Type 0) (find : (items : List Item) → Holds items → IsWhere N cells grid headings items) where
     -- what a cell asks to head is noted where it holds
-    heads_here : (items : List Item) (layer : ℕ) (dir : Dir) → AreOf layers items → Holds items → asks_toward layer dir items ≡ true → heads headings layer dir ≡ true
+    heads_here : (items : List Item) (layer : ℕ) (dir : Dir) → AreOf layering.layers items → Holds items → asks_toward layer dir items ≡ true → heads headings layer dir ≡ true
     heads_here items layer dir are h asks =
         let w = find items h in
         let cell = get_or cells w.at (no_cell N) in
         let is : cell ≡ get_or cells w.at cell = get_or_default cells w.at (no_cell N) cell w.within in
-        let there = seen_at N width height depth layers cells grid w.at cell refl w.within is in
-        let met = met_all depth layers cell.objects cell.movement items s.layered (s.sound w.at (no_cell N) w.within) are (ap (λ it. pattern_holds it items) there ∙ w.holds) in
+        let there = seen_at N width height layering cells grid w.at cell refl w.within is in
+        let met = met_all layering.depth layering.layers cell.objects cell.movement items s.law.layered (s.sound w.at (no_cell N) w.within) are (ap (λ it. pattern_holds it items) there ∙ w.holds) in
         w.noted (flag layer dir) (met.required layer dir asks)
 
     -- the same for the cells of a row
-    heads_there : (rows : List (List Item)) (layer : ℕ) (dir : Dir) → All (AreOf layers) rows → All Holds rows → list_any (asks_toward layer dir) rows ≡ true → heads headings layer dir ≡ true
+    heads_there : (rows : List (List Item)) (layer : ℕ) (dir : Dir) → All (AreOf layering.layers) rows → All Holds rows → list_any (asks_toward layer dir) rows ≡ true → heads headings layer dir ≡ true
     heads_there [] layer dir are hold e = cc
     heads_there (items ∷ rows) layer dir are hold e = elim (or_cases (asks_toward layer dir items) (list_any (asks_toward layer dir) rows) e) [
       | inl here ↦ heads_here items layer dir (are 0 items (omega arith)) (hold 0 items (omega arith)) here
       | inr later ↦ heads_there rows layer dir (λ k d h. are (suc k) d (omega (arith, h))) (λ k d h. hold (suc k) d (omega (arith, h))) later
     ]
 
-    asked_is_noted : (rows : List (List Item)) (required : List ℕ) → AreRequired rows required → All (AreOf layers) rows → All Holds rows → IsWithin required headings
+    asked_is_noted : (rows : List (List Item)) (required : List ℕ) → AreRequired rows required → All (AreOf layering.layers) rows → All Holds rows → IsWithin required headings
     asked_is_noted rows required r are hold number e = elim (cases_lt (number % 128) 125) [
       | inl low ↦ (let f = flag_of number low in
           let asks : list_any (asks_toward f.0 f.1) rows ≡ true = sym (r.asked f.0 f.1) ∙ (ap (member required) f.2 ∙ e) in
@@ -76,13 +77,13 @@ module _ (N width height depth : ℕ) (layers : List ℕ) (sets : List (List ℕ
     noted = (s.noted.each (h.y * width + h.x) (no_cell N) (in_cells h.x h.y h.x_in h.y_in)).whole;
   }
 
-  pub asked_somewhere : (rows : List (List Item)) (required : List ℕ) → AreRequired rows required → All (AreOf layers) rows → All (HoldsSomewhere grid) rows → IsWithin required notes.whole
+  pub asked_somewhere : (rows : List (List Item)) (required : List ℕ) → AreRequired rows required → All (AreOf layering.layers) rows → All (HoldsSomewhere grid) rows → IsWithin required notes.whole
   asked_somewhere = asked_is_noted notes.whole (HoldsSomewhere grid) somewhere
 
-  pub heads_somewhere : (rows : List (List Item)) (layer : ℕ) (dir : Dir) → All (AreOf layers) rows → All (HoldsSomewhere grid) rows → list_any (asks_toward layer dir) rows ≡ true → heads notes.whole layer dir ≡ true
+  pub heads_somewhere : (rows : List (List Item)) (layer : ℕ) (dir : Dir) → All (AreOf layering.layers) rows → All (HoldsSomewhere grid) rows → list_any (asks_toward layer dir) rows ≡ true → heads notes.whole layer dir ≡ true
   heads_somewhere = heads_there notes.whole (HoldsSomewhere grid) somewhere
 
-  pub asked_in_row : (y : ℕ) → y < height → (rows : List (List Item)) (required : List ℕ) → AreRequired rows required → All (AreOf layers) rows → All (HoldsInRow grid y) rows → IsWithin required (get_or notes.rows y [])
+  pub asked_in_row : (y : ℕ) → y < height → (rows : List (List Item)) (required : List ℕ) → AreRequired rows required → All (AreOf layering.layers) rows → All (HoldsInRow grid y) rows → IsWithin required (get_or notes.rows y [])
   asked_in_row y y_in = asked_is_noted (get_or notes.rows y []) (HoldsInRow grid y) (λ items h. record {
     at = y * width + h.x;
     within = in_cells h.x y h.x_in y_in;
@@ -90,7 +91,7 @@ module _ (N width height depth : ℕ) (layers : List ℕ) (sets : List (List ℕ
     noted = subst (λ (line : ℕ). HeadsWithin N (get_or notes.rows line []) (get_or cells (y * width + h.x) (no_cell N))) (div-mul-add y width h.x h.x_in) (s.noted.each (y * width + h.x) (no_cell N) (in_cells h.x y h.x_in y_in)).row;
   })
 
-  pub asked_in_column : (x : ℕ) → x < width → (rows : List (List Item)) (required : List ℕ) → AreRequired rows required → All (AreOf layers) rows → All (HoldsInColumn grid x) rows → IsWithin required (get_or notes.columns x [])
+  pub asked_in_column : (x : ℕ) → x < width → (rows : List (List Item)) (required : List ℕ) → AreRequired rows required → All (AreOf layering.layers) rows → All (HoldsInColumn grid x) rows → IsWithin required (get_or notes.columns x [])
   asked_in_column x x_in = asked_is_noted (get_or notes.columns x []) (HoldsInColumn grid x) (λ items h. record {
     at = h.y * width + x;
     within = in_cells x h.y x_in h.y_in;

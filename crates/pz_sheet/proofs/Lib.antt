@@ -13,5 +13,6 @@ pub mod PlacedLemmas
 pub mod StartLemmas
 pub mod CopyLemmas
 pub mod NoteLemmas
+pub mod AxisLemmas
 pub mod NewerLemmas
 pub mod NextLemmas

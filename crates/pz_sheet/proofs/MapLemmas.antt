@@ -1,4 +1,5 @@
 -- The cells of a level in words are changed one by one.
+use Rattle.pz_cells.specs.Layering.{Layering}
 use Rattle.std.proofs.Common.{◌≡◌, ℕ, ◌*◌, ◌<◌, List, Option, map, length, ap, sym, ◌∙◌, subst, arith}
 use Rattle.std.proofs.lemmas.List.{length-map}
 use Rattle.std.specs.List.{All}
@@ -9,28 +10,14 @@ use Rattle.pz_cells.specs.Lists.{seen, IsSound, AreMapped}
 use Rattle.pz_sheet.specs.Seen.{AreNoted, IsStored}
 
 -- ---- the level whose cells are changed
-pub stored_mapped : (N width height depth : ℕ) (layers : List ℕ) (sets : List (List ℕ)) (f : List (Option Piece) → List (Option Piece)) (old new : List (Cell N)) (notes next : HeadingSets) → IsStored N width height depth layers sets old notes → AreMapped N depth layers f old new → AreNoted N width height next new → IsStored N width height depth layers sets new next
-stored_mapped N width height depth layers sets f old new notes next s m noted = record {
+pub stored_mapped : (N width height : ℕ) (layering : Layering) (f : List (Option Piece) → List (Option Piece)) (old new : List (Cell N)) (notes next : HeadingSets) → IsStored N width height layering old notes → AreMapped layering f old new → AreNoted N width height next new → IsStored N width height layering new next
+stored_mapped N width height layering f old new notes next s m noted = record {
   size = s.size;
-  shallow = s.shallow;
-  few = s.few;
-  short = s.short;
-  room = s.room;
-  movement_room = s.movement_room;
-  layered = s.layered;
-  deep = s.deep;
-  table = s.table;
-  covers = (let e : length new ≡ length old = sym (length-map new (seen N depth layers)) ∙ (ap length m.cells ∙ (length-map (map (seen N depth layers) old) f ∙ length-map old (seen N depth layers))) in e ∙ s.covers);
+  law = s.law;
+  covers = (let e : length new ≡ length old = sym (length-map new (seen layering)) ∙ (ap length m.cells ∙ (length-map (map (seen layering) old) f ∙ length-map old (seen layering))) in e ∙ s.covers);
   sound = m.sound;
   noted = noted;
 }
-
--- the same over layers that are read
-pub mapped_read : (N depth : ℕ) (layers layers_read : List ℕ) (f : List (Option Piece) → List (Option Piece)) (old new : List (Cell N)) → layers_read ≡ layers → AreMapped N depth layers_read f old new → AreMapped N depth layers f old new
-mapped_read N depth layers layers_read f old new same m = subst (λ (all : List ℕ). AreMapped N depth all f old new) same m
-
-pub sound_read : (N : ℕ) (layers layers_read : List ℕ) (cells : List (Cell N)) → layers_read ≡ layers → All (IsSound N layers) cells → All (IsSound N layers_read) cells
-sound_read N layers layers_read cells same sound = subst (λ (all : List ℕ). All (IsSound N all) cells) (sym same) sound
 
 -- the same over cells and sizes that are read
 pub noted_read : (N width height wide high : ℕ) (notes : HeadingSets) (cells cells_read : List (Cell N)) → wide ≡ width → high ≡ height → cells_read ≡ cells → AreNoted N wide high notes cells_read → AreNoted N width height notes cells
@@ -47,6 +34,6 @@ pub noted_covers : (N width height count : ℕ) (notes : HeadingSets) (cells : L
 noted_covers N width height count notes cells noted covers =
     covers ∙ sym (ap (λ (w : ℕ). w * length notes.rows) noted.column_count ∙ ap (λ (h : ℕ). width * h) noted.row_count)
 
-pub all_mapped_long : (N depth : ℕ) (layers : List ℕ) (f : List (Option Piece) → List (Option Piece)) (old new : List (Cell N)) → AreMapped N depth layers f old new → length new ≡ length old
-all_mapped_long N depth layers f old new mapped =
-    sym (length-map new (seen N depth layers)) ∙ (ap length mapped.cells ∙ (length-map (map (seen N depth layers) old) f ∙ length-map old (seen N depth layers)))
+pub all_mapped_long : (N : ℕ) (layering : Layering) (f : List (Option Piece) → List (Option Piece)) (old new : List (Cell N)) → AreMapped layering f old new → length new ≡ length old
+all_mapped_long N layering f old new mapped =
+    sym (length-map new (seen layering)) ∙ (ap length mapped.cells ∙ (length-map (map (seen layering) old) f ∙ length-map old (seen layering)))

@@ -49,7 +49,7 @@ forth_from front (cell ∷ newer) (old ∷ older) long =
     by_test front cell old newer older (same_cell cell old) refl (next front cell newer older (forth_from (front ++ cell ∷ []) newer older (omega (arith, long))))
 
 -- the same said of cells and of levels
-taken_cells : (N : ℕ) (newer : Grid) (changes : List (Change N)) (grid : Grid) → taken N newer changes grid ≡ record grid { cells = fold (put_there newer.cells) grid.cells (changes_seen N newer changes) }
+taken_cells : (N : ℕ) (newer : Grid) (changes : List (Change N)) (grid : Grid) → taken N newer changes grid ≡ record grid { cells = fold (put_there newer.cells) grid.cells (changes_seen newer changes) }
 taken_cells N newer [] grid = refl
 taken_cells N newer (change ∷ changes) grid = taken_cells N newer changes (with_cell grid (cell_there newer change.index))
 
@@ -57,10 +57,10 @@ pub as_many : (newer grid : Grid) → SameSize newer grid → IsLawful newer →
 as_many newer grid size lawful lawful_older =
     lawful.covers ∙ (ap (λ (w : ℕ). w * newer.height) (sym size.width) ∙ (ap (λ (h : ℕ). grid.width * h) (sym size.height) ∙ sym lawful_older.covers))
 
-pub all_taken : (N : ℕ) (newer grid : Grid) (changes : List (Change N)) → SameSize newer grid → IsLawful newer → IsLawful grid → changes_seen N newer changes ≡ changed_cells newer grid → taken N newer changes grid ≡ newer
+pub all_taken : (N : ℕ) (newer grid : Grid) (changes : List (Change N)) → SameSize newer grid → IsLawful newer → IsLawful grid → changes_seen newer changes ≡ changed_cells newer grid → taken N newer changes grid ≡ newer
 all_taken N newer grid changes size lawful lawful_older e =
     let long : length newer.cells ≡ length grid.cells = as_many newer grid size lawful lawful_older in
-    let cells : fold (put_there newer.cells) grid.cells (changes_seen N newer changes) ≡ newer.cells =
+    let cells : fold (put_there newer.cells) grid.cells (changes_seen newer changes) ≡ newer.cells =
     ap (λ (l : List CellChange). fold (put_there newer.cells) grid.cells l) e ∙ forth_from [] newer.cells grid.cells long in
     taken_cells N newer changes grid ∙ (λ i. record { width = size.width i; height = size.height i; depth = size.depth i; layers = size.layers i; cells = cells i })
 

@@ -1,4 +1,5 @@
 -- The objects of the cells of a level, noted where they stand.
+use Rattle.pz_cells.specs.Layering.{Layering}
 use Rattle.std.proofs.Common.{◌≡◌, inl, inr, ℕ, ◌+◌, ◌*◌, ◌/◌, ◌%◌, ◌<◌, ◌≤◌, List, Bool, true, false, ◌||◌, set, length, get_or, arith, ap, sym, ◌∙◌, refl, subst, get_or-set_same, get_or-set_other}
 use Rattle.std.specs.List.{All}
 use Rattle.std.proofs.lemmas.Bool.{cases_eq}
@@ -66,7 +67,7 @@ placed_set N objects width height planes next cells at x y new s number x_in y_i
   ]
 
 -- cells with the same objects
-pub placed_same : (N objects width height : ℕ) (planes : PlaneSets) (old new : List (Cell N)) → HaveSameObjects N old new → ArePlaced N objects width height planes old → ArePlaced N objects width height planes new
+pub placed_same : (N objects width height : ℕ) (planes : PlaneSets) (old new : List (Cell N)) → HaveSameObjects old new → ArePlaced N objects width height planes old → ArePlaced N objects width height planes new
 placed_same N objects width height planes old new same s = record {
   fits = s.fits;
   there = λ x y cell x_in y_in. subst (λ (words : List ℕ). AreThere planes x y (member words)) (sym (same (y * width + x) cell)) (s.there x y cell x_in y_in);
@@ -102,8 +103,8 @@ placed_all N objects width height planes next cells fits size there = record {
   there = subst (λ (w : ℕ). AreAllThere N w height next cells) fits.column_count (subst (λ (h : ℕ). AreAllThere N planes.columns.count h next cells) fits.row_count there);
 }
 
-pub all_known : (N : ℕ) (layers : List ℕ) (width height : ℕ) (planes : PlaneSets) (cells : List (Cell N)) → IsFor (length layers) width height planes → All (IsSound N layers) cells → All (λ cell. AreKnown planes cell.objects) cells
-all_known N layers width height planes cells fits sound k cell within = known_of layers width height planes (get_or cells k cell).objects fits (sound k cell within).of_game
+pub all_known : (N : ℕ) (layering : Layering) (width height : ℕ) (planes : PlaneSets) (cells : List (Cell N)) → IsFor (length layering.layers) width height planes → All (IsSound layering) cells → All (λ cell. AreKnown planes cell.objects) cells
+all_known N layering width height planes cells fits sound k cell within = known_of layering.layers width height planes (get_or cells k cell).objects fits (sound k cell within).of_game
 
 -- the objects of all cells
 pub known_all : (N objects width height : ℕ) (planes : PlaneSets) (cells : List (Cell N)) → IsFor objects width height planes → All (λ (cell : Cell N). (object : ℕ) → member cell.objects object ≡ true → object < objects) cells → All (λ (cell : Cell N). AreKnown planes cell.objects) cells

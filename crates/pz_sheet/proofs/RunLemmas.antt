@@ -1,5 +1,5 @@
 -- Rules' cells one after another in a direction.
-use Rattle.std.proofs.Common.{◌≡◌, ◌⊎◌, inl, inr, ℕ, ◌+◌, ◌-◌, ◌<◌, ◌≤◌, List, [], Option, Some, None, Bool, true, false, ◌&&◌, cond, length, get_or, take, arith, ap, sym, ◌∙◌, refl}
+use Rattle.std.proofs.Common.{◌≡◌, ◌⊎◌, inl, inr, ℕ, ◌+◌, ◌-◌, ◌<◌, ◌≤◌, List, [], ◌∷◌, Option, Some, None, Bool, true, false, ◌&&◌, cond, length, get_or, take, arith, ap, sym, ◌∙◌, refl}
 use Rattle.std.specs.Prelude.{nat_lt, nat_le}
 use Rattle.std.specs.List.{list_all, enumerate_from}
 use Rattle.std.proofs.lemmas.Bool.{lt-ltb, le-leb, ltb-true, leb-true, false_from_ne_true}
@@ -120,3 +120,8 @@ pub run_off : (grid : Grid) (dir : Dir) (x y : ℕ) (patterns : List (List Item)
 run_off grid dir x y patterns some off =
     let first = get_or patterns 0 [] in
     enumerate_fails (holds_along grid dir x y) patterns 0 first some (get_or_default patterns 0 [] first some) (start_off grid dir first x y off)
+
+-- the action leads nowhere
+pub action_leads_nowhere : (grid : Grid) (x y : ℕ) (patterns : List (List Item)) → 0 < length patterns → run_holds grid Action x y patterns ≡ false
+action_leads_nowhere grid x y [] some = absurd (omega arith)
+action_leads_nowhere grid x y (pattern ∷ patterns) some = refl

@@ -1,4 +1,5 @@
 -- A cell of a level in words, and what is seen of it.
+use Rattle.pz_cells.specs.Layering.{Layering}
 use Rattle.std.proofs.Common.{◌≡◌, ℕ, ◌+◌, ◌*◌, ◌/◌, ◌%◌, ◌<◌, ◌≤◌, List, [], Option, Some, None, Bool, true, false, ◌&&◌, cond, map, set, length, get_or, ap, sym, ◌∙◌, subst, arith, inl, inr, get_or-set_same, get_or-set_other}
 use Rattle.std.specs.Prelude.{nat_lt, IfSome, MatchOption}
 use Rattle.std.proofs.lemmas.Bool.{lt-ltb, cases_eq}
@@ -21,57 +22,39 @@ use Rattle.pz_cells.specs.Lists.{seen, IsSound}
 use Rattle.pz_sheet.specs.Seen.{grid_of, IsNoted, IsStored}
 
 -- a number of a seen cell is one of a cell in words
-pub seen_within : (N width height depth : ℕ) (layers : List ℕ) (cells : List (Cell N)) (grid : Grid) (at : ℕ) → grid_of N width height depth layers cells ≡ grid → at < length grid.cells → at < length cells
-seen_within N width height depth layers cells grid at e h = omega (arith, h, ap (λ (g : Grid). length g.cells) e, length-map cells (seen N depth layers))
+pub seen_within : (N width height : ℕ) (layering : Layering) (cells : List (Cell N)) (grid : Grid) (at : ℕ) → grid_of width height layering cells ≡ grid → at < length grid.cells → at < length cells
+seen_within N width height layering cells grid at e h = omega (arith, h, ap (λ (g : Grid). length g.cells) e, length-map cells (seen layering))
 
 -- what is seen of the cell of a number
-pub seen_at : (N width height depth : ℕ) (layers : List ℕ) (cells : List (Cell N)) (grid : Grid) (at : ℕ) (cell : Cell N) → grid_of N width height depth layers cells ≡ grid → at < length cells → cell ≡ get_or cells at cell
-    → seen N depth layers cell ≡ get_or grid.cells at []
-seen_at N width height depth layers cells grid at cell e h is =
-    ap (seen N depth layers) is ∙ (sym (get_or-map (seen N depth layers) cells at cell [] h) ∙ ap (λ (g : Grid). get_or g.cells at []) e)
+pub seen_at : (N width height : ℕ) (layering : Layering) (cells : List (Cell N)) (grid : Grid) (at : ℕ) (cell : Cell N) → grid_of width height layering cells ≡ grid → at < length cells → cell ≡ get_or cells at cell
+    → seen layering cell ≡ get_or grid.cells at []
+seen_at N width height layering cells grid at cell e h is =
+    ap (seen layering) is ∙ (sym (get_or-map (seen layering) cells at cell [] h) ∙ ap (λ (g : Grid). get_or g.cells at []) e)
 
 -- lawful words are seen as a cell of the game
-pub cell_seen : (N depth : ℕ) (layers : List ℕ) (cell : Cell N) → IsSound N layers cell → IsCell depth layers (seen N depth layers cell)
-cell_seen N depth layers cell sound = record {
-  deep = length-map-range_with_len (place_of layers cell.objects cell.movement) 0 depth;
-  on_layers = on_its_layer depth layers cell.objects cell.movement sound;
+pub cell_seen : (N : ℕ) (layering : Layering) (cell : Cell N) → IsSound layering cell → IsCell layering.depth layering.layers (seen layering cell)
+cell_seen N layering cell sound = record {
+  deep = length-map-range_with_len (place_of layering.layers cell.objects cell.movement) 0 layering.depth;
+  on_layers = on_its_layer layering.depth layering.layers cell.objects cell.movement sound;
 }
 
 -- a level in words is seen as a lawful one
-pub lawful_seen : (N width height depth : ℕ) (layers : List ℕ) (sets : List (List ℕ)) (cells : List (Cell N)) (notes : HeadingSets) → IsStored N width height depth layers sets cells notes → IsLawful (grid_of N width height depth layers cells)
-lawful_seen N width height depth layers sets cells headings s = record {
-  covers = length-map cells (seen N depth layers) ∙ s.covers;
+pub lawful_seen : (N width height : ℕ) (layering : Layering) (cells : List (Cell N)) (notes : HeadingSets) → IsStored N width height layering cells notes → IsLawful (grid_of width height layering cells)
+lawful_seen N width height layering cells headings s = record {
+  covers = length-map cells (seen layering) ∙ s.covers;
   size = s.size;
-  shallow = s.shallow;
-  few = s.few;
-  layered = s.layered;
-  stacked = All-map (IsCell depth layers) (seen N depth layers) cells (λ k d within. cell_seen N depth layers (get_or cells k d) (s.sound k d within));
+  shallow = s.law.shallow;
+  few = s.law.few;
+  layered = s.law.layered;
+  stacked = All-map (IsCell layering.depth layering.layers) (seen layering) cells (λ k d within. cell_seen N layering (get_or cells k d) (s.sound k d within));
 }
 
--- each layer has the set of its objects
-abbrev pub IsTable : List ℕ → List (List ℕ) → Type 0
-IsTable layers sets = (layer : ℕ) (other : List ℕ) → layer < length sets → IsSetOf layers (get_or sets layer other) layer
-
--- the set of a layer, as it is read from the table
-pub set_read : (layers layers_read : List ℕ) (sets : List (List ℕ)) (layer : ℕ) (there words : List ℕ) → ((l : ℕ) (other : List ℕ) → l < length sets → IsSetOf layers (get_or sets l other) l) → layer < length sets → there ≡ get_or sets layer there → words ≡ there → layers_read ≡ layers → IsSetOf layers_read words layer
-set_read layers layers_read sets layer there words table within is read same =
-    subst (λ (all : List ℕ). IsSetOf all words layer) (sym same) (subst (λ (ws : List ℕ). IsSetOf layers ws layer) (sym (read ∙ is)) (table layer there within))
-
 -- the place of a layer of a cell that is read
-pub place_read : (N width height depth : ℕ) (layers layers_read : List ℕ) (cells : List (Cell N)) (grid : Grid) (x y layer at : ℕ) (cell : Cell N) → grid_of N width height depth layers cells ≡ grid → at < length cells → cell ≡ get_or cells at cell → at ≡ y * grid.width + x → layer < depth → layers_read ≡ layers
-    → place_of layers_read cell.objects cell.movement layer ≡ place_at grid x y layer
-place_read N width height depth layers layers_read cells grid x y layer at cell e h is number low same =
-    ap (λ (all : List ℕ). place_of all cell.objects cell.movement layer) same
-    ∙ (sym (place_seen depth layers cell.objects cell.movement layer low)
-    ∙ (ap (λ (c : List (Option Piece)). get_or c layer None) (seen_at N width height depth layers cells grid at cell e h is)
-    ∙ ap (λ (i : ℕ). get_or (get_or grid.cells i []) layer None) number))
-
--- a cell that is read once more is the same
-pub place_again : (N : ℕ) (layers layers_read layers_again : List ℕ) (cells : List (Cell N)) (at layer : ℕ) (cell again : Cell N) (here : Option Piece) → at < length cells → cell ≡ get_or cells at cell → again ≡ get_or cells at again → layers_read ≡ layers → layers_again ≡ layers
-    → here ≡ place_of layers_read cell.objects cell.movement layer → here ≡ place_of layers_again again.objects again.movement layer
-place_again N layers layers_read layers_again cells at layer cell again here h is is_again same same_again e =
-    e ∙ (ap (λ (all : List ℕ). place_of all cell.objects cell.movement layer) (same ∙ sym same_again)
-    ∙ ap (λ (c : Cell N). place_of layers_again c.objects c.movement layer) (is ∙ (get_or_default cells at cell again h ∙ sym is_again)))
+pub place_read : (N width height : ℕ) (layering : Layering) (cells : List (Cell N)) (grid : Grid) (x y layer at : ℕ) (cell : Cell N) → grid_of width height layering cells ≡ grid → at < length cells → cell ≡ get_or cells at cell → at ≡ y * grid.width + x
+    → get_or (seen layering cell) layer None ≡ place_at grid x y layer
+place_read N width height layering cells grid x y layer at cell e h is number =
+    ap (λ (c : List (Option Piece)). get_or c layer None) (seen_at N width height layering cells grid at cell e h is)
+    ∙ ap (λ (i : ℕ). get_or (get_or grid.cells i []) layer None) number
 
 pub low_place : (layers : List ℕ) (layer : ℕ) (place : Option Piece) → length layers ≤ MAX_OBJECTS → IsOnLayer layers layer place → IfSome place (λ piece. piece.object < MAX_OBJECTS)
 low_place layers layer None few on = tt
@@ -104,19 +87,12 @@ noted_more N width old new cells index here within is wider noted before number 
   | inr other ↦ still_noted N width number old new (get_or cells number cell) wider (before number cell (omega (arith, below, other)))
 ]
 
-pub stored_set : (N width height depth : ℕ) (layers : List ℕ) (sets : List (List ℕ)) (cells : List (Cell N)) (at : ℕ) (new : Cell N) (notes next : HeadingSets) → IsStored N width height depth layers sets cells notes → IsSound N layers new → IsNoted N (length notes.columns) next at new → IsWider notes next → IsStored N width height depth layers sets (set cells at new) next
-stored_set N width height depth layers sets cells at new notes next s sound here wider = record {
+pub stored_set : (N width height : ℕ) (layering : Layering) (cells : List (Cell N)) (at : ℕ) (new : Cell N) (notes next : HeadingSets) → IsStored N width height layering cells notes → IsSound layering new → IsNoted N (length notes.columns) next at new → IsWider notes next → IsStored N width height layering (set cells at new) next
+stored_set N width height layering cells at new notes next s sound here wider = record {
   size = s.size;
-  shallow = s.shallow;
-  few = s.few;
-  short = s.short;
-  room = s.room;
-  movement_room = s.movement_room;
-  layered = s.layered;
-  deep = s.deep;
-  table = s.table;
+  law = s.law;
   covers = length-set cells at new ∙ s.covers;
-  sound = All-set (IsSound N layers) cells at new sound s.sound;
+  sound = All-set (IsSound layering) cells at new sound s.sound;
   noted = record {
     row_count = wider.row_count ∙ s.noted.row_count;
     column_count = wider.column_count ∙ s.noted.column_count;
@@ -133,22 +109,13 @@ stored_set N width height depth layers sets cells at new notes next s sound here
       ]
 
 -- the cell at a position is changed by a function
-pub grid_set : (N width height depth : ℕ) (layers : List ℕ) (cells : List (Cell N)) (at place : ℕ) (cell new : Cell N) (f : List (Option Piece) → List (Option Piece)) → at < length cells → at ≡ place → cell ≡ get_or cells at cell → seen N depth layers new ≡ f (seen N depth layers cell)
-    → grid_of N width height depth layers (set cells at new) ≡ record (grid_of N width height depth layers cells) { cells = set (map (seen N depth layers) cells) place (f (get_or (map (seen N depth layers) cells) place [])) }
-grid_set N width height depth layers cells at place cell new f h same is e =
-    let all = map (seen N depth layers) cells in
-    let here : seen N depth layers cell ≡ get_or all at [] = ap (seen N depth layers) is ∙ sym (get_or-map (seen N depth layers) cells at cell [] h) in
-    ap (λ (ys : List (List (Option Piece))). record (grid_of N width height depth layers cells) { cells = ys })
-    (map-set (seen N depth layers) cells at new ∙ (ap (set all at) (e ∙ ap f here) ∙ ap (λ (i : ℕ). set all i (f (get_or all i []))) same))
-
--- the words of a cell change on one layer
-pub sound_changed : (N : ℕ) (layers layers_read : List ℕ) (old new : Cell N) (layer : ℕ) (place : Option Piece) → layers_read ≡ layers → IsSound N layers old → Changes layers_read old.objects old.movement new.objects new.movement layer place → IsSound N layers new
-sound_changed N layers layers_read old new layer place same sound change =
-    lawful_changed layers old.objects old.movement new.objects new.movement layer place sound (subst (λ (all : List ℕ). Changes all old.objects old.movement new.objects new.movement layer place) same change)
-
-pub seen_changed : (N depth : ℕ) (layers layers_read : List ℕ) (old new : Cell N) (layer : ℕ) (place : Option Piece) → layers_read ≡ layers → IsSound N layers old → Changes layers_read old.objects old.movement new.objects new.movement layer place → seen N depth layers new ≡ set (seen N depth layers old) layer place
-seen_changed N depth layers layers_read old new layer place same sound change =
-    cell_changed depth layers old.objects old.movement new.objects new.movement layer place sound (subst (λ (all : List ℕ). Changes all old.objects old.movement new.objects new.movement layer place) same change)
+pub grid_set : (N width height : ℕ) (layering : Layering) (cells : List (Cell N)) (at place : ℕ) (cell new : Cell N) (f : List (Option Piece) → List (Option Piece)) → at < length cells → at ≡ place → cell ≡ get_or cells at cell → seen layering new ≡ f (seen layering cell)
+    → grid_of width height layering (set cells at new) ≡ record (grid_of width height layering cells) { cells = set (map (seen layering) cells) place (f (get_or (map (seen layering) cells) place [])) }
+grid_set N width height layering cells at place cell new f h same is e =
+    let all = map (seen layering) cells in
+    let here : seen layering cell ≡ get_or all at [] = ap (seen layering) is ∙ sym (get_or-map (seen layering) cells at cell [] h) in
+    ap (λ (ys : List (List (Option Piece))). record (grid_of width height layering cells) { cells = ys })
+    (map-set (seen layering) cells at new ∙ (ap (set all at) (e ∙ ap f here) ∙ ap (λ (i : ℕ). set all i (f (get_or all i []))) same))
 
 -- what was put stands there
 pub placed_there : (grid : Grid) (x y layer : ℕ) (place : Option Piece) → y * grid.width + x < length grid.cells → layer < length (cell_at grid x y) → place_at (with_place grid x y layer place) x y layer ≡ place

@@ -1,4 +1,5 @@
 -- Where rules' cells hold one after another, the objects that they name as present are noted, and those that they name as absent are not.
+use Rattle.pz_cells.specs.Layering.{Layering}
 use Rattle.std.proofs.Common.{◌≡◌, inl, inr, ℕ, ◌+◌, ◌-◌, ◌*◌, ◌<◌, ◌≤◌, List, Bool, true, false, not, ◌&&◌, nat_eq, eq-eqb, length, get_or, arith, ap, sym, ◌∙◌, refl}
 use Rattle.std.specs.List.{All, list_all, enumerate_from}
 use Rattle.std.proofs.lemmas.Bool.{cases_lt}
@@ -39,12 +40,12 @@ each_passes p patterns all index other within = by_value (p (index, get_or patte
 not_past : {X : Type 0} (b : Bool) → b ≡ true → b ≡ false → X
 not_past b holds fails = absurd (let f : false ≡ true = sym fails ∙ holds in cc)
 
-module _ (N width height depth : ℕ) (layers : List ℕ) (sets : List (List ℕ)) (cells : List (Cell N)) (notes : HeadingSets) (planes : PlaneSets) (s : IsStored N width height depth layers sets cells notes) (p : ArePlaced N (length layers) width height planes cells) where
+module _ (N width height : ℕ) (layering : Layering) (cells : List (Cell N)) (notes : HeadingSets) (planes : PlaneSets) (s : IsStored N width height layering cells notes) (p : ArePlaced N (length layering.layers) width height planes cells) where
   abbrev grid : Grid
-  grid = grid_of N width height depth layers cells
+  grid = grid_of width height layering cells
 
   -- an object that a rule's cell names as present stands where it holds, and one that it names as absent doesn't
-  stands_here : (x y : ℕ) → x < width → y < height → (pattern : List Item) → AreOf layers pattern → pattern_holds (cell_at grid x y) pattern ≡ true → (k : ℕ) (other : Item) → k < length pattern → member (get_or cells (y * width + x) (no_cell N)).objects (get_or pattern k other).object ≡ names (get_or pattern k other).word
+  stands_here : (x y : ℕ) → x < width → y < height → (pattern : List Item) → AreOf layering.layers pattern → pattern_holds (cell_at grid x y) pattern ≡ true → (k : ℕ) (other : Item) → k < length pattern → member (get_or cells (y * width + x) (no_cell N)).objects (get_or pattern k other).object ≡ names (get_or pattern k other).word
   stands_here x y x_in y_in pattern are holds k other within = by_word (names item.word) refl where
     at : ℕ
     at = y * width + x
@@ -58,8 +59,8 @@ module _ (N width height depth : ℕ) (layers : List ℕ) (sets : List (List ℕ
     met : AreMet pattern cell.objects cell.movement
     met =
         let there : at < length cells = omega (arith, mul-add-lt y width x height y_in x_in, s.covers) in
-        let here = seen_at N width height depth layers cells grid at cell refl there (get_or_default cells at (no_cell N) cell there) in
-        met_all depth layers cell.objects cell.movement pattern s.layered (s.sound at (no_cell N) there) are (ap (λ places. pattern_holds places pattern) here ∙ holds)
+        let here = seen_at N width height layering cells grid at cell refl there (get_or_default cells at (no_cell N) cell there) in
+        met_all layering.depth layering.layers cell.objects cell.movement pattern s.law.layered (s.sound at (no_cell N) there) are (ap (λ places. pattern_holds places pattern) here ∙ holds)
 
     by_word : (named : Bool) → names item.word ≡ named → member cell.objects item.object ≡ names item.word
     by_word true named =
@@ -67,15 +68,15 @@ module _ (N width height depth : ℕ) (layers : List ℕ) (sets : List (List ℕ
     by_word false named =
         met.absent item.object (list_any_at (λ (it : Item). not (names it.word) && nat_eq it.object item.object) pattern k other within (ap (λ (b : Bool). not b && nat_eq item.object item.object) named ∙ eq-eqb item.object item.object refl)) ∙ sym named
 
-  pub noted_in_row : (x y : ℕ) → x < width → y < height → x < 128 → (pattern : List Item) → AreOf layers pattern → pattern_holds (cell_at grid x y) pattern ≡ true → MayHold planes.rows y x pattern
+  pub noted_in_row : (x y : ℕ) → x < width → y < height → x < 128 → (pattern : List Item) → AreOf layering.layers pattern → pattern_holds (cell_at grid x y) pattern ≡ true → MayHold planes.rows y x pattern
   noted_in_row x y x_in y_in small pattern are holds k other within =
       (p.there x y (no_cell N) x_in y_in).row (get_or pattern k other).object small ∙ stands_here x y x_in y_in pattern are holds k other within
 
-  pub noted_in_column : (x y : ℕ) → x < width → y < height → y < 128 → (pattern : List Item) → AreOf layers pattern → pattern_holds (cell_at grid x y) pattern ≡ true → MayHold planes.columns x y pattern
+  pub noted_in_column : (x y : ℕ) → x < width → y < height → y < 128 → (pattern : List Item) → AreOf layering.layers pattern → pattern_holds (cell_at grid x y) pattern ≡ true → MayHold planes.columns x y pattern
   noted_in_column x y x_in y_in small pattern are holds k other within =
       (p.there x y (no_cell N) x_in y_in).column (get_or pattern k other).object small ∙ stands_here x y x_in y_in pattern are holds k other within
 
-  module _ (x y : ℕ) (x_in : x < width) (y_in : y < height) (patterns : List (List Item)) (some : 0 < length patterns) (are : All (AreOf layers) patterns) where
+  module _ (x y : ℕ) (x_in : x < width) (y_in : y < height) (patterns : List (List Item)) (some : 0 < length patterns) (are : All (AreOf layering.layers) patterns) where
     pub ahead_in_row : width ≤ 128 → run_holds grid Right x y patterns ≡ true → MayRunAhead planes.rows y patterns x
     ahead_in_row narrow holds =
         let inside : x + length patterns ≤ width = (elim (cases_lt width (x + length patterns)) [

@@ -1,4 +1,5 @@
 -- A cell that heads nowhere is still, and so is each cell of a line, or of a level, of which no heading is noted.
+use Rattle.pz_cells.specs.Layering.{Layering}
 use Rattle.std.proofs.Common.{◌≡◌, ◌+◌, ◌*◌, ◌<◌, ℕ, suc, List, [], ◌∷◌, Option, Some, None, Bool, true, false, map, length, get_or, arith, ap, sym, ◌∙◌, refl, subst}
 use Rattle.std.specs.Prelude.{find}
 use Rattle.std.specs.List.{All, range_with_len}
@@ -20,10 +21,10 @@ use Rattle.pz_sheet.specs.Seen.{grid_of, HeadsWithin, AreNoted, IsStored}
 use Rattle.pz_sheet.proofs.SheetLemmas.{seen_at}
 use Rattle.pz_cells.proofs.ListLemmas.{no_cell, cell_mapped, still_shows}
 
-pub still_seen : (N depth : ℕ) (layers : List ℕ) (cell : Cell N) → IsSound N layers cell → ((number : ℕ) → member cell.movement number ≡ false) → seen N depth layers cell ≡ map still_place (seen N depth layers cell)
-still_seen N depth layers cell sound none =
-    cell_mapped depth layers cell.objects cell.movement cell.objects cell.movement still_place sound.of_game
-    (λ layer. still_shows layers (member cell.objects) (heads cell.movement layer) (heads cell.movement layer) layer (place_of layers cell.objects cell.movement layer) (λ dir. none (flag layer dir)) (sound.shows layer))
+pub still_seen : (N : ℕ) (layering : Layering) (cell : Cell N) → IsSound layering cell → ((number : ℕ) → member cell.movement number ≡ false) → seen layering cell ≡ map still_place (seen layering cell)
+still_seen N layering cell sound none =
+    cell_mapped layering.depth layering.layers cell.objects cell.movement cell.objects cell.movement still_place sound.of_game
+    (λ layer. still_shows layering.layers (member cell.objects) (heads cell.movement layer) (heads cell.movement layer) layer (place_of layering.layers cell.objects cell.movement layer) (λ dir. none (flag layer dir)) (sound.shows layer))
 
 -- what stands where nothing heads is still
 pub place_is_still : (layers objects movement : List ℕ) (layer : ℕ) → heading_in movement layer ≡ None → place_of layers objects movement layer ≡ still_place (place_of layers objects movement layer)
@@ -45,30 +46,30 @@ same_all f (cell ∷ cells) same =
     ap (λ (first : List (Option Piece)). first ∷ cells) (same 0 cell (omega arith))
     ∙ ap (λ (rest : List (List (Option Piece))). f cell ∷ rest) (same_all f cells (λ k d within. same (suc k) d (omega (arith, within))))
 
-module _ (N width height depth : ℕ) (layers : List ℕ) (sets : List (List ℕ)) (cells : List (Cell N)) (notes : HeadingSets) (s : IsStored N width height depth layers sets cells notes) where
+module _ (N width height : ℕ) (layering : Layering) (cells : List (Cell N)) (notes : HeadingSets) (s : IsStored N width height layering cells notes) where
   -- no heading is noted for a column
   pub column_is_still : (x y : ℕ) → x < width → y < height → ((number : ℕ) → member (get_or notes.columns x []) number ≡ false)
-      → cell_at (grid_of N width height depth layers cells) x y ≡ map still_place (cell_at (grid_of N width height depth layers cells) x y)
+      → cell_at (grid_of width height layering cells) x y ≡ map still_place (cell_at (grid_of width height layering cells) x y)
   column_is_still x y x_in y_in none =
       let at = y * width + x in
       let within : at < length cells = omega (arith, mul-add-lt y width x height y_in x_in, s.covers) in
       let cell = get_or cells at (no_cell N) in
       let noted : HeadsWithin N (get_or notes.columns x []) cell = subst (λ (line : ℕ). HeadsWithin N (get_or notes.columns line []) cell) (mod-mul-add y width x x_in) (s.noted.each at (no_cell N) within).column in
-      let still = still_seen N depth layers cell (s.sound at (no_cell N) within) (none_within cell.movement (get_or notes.columns x []) noted none) in
-      let here = seen_at N width height depth layers cells (grid_of N width height depth layers cells) at cell refl within (get_or_default cells at (no_cell N) cell within) in
+      let still = still_seen N layering cell (s.sound at (no_cell N) within) (none_within cell.movement (get_or notes.columns x []) noted none) in
+      let here = seen_at N width height layering cells (grid_of width height layering cells) at cell refl within (get_or_default cells at (no_cell N) cell within) in
       sym here ∙ still ∙ ap (λ (places : List (Option Piece)). map still_place places) here
 
   -- no heading is noted at all
-  pub all_are_still : ((number : ℕ) → member notes.whole number ≡ false) → map (seen N depth layers) cells ≡ map (map still_place) (map (seen N depth layers) cells)
+  pub all_are_still : ((number : ℕ) → member notes.whole number ≡ false) → map (seen layering) cells ≡ map (map still_place) (map (seen layering) cells)
   all_are_still none =
-      same_all (map still_place) (map (seen N depth layers) cells) (All-map (λ cell. cell ≡ map still_place cell) (seen N depth layers) cells
-      (λ k d within. still_seen N depth layers (get_or cells k d) (s.sound k d within) (none_within (get_or cells k d).movement notes.whole (s.noted.each k d within).whole none)))
+      same_all (map still_place) (map (seen layering) cells) (All-map (λ cell. cell ≡ map still_place cell) (seen layering) cells
+      (λ k d within. still_seen N layering (get_or cells k d) (s.sound k d within) (none_within (get_or cells k d).movement notes.whole (s.noted.each k d within).whole none)))
 
-  pub all_head_nowhere : ((number : ℕ) → member notes.whole number ≡ false) → HeadNowhere N cells
+  pub all_head_nowhere : ((number : ℕ) → member notes.whole number ≡ false) → HeadNowhere cells
   all_head_nowhere none index cell number within = none_within (get_or cells index cell).movement notes.whole (s.noted.each index cell within).whole none number
 
 -- cells that head nowhere need no notes
-pub noted_nowhere : (N width height : ℕ) (notes : HeadingSets) (cells : List (Cell N)) → length notes.rows ≡ height → length notes.columns ≡ width → HeadNowhere N cells → AreNoted N width height notes cells
+pub noted_nowhere : (N width height : ℕ) (notes : HeadingSets) (cells : List (Cell N)) → length notes.rows ≡ height → length notes.columns ≡ width → HeadNowhere cells → AreNoted N width height notes cells
 noted_nowhere N width height notes cells rows columns nowhere = record {
   row_count = rows;
   column_count = columns;

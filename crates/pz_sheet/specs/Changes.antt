@@ -3,7 +3,8 @@ use Rattle.std.specs.Prelude.{ℕ, ◌+◌, ◌<◌, List, [], ◌∷◌, Option
 use Rattle.pz_cells.specs.declared.piece.Piece.{Piece}
 use Rattle.pz_cells.specs.Sameness.{same_cell}
 use Rattle.pz_sheet.specs.declared.changes.Change.{Change}
-use Rattle.pz_sheet.specs.Grid.{Grid}
+use Rattle.pz_sheet.specs.Grid.{Grid, layers_in}
+use Rattle.pz_cells.specs.Layering.{Layering}
 use Rattle.pz_sheet.specs.Presence.{cell_of}
 use Rattle.pz_cells.specs.Lists.{seen, IsSound}
 
@@ -23,17 +24,17 @@ abbrev pub changed_cells : Grid → Grid → List CellChange
 changed_cells grid older = changed_from 0 grid.cells older.cells
 
 -- a change, seen by layers
-abbrev pub change_seen : (N : ℕ) → ℕ → List ℕ → Change N → CellChange
-change_seen N depth layers change = record { number = change.index; cell = seen N depth layers change.cell }
+abbrev pub change_seen : {N : ℕ} → Layering → Change N → CellChange
+change_seen layering change = record { number = change.index; cell = seen layering change.cell }
 
 -- what changes say of a level's cells
-abbrev pub changes_seen : (N : ℕ) → Grid → List (Change N) → List CellChange
-changes_seen N grid changes = map (change_seen N grid.depth grid.layers) changes
+abbrev pub changes_seen : {N : ℕ} → Grid → List (Change N) → List CellChange
+changes_seen grid changes = map (change_seen (layers_in grid)) changes
 
 -- a change of a cell of the level, in words of the game
-pub record IsChangeOf (N : ℕ) (grid : Grid) (change : Change N) : Type 0 where
+pub record IsChangeOf {N : ℕ} (grid : Grid) (change : Change N) : Type 0 where
   pub within : change.index < length grid.cells
-  pub sound : IsSound N grid.layers change.cell
+  pub sound : IsSound (layers_in grid) change.cell
 
 -- the level with a cell put back
 abbrev pub with_cell : Grid → CellChange → Grid

@@ -5,6 +5,7 @@ use Rattle.pz_game.specs.declared.game.GameParts.{GameParts}
 use Rattle.pz_game.specs.Size.{IsSize}
 use Rattle.pz_cells.specs.declared.piece.Piece.{Piece}
 use Rattle.pz_cells.specs.Cell.{IsCell}
+use Rattle.pz_cells.specs.Layering.{Layering}
 
 pub record Grid : Type 0 where
   pub width : ℕ
@@ -14,6 +15,10 @@ pub record Grid : Type 0 where
   pub layers : List ℕ
   -- row by row, the cells: for each layer nothing, or what stands there
   pub cells : List (List (Option Piece))
+
+-- the layers of a level
+abbrev pub layers_in : Grid → Layering
+layers_in grid = record { depth = grid.depth; layers = grid.layers }
 
 -- a level without its marks
 pub record BareState : Type 0 where

@@ -12,3 +12,4 @@ pub mod Loading
 pub mod Rewriting
 pub mod Searching
 pub mod Runs
+pub mod Line

@@ -1,18 +1,17 @@
 -- A level in words, seen by layers.
 use Rattle.std.specs.Prelude.{◌≡◌, ℕ, ◌*◌, ◌/◌, ◌%◌, ◌<◌, ◌≤◌, List, [], map, length, slice_index_or, All}
 use Rattle.pz_sets.specs.Sets.{IsWithin}
-use Rattle.pz_game.specs.declared.limits.TheConstants.{MAX_OBJECTS, MAX_LAYERS}
 use Rattle.pz_game.specs.Size.{IsSize}
 use Rattle.pz_planes.specs.Notes.{HeadingSets}
 use Rattle.pz_planes.specs.Planes.{PlaneSets}
 use Rattle.pz_cells.specs.Lists.{seen, IsSound}
 use Rattle.pz_cells.specs.declared.cell.Cell.{Cell}
-use Rattle.pz_cells.specs.Shown.{IsSetOf}
+use Rattle.pz_cells.specs.Layering.{Layering, IsLayering}
 use Rattle.pz_sheet.specs.Grid.{Grid}
 use Rattle.pz_sheet.specs.Noting.{ArePlaced}
 
-abbrev pub grid_of : (N : ℕ) → ℕ → ℕ → ℕ → List ℕ → List (Cell N) → Grid
-grid_of N width height depth layers cells = record { width = width; height = height; depth = depth; layers = layers; cells = map (seen N depth layers) cells }
+abbrev pub grid_of : {N : ℕ} → ℕ → ℕ → Layering → List (Cell N) → Grid
+grid_of width height layering cells = record { width = width; height = height; depth = layering.depth; layers = layering.layers; cells = map (seen layering) cells }
 
 -- a cell heads nowhere but in the directions of a set
 abbrev pub HeadsWithin : (N : ℕ) → List ℕ → Cell N → Type 0
@@ -30,23 +29,15 @@ pub record AreNoted (N width height : ℕ) (notes : HeadingSets) (cells : List (
   pub column_count : length notes.columns ≡ width
   pub each : (index : ℕ) (cell : Cell N) → index < length cells → IsNoted N width notes index (slice_index_or cells index cell)
 
--- what holds of the words of a level: there is room for its game, the sets of its layers are there, each cell is of the game, and none
--- heads in a direction that isn't noted
-pub record IsStored (N width height depth : ℕ) (layers : List ℕ) (sets : List (List ℕ)) (cells : List (Cell N)) (notes : HeadingSets) : Type 0 where
+-- what holds of the words of a level: there is room for its game, each cell is of the game, and none heads in a direction that isn't noted
+pub record IsStored (N width height : ℕ) (layering : Layering) (cells : List (Cell N)) (notes : HeadingSets) : Type 0 where
   pub size : IsSize width height
-  pub shallow : depth ≤ MAX_LAYERS
-  pub few : length layers ≤ MAX_OBJECTS
-  pub short : N ≤ 4
-  pub room : length layers ≤ 128 * N
-  pub movement_room : depth ≤ 25 * N
-  pub layered : All (λ layer. layer < depth) layers
-  pub deep : length sets ≡ depth
-  pub table : (layer : ℕ) (other : List ℕ) → layer < length sets → IsSetOf layers (slice_index_or sets layer other) layer
+  pub law : IsLayering N layering
   pub covers : length cells ≡ width * height
-  pub sound : All (IsSound N layers) cells
+  pub sound : All (IsSound layering) cells
   pub noted : AreNoted N width height notes cells
 
 -- what holds of a level in words: these, and each object is noted where it stands and nowhere else
-pub record IsSheet (N width height depth : ℕ) (layers : List ℕ) (sets : List (List ℕ)) (cells : List (Cell N)) (notes : HeadingSets) (planes : PlaneSets) : Type 0 where
-  pub stored : IsStored N width height depth layers sets cells notes
-  pub placed : ArePlaced N (length layers) width height planes cells
+pub record IsSheet (N width height : ℕ) (layering : Layering) (cells : List (Cell N)) (notes : HeadingSets) (planes : PlaneSets) : Type 0 where
+  pub stored : IsStored N width height layering cells notes
+  pub placed : ArePlaced N (length layering.layers) width height planes cells

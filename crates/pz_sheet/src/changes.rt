@@ -1,8 +1,8 @@
 //! The cells in which a level differs from an older one, and the way back to that.
 
-ghost use Rattle.std.specs.Prelude.{◌≡◌, true, ◌≤◌, ◌<◌, ◌+◌, All, IfOk, OnOk, OnErr, length, map};
+ghost use Rattle.std.specs.Prelude.{◌≡◌, true, ◌<◌, ◌+◌, All, IfOk, OnOk, OnErr, length, map};
 ghost use Rattle.pz_sheet.specs.Changes.{changed_from, changed_cells, change_seen, changes_seen, IsChangeOf, with_cell, restored, differ_in, cell_there};
-ghost use Rattle.pz_sheet.specs.Grid.{SameSize};
+ghost use Rattle.pz_sheet.specs.Grid.{SameSize, layers_in};
 ghost use Rattle.pz_sets.specs.Next.{IsNext};
 ghost use Rattle.pz_cells.specs.Lists.{seen, IsSound, HeadNowhere};
 
@@ -10,6 +10,7 @@ use crate::Sheet;
 use crate::noting::note_heading;
 use pz_cells::cell::Cell;
 use pz_cells::differing::next_differing;
+use pz_cells::layers::Layers;
 use pz_planes::notes::are_empty;
 use std::alloc::{AllocError, Global};
 
@@ -27,9 +28,9 @@ impl<const N: usize> Sheet<N> {
         requires size { SameSize newer.now.grid self.old.grid }
         ensures newer { OnOk result (self.new.grid ≡ newer.now.grid) }
         ensures kept { OnErr result (self.new.grid ≡ self.old.grid) }
-        ensures changes { IfOk result (λ changes. changes_seen N newer.now.grid changes.items ≡ changed_cells newer.now.grid self.old.grid) }
-        ensures of_level { IfOk result (λ changes. All (IsChangeOf N newer.now.grid) changes.items) }
-        ensures way_back { IfOk result (λ changes. restored (changes_seen N newer.now.grid changes.items) newer.now.grid ≡ self.old.grid) }
+        ensures changes { IfOk result (λ changes. changes_seen newer.now.grid changes.items ≡ changed_cells newer.now.grid self.old.grid) }
+        ensures of_level { IfOk result (λ changes. All (IsChangeOf newer.now.grid) changes.items) }
+        ensures way_back { IfOk result (λ changes. restored (changes_seen newer.now.grid changes.items) newer.now.grid ≡ self.old.grid) }
     {
         let changes = newer.changes_to(self)?;
         self.catch_up(newer, &changes);
@@ -39,8 +40,8 @@ impl<const N: usize> Sheet<N> {
     /// Puts the cells of a newer level in the place of its own, where the way back from that says that they differ.
     fn catch_up(&mut self, newer: &Sheet<N>, way: &[Change<N>])
         requires size { SameSize newer.now.grid self.old.grid }
-        requires changes { changes_seen N newer.now.grid way.now ≡ changed_cells newer.now.grid self.old.grid }
-        requires of_level { All (IsChangeOf N newer.now.grid) way.now }
+        requires changes { changes_seen newer.now.grid way.now ≡ changed_cells newer.now.grid self.old.grid }
+        requires of_level { All (IsChangeOf newer.now.grid) way.now }
         ensures { self.new.grid ≡ newer.now.grid }
     {
         // (brings the proof the law of both levels)
@@ -53,26 +54,19 @@ impl<const N: usize> Sheet<N> {
     /// What gives an older level of the same size back: the cells in which that differs, and no other. Err: memory was refused.
     fn changes_to(&self, older: &Sheet<N>) -> Result<Vec<Change<N>>, AllocError>
         requires size { SameSize self.now.grid older.now.grid }
-        ensures changes { IfOk result (λ changes. changes_seen N self.now.grid changes.items ≡ changed_cells self.now.grid older.now.grid) }
-        ensures of_level { IfOk result (λ changes. All (IsChangeOf N self.now.grid) changes.items) }
-        ensures way_back { IfOk result (λ changes. restored (changes_seen N self.now.grid changes.items) self.now.grid ≡ older.now.grid) }
+        ensures changes { IfOk result (λ changes. changes_seen self.now.grid changes.items ≡ changed_cells self.now.grid older.now.grid) }
+        ensures of_level { IfOk result (λ changes. All (IsChangeOf self.now.grid) changes.items) }
+        ensures way_back { IfOk result (λ changes. restored (changes_seen self.now.grid changes.items) self.now.grid ≡ older.now.grid) }
     {
         let alloc = *self.cells.allocator();
         let are_still = are_empty(&self.notes, &older.notes);
-        changes_between(
-            alloc,
-            self.depth,
-            &self.layers,
-            &self.cells,
-            &older.cells,
-            are_still,
-        )
+        changes_between(alloc, &self.layers, &self.cells, &older.cells, are_still)
     }
 
     /// Puts the cells of an older level back.
     pub fn take_changes(&mut self, changes: &[Change<N>])
-        requires { All (IsChangeOf N self.old.grid) changes.now }
-        ensures restored { self.new.grid ≡ restored (changes_seen N self.old.grid changes.now) self.old.grid }
+        requires { All (IsChangeOf self.old.grid) changes.now }
+        ensures restored { self.new.grid ≡ restored (changes_seen self.old.grid changes.now) self.old.grid }
         ensures size { SameSize self.old.grid self.new.grid }
     {
         for change in changes {
@@ -81,8 +75,8 @@ impl<const N: usize> Sheet<N> {
     }
 
     fn take_change(&mut self, change: &Change<N>)
-        requires { IsChangeOf N self.old.grid change.now }
-        ensures { self.new.grid ≡ with_cell self.old.grid (change_seen N self.old.grid.depth self.old.grid.layers change.now) }
+        requires { IsChangeOf self.old.grid change.now }
+        ensures { self.new.grid ≡ with_cell self.old.grid (change_seen (layers_in self.old.grid) change.now) }
     {
         let before = self.cells[change.index];
         self.cells[change.index] = change.cell;
@@ -118,25 +112,21 @@ impl<const N: usize> Sheet<N> {
 /// The cells in which an older level differs. Where no cell of either heads anywhere, the objects alone are looked at.
 fn changes_between<const N: usize>(
     alloc: Global,
-    depth: usize,
-    layers: &[usize],
+    layers: &Layers<N>,
     cells: &[Cell<N>],
     older: &[Cell<N>],
     are_still: bool,
 ) -> Result<Vec<Change<N>>, AllocError>
-    requires short { N ≤ 4 }
-    requires layered { All (λ layer. layer < depth) layers.now }
-    requires sound { All (IsSound N layers.now) cells.now }
-    requires older_sound { All (IsSound N layers.now) older.now }
+    requires sound { All (IsSound layers.now) cells.now }
+    requires older_sound { All (IsSound layers.now) older.now }
     requires long { length cells.now ≡ length older.now }
-    requires still { are_still ≡ true → HeadNowhere N cells.now }
-    requires older_still { are_still ≡ true → HeadNowhere N older.now }
-    ensures changes { IfOk result (λ changes. map (change_seen N depth layers.now) changes.items ≡ changed_from 0 (map (seen N depth layers.now) cells.now) (map (seen N depth layers.now) older.now)) }
-    ensures within { IfOk result (λ changes. All (λ change. (change.index < length cells.now) × IsSound N layers.now change.cell) changes.items) }
+    requires still { are_still ≡ true → HeadNowhere cells.now }
+    requires older_still { are_still ≡ true → HeadNowhere older.now }
+    ensures changes { IfOk result (λ changes. map (change_seen layers.now) changes.items ≡ changed_from 0 (map (seen layers.now) cells.now) (map (seen layers.now) older.now)) }
+    ensures within { IfOk result (λ changes. All (λ change. (change.index < length cells.now) × IsSound layers.now change.cell) changes.items) }
 {
-    // (the contract alone speaks of the layers)
-    let _ = depth;
-    let _ = layers;
+    // (brings the proof the law of the layers)
+    let _ = layers.depth();
     let mut changes = Vec::new(alloc);
     let mut from = 0;
     'changes: while let Some(index) = next_differing(cells, older, are_still, from) {

@@ -5,15 +5,16 @@ ghost use Rattle.std.specs.Prelude.{◌≡◌, ◌+◌, ◌*◌, ◌<◌, length
 ghost use Rattle.pz_sheet.specs.Grid.{IsLawful};
 
 use pz_cells::cell::Cell;
+use pz_cells::layers::Layers;
 use pz_planes::notes::Notes;
 use pz_planes::planes::Planes;
-use pz_sets::set::NumberSet;
 use std::marker::Model;
 
 pub mod changes;
 mod copying;
 mod headings;
 mod holding;
+pub mod line;
 mod lines;
 mod loading;
 mod movement;
@@ -25,14 +26,12 @@ mod runs;
 mod sameness;
 mod searching;
 
-/// The cells of a level, in `N` words for the objects and `N` for their headings, with the sets of the objects of the game's layers, and
+/// The cells of a level, in `N` words for the objects and `N` for their headings, of a game's layers, and
 /// what is noted of where the cells head and where the objects stand.
 pub struct Sheet<const N: usize> {
     width: u32,
     height: u32,
-    depth: usize,
-    layers: Vec<usize>,
-    sets: Vec<NumberSet>,
+    layers: Layers<N>,
     cells: Vec<Cell<N>>,
     notes: Notes,
     planes: Planes,
@@ -44,15 +43,12 @@ impl<const N: usize> Drop for Sheet<N> {
         let Sheet {
             width: _,
             height: _,
-            depth: _,
             layers,
-            sets,
             cells,
             notes,
             planes,
         } = self;
         drop(layers);
-        drop(sets);
         drop(cells);
         drop(notes);
         drop(planes);
@@ -65,9 +61,9 @@ impl<const N: usize> Model for Sheet<N> {
 
     ghost Value = { BareState };
 
-    ghost view = { λ a. record { grid = grid_of N a.width a.height a.depth a.layers.items a.cells.items } };
+    ghost view = { λ a. record { grid = grid_of a.width a.height a.layers a.cells.items } };
 
-    ghost invariant = { λ a. IsSheet N a.width a.height a.depth a.layers.items a.sets.items a.cells.items a.notes a.planes };
+    ghost invariant = { λ a. IsSheet N a.width a.height a.layers a.cells.items a.notes a.planes };
 }
 
 impl<const N: usize> Sheet<N> {
@@ -92,7 +88,7 @@ impl<const N: usize> Sheet<N> {
         ensures depth { result ≡ self.now.grid.depth }
         ensures lawful { IsLawful self.now.grid }
     {
-        self.depth
+        self.layers.depth()
     }
 
     /// The number of the cell at a position of the map: cells stand row by row.

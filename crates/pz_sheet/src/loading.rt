@@ -6,7 +6,8 @@ ghost use Rattle.pz_sheet.specs.Loading.{drawn, filled};
 
 use crate::Sheet;
 use crate::noting::{note_all, notes_of, planes_of, renew_notes};
-use pz_cells::drawing::{fill_cells, glyph_cells, layer_sets};
+use pz_cells::drawing::{fill_cells, glyph_cells};
+use pz_cells::layers::Layers;
 use pz_cells::piece::Piece;
 use pz_game::game::Game;
 use pz_game::level::DrawnLevel;
@@ -21,19 +22,22 @@ impl<const N: usize> Sheet<N> {
         requires numbers { All (λ number. number < length game.now.values) drawing.now.cells }
         ensures { IfOk result (λ sheet. sheet.grid ≡ drawn game.now drawing.now) }
     {
-        let layers = Vec::from_slice(alloc, game.layers())?;
-        let sets = layer_sets(alloc, game.depth(), game.layers())?;
-        let cells = glyph_cells(alloc, game, &sets, drawing.cells())?;
+        let layers = Layers::of_game(alloc, game)?;
+        let cells = glyph_cells(alloc, game, &layers, drawing.cells())?;
         let width = drawing.width();
         let height = drawing.height();
         let notes = notes_of(alloc, width as usize, height as usize, &cells)?;
-        let planes = planes_of(alloc, layers.len(), width as usize, height as usize, &cells)?;
+        let planes = planes_of(
+            alloc,
+            layers.object_count(),
+            width as usize,
+            height as usize,
+            &cells,
+        )?;
         Ok(Sheet {
             width,
             height,
-            depth: game.depth(),
             layers,
-            sets,
             cells,
             notes,
             planes,
@@ -47,14 +51,7 @@ impl<const N: usize> Sheet<N> {
         ensures filled { self.new.grid ≡ filled layer piece self.old.grid }
         ensures lawful { IsLawful self.new.grid }
     {
-        fill_cells(
-            &mut self.cells,
-            self.depth,
-            &self.layers,
-            self.sets[layer].words(),
-            layer,
-            piece,
-        );
+        fill_cells(&mut self.cells, &self.layers, layer, piece);
         renew_notes(&mut self.notes, &self.cells);
         note_all(&mut self.planes, &self.cells);
     }

@@ -55,7 +55,7 @@ impl<const N: usize> Sheet<N> {
         ensures stilled { self.new.grid ≡ stilled self.old.grid }
         ensures lawful { IsLawful self.new.grid }
     {
-        still_cells(&mut self.cells, self.depth, &self.layers);
+        still_cells(&mut self.cells, &self.layers);
         self.notes.clear();
     }
 }

@@ -24,7 +24,7 @@ impl<const N: usize> Sheet<N> {
         ensures low { IfSome result (λ piece. piece.object < CAPACITY) }
     {
         let index = self.index(x, y);
-        self.cells[index].place(&self.layers, self.sets[layer].words(), layer)
+        self.cells[index].place(&self.layers, layer)
     }
 
     /// Puts a piece, or nothing, on a layer of a position of the map.
@@ -37,10 +37,9 @@ impl<const N: usize> Sheet<N> {
         ensures there { place_at self.new.grid x y layer ≡ place }
     {
         let index = self.index(x, y);
-        let here = self.cells[index].place(&self.layers, self.sets[layer].words(), layer);
         let cell = &mut self.cells[index];
         let before = *cell;
-        cell.put(&self.layers, layer, here, place);
+        cell.put(&self.layers, layer, place);
         note_heading(&mut self.notes, index, cell);
         // (brings the proof how many words a cell has)
         let _ = (before.word_count(), cell.word_count());
@@ -55,8 +54,7 @@ impl<const N: usize> Sheet<N> {
         requires of_game { AreOf self.now.grid.layers pattern.now }
         ensures { result ≡ pattern_holds (cell_at self.now.grid x y) pattern.now }
     {
-        let index = self.index(x, y);
-        self.cells[index].holds(self.depth, &self.layers, pattern)
+        self.holds_there(self.index(x, y), pattern)
     }
 
     /// Rewrites the cell at a position of the map from a left cell of a rule to its right cell, and says whether that gave another one.
@@ -71,7 +69,7 @@ impl<const N: usize> Sheet<N> {
         let index = self.index(x, y);
         let cell = &mut self.cells[index];
         let before = *cell;
-        let changed = cell.rewrite(self.depth, &self.layers, &self.sets, left, right);
+        let changed = cell.rewrite(&self.layers, left, right);
         note_heading(&mut self.notes, index, cell);
         // (brings the proof how many words a cell has)
         let _ = (before.word_count(), cell.word_count());

@@ -1,8 +1,7 @@
 //! The direction of an input, given to the player.
 
-ghost use Rattle.std.specs.Prelude.{◌≡◌, ◌≤◌, ◌<◌, ◌*◌, All, [], ◌∷◌, length, map};
-ghost use Rattle.pz_game.specs.declared.limits.TheConstants.{MAX_LAYERS};
-ghost use Rattle.pz_cells.specs.Shown.{cell_of, AreLawful};
+ghost use Rattle.std.specs.Prelude.{◌≡◌, ◌<◌, [], ◌∷◌, length, map};
+ghost use Rattle.pz_cells.specs.Lists.{seen, IsSound};
 ghost use Rattle.pz_sheet.specs.Grid.{IsLawful};
 ghost use Rattle.pz_sheet.specs.Holding.{IsSetFor};
 ghost use Rattle.pz_sheet.specs.Pushing.{pushed_place, pushed_at, pushed};
@@ -11,6 +10,7 @@ use crate::Sheet;
 use crate::holding::set_of;
 use crate::noting::note_heading;
 use pz_cells::cell::Cell;
+use pz_cells::layers::Layers;
 use pz_game::direction::Dir;
 use pz_sets::set::NumberSet;
 use pz_sets::words::is_disjoint;
@@ -49,7 +49,7 @@ impl<const N: usize> Sheet<N> {
     {
         let cell = &mut self.cells[index];
         let before = *cell;
-        push_cell(cell, self.depth, &self.layers, players, dir);
+        push_cell(cell, &self.layers, players, dir);
         note_heading(&mut self.notes, index, cell);
         // (brings the proof how many words a cell has)
         let _ = (before.word_count(), cell.word_count());
@@ -57,33 +57,21 @@ impl<const N: usize> Sheet<N> {
     }
 }
 
-fn push_cell<const N: usize>(
-    cell: &mut Cell<N>,
-    depth: usize,
-    layers: &[usize],
-    players: &[usize],
-    dir: Dir,
-)
-    requires shallow { depth ≤ MAX_LAYERS }
-    requires movement_room { depth ≤ 25 * N }
-    requires layered { All (λ layer. layer < depth) layers.now }
-    requires lawful { AreLawful layers.now cell.old.objects cell.old.movement }
-    ensures lawful { AreLawful layers.now cell.new.objects cell.new.movement }
-    ensures cell { cell_of depth layers.now cell.new.objects cell.new.movement ≡ map (pushed_place players.now dir) (cell_of depth layers.now cell.old.objects cell.old.movement) }
+fn push_cell<const N: usize>(cell: &mut Cell<N>, layers: &Layers<N>, players: &[usize], dir: Dir)
+    requires sound { IsSound layers.now cell.old }
+    ensures sound { IsSound layers.now cell.new }
+    ensures cell { seen layers.now cell.new ≡ map (pushed_place players.now dir) (seen layers.now cell.old) }
 {
     for player in players {
-        turn(cell, depth, layers, *player, dir);
+        turn(cell, layers, *player, dir);
     }
 }
 
 /// Lets one object head in a direction, if it stands in the cell.
-fn turn<const N: usize>(cell: &mut Cell<N>, depth: usize, layers: &[usize], player: usize, dir: Dir)
-    requires shallow { depth ≤ MAX_LAYERS }
-    requires movement_room { depth ≤ 25 * N }
-    requires layered { All (λ layer. layer < depth) layers.now }
-    requires lawful { AreLawful layers.now cell.old.objects cell.old.movement }
-    ensures lawful { AreLawful layers.now cell.new.objects cell.new.movement }
-    ensures cell { cell_of depth layers.now cell.new.objects cell.new.movement ≡ map (pushed_place (player ∷ []) dir) (cell_of depth layers.now cell.old.objects cell.old.movement) }
+fn turn<const N: usize>(cell: &mut Cell<N>, layers: &Layers<N>, player: usize, dir: Dir)
+    requires sound { IsSound layers.now cell.old }
+    ensures sound { IsSound layers.now cell.new }
+    ensures cell { seen layers.now cell.new ≡ map (pushed_place (player ∷ []) dir) (seen layers.now cell.old) }
 {
-    cell.turn(depth, layers, player, dir);
+    cell.turn(layers, player, dir);
 }

@@ -13,8 +13,7 @@ impl<const N: usize> Sheet<N> {
     {
         self.width == other.width
             && self.height == other.height
-            && self.depth == other.depth
-            && self.layers == other.layers
+            && self.layers.equals(&other.layers)
     }
 
     /// Whether both are the same: in their size, their layers, and each place of each cell.

@@ -4,173 +4,100 @@ ghost use Rattle.std.specs.Prelude.{◌≡◌, ℕ, ◌<◌, ◌≤◌, true};
 ghost use Rattle.pz_sets.specs.Sets.{in_word};
 ghost use Rattle.pz_game.specs.Pattern.{AreOf};
 ghost use Rattle.pz_sets.specs.Next.{IsNext};
-ghost use Rattle.pz_sheet.specs.Searching.{holds_in_row, holds_in_column, IsLast};
+ghost use Rattle.pz_sheet.specs.Line.{line_length, line_count, holds_in, walk_of};
+ghost use Rattle.pz_sheet.specs.Searching.{IsLast};
 
 use crate::Sheet;
+use crate::line::{Axis, Line, Walk};
 use pz_game::pattern::Pattern;
 use pz_planes::bits;
 
 impl<const N: usize> Sheet<N> {
-    /// The columns of a row of the map in which a rule's cell may hold, by what is noted of the objects that it names: all in which it
-    /// does.
-    fn places_in_row(&self, y: u32, pattern: &Pattern) -> u128
-        requires narrow { self.now.grid.width ≤ 128 }
-        requires y_in { y < self.now.grid.height }
+    /// The positions of a line at which a rule's cell may hold, by what is noted of the objects that it names: all at which it does.
+    fn places_in(&self, line: Line, pattern: &Pattern) -> u128
+        requires short { line_length self.now.grid line.axis ≤ 128 }
+        requires line_in { line.number < line_count self.now.grid line.axis }
         requires of_game { AreOf self.now.grid.layers pattern.now }
-        ensures { (x : ℕ) → x < self.now.grid.width → holds_in_row self.now.grid y pattern.now x ≡ true → in_word result x ≡ true }
+        ensures { (at : ℕ) → at < line_length self.now.grid line.axis → holds_in self.now.grid line pattern.now at ≡ true → in_word result at ≡ true }
     {
-        self.planes.rows().places(y as usize, pattern)
-    }
-
-    /// The same of the rows of a column.
-    fn places_in_column(&self, x: u32, pattern: &Pattern) -> u128
-        requires low { self.now.grid.height ≤ 128 }
-        requires x_in { x < self.now.grid.width }
-        requires of_game { AreOf self.now.grid.layers pattern.now }
-        ensures { (y : ℕ) → y < self.now.grid.height → holds_in_column self.now.grid x pattern.now y ≡ true → in_word result y ≡ true }
-    {
-        self.planes.columns().places(x as usize, pattern)
-    }
-
-    /// The first column from one on in which a rule's cell holds in a row of the map.
-    pub fn next_in_row(&self, y: u32, from: u32, pattern: &Pattern) -> Option<u32>
-        requires y_in { y < self.now.grid.height }
-        requires of_game { AreOf self.now.grid.layers pattern.now }
-        ensures { IsNext (holds_in_row self.now.grid y pattern.now) from self.now.grid.width result }
-    {
-        if self.width() > bits::ROOM {
-            return self.next_in_wide_row(y, from, pattern);
+        match line.axis {
+            Axis::Horizontal => self.planes.rows().places(line.number as usize, pattern),
+            Axis::Vertical => self.planes.columns().places(line.number as usize, pattern),
         }
-        let places = self.places_in_row(y, pattern);
-        let mut x = from;
-        'places: while let Some(place) = bits::next(places, x, self.width()) {
-            if self.holds(place, y, pattern) {
+    }
+
+    /// The first position of a line from one on at which a rule's cell holds.
+    pub fn next_in_line(&self, line: Line, from: u32, pattern: &Pattern) -> Option<u32>
+        requires line_in { line.number < line_count self.now.grid line.axis }
+        requires of_game { AreOf self.now.grid.layers pattern.now }
+        ensures { IsNext (holds_in self.now.grid line pattern.now) from (line_length self.now.grid line.axis) result }
+    {
+        let walk = self.walk(line);
+        let end = self.line_length(line.axis);
+        if end > bits::ROOM {
+            return self.next_in_long_line(line, walk, from, pattern);
+        }
+        let places = self.places_in(line, pattern);
+        let mut at = from;
+        'places: while let Some(place) = bits::next(places, at, end) {
+            if self.holds_in(line, walk, place, pattern) {
                 return Some(place);
             }
-            x = place + 1;
+            at = place + 1;
         }
         None
     }
 
-    /// The same, column by column.
-    fn next_in_wide_row(&self, y: u32, from: u32, pattern: &Pattern) -> Option<u32>
-        requires y_in { y < self.now.grid.height }
+    /// The same, cell by cell.
+    fn next_in_long_line(&self, line: Line, walk: Walk, from: u32, pattern: &Pattern) -> Option<u32>
+        requires line_in { line.number < line_count self.now.grid line.axis }
+        requires walk { walk ≡ walk_of self.now.grid line }
         requires of_game { AreOf self.now.grid.layers pattern.now }
-        ensures { IsNext (holds_in_row self.now.grid y pattern.now) from self.now.grid.width result }
+        ensures { IsNext (holds_in self.now.grid line pattern.now) from (line_length self.now.grid line.axis) result }
     {
-        for x in from..self.width() {
-            if self.holds(x, y, pattern) {
-                return Some(x);
+        for at in from..self.line_length(line.axis) {
+            if self.holds_in(line, walk, at, pattern) {
+                return Some(at);
             }
         }
         None
     }
 
-    /// The first row from one on in which a rule's cell holds in a column of the map.
-    pub fn next_in_column(&self, x: u32, from: u32, pattern: &Pattern) -> Option<u32>
-        requires x_in { x < self.now.grid.width }
+    /// The last position of a line before an end at which a rule's cell holds.
+    pub fn last_in_line(&self, line: Line, end: u32, pattern: &Pattern) -> Option<u32>
+        requires line_in { line.number < line_count self.now.grid line.axis }
+        requires end_in { end ≤ line_length self.now.grid line.axis }
         requires of_game { AreOf self.now.grid.layers pattern.now }
-        ensures { IsNext (holds_in_column self.now.grid x pattern.now) from self.now.grid.height result }
+        ensures { IsLast (holds_in self.now.grid line pattern.now) end result }
     {
-        if self.height() > bits::ROOM {
-            return self.next_in_high_column(x, from, pattern);
+        let walk = self.walk(line);
+        if self.line_length(line.axis) > bits::ROOM {
+            return self.last_in_long_line(line, walk, end, pattern);
         }
-        let places = self.places_in_column(x, pattern);
-        let mut y = from;
-        'places: while let Some(place) = bits::next(places, y, self.height()) {
-            if self.holds(x, place, pattern) {
-                return Some(place);
-            }
-            y = place + 1;
-        }
-        None
-    }
-
-    /// The same, row by row.
-    fn next_in_high_column(&self, x: u32, from: u32, pattern: &Pattern) -> Option<u32>
-        requires x_in { x < self.now.grid.width }
-        requires of_game { AreOf self.now.grid.layers pattern.now }
-        ensures { IsNext (holds_in_column self.now.grid x pattern.now) from self.now.grid.height result }
-    {
-        for y in from..self.height() {
-            if self.holds(x, y, pattern) {
-                return Some(y);
+        let places = self.places_in(line, pattern);
+        let mut at = end;
+        'places: while at > 0 {
+            at -= 1;
+            if bits::has(places, at) && self.holds_in(line, walk, at, pattern) {
+                return Some(at);
             }
         }
         None
     }
 
-    /// The last column before an end in which a rule's cell holds in a row of the map.
-    pub fn last_in_row(&self, y: u32, end: u32, pattern: &Pattern) -> Option<u32>
-        requires y_in { y < self.now.grid.height }
-        requires end_in { end ≤ self.now.grid.width }
+    /// The same, cell by cell.
+    fn last_in_long_line(&self, line: Line, walk: Walk, end: u32, pattern: &Pattern) -> Option<u32>
+        requires line_in { line.number < line_count self.now.grid line.axis }
+        requires walk { walk ≡ walk_of self.now.grid line }
+        requires end_in { end ≤ line_length self.now.grid line.axis }
         requires of_game { AreOf self.now.grid.layers pattern.now }
-        ensures { IsLast (holds_in_row self.now.grid y pattern.now) end result }
+        ensures { IsLast (holds_in self.now.grid line pattern.now) end result }
     {
-        if self.width() > bits::ROOM {
-            return self.last_in_wide_row(y, end, pattern);
-        }
-        let places = self.places_in_row(y, pattern);
-        let mut x = end;
-        'columns: while x > 0 {
-            x -= 1;
-            if bits::has(places, x) && self.holds(x, y, pattern) {
-                return Some(x);
-            }
-        }
-        None
-    }
-
-    /// The same, column by column.
-    fn last_in_wide_row(&self, y: u32, end: u32, pattern: &Pattern) -> Option<u32>
-        requires y_in { y < self.now.grid.height }
-        requires end_in { end ≤ self.now.grid.width }
-        requires of_game { AreOf self.now.grid.layers pattern.now }
-        ensures { IsLast (holds_in_row self.now.grid y pattern.now) end result }
-    {
-        let mut x = end;
-        'columns: while x > 0 {
-            x -= 1;
-            if self.holds(x, y, pattern) {
-                return Some(x);
-            }
-        }
-        None
-    }
-
-    /// The last row before an end in which a rule's cell holds in a column of the map.
-    pub fn last_in_column(&self, x: u32, end: u32, pattern: &Pattern) -> Option<u32>
-        requires x_in { x < self.now.grid.width }
-        requires end_in { end ≤ self.now.grid.height }
-        requires of_game { AreOf self.now.grid.layers pattern.now }
-        ensures { IsLast (holds_in_column self.now.grid x pattern.now) end result }
-    {
-        if self.height() > bits::ROOM {
-            return self.last_in_high_column(x, end, pattern);
-        }
-        let places = self.places_in_column(x, pattern);
-        let mut y = end;
-        'rows: while y > 0 {
-            y -= 1;
-            if bits::has(places, y) && self.holds(x, y, pattern) {
-                return Some(y);
-            }
-        }
-        None
-    }
-
-    /// The same, row by row.
-    fn last_in_high_column(&self, x: u32, end: u32, pattern: &Pattern) -> Option<u32>
-        requires x_in { x < self.now.grid.width }
-        requires end_in { end ≤ self.now.grid.height }
-        requires of_game { AreOf self.now.grid.layers pattern.now }
-        ensures { IsLast (holds_in_column self.now.grid x pattern.now) end result }
-    {
-        let mut y = end;
-        'rows: while y > 0 {
-            y -= 1;
-            if self.holds(x, y, pattern) {
-                return Some(y);
+        let mut at = end;
+        'cells: while at > 0 {
+            at -= 1;
+            if self.holds_in(line, walk, at, pattern) {
+                return Some(at);
             }
         }
         None

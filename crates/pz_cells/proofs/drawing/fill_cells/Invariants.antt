@@ -3,4 +3,4 @@ use Rattle.pz_cells.proofs.ListLemmas.{IsMappedTo}
 use Rattle.pz_cells.proofs.drawing.fill_cells.Given as goal
 
 abbrev pub invariant-loop-index : goal.invariant-loop-index
-invariant-loop-index g l = IsMappedTo g.row.N l.depth l.layers (filled_cell l.layer l.piece) l.initial.cells.items l.cells.items l.index
+invariant-loop-index g l = IsMappedTo l.layers (filled_cell l.layer l.piece) l.initial.cells.items l.cells.items l.index

@@ -6,6 +6,6 @@ use Rattle.pz_cells.proofs.drawing.glyph_cells.Given as goal
 
 abbrev pub invariant-loop-number : goal.invariant-loop-number
 invariant-loop-number g l = record {
-  sound : All (IsSound g.row.N l.game.layers) l.cells.items;
-  cells : map (seen g.row.N l.game.depth l.game.layers) l.cells.items ≡ map (glyph_cell l.game) (take l.number-index l.numbers);
+  sound : All (IsSound l.layers) l.cells.items;
+  cells : map (seen l.layers) l.cells.items ≡ map (glyph_cell l.game) (take l.number-index l.numbers);
 }

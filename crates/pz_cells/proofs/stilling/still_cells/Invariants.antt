@@ -8,7 +8,7 @@ use Rattle.pz_cells.proofs.stilling.still_cells.Given as goal
 
 abbrev pub invariant-loop-index : goal.invariant-loop-index
 invariant-loop-index g l = record {
-  mapped : IsMappedTo g.row.N l.depth l.layers (map still_place) l.initial.cells.items l.cells.items l.index;
-  objects : HaveSameObjects g.row.N l.initial.cells.items l.cells.items;
+  mapped : IsMappedTo l.layers (map still_place) l.initial.cells.items l.cells.items l.index;
+  objects : HaveSameObjects l.initial.cells.items l.cells.items;
   nowhere : (k : ℕ) (cell : Cell g.row.N) (number : ℕ) → k < l.index → member (get_or l.cells.items k cell).movement number ≡ false;
 }

@@ -12,12 +12,12 @@ pub same_cells-requires : goal.same_cells-requires
 same_cells-requires g c =
     let a = c.self.inside in
     let b = c.other.inside in (
-      small_cell _ c.self.invariant.stored.short,
+      small_cell _ c.self.invariant.stored.law.short,
       (
-        c.self.invariant.stored.short,
+        c.self.invariant.stored.law.short,
         (
-          λ still. subst (HeadNowhere g.row.N) (sym c.deref.ensures.value) (all_head_nowhere g.row.N a.width a.height a.depth a.layers.items a.sets.items a.cells.items a.notes c.self.invariant.stored (c.are_empty-are_still.ensures.first still)),
-          λ still. subst (HeadNowhere g.row.N) (sym c.deref-then-same_size.ensures.value) (all_head_nowhere g.row.N b.width b.height b.depth b.layers.items b.sets.items b.cells.items b.notes c.other.invariant.stored (c.are_empty-are_still.ensures.second still)),
+          λ still. subst HeadNowhere (sym c.deref.ensures.value) (all_head_nowhere g.row.N a.width a.height a.layers a.cells.items a.notes c.self.invariant.stored (c.are_empty-are_still.ensures.first still)),
+          λ still. subst HeadNowhere (sym c.deref-then-same_size.ensures.value) (all_head_nowhere g.row.N b.width b.height b.layers b.cells.items b.notes c.other.invariant.stored (c.are_empty-are_still.ensures.second still)),
         ),
       ),
     )
@@ -29,7 +29,7 @@ returns-then-same_size g c =
     let e = ap (λ (s : BareState). s.grid) c.self.view_is in
     let f = ap (λ (s : BareState). s.grid) c.other.view_is in
     let y = c.same_cells.result in
-    let cells = subst (λ (there : List (Cell g.row.N)). IsTrue y ↔ HaveSame g.row.N a.cells.items there) c.deref-then-same_size.ensures.value
-    (subst (λ (here : List (Cell g.row.N)). IsTrue y ↔ HaveSame g.row.N here c.deref-then-same_size.result.now) c.deref.ensures.value c.same_cells.ensures) in
-    decided_both g.row.N a.width a.height a.depth a.layers.items a.sets.items a.cells.items a.notes b.width b.height b.depth b.layers.items b.sets.items b.cells.items b.notes c.self.invariant.stored c.other.invariant.stored
+    let cells = subst (λ (there : List (Cell g.row.N)). IsTrue y ↔ HaveSame a.cells.items there) c.deref-then-same_size.ensures.value
+    (subst (λ (here : List (Cell g.row.N)). IsTrue y ↔ HaveSame here c.deref-then-same_size.result.now) c.deref.ensures.value c.same_cells.ensures) in
+    decided_both g.row.N a.width a.height a.layers a.cells.items a.notes b.width b.height b.layers b.cells.items b.notes c.self.invariant.stored c.other.invariant.stored
     c.args.self.now.grid c.args.other.now.grid c.same_size.result y e f c.same_size.ensures cells c.if-same_size.true

@@ -12,41 +12,20 @@ use Rattle.pz_sheet.specs.Seen.{grid_of}
 use Rattle.pz_planes.proofs.PlaneLemmas.{covers_all}
 use Rattle.pz_sheet.proofs.PlacedLemmas.{all_known, placed_all}
 use Rattle.pz_cells.proofs.ListLemmas.{small_cell}
-use Rattle.pz_sheet.proofs.SheetLemmas.{set_read, lawful_seen}
-use Rattle.pz_sheet.proofs.MapLemmas.{stored_mapped, mapped_read, sound_read, noted_read, noted_covers, all_mapped_long}
+use Rattle.pz_sheet.proofs.SheetLemmas.{lawful_seen}
+use Rattle.pz_sheet.proofs.MapLemmas.{stored_mapped, noted_read, noted_covers, all_mapped_long}
 use Rattle.pz_sheet.proofs.Sheet.fill.Goals as goal
 
 pub fill_cells-requires : goal.fill_cells-requires
 fill_cells-requires g c =
     let a = c.self.inside in
-    let e = ap (λ (s : BareState). s.grid) c.self.view_is in
-    let same = c.deref.ensures.value in
-    let long : length c.deref.result.now ≡ length a.layers.items = ap (λ (layers : List ℕ). length layers) same in
-    let low : c.args.layer < a.depth = omega (arith, c.requires.layer_in, ap (λ (grid : Grid). grid.depth) e) in (
-      small_cell _ c.self.invariant.stored.short,
+    let e = ap (λ (s : BareState). s.grid) c.self.view_is in (
+      small_cell _ c.self.invariant.stored.law.short,
       (
-        c.self.invariant.stored.short,
+        omega arith,
         (
-          omega (arith, long, c.self.invariant.stored.few),
-          (
-            omega (arith, c.self.invariant.stored.shallow),
-            (
-              omega (arith, long, c.self.invariant.stored.room),
-              (
-                c.self.invariant.stored.movement_room,
-                (
-                  low,
-                  (
-                    set_read a.layers.items _ a.sets.items c.args.layer _ _ c.self.invariant.stored.table (omega (arith, low, c.self.invariant.stored.deep)) c.index.ensures c.words.ensures.words same,
-                    (
-                      subst (λ (layers : List ℕ). IsOnLayer layers c.args.layer (Some c.args.piece)) (sym (same ∙ ap (λ (grid : Grid). grid.layers) e)) c.requires.on_layer,
-                      sound_read _ a.layers.items c.deref.result.now a.cells.items same c.self.invariant.stored.sound,
-                    ),
-                  ),
-                ),
-              ),
-            ),
-          ),
+          omega (arith, c.requires.layer_in, ap (λ (grid : Grid). grid.depth) e),
+          (subst (λ (layers : List ℕ). IsOnLayer layers c.args.layer (Some c.args.piece)) (sym (ap (λ (grid : Grid). grid.layers) e)) c.requires.on_layer, c.self.invariant.stored.sound),
         ),
       ),
     )
@@ -55,17 +34,17 @@ pub note_all-requires : goal.note_all-requires
 note_all-requires g c =
     let a = c.self.inside in
     let cells = c.fill_cells.new.cells.items in
-    let mapped = mapped_read _ a.depth a.layers.items c.deref.result.now (filled_cell c.args.layer c.args.piece) a.cells.items cells c.deref.ensures.value c.fill_cells.ensures in
-    let stored = stored_mapped _ a.width a.height a.depth a.layers.items a.sets.items (filled_cell c.args.layer c.args.piece) a.cells.items cells a.notes c.renew_notes.new.notes c.self.invariant.stored mapped
-    (noted_read _ a.width a.height _ _ c.renew_notes.new.notes cells c.deref-2.result.now c.self.invariant.stored.noted.column_count c.self.invariant.stored.noted.row_count c.deref-2.ensures.value c.renew_notes.ensures) in
+    let mapped = c.fill_cells.ensures in
+    let stored = stored_mapped _ a.width a.height a.layers (filled_cell c.args.layer c.args.piece) a.cells.items cells a.notes c.renew_notes.new.notes c.self.invariant.stored mapped
+    (noted_read _ a.width a.height _ _ c.renew_notes.new.notes cells c.deref.result.now c.self.invariant.stored.noted.column_count c.self.invariant.stored.noted.row_count c.deref.ensures.value c.renew_notes.ensures) in
     let fits = c.self.invariant.placed.fits in
-    let is = c.deref-3.ensures.value in (
-      small_cell _ c.self.invariant.stored.short,
+    let is = c.deref-2.ensures.value in (
+      small_cell _ c.self.invariant.stored.law.short,
       (
-        c.self.invariant.stored.short,
+        c.self.invariant.stored.law.short,
         (
           covers_all _ a.width a.height _ a.planes fits (ap (λ (all : List (Cell g.row.N)). length all) is ∙ stored.covers),
-          subst (λ (all : List (Cell g.row.N)). All (λ cell. AreKnown a.planes cell.objects) all) (sym is) (all_known _ a.layers.items a.width a.height a.planes cells fits stored.sound),
+          subst (λ (all : List (Cell g.row.N)). All (λ cell. AreKnown a.planes cell.objects) all) (sym is) (all_known _ a.layers a.width a.height a.planes cells fits stored.sound),
         ),
       ),
     )
@@ -75,28 +54,28 @@ invariant_of-self g c =
     let a = c.self.inside in
     let cells = c.fill_cells.new.cells.items in
     record {
-      stored = stored_mapped _ a.width a.height a.depth a.layers.items a.sets.items (filled_cell c.args.layer c.args.piece) a.cells.items cells a.notes c.renew_notes.new.notes c.self.invariant.stored
-          (mapped_read _ a.depth a.layers.items c.deref.result.now (filled_cell c.args.layer c.args.piece) a.cells.items cells c.deref.ensures.value c.fill_cells.ensures)
-          (noted_read _ a.width a.height _ _ c.renew_notes.new.notes cells c.deref-2.result.now c.self.invariant.stored.noted.column_count c.self.invariant.stored.noted.row_count c.deref-2.ensures.value c.renew_notes.ensures);
-      placed = placed_all _ (length a.layers.items) a.width a.height a.planes c.note_all.new.planes cells c.self.invariant.placed.fits c.note_all.ensures.size
-          (subst (AreAllThere g.row.N a.planes.columns.count a.planes.rows.count c.note_all.new.planes) c.deref-3.ensures.value c.note_all.ensures.there);
+      stored = stored_mapped _ a.width a.height a.layers (filled_cell c.args.layer c.args.piece) a.cells.items cells a.notes c.renew_notes.new.notes c.self.invariant.stored
+          c.fill_cells.ensures
+          (noted_read _ a.width a.height _ _ c.renew_notes.new.notes cells c.deref.result.now c.self.invariant.stored.noted.column_count c.self.invariant.stored.noted.row_count c.deref.ensures.value c.renew_notes.ensures);
+      placed = placed_all _ (length a.layers.layers) a.width a.height a.planes c.note_all.new.planes cells c.self.invariant.placed.fits c.note_all.ensures.size
+          (subst (AreAllThere g.row.N a.planes.columns.count a.planes.rows.count c.note_all.new.planes) c.deref-2.ensures.value c.note_all.ensures.there);
     }
 
 pub returns-clause-lawful : goal.returns-clause-lawful
-returns-clause-lawful g c = lawful_seen _ _ _ _ _ _ _ _ (invariant_of-self g c).stored
+returns-clause-lawful g c = lawful_seen _ _ _ _ _ _ (invariant_of-self g c).stored
 
 pub renew_notes-requires : goal.renew_notes-requires
 renew_notes-requires g c =
     let a = c.self.inside in
     let stored = c.self.invariant.stored in
     let cells = c.fill_cells.new.cells.items in
-    let mapped = mapped_read _ a.depth a.layers.items c.deref.result.now (filled_cell c.args.layer c.args.piece) a.cells.items cells c.deref.ensures.value c.fill_cells.ensures in
-    let long = all_mapped_long g.row.N a.depth a.layers.items (filled_cell c.args.layer c.args.piece) a.cells.items cells mapped in
-    (small_cell _ stored.short, (stored.short, noted_covers _ a.width a.height _ a.notes a.cells.items stored.noted (ap (λ (all : List (Cell g.row.N)). length all) c.deref-2.ensures.value ∙ (long ∙ stored.covers))))
+    let mapped = c.fill_cells.ensures in
+    let long = all_mapped_long g.row.N a.layers (filled_cell c.args.layer c.args.piece) a.cells.items cells mapped in
+    (small_cell _ stored.law.short, (stored.law.short, noted_covers _ a.width a.height _ a.notes a.cells.items stored.noted (ap (λ (all : List (Cell g.row.N)). length all) c.deref.ensures.value ∙ (long ∙ stored.covers))))
 
 pub returns-clause-filled : goal.returns-clause-filled
 returns-clause-filled g c =
     let a = c.self.inside in
-    let mapped = mapped_read _ a.depth a.layers.items c.deref.result.now (filled_cell c.args.layer c.args.piece) a.cells.items c.fill_cells.new.cells.items c.deref.ensures.value c.fill_cells.ensures in
-    ap (λ (cells : List (List (Option Piece))). record (grid_of g.row.N a.width a.height a.depth a.layers.items a.cells.items) { cells = cells }) mapped.cells
+    let mapped = c.fill_cells.ensures in
+    ap (λ (cells : List (List (Option Piece))). record (grid_of a.width a.height a.layers a.cells.items) { cells = cells }) mapped.cells
     ∙ ap (λ (s : BareState). filled c.args.layer c.args.piece s.grid) c.self.view_is

@@ -15,7 +15,7 @@ returns g c = λ hold.
     let cells = c.args.row.now.cells in
     let e = ap (λ (s : BareState). s.grid) c.self.view_is in
     let x_in : c.args.x < a.width = omega (arith, c.requires.x_in, ap (λ (grid : Grid). grid.width) e) in
-    let of_game : All (AreOf a.layers.items) cells = subst (λ (grid : Grid). All (AreOf grid.layers) cells) (sym e) c.requires.of_game in
-    let low : All (All IsLow) cells = λ k d within. low_of_game a.depth a.layers.items (get_or cells k d) c.self.invariant.stored.layered c.self.invariant.stored.few c.self.invariant.stored.shallow (of_game k d within) in
-    let noted = asked_in_column _ a.width a.height a.depth a.layers.items a.sets.items a.cells.items a.notes c.self.invariant.stored c.args.x x_in cells c.required.result.now (c.required.ensures low) of_game (subst (λ (grid : Grid). All (HoldsInColumn grid c.args.x) cells) (sym e) hold) in
+    let of_game : All (AreOf a.layers.layers) cells = subst (λ (grid : Grid). All (AreOf grid.layers) cells) (sym e) c.requires.of_game in
+    let low : All (All IsLow) cells = λ k d within. low_of_game a.layers.depth a.layers.layers (get_or cells k d) c.self.invariant.stored.law.layered c.self.invariant.stored.law.few c.self.invariant.stored.law.shallow (of_game k d within) in
+    let noted = asked_in_column _ a.width a.height a.layers a.cells.items a.notes c.self.invariant.stored c.args.x x_in cells c.required.result.now (c.required.ensures low) of_game (subst (λ (grid : Grid). All (HoldsInColumn grid c.args.x) cells) (sym e) hold) in
     c.has_subset.ensures.1 (subst (λ wanted. IsWithin wanted c.words.result.now) (sym c.words-2.ensures.words) (subst (IsWithin c.required.result.now) (sym (c.words.ensures.words ∙ c.column.ensures)) noted))

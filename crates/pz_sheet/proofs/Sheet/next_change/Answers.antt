@@ -12,24 +12,24 @@ pub next_differing-requires : goal.next_differing-requires
 next_differing-requires g c =
     let a = c.self.inside in
     let b = c.other.inside in
-    let both : AreBoth g.row.N a.width a.height a.depth a.layers.items a.cells.items b.width b.height b.depth b.layers.items b.cells.items c.args.self.now.grid c.args.other.now.grid = record {
+    let both : AreBoth g.row.N a.width a.height a.layers a.cells.items b.width b.height b.layers b.cells.items c.args.self.now.grid c.args.other.now.grid = record {
       size = c.requires.size;
       is = ap (λ (s : BareState). s.grid) c.self.view_is;
       is_other = ap (λ (s : BareState). s.grid) c.other.view_is;
       covers = c.self.invariant.stored.covers;
       covers_other = c.other.invariant.stored.covers;
-      layered = c.self.invariant.stored.layered;
+      layered = c.self.invariant.stored.law.layered;
       sound = c.self.invariant.stored.sound;
       sound_other = c.other.invariant.stored.sound;
     } in (
-      small_cell _ c.self.invariant.stored.short,
+      small_cell _ c.self.invariant.stored.law.short,
       (
-        c.self.invariant.stored.short,
+        c.self.invariant.stored.law.short,
         (
-          ap length c.deref.ensures.value ∙ (as_many _ _ _ _ _ _ _ _ _ _ _ _ _ both ∙ sym (ap length c.deref-2.ensures.value)),
+          ap length c.deref.ensures.value ∙ (as_many _ _ _ _ _ _ _ _ _ _ _ both ∙ sym (ap length c.deref-2.ensures.value)),
           (
-            λ still. subst (HeadNowhere g.row.N) (sym c.deref.ensures.value) (all_head_nowhere g.row.N a.width a.height a.depth a.layers.items a.sets.items a.cells.items a.notes c.self.invariant.stored (c.are_empty-are_still.ensures.first still)),
-            λ still. subst (HeadNowhere g.row.N) (sym c.deref-2.ensures.value) (all_head_nowhere g.row.N b.width b.height b.depth b.layers.items b.sets.items b.cells.items b.notes c.other.invariant.stored (c.are_empty-are_still.ensures.second still)),
+            λ still. subst HeadNowhere (sym c.deref.ensures.value) (all_head_nowhere g.row.N a.width a.height a.layers a.cells.items a.notes c.self.invariant.stored (c.are_empty-are_still.ensures.first still)),
+            λ still. subst HeadNowhere (sym c.deref-2.ensures.value) (all_head_nowhere g.row.N b.width b.height b.layers b.cells.items b.notes c.other.invariant.stored (c.are_empty-are_still.ensures.second still)),
           ),
         ),
       ),
@@ -39,17 +39,17 @@ pub returns : goal.returns
 returns g c =
     let a = c.self.inside in
     let b = c.other.inside in
-    let both : AreBoth g.row.N a.width a.height a.depth a.layers.items a.cells.items b.width b.height b.depth b.layers.items b.cells.items c.args.self.now.grid c.args.other.now.grid = record {
+    let both : AreBoth g.row.N a.width a.height a.layers a.cells.items b.width b.height b.layers b.cells.items c.args.self.now.grid c.args.other.now.grid = record {
       size = c.requires.size;
       is = ap (λ (s : BareState). s.grid) c.self.view_is;
       is_other = ap (λ (s : BareState). s.grid) c.other.view_is;
       covers = c.self.invariant.stored.covers;
       covers_other = c.other.invariant.stored.covers;
-      layered = c.self.invariant.stored.layered;
+      layered = c.self.invariant.stored.law.layered;
       sound = c.self.invariant.stored.sound;
       sound_other = c.other.invariant.stored.sound;
     } in
-    let next : IsNextDiffering g.row.N a.cells.items b.cells.items c.args.from c.next_differing.result =
-    subst (λ (there : List (Cell g.row.N)). IsNextDiffering g.row.N a.cells.items there c.args.from c.next_differing.result) c.deref-2.ensures.value
-    (subst (λ (here : List (Cell g.row.N)). IsNextDiffering g.row.N here c.deref-2.result.now c.args.from c.next_differing.result) c.deref.ensures.value c.next_differing.ensures) in
-    next_is _ _ _ _ _ _ _ _ _ _ _ _ _ both c.args.from c.next_differing.result next
+    let next : IsNextDiffering a.cells.items b.cells.items c.args.from c.next_differing.result =
+    subst (λ (there : List (Cell g.row.N)). IsNextDiffering a.cells.items there c.args.from c.next_differing.result) c.deref-2.ensures.value
+    (subst (λ (here : List (Cell g.row.N)). IsNextDiffering here c.deref-2.result.now c.args.from c.next_differing.result) c.deref.ensures.value c.next_differing.ensures) in
+    next_is _ _ _ _ _ _ _ _ _ _ _ both c.args.from c.next_differing.result next

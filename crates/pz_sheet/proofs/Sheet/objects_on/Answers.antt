@@ -14,7 +14,7 @@ returns g c object =
     let e = ap (λ (s : BareState). s.grid) c.self.view_is in
     let cell = c.index.result.now in
     let at = c.index-index.result in
-    let within = seen_within _ _ _ a.depth a.layers.items a.cells.items _ at e c.index-index.ensures.within in
-    let sound = sound_at _ a.layers.items a.cells.items at cell c.self.invariant.stored.sound within c.index.ensures in
-    c.object_set.ensures object ∙ (member_seen a.depth a.layers.items cell.objects cell.movement object c.self.invariant.stored.layered sound
-    ∙ ap (λ (here : List (Option Piece)). is_some (standing here object)) (seen_at _ _ _ a.depth a.layers.items a.cells.items grid at cell e within c.index.ensures ∙ ap (λ (i : ℕ). get_or grid.cells i []) c.index-index.ensures.index))
+    let within = seen_within _ _ _ a.layers a.cells.items _ at e c.index-index.ensures.within in
+    let sound = sound_at a.layers a.cells.items at cell c.self.invariant.stored.sound within c.index.ensures in
+    c.object_set.ensures object ∙ (member_seen a.layers.depth a.layers.layers cell.objects cell.movement object c.self.invariant.stored.law.layered sound
+    ∙ ap (λ (here : List (Option Piece)). is_some (standing here object)) (seen_at _ _ _ a.layers a.cells.items grid at cell e within c.index.ensures ∙ ap (λ (i : ℕ). get_or grid.cells i []) c.index-index.ensures.index))

@@ -1,12 +1,9 @@
 use Rattle.std.proofs.Common.{◌<◌, ℕ, List, [], Option, length, get_or, arith, ap, sym, ◌∙◌, subst}
-use Rattle.std.specs.List.{All}
-use Rattle.pz_game.specs.declared.limits.TheConstants.{MAX_LAYERS}
 use Rattle.pz_sets.specs.Sets.{member}
 use Rattle.pz_game.specs.Headings.{heading_in}
 use Rattle.pz_cells.specs.declared.piece.Piece.{Piece}
 use Rattle.pz_cells.specs.Standing.{standing}
-use Rattle.pz_cells.specs.Shown.{AreLawful}
-use Rattle.pz_cells.proofs.HoldLemmas.{standing_seen, standing_by}
+use Rattle.pz_cells.proofs.HoldLemmas.{standing_seen}
 use Rattle.pz_sheet.specs.Grid.{Grid, BareState}
 use Rattle.pz_cells.proofs.ListLemmas.{sound_at, small_cell}
 use Rattle.pz_sheet.proofs.SheetLemmas.{seen_within, seen_at, standing_on_map, piece_seen}
@@ -18,18 +15,9 @@ piece-requires g c =
     let e = ap (λ (s : BareState). s.grid) c.self.view_is in
     let cell = c.index-then-y-self.result.now in
     let at = c.index.result in
-    let within = seen_within _ _ _ a.depth a.layers.items a.cells.items _ at e c.index.ensures.within in
-    let sound = sound_at _ a.layers.items a.cells.items at cell c.self.invariant.stored.sound within c.index-then-y-self.ensures in
-    let same = c.deref.ensures.value in (
-      small_cell _ c.self.invariant.stored.short,
-      (
-        omega (arith, ap (λ (layers : List ℕ). length layers) same, c.self.invariant.stored.few),
-        (
-          subst (λ (layers : List ℕ). All (λ layer. layer < MAX_LAYERS) layers) (sym same) (λ k d h. omega (arith, c.self.invariant.stored.layered k d h, c.self.invariant.stored.shallow)),
-          subst (λ (layers : List ℕ). AreLawful layers cell.objects cell.movement) (sym same) sound,
-        ),
-      ),
-    )
+    let within = seen_within _ _ _ a.layers a.cells.items _ at e c.index.ensures.within in
+    let sound = sound_at a.layers a.cells.items at cell c.self.invariant.stored.sound within c.index-then-y-self.ensures in
+    (small_cell _ c.self.invariant.stored.law.short, (omega arith, sound))
 
 pub returns-then-y-self : goal.returns-then-y-self
 returns-then-y-self g c =
@@ -39,13 +27,12 @@ returns-then-y-self g c =
     let e = ap (λ (s : BareState). s.grid) c.self.view_is in
     let cell = c.index-then-y-self.result.now in
     let at = c.index.result in
-    let within = seen_within _ _ _ a.depth a.layers.items a.cells.items _ at e c.index.ensures.within in
-    let sound = sound_at _ a.layers.items a.cells.items at cell c.self.invariant.stored.sound within c.index-then-y-self.ensures in
+    let within = seen_within _ _ _ a.layers a.cells.items _ at e c.index.ensures.within in
+    let sound = sound_at a.layers a.cells.items at cell c.self.invariant.stored.sound within c.index-then-y-self.ensures in
     let wide : c.args.x < grid.width = omega (arith, c.if-x-self.true, ap (λ (g : Grid). g.width) e) in
     let high : c.args.y < grid.height = omega (arith, c.if-y-self.true, ap (λ (g : Grid). g.height) e) in
-    let here = seen_at _ _ _ a.depth a.layers.items a.cells.items grid at cell e within c.index-then-y-self.ensures ∙ ap (λ (i : ℕ). get_or grid.cells i []) c.index.ensures.index in
-    piece_seen (member cell.objects object) (heading_in cell.movement (get_or c.deref.result.now object 0)) object _ c.piece.result
+    let here = seen_at _ _ _ a.layers a.cells.items grid at cell e within c.index-then-y-self.ensures ∙ ap (λ (i : ℕ). get_or grid.cells i []) c.index.ensures.index in
+    piece_seen (member cell.objects object) (heading_in cell.movement (get_or a.layers.layers object 0)) object _ c.piece.result
     (standing_on_map grid c.args.x c.args.y object wide high ∙ (ap (λ (places : List (Option Piece)). standing places object) (sym here)
-    ∙ (standing_seen a.depth a.layers.items cell.objects cell.movement object c.self.invariant.stored.layered sound
-    ∙ ap (λ (layers : List ℕ). standing_by (member cell.objects object) (heading_in cell.movement (get_or layers object 0))) (sym c.deref.ensures.value))))
+    ∙ standing_seen a.layers.depth a.layers.layers cell.objects cell.movement object c.self.invariant.stored.law.layered sound))
     c.piece.ensures

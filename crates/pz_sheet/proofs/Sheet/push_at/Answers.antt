@@ -18,10 +18,10 @@ returns-then-is_disjoint g c =
     let e = ap (λ (s : BareState). s.grid) c.self.view_is in
     let at = c.args.index in
     let cell = c.index.result.now in
-    let within = seen_within _ _ _ a.depth a.layers.items a.cells.items _ at e c.requires.within in
-    let sound = sound_at _ a.layers.items a.cells.items at cell c.self.invariant.stored.sound within c.index.ensures in
-    let low : (object : ℕ) → member cell.objects object ≡ true → object < CAPACITY = λ object there. omega (arith, sound.of_game object there, c.self.invariant.stored.few) in
+    let within = seen_within _ _ _ a.layers a.cells.items _ at e c.requires.within in
+    let sound = sound_at a.layers a.cells.items at cell c.self.invariant.stored.sound within c.index.ensures in
+    let low : (object : ℕ) → member cell.objects object ≡ true → object < CAPACITY = λ object there. omega (arith, sound.of_game object there, c.self.invariant.stored.law.few) in
     let apart : AreApart cell.objects c.args.set.now = subst (λ (words : List ℕ). AreApart cell.objects words) c.words.ensures.words (c.is_disjoint.ensures.0 c.if-is_disjoint.true) in
-    let here = seen_at _ _ _ a.depth a.layers.items a.cells.items grid at cell e within c.index.ensures in
-    let still = absent_pushed a.depth a.layers.items cell.objects cell.movement players c.args.dir sound (each_missing players cell.objects c.args.set.now c.requires.set low apart) in
+    let here = seen_at _ _ _ a.layers a.cells.items grid at cell e within c.index.ensures in
+    let still = absent_pushed a.layers.depth a.layers.layers cell.objects cell.movement players c.args.dir sound (each_missing players cell.objects c.args.set.now c.requires.set low apart) in
     unpushed_at players c.args.dir at grid (ap (λ (places : List (Option Piece)). map (pushed_place players c.args.dir) places) (sym here) ∙ still ∙ here)

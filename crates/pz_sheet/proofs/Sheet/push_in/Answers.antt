@@ -1,6 +1,4 @@
 use Rattle.std.proofs.Common.{◌<◌, ℕ, List, length, map, arith, ap, sym, ◌∙◌, refl, subst}
-use Rattle.std.specs.List.{All}
-use Rattle.pz_cells.specs.Shown.{AreLawful, cell_of}
 use Rattle.pz_sheet.specs.Grid.{Grid, BareState}
 use Rattle.pz_sheet.specs.Pushing.{pushed_place, pushed_at}
 use Rattle.pz_planes.proofs.PlaneLemmas.{within_at, known_of}
@@ -14,21 +12,8 @@ pub push_cell-requires : goal.push_cell-requires
 push_cell-requires g c =
     let a = c.self.inside in
     let e = ap (λ (s : BareState). s.grid) c.self.view_is in
-    let cell = c.index_mut-cell.result.now in
-    let within = seen_within _ _ _ a.depth a.layers.items a.cells.items _ c.args.index e c.requires in
-    let same = c.deref.ensures.value in (
-      small_cell _ c.self.invariant.stored.short,
-      (
-        omega (arith, c.self.invariant.stored.shallow),
-        (
-          c.self.invariant.stored.movement_room,
-          (
-            subst (λ (layers : List ℕ). All (λ layer. layer < a.depth) layers) (sym same) c.self.invariant.stored.layered,
-            subst (λ (layers : List ℕ). AreLawful layers cell.objects cell.movement) (sym same) (sound_at _ a.layers.items a.cells.items c.args.index cell c.self.invariant.stored.sound within c.index_mut-cell.ensures.value),
-          ),
-        ),
-      ),
-    )
+    let within = seen_within _ _ _ a.layers a.cells.items _ c.args.index e c.requires in
+    (small_cell _ c.self.invariant.stored.law.short, (omega arith, sound_at a.layers a.cells.items c.args.index c.index_mut-cell.result.now c.self.invariant.stored.sound within c.index_mut-cell.ensures.value))
 
 pub note_at-requires : goal.note_at-requires
 note_at-requires g c =
@@ -39,15 +24,15 @@ note_at-requires g c =
     let at = c.args.index in
     let placed = c.self.invariant.placed in
     let covers = c.self.invariant.stored.covers in
-    let within = seen_within _ _ _ a.depth a.layers.items a.cells.items _ at e c.requires in
-    let sound = sound_at _ a.layers.items a.cells.items at old c.self.invariant.stored.sound within c.index_mut-cell.ensures.value in
-    let sound_new = subst (λ (layers : List ℕ). AreLawful layers new.objects new.movement) c.deref.ensures.value c.push_cell.ensures.lawful in
+    let within = seen_within _ _ _ a.layers a.cells.items _ at e c.requires in
+    let sound = sound_at a.layers a.cells.items at old c.self.invariant.stored.sound within c.index_mut-cell.ensures.value in
+    let sound_new = c.push_cell.ensures.sound in
     record {
-      short_before = omega (arith, c.word_count.ensures.objects, c.self.invariant.stored.short);
-      short = omega (arith, c.word_count-2.ensures.objects, c.self.invariant.stored.short);
+      short_before = omega (arith, c.word_count.ensures.objects, c.self.invariant.stored.law.short);
+      short = omega (arith, c.word_count-2.ensures.objects, c.self.invariant.stored.law.short);
       within = within_at _ a.width a.height at _ a.planes placed.fits within covers;
-      known_before = known_of a.layers.items a.width a.height a.planes old.objects placed.fits sound.of_game;
-      known = known_of a.layers.items a.width a.height a.planes new.objects placed.fits sound_new.of_game;
+      known_before = known_of a.layers.layers a.width a.height a.planes old.objects placed.fits sound.of_game;
+      known = known_of a.layers.layers a.width a.height a.planes new.objects placed.fits sound_new.of_game;
       there = there_at _ _ a.width a.height at a.planes a.cells.items old placed within covers c.index_mut-cell.ensures.value;
     }
 
@@ -56,11 +41,11 @@ invariant_of-self g c =
     let a = c.self.inside in
     let e = ap (λ (s : BareState). s.grid) c.self.view_is in
     let new = c.push_cell.new.cell in
-    let within = seen_within _ _ _ a.depth a.layers.items a.cells.items _ c.args.index e c.requires in
+    let within = seen_within _ _ _ a.layers a.cells.items _ c.args.index e c.requires in
     record {
-      stored = stored_set _ a.width a.height a.depth a.layers.items a.sets.items a.cells.items c.args.index new a.notes c.note_heading.new.notes c.self.invariant.stored
-          (subst (λ (layers : List ℕ). AreLawful layers new.objects new.movement) c.deref.ensures.value c.push_cell.ensures.lawful) c.note_heading.ensures.noted c.note_heading.ensures.wider;
-      placed = placed_at _ (length a.layers.items) a.width a.height a.planes c.note_at.new.self a.cells.items c.args.index new c.self.invariant.placed within c.self.invariant.stored.covers c.note_at.ensures;
+      stored = stored_set _ a.width a.height a.layers a.cells.items c.args.index new a.notes c.note_heading.new.notes c.self.invariant.stored
+          c.push_cell.ensures.sound c.note_heading.ensures.noted c.note_heading.ensures.wider;
+      placed = placed_at _ (length a.layers.layers) a.width a.height a.planes c.note_at.new.self a.cells.items c.args.index new c.self.invariant.placed within c.self.invariant.stored.covers c.note_at.ensures;
     }
 
 pub returns : goal.returns
@@ -69,10 +54,8 @@ returns g c =
     let e = ap (λ (s : BareState). s.grid) c.self.view_is in
     let old = c.index_mut-cell.result.now in
     let new = c.push_cell.new.cell in
-    let within = seen_within _ _ _ a.depth a.layers.items a.cells.items _ c.args.index e c.requires in
-    let same = c.deref.ensures.value in
-    let seen_new = ap (λ (layers : List ℕ). cell_of a.depth layers new.objects new.movement) (sym same) ∙ c.push_cell.ensures.cell ∙ ap (λ (layers : List ℕ). map (pushed_place c.args.players.now c.args.dir) (cell_of a.depth layers old.objects old.movement)) same in
-    grid_set _ a.width a.height a.depth a.layers.items a.cells.items c.args.index c.args.index old new (map (pushed_place c.args.players.now c.args.dir)) within refl c.index_mut-cell.ensures.value seen_new
+    let within = seen_within _ _ _ a.layers a.cells.items _ c.args.index e c.requires in
+    grid_set _ a.width a.height a.layers a.cells.items c.args.index c.args.index old new (map (pushed_place c.args.players.now c.args.dir)) within refl c.index_mut-cell.ensures.value c.push_cell.ensures.cell
     ∙ ap (λ (grid : Grid). pushed_at c.args.players.now c.args.dir c.args.index grid) e
 
 pub note_heading-requires : goal.note_heading-requires
@@ -80,5 +63,5 @@ note_heading-requires g c =
     let a = c.self.inside in
     let e = ap (λ (s : BareState). s.grid) c.self.view_is in
     let stored = c.self.invariant.stored in
-    let within = seen_within _ _ _ a.depth a.layers.items a.cells.items _ c.args.index e c.requires in
-    (small_cell _ stored.short, (stored.short, noted_within _ a.width a.height c.args.index a.notes a.cells.items stored.noted stored.covers within))
+    let within = seen_within _ _ _ a.layers a.cells.items _ c.args.index e c.requires in
+    (small_cell _ stored.law.short, (stored.law.short, noted_within _ a.width a.height c.args.index a.notes a.cells.items stored.noted stored.covers within))

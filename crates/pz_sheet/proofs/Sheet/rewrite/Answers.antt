@@ -1,14 +1,12 @@
 use Rattle.std.proofs.Common.{◌≡◌, ◌+◌, ◌*◌, ◌<◌, ℕ, List, length, arith, ap, sym, ◌∙◌, subst}
-use Rattle.std.specs.List.{All}
 use Rattle.pz_game.specs.Pattern.{AreOf}
-use Rattle.pz_cells.specs.Shown.{AreLawful, cell_of}
 use Rattle.pz_cells.specs.Rewriting.{rewritten_cell}
 use Rattle.pz_sheet.specs.Grid.{Grid, BareState}
 use Rattle.pz_sheet.specs.Rewriting.{with_rewritten}
 use Rattle.pz_planes.proofs.PlaneLemmas.{inside_of, known_of}
 use Rattle.pz_sheet.proofs.PlacedLemmas.{there_of, placed_set}
 use Rattle.pz_cells.proofs.ListLemmas.{sound_at, small_cell}
-use Rattle.pz_sheet.proofs.SheetLemmas.{IsTable, seen_within, stored_set, grid_set}
+use Rattle.pz_sheet.proofs.SheetLemmas.{seen_within, stored_set, grid_set}
 use Rattle.pz_sheet.proofs.MapLemmas.{noted_within}
 use Rattle.pz_sheet.proofs.Sheet.rewrite.Goals as goal
 
@@ -16,41 +14,16 @@ pub rewrite-changed-requires : goal.rewrite-changed-requires
 rewrite-changed-requires g c =
     let a = c.self.inside in
     let e = ap (λ (s : BareState). s.grid) c.self.view_is in
-    let cell = c.index_mut-cell.result.now in
     let at = c.index-index.result in
-    let within = seen_within _ _ _ a.depth a.layers.items a.cells.items _ at e c.index-index.ensures.within in
-    let same = c.deref.ensures.value in
-    let long : length c.deref.result.now ≡ length a.layers.items = ap (λ (layers : List ℕ). length layers) same in
-    let sets : c.deref-2.result.now ≡ a.sets.items = c.deref-2.ensures.value in (
-      small_cell _ c.self.invariant.stored.short,
+    let within = seen_within _ _ _ a.layers a.cells.items _ at e c.index-index.ensures.within in (
+      small_cell _ c.self.invariant.stored.law.short,
       (
-        c.self.invariant.stored.short,
+        omega arith,
         (
-          omega (arith, long, c.self.invariant.stored.few),
+          subst (λ (grid : Grid). AreOf grid.layers c.args.left.now) (sym e) c.requires.left_of,
           (
-            omega (arith, c.self.invariant.stored.shallow),
-            (
-              omega (arith, long, c.self.invariant.stored.room),
-              (
-                c.self.invariant.stored.movement_room,
-                (
-                  subst (λ (layers : List ℕ). All (λ layer. layer < a.depth) layers) (sym same) c.self.invariant.stored.layered,
-                  (
-                    ap (λ (table : List (List ℕ)). length table) sets ∙ c.self.invariant.stored.deep,
-                    (
-                      subst (λ (layers : List ℕ). IsTable layers c.deref-2.result.now) (sym same) (subst (IsTable a.layers.items) (sym sets) c.self.invariant.stored.table),
-                      (
-                        subst (λ (layers : List ℕ). AreOf layers c.args.left.now) (sym (same ∙ ap (λ (grid : Grid). grid.layers) e)) c.requires.left_of,
-                        (
-                          subst (λ (layers : List ℕ). AreOf layers c.args.right.now) (sym (same ∙ ap (λ (grid : Grid). grid.layers) e)) c.requires.right_of,
-                          subst (λ (layers : List ℕ). AreLawful layers cell.objects cell.movement) (sym same) (sound_at _ a.layers.items a.cells.items at cell c.self.invariant.stored.sound within c.index_mut-cell.ensures.value),
-                        ),
-                      ),
-                    ),
-                  ),
-                ),
-              ),
-            ),
+            subst (λ (grid : Grid). AreOf grid.layers c.args.right.now) (sym e) c.requires.right_of,
+            sound_at a.layers a.cells.items at c.index_mut-cell.result.now c.self.invariant.stored.sound within c.index_mut-cell.ensures.value,
           ),
         ),
       ),
@@ -64,18 +37,18 @@ note-requires g c =
     let new = c.rewrite-changed.new.self in
     let at = c.index-index.result in
     let placed = c.self.invariant.placed in
-    let within = seen_within _ _ _ a.depth a.layers.items a.cells.items _ at e c.index-index.ensures.within in
+    let within = seen_within _ _ _ a.layers a.cells.items _ at e c.index-index.ensures.within in
     let x_in : c.args.x < a.width = omega (arith, c.requires.x_in, ap (λ (grid : Grid). grid.width) e) in
     let y_in : c.args.y < a.height = omega (arith, c.requires.y_in, ap (λ (grid : Grid). grid.height) e) in
     let number : at ≡ c.args.y * a.width + c.args.x = c.index-index.ensures.index ∙ sym (ap (λ (grid : Grid). c.args.y * grid.width + c.args.x) e) in
-    let sound = sound_at _ a.layers.items a.cells.items at old c.self.invariant.stored.sound within c.index_mut-cell.ensures.value in
-    let sound_new = subst (λ (layers : List ℕ). AreLawful layers new.objects new.movement) c.deref.ensures.value c.rewrite-changed.ensures.lawful in
+    let sound = sound_at a.layers a.cells.items at old c.self.invariant.stored.sound within c.index_mut-cell.ensures.value in
+    let sound_new = c.rewrite-changed.ensures.sound in
     record {
-      short_before = omega (arith, c.word_count.ensures.objects, c.self.invariant.stored.short);
-      short = omega (arith, c.word_count-2.ensures.objects, c.self.invariant.stored.short);
+      short_before = omega (arith, c.word_count.ensures.objects, c.self.invariant.stored.law.short);
+      short = omega (arith, c.word_count-2.ensures.objects, c.self.invariant.stored.law.short);
       inside = inside_of _ a.width a.height c.args.x c.args.y a.planes placed.fits x_in y_in;
-      known_before = known_of a.layers.items a.width a.height a.planes old.objects placed.fits sound.of_game;
-      known = known_of a.layers.items a.width a.height a.planes new.objects placed.fits sound_new.of_game;
+      known_before = known_of a.layers.layers a.width a.height a.planes old.objects placed.fits sound.of_game;
+      known = known_of a.layers.layers a.width a.height a.planes new.objects placed.fits sound_new.of_game;
       there = there_of _ _ a.width a.height a.planes a.cells.items at c.args.x c.args.y old placed number x_in y_in c.index_mut-cell.ensures.value;
     }
 
@@ -85,14 +58,14 @@ invariant_of-self g c =
     let e = ap (λ (s : BareState). s.grid) c.self.view_is in
     let new = c.rewrite-changed.new.self in
     let at = c.index-index.result in
-    let within = seen_within _ _ _ a.depth a.layers.items a.cells.items _ at e c.index-index.ensures.within in
+    let within = seen_within _ _ _ a.layers a.cells.items _ at e c.index-index.ensures.within in
     let x_in : c.args.x < a.width = omega (arith, c.requires.x_in, ap (λ (grid : Grid). grid.width) e) in
     let y_in : c.args.y < a.height = omega (arith, c.requires.y_in, ap (λ (grid : Grid). grid.height) e) in
     let number : at ≡ c.args.y * a.width + c.args.x = c.index-index.ensures.index ∙ sym (ap (λ (grid : Grid). c.args.y * grid.width + c.args.x) e) in
     record {
-      stored = stored_set _ a.width a.height a.depth a.layers.items a.sets.items a.cells.items at new a.notes c.note_heading.new.notes c.self.invariant.stored
-          (subst (λ (layers : List ℕ). AreLawful layers new.objects new.movement) c.deref.ensures.value c.rewrite-changed.ensures.lawful) c.note_heading.ensures.noted c.note_heading.ensures.wider;
-      placed = placed_set _ (length a.layers.items) a.width a.height a.planes c.note.new.self a.cells.items at c.args.x c.args.y new c.self.invariant.placed number x_in y_in within c.note.ensures;
+      stored = stored_set _ a.width a.height a.layers a.cells.items at new a.notes c.note_heading.new.notes c.self.invariant.stored
+          c.rewrite-changed.ensures.sound c.note_heading.ensures.noted c.note_heading.ensures.wider;
+      placed = placed_set _ (length a.layers.layers) a.width a.height a.planes c.note.new.self a.cells.items at c.args.x c.args.y new c.self.invariant.placed number x_in y_in within c.note.ensures;
     }
 
 pub returns-clause-level : goal.returns-clause-level
@@ -104,10 +77,10 @@ returns-clause-level g c =
     let new = c.rewrite-changed.new.self in
     let left = c.args.left.now in
     let right = c.args.right.now in
-    let within = seen_within _ _ _ a.depth a.layers.items a.cells.items _ at e c.index-index.ensures.within in
+    let within = seen_within _ _ _ a.layers a.cells.items _ at e c.index-index.ensures.within in
     let number : at ≡ c.args.y * a.width + c.args.x = c.index-index.ensures.index ∙ sym (ap (λ (grid : Grid). c.args.y * grid.width + c.args.x) e) in
-    grid_set _ a.width a.height a.depth a.layers.items a.cells.items at (c.args.y * a.width + c.args.x) old new (rewritten_cell left right) within number c.index_mut-cell.ensures.value
-    (subst (λ (layers : List ℕ). cell_of a.depth layers new.objects new.movement ≡ rewritten_cell left right (cell_of a.depth layers old.objects old.movement)) c.deref.ensures.value c.rewrite-changed.ensures.cell)
+    grid_set _ a.width a.height a.layers a.cells.items at (c.args.y * a.width + c.args.x) old new (rewritten_cell left right) within number c.index_mut-cell.ensures.value
+    c.rewrite-changed.ensures.cell
     ∙ ap (λ (grid : Grid). with_rewritten grid c.args.x c.args.y left right) e
 
 pub note_heading-requires : goal.note_heading-requires
@@ -115,5 +88,5 @@ note_heading-requires g c =
     let a = c.self.inside in
     let e = ap (λ (s : BareState). s.grid) c.self.view_is in
     let stored = c.self.invariant.stored in
-    let within = seen_within _ _ _ a.depth a.layers.items a.cells.items _ c.index-index.result e c.index-index.ensures.within in
-    (small_cell _ stored.short, (stored.short, noted_within _ a.width a.height c.index-index.result a.notes a.cells.items stored.noted stored.covers within))
+    let within = seen_within _ _ _ a.layers a.cells.items _ c.index-index.result e c.index-index.ensures.within in
+    (small_cell _ stored.law.short, (stored.law.short, noted_within _ a.width a.height c.index-index.result a.notes a.cells.items stored.noted stored.covers within))

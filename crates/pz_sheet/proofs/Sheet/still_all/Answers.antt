@@ -13,9 +13,9 @@ returns-then-is_empty-clause-stilled g c =
     let a = c.self.inside in
     let e = ap (λ (s : BareState). s.grid) c.self.view_is in
     let none : (number : ℕ) → member a.notes.whole number ≡ false = λ number. ap (λ words. member words number) (sym c.whole.ensures) ∙ c.is_empty.ensures c.if-is_empty.true number in
-    let still = ap (λ (cells : List (List (Option Piece))). record (grid_of g.row.N a.width a.height a.depth a.layers.items a.cells.items) { cells = cells })
-    (all_are_still g.row.N a.width a.height a.depth a.layers.items a.sets.items a.cells.items a.notes c.self.invariant.stored none) in
+    let still = ap (λ (cells : List (List (Option Piece))). record (grid_of a.width a.height a.layers a.cells.items) { cells = cells })
+    (all_are_still g.row.N a.width a.height a.layers a.cells.items a.notes c.self.invariant.stored none) in
     sym e ∙ still ∙ ap stilled e
 
 pub returns-then-is_empty-clause-lawful : goal.returns-then-is_empty-clause-lawful
-returns-then-is_empty-clause-lawful g c = subst IsLawful (ap (λ (s : BareState). s.grid) c.self.view_is) (lawful_seen _ _ _ _ _ _ _ _ c.self.invariant.stored)
+returns-then-is_empty-clause-lawful g c = subst IsLawful (ap (λ (s : BareState). s.grid) c.self.view_is) (lawful_seen _ _ _ _ _ _ c.self.invariant.stored)

@@ -1,24 +1,23 @@
-use Rattle.std.proofs.Common.{length, map, ◌∙◌}
+use Rattle.std.proofs.Common.{length, map, ◌∙◌, arith}
 use Rattle.pz_cells.specs.Cell.{still_place}
 use Rattle.pz_sheet.proofs.PlacedLemmas.{placed_same}
 use Rattle.pz_cells.proofs.ListLemmas.{small_cell}
 use Rattle.pz_sheet.proofs.SheetLemmas.{lawful_seen}
-use Rattle.pz_sheet.proofs.MapLemmas.{stored_mapped, mapped_read, sound_read}
+use Rattle.pz_sheet.proofs.MapLemmas.{stored_mapped}
 use Rattle.pz_sheet.proofs.StillLemmas.{noted_nowhere}
 use Rattle.pz_sheet.proofs.Sheet.still_each.Goals as goal
 
 pub still_cells-requires : goal.still_cells-requires
-still_cells-requires g c = (small_cell _ c.self.invariant.stored.short, (c.self.invariant.stored.short, sound_read _ c.self.inside.layers.items c.deref.result.now c.self.inside.cells.items c.deref.ensures.value c.self.invariant.stored.sound))
+still_cells-requires g c = (small_cell _ c.self.invariant.stored.law.short, (omega arith, c.self.invariant.stored.sound))
 
 pub invariant_of-self : goal.invariant_of-self
 invariant_of-self g c =
     let a = c.self.inside in
     record {
-      stored = stored_mapped _ a.width a.height a.depth a.layers.items a.sets.items (map still_place) a.cells.items c.still_cells.new.cells.items a.notes c.clear.new.self c.self.invariant.stored
-          (mapped_read _ a.depth a.layers.items c.deref.result.now (map still_place) a.cells.items c.still_cells.new.cells.items c.deref.ensures.value c.still_cells.ensures.mapped)
+      stored = stored_mapped _ a.width a.height a.layers (map still_place) a.cells.items c.still_cells.new.cells.items a.notes c.clear.new.self c.self.invariant.stored c.still_cells.ensures.mapped
           (noted_nowhere _ a.width a.height c.clear.new.self c.still_cells.new.cells.items (c.clear.ensures.rows ∙ c.self.invariant.stored.noted.row_count) (c.clear.ensures.columns ∙ c.self.invariant.stored.noted.column_count) c.still_cells.ensures.nowhere);
-      placed = placed_same _ (length a.layers.items) a.width a.height a.planes a.cells.items c.still_cells.new.cells.items c.still_cells.ensures.objects c.self.invariant.placed;
+      placed = placed_same _ (length a.layers.layers) a.width a.height a.planes a.cells.items c.still_cells.new.cells.items c.still_cells.ensures.objects c.self.invariant.placed;
     }
 
 pub returns-clause-lawful : goal.returns-clause-lawful
-returns-clause-lawful g c = lawful_seen _ _ _ _ _ _ _ _ (invariant_of-self g c).stored
+returns-clause-lawful g c = lawful_seen _ _ _ _ _ _ (invariant_of-self g c).stored

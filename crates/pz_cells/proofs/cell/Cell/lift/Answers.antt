@@ -5,10 +5,10 @@ use Rattle.pz_cells.proofs.cell.Cell.lift.Goals as goal
 
 pub returns-in-Some : goal.returns-in-Some
 returns-in-Some g c =
-    let layers = c.args.layers.now in
+    let layers = c.args.layers.now.layers in
     let old = c.args.self.now in
     let piece = c.in-Some.piece in
     let e : place_of layers old.objects old.movement c.args.layer ≡ Some piece = sym c.requires.here ∙ c.in-Some.is in
-    let there = object_there layers old.objects old.movement c.args.layer piece c.requires.lawful e in
-    changes_lifted layers old.objects old.movement c.remove.new.words c.clear.new.set c.args.layer piece.object c.requires.lawful there.0 there.1
-    c.remove.ensures c.clear.ensures.heads (c.clear.ensures.proper c.requires.lawful.proper)
+    let there = object_there layers old.objects old.movement c.args.layer piece c.requires.sound e in
+    changes_lifted layers old.objects old.movement c.remove.new.words c.clear.new.set c.args.layer piece.object c.requires.sound there.0 there.1
+    c.remove.ensures c.clear.ensures.heads (c.clear.ensures.proper c.requires.sound.proper)

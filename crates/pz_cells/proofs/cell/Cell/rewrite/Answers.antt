@@ -14,30 +14,30 @@ use Rattle.pz_cells.proofs.cell.Cell.rewrite.Goals as goal
 
 pub replace-moved-requires : goal.replace-moved-requires
 replace-moved-requires g c number here =
-    let layers = c.args.layers.now in
+    let layers = c.args.layers.now.layers in
     let right = c.args.right.now in
-    let m = c.masks-is.ensures (low_of_game c.args.depth layers right c.requires.layered c.requires.few c.requires.shallow c.requires.right_of) in
-    let within = headed_within layers c.args.depth (length c.args.self.now.movement) right c.masks-is.result.now c.requires.right_of m c.requires.layered (subst (λ (n : ℕ). c.args.depth ≤ 25 * n) (sym c.word_count.ensures.movement) c.requires.movement_room) number (ap (λ (ws : List ℕ). member ws number) (sym c.words-2.ensures.words) ∙ here) in
+    let m = c.masks-is.ensures (low_of_game c.args.layers.now.depth layers right c.objects_on.ensures.law.layered c.objects_on.ensures.law.few c.objects_on.ensures.law.shallow c.requires.right_of) in
+    let within = headed_within layers c.args.layers.now.depth (length c.args.self.now.movement) right c.masks-is.result.now c.requires.right_of m c.objects_on.ensures.law.layered (subst (λ (n : ℕ). c.args.layers.now.depth ≤ 25 * n) (sym c.word_count.ensures.movement) c.objects_on.ensures.law.movement_room) number (ap (λ (ws : List ℕ). member ws number) (sym c.words-2.ensures.words) ∙ here) in
     within
 
 pub replace-replaced-requires : goal.replace-replaced-requires
 replace-replaced-requires g c object here =
-    let layers = c.args.layers.now in
+    let layers = c.args.layers.now.layers in
     let right = c.args.right.now in
-    let m = c.masks-is.ensures (low_of_game c.args.depth layers right c.requires.layered c.requires.few c.requires.shallow c.requires.right_of) in
+    let m = c.masks-is.ensures (low_of_game c.args.layers.now.depth layers right c.objects_on.ensures.law.layered c.objects_on.ensures.law.few c.objects_on.ensures.law.shallow c.requires.right_of) in
     let within = placed_within layers right c.masks-is.result.now c.requires.right_of m object (ap (λ (ws : List ℕ). member ws object) (sym c.words-4.ensures.words) ∙ here) in
-    omega (arith, within, c.requires.room, c.word_count.ensures.objects)
+    omega (arith, within, c.objects_on.ensures.law.room, c.word_count.ensures.objects)
 
 masks_of : (g : Over) (c : After-either g) → AreMasksOf c.args.left.now c.masks-was.result.now × AreMasksOf c.args.right.now c.masks-is.result.now
 masks_of g c =
-    let layers = c.args.layers.now in (
-      c.masks-was.ensures (low_of_game c.args.depth layers c.args.left.now c.requires.layered c.requires.few c.requires.shallow c.requires.left_of),
-      c.masks-is.ensures (low_of_game c.args.depth layers c.args.right.now c.requires.layered c.requires.few c.requires.shallow c.requires.right_of),
+    let layers = c.args.layers.now.layers in (
+      c.masks-was.ensures (low_of_game c.args.layers.now.depth layers c.args.left.now c.objects_on.ensures.law.layered c.objects_on.ensures.law.few c.objects_on.ensures.law.shallow c.requires.left_of),
+      c.masks-is.ensures (low_of_game c.args.layers.now.depth layers c.args.right.now c.objects_on.ensures.law.layered c.objects_on.ensures.law.few c.objects_on.ensures.law.shallow c.requires.right_of),
     )
 
-are_rewritten : (g : Over) (c : After-either g) → AreRewritten c.args.layers.now c.masks-was.result.now c.masks-is.result.now c.args.self.now.objects c.args.self.now.movement c.replace-replaced.new.words c.replace-moved.new.words c.end_leaving.new.movement
+are_rewritten : (g : Over) (c : After-either g) → AreRewritten c.args.layers.now.layers c.masks-was.result.now c.masks-is.result.now c.args.self.now.objects c.args.self.now.movement c.replace-replaced.new.words c.replace-moved.new.words c.end_leaving.new.movement
 are_rewritten g c =
-    let layers = c.args.layers.now in
+    let layers = c.args.layers.now.layers in
     let objects = c.args.self.now.objects in
     let movement = c.args.self.now.movement in
     let l : Masks = c.masks-was.result.now in
@@ -48,9 +48,9 @@ are_rewritten g c =
     ∙ ap (λ (ws : List ℕ). (member objects o && not (member gone o)) || member ws o) c.words-4.ensures.words in
     record {
       is_new = λ o low. members o
-          ∙ ap (λ (b : Bool). (member objects o && not b) || member r.placed o) (c.union-gone.ensures o ∙ ap (λ (b : Bool). b || member c.union-removed.result o) (c.objects_on.ensures o low) ∙ ap (λ (b : Bool). member r.layers (get_or layers o 0) || b) (c.union-removed.ensures o));
+          ∙ ap (λ (b : Bool). (member objects o && not b) || member r.placed o) (c.union-gone.ensures o ∙ ap (λ (b : Bool). b || member c.union-removed.result o) (c.objects_on.ensures.objects o low) ∙ ap (λ (b : Bool). member r.layers (get_or layers o 0) || b) (c.union-removed.ensures o));
       of_game = λ o here. elim (or_cases (member objects o && not (member gone o)) (member r.placed o) (sym (members o) ∙ here)) [
-        | inl old ↦ c.requires.lawful.of_game o (and_parts (member objects o) (not (member gone o)) old).0
+        | inl old ↦ c.requires.sound.of_game o (and_parts (member objects o) (not (member gone o)) old).0
         | inr new ↦ placed_within layers c.args.right.now r c.requires.right_of (masks_of g c).1 o new
       ];
       is_mid = λ n. c.replace-moved.ensures.members n
@@ -61,24 +61,24 @@ are_rewritten g c =
       others = λ layer dir none. c.end_leaving.ensures.others layer dir (λ o g on. none o (record { here = g.here; removed = sym (c.union-removed.ensures o) ∙ g.removed; free = g.free }) on);
     }
 
-rewrites : (g : Over) (c : After-either g) → Rewrites c.args.layers.now c.args.left.now c.args.right.now (member c.args.self.now.objects) (heads c.args.self.now.movement) (member c.replace-replaced.new.words) (heads c.end_leaving.new.movement)
-rewrites g c = rewrites_from c.args.layers.now c.args.left.now c.args.right.now c.masks-was.result.now c.masks-is.result.now c.args.self.now.objects c.args.self.now.movement c.replace-replaced.new.words c.replace-moved.new.words c.end_leaving.new.movement
-    c.requires.right_of (masks_of g c).0 (masks_of g c).1 c.requires.lawful.of_game (are_rewritten g c)
+rewrites : (g : Over) (c : After-either g) → Rewrites c.args.layers.now.layers c.args.left.now c.args.right.now (member c.args.self.now.objects) (heads c.args.self.now.movement) (member c.replace-replaced.new.words) (heads c.end_leaving.new.movement)
+rewrites g c = rewrites_from c.args.layers.now.layers c.args.left.now c.args.right.now c.masks-was.result.now c.masks-is.result.now c.args.self.now.objects c.args.self.now.movement c.replace-replaced.new.words c.replace-moved.new.words c.end_leaving.new.movement
+    c.requires.right_of (masks_of g c).0 (masks_of g c).1 c.requires.sound.of_game (are_rewritten g c)
 
 proper_mid : (g : Over) (c : After-either g) → IsProper c.replace-moved.new.words
-proper_mid g c = mid_proper c.args.layers.now c.args.left.now c.args.right.now c.masks-was.result.now c.masks-is.result.now c.args.self.now.objects c.args.self.now.movement c.replace-replaced.new.words c.replace-moved.new.words c.end_leaving.new.movement
-    (masks_of g c).1 c.requires.lawful.proper (are_rewritten g c)
+proper_mid g c = mid_proper c.args.layers.now.layers c.args.left.now c.args.right.now c.masks-was.result.now c.masks-is.result.now c.args.self.now.objects c.args.self.now.movement c.replace-replaced.new.words c.replace-moved.new.words c.end_leaving.new.movement
+    (masks_of g c).1 c.requires.sound.proper (are_rewritten g c)
 
-pub returns-clause-lawful : goal.returns-clause-lawful
-returns-clause-lawful g c = lawful_rewritten c.args.layers.now c.args.left.now c.args.right.now c.args.self.now.objects c.args.self.now.movement c.replace-replaced.new.words c.end_leaving.new.movement
-    c.requires.right_of c.requires.lawful (rewrites g c) (c.end_leaving.ensures.proper (proper_mid g c))
+pub returns-clause-sound : goal.returns-clause-sound
+returns-clause-sound g c = lawful_rewritten c.args.layers.now.layers c.args.left.now c.args.right.now c.args.self.now.objects c.args.self.now.movement c.replace-replaced.new.words c.end_leaving.new.movement
+    c.requires.right_of c.requires.sound (rewrites g c) (c.end_leaving.ensures.proper (proper_mid g c))
 
 pub returns-clause-cell : goal.returns-clause-cell
-returns-clause-cell g c = cell_rewritten c.args.depth c.args.layers.now c.args.left.now c.args.right.now c.args.self.now.objects c.args.self.now.movement c.replace-replaced.new.words c.end_leaving.new.movement
-    c.requires.right_of c.requires.lawful (rewrites g c)
+returns-clause-cell g c = cell_rewritten c.args.layers.now.depth c.args.layers.now.layers c.args.left.now c.args.right.now c.args.self.now.objects c.args.self.now.movement c.replace-replaced.new.words c.end_leaving.new.movement
+    c.requires.right_of c.requires.sound (rewrites g c)
 
 pub returns-clause-changed : goal.returns-clause-changed
 returns-clause-changed g c =
-    c.either.ensures ∙ changed_by c.args.depth c.args.layers.now c.args.right.now c.masks-was.result.now c.masks-is.result.now c.args.self.now.objects c.args.self.now.movement c.replace-replaced.new.words c.replace-moved.new.words c.end_leaving.new.movement
-    c.replace-moved.result c.replace-replaced.result (rewritten_cell c.args.left.now c.args.right.now (cell_of c.args.depth c.args.layers.now c.args.self.now.objects c.args.self.now.movement))
-    c.requires.right_of (masks_of g c).1 c.requires.layered c.requires.lawful (returns-clause-lawful g c) (are_rewritten g c) (proper_mid g c) c.replace-moved.ensures.changed c.replace-replaced.ensures.changed (returns-clause-cell g c)
+    c.either.ensures ∙ changed_by c.args.layers.now.depth c.args.layers.now.layers c.args.right.now c.masks-was.result.now c.masks-is.result.now c.args.self.now.objects c.args.self.now.movement c.replace-replaced.new.words c.replace-moved.new.words c.end_leaving.new.movement
+    c.replace-moved.result c.replace-replaced.result (rewritten_cell c.args.left.now c.args.right.now (cell_of c.args.layers.now.depth c.args.layers.now.layers c.args.self.now.objects c.args.self.now.movement))
+    c.requires.right_of (masks_of g c).1 c.objects_on.ensures.law.layered c.requires.sound (returns-clause-sound g c) (are_rewritten g c) (proper_mid g c) c.replace-moved.ensures.changed c.replace-replaced.ensures.changed (returns-clause-cell g c)

@@ -1,0 +1,9 @@
+use Rattle.std.proofs.Common.{◌≡◌, ◌<◌, ◌≤◌, ℕ, false, nat_eq, get_or}
+use Rattle.pz_sets.specs.Sets.{member}
+use Rattle.pz_cells.proofs.layers.layer_set.Given as goal
+
+abbrev pub invariant-loop-object : goal.invariant-loop-object
+invariant-loop-object l = record {
+  below : (other : ℕ) → other < l.object → member l.set other ≡ nat_eq (get_or l.layers other 0) l.layer;
+  above : (other : ℕ) → l.object ≤ other → member l.set other ≡ false;
+}

@@ -1,0 +1,174 @@
+//! The collision layers of a game, as the cells of its levels need them.
+
+ghost use Rattle.std.specs.Prelude.{◌≡◌, ◌↔◌, IsTrue, ◌≤◌, ◌<◌, ◌*◌, ◌&&◌, ◌||◌, ℕ, List, IfOk, length, nat_eq, slice_index, slice_index_or, All};
+ghost use Rattle.pz_game.specs.declared.limits.TheConstants.{MAX_OBJECTS};
+ghost use Rattle.pz_sets.specs.Sets.{member};
+ghost use Rattle.pz_cells.specs.Layering.{IsLayering, layering_of};
+ghost use Rattle.pz_cells.specs.Shown.{IsSetOf};
+
+use pz_game::game::Game;
+use pz_sets::set::NumberSet;
+use std::alloc::{AllocError, Global};
+use std::marker::Model;
+use std::sync::Arc;
+
+/// How many layers there are, the layer of each object, and the objects of each layer.
+#[derive(Drop)]
+struct Table {
+    depth: usize,
+    layers: Vec<usize>,
+    sets: Vec<NumberSet>,
+}
+
+/// The collision layers of a game for whose cells `N` words are enough. Levels share them.
+#[derive(Drop)]
+pub struct Layers<const N: usize> {
+    table: Arc<Table>,
+}
+
+impl<const N: usize> Model for Layers<N> {
+    ghost use Rattle.std.specs.Arc.{arc_value};
+    ghost use Rattle.pz_cells.specs.Layering.{Layering, AreLayers};
+
+    ghost Value = { Layering };
+
+    ghost view = { λ a. record { depth = (arc_value a.table).depth; layers = (arc_value a.table).layers.items } };
+
+    ghost invariant = { λ a. AreLayers N (record { depth = (arc_value a.table).depth; layers = (arc_value a.table).layers.items }) (arc_value a.table).sets.items };
+}
+
+impl<const N: usize> Layers<N> {
+    /// The layers of a game for which there is room. Err: memory was refused.
+    pub fn of_game(alloc: Global, game: &Game) -> Result<Layers<N>, AllocError>
+        requires short { N ≤ 4 }
+        requires room { length game.now.layers ≤ 128 * N }
+        requires movement_room { game.now.depth ≤ 25 * N }
+        ensures { IfOk result (λ layers. layers ≡ layering_of game.now) }
+    {
+        let depth = game.depth();
+        let layers = Vec::from_slice(alloc, game.layers())?;
+        let sets = layer_sets(alloc, depth, &layers)?;
+        let table = Arc::new(
+            alloc,
+            Table {
+                depth,
+                layers,
+                sets,
+            },
+        )?;
+        Ok(Layers { table })
+    }
+
+    /// The same layers once more.
+    pub fn share(&self) -> Result<Layers<N>, AllocError>
+        ensures { IfOk result (λ layers. layers ≡ self.now) }
+    {
+        let table = Arc::try_clone(&self.table)?;
+        Ok(Layers { table })
+    }
+
+    /// How many layers there are.
+    pub fn depth(&self) -> usize
+        ensures depth { result ≡ self.now.depth }
+        ensures law { IsLayering N self.now }
+    {
+        self.table.depth
+    }
+
+    /// How many objects the game has.
+    pub fn object_count(&self) -> usize
+        ensures count { result ≡ length self.now.layers }
+        ensures law { IsLayering N self.now }
+    {
+        self.table.layers.len()
+    }
+
+    /// The layer of an object.
+    pub fn layer_of(&self, object: usize) -> usize
+        requires { object < length self.now.layers }
+        ensures layer { result ≡ slice_index self.now.layers object }
+        ensures low { result < self.now.depth }
+        ensures law { IsLayering N self.now }
+    {
+        self.table.layers[object]
+    }
+
+    /// The objects of a layer.
+    pub fn objects_of(&self, layer: usize) -> &[u128]
+        requires { layer < self.now.depth }
+        ensures set { IsSetOf self.now.layers result.now layer }
+        ensures law { IsLayering N self.now }
+    {
+        self.table.sets[layer].words()
+    }
+
+    /// The objects of some layers.
+    pub fn objects_on(&self, chosen: &NumberSet) -> NumberSet
+        ensures objects { (object : ℕ) → object < length self.now.layers → member result object ≡ member chosen.now (slice_index self.now.layers object) }
+        ensures law { IsLayering N self.now }
+    {
+        union_of(&self.table.layers, &self.table.sets, chosen)
+    }
+
+    /// Whether both are the same.
+    pub fn equals(&self, other: &Layers<N>) -> bool
+        ensures { IsTrue result ↔ ((self.now.depth ≡ other.now.depth) × (self.now.layers ≡ other.now.layers)) }
+    {
+        self.table.depth == other.table.depth && self.table.layers == other.table.layers
+    }
+}
+
+fn insert_if(set: &mut NumberSet, number: usize, test: bool)
+    requires { number < MAX_OBJECTS }
+    ensures { (other : ℕ) → member set.new other ≡ ((test && nat_eq other number) || member set.old other) }
+{
+    if test {
+        set.insert(number);
+    }
+}
+
+/// The objects of a layer.
+fn layer_set(layers: &[usize], layer: usize) -> NumberSet
+    requires { length layers.now ≤ MAX_OBJECTS }
+    ensures { IsSetOf layers.now result layer }
+{
+    let mut set = NumberSet::empty();
+    for object in 0..layers.len() {
+        insert_if(&mut set, object, layers[object] == layer);
+    }
+    set
+}
+
+/// The objects of each layer. Err: memory was refused.
+fn layer_sets(alloc: Global, depth: usize, layers: &[usize]) -> Result<Vec<NumberSet>, AllocError>
+    requires { length layers.now ≤ MAX_OBJECTS }
+    ensures deep { IfOk result (λ sets. length sets.items ≡ depth) }
+    ensures table { IfOk result (λ sets. (layer : ℕ) (other : List ℕ) → layer < length sets.items → IsSetOf layers.now (slice_index_or sets.items layer other) layer) }
+{
+    let mut sets = Vec::new(alloc);
+    for layer in 0..depth {
+        sets.push(layer_set(layers, layer))?;
+    }
+    Ok(sets)
+}
+
+/// The numbers of a set, with those of another if a test holds.
+fn union_if(set: &NumberSet, test: bool, more: &NumberSet) -> NumberSet
+    ensures { (number : ℕ) → member result number ≡ (member set.now number || (test && member more.now number)) }
+{
+    if test { set.union(more) } else { *set }
+}
+
+/// The objects of some layers, of which the sets of their objects are given.
+fn union_of(layers: &[usize], sets: &[NumberSet], chosen: &NumberSet) -> NumberSet
+    requires table { (layer : ℕ) (other : List ℕ) → layer < length sets.now → IsSetOf layers.now (slice_index_or sets.now layer other) layer }
+    requires layered { All (λ layer. layer < length sets.now) layers.now }
+    ensures { (object : ℕ) → object < length layers.now → member result object ≡ member chosen.now (slice_index layers.now object) }
+{
+    let _ = layers;
+    let mut objects = NumberSet::empty();
+    for layer in 0..sets.len() {
+        objects = union_if(&objects, chosen.contains(layer), &sets[layer]);
+    }
+    objects
+}

@@ -1,6 +1,0 @@
-use Rattle.std.proofs.Common.{ℕ, ◌≡◌, ◌≤◌, ◌<◌, false}
-use Rattle.pz_sheet.specs.Runs.{runs_in_column}
-use Rattle.pz_sheet.proofs.Sheet.next_run_in_high_column.Given as goal
-
-abbrev pub invariant-loop-y : goal.invariant-loop-y
-invariant-loop-y g l = (number : ℕ) → l.from ≤ number → number < l.y → runs_in_column l.self.grid l.dir l.x l.patterns number ≡ false
