@@ -1,5 +1,5 @@
 -- The parts of a line, and what of them went out.
-use Rattle.std.proofs.Common.{◌≡◌, ◌++◌, ◌<◌, ℕ, ◌+◌, [], List, Result, Ok, Err, IfErr, OnOk, length, take, ap, ◌∙◌, inl, inr, arith}
+use Rattle.std.proofs.Common.{◌≡◌, ◌++◌, ◌<◌, ℕ, ◌+◌, [], List, Result, Ok, Err, IfErr, OnOk, length, take, refl, ap, ◌∙◌, inl, inr, arith}
 use Rattle.std.proofs.lemmas.List.{append_assoc, append-nil, take-append-le}
 use Rattle.std.proofs.Math.Seq.{take-append-add}
 use Rattle.pz_lines.specs.declared.fault.Cause.{Cause}
@@ -13,7 +13,7 @@ pub cut_behind : (x y z : List ℕ) (k : ℕ) (a b c : Writes) (cause : Cause) �
 cut_behind x y z k a b c cause h p q =
     let front : take (length x + k) (x ++ (y ++ z)) ≡ x ++ take k y =
     take-append-add x (y ++ z) k ∙ ap (λ t. x ++ t) (take-append-le k y z (omega (arith, h))) in
-    (q.failed, length x + k, rw front (Appends-more a.contents b.contents c.contents x (take k y) p.sent q.sent))
+    (rw q.failed refl, length x + k, rw front (Appends-more a.contents b.contents c.contents x (take k y) p.sent q.sent))
 
 -- of three parts the first was cut
 pub first_cut : (x y z : List ℕ) (k : ℕ) (a b : Writes) (cause : Cause) → k < length x → HasFailed cause (take k x) a b → IsCut (x ++ y ++ z) a b

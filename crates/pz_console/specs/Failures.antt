@@ -1,5 +1,5 @@
 -- The lines that say why there is no whole recording.
-use Rattle.std.specs.Prelude.{◌≡◌, ◌⊎◌, ℕ, true, List, ◌++◌, take, codes, decimal}
+use Rattle.std.specs.Prelude.{◌⊎◌, ℕ, List, ◌++◌, IsSome, take, codes, decimal}
 use Rattle.std.specs.Io.KnownBytes.{Appends}
 use Rattle.pz_entries.specs.declared.fault.FileFault.{FileFault}
 use Rattle.pz_entries.specs.declared.fault.FileFault.TheVariants as fault
@@ -26,7 +26,7 @@ failure_line (failure.WriteFault cut) = codes "write-fault " ++ decimal cut.writ
 
 -- a front of a line goes out, and then a write fails
 abbrev pub IsCut : List ℕ → Writes → Writes → Type 0
-IsCut line old new = (new.has_failed ≡ true) × (count : ℕ) × Appends old.contents new.contents (take count line)
+IsCut line old new = IsSome new.failure × (count : ℕ) × Appends old.contents new.contents (take count line)
 
 -- a line goes out whole, or a front of it before a write fails
 abbrev pub IsReported : List ℕ → Writes → Writes → Type 0

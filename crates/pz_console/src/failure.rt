@@ -1,6 +1,6 @@
 //! Why the program ends without a whole recording, and the line that says so.
 
-ghost use Rattle.std.specs.Prelude.{◌≡◌, ◌++◌, false, IfErr, OnOk};
+ghost use Rattle.std.specs.Prelude.{◌≡◌, ◌++◌, None, IfErr, OnOk};
 ghost use Rattle.pz_lines.specs.Writing.{HasWritten};
 ghost use Rattle.pz_console.specs.Failures.{IsCut, IsReported, file_line, failure_line};
 ghost use Rattle.pz_console.specs.declared.failure.Failure.TheVariants.{Memory};
@@ -40,7 +40,7 @@ fn write_parts<E: Write>(
     third: &str,
     errors: &mut Output<E>,
 ) -> Result<(), WriteFault>
-    requires { errors.old.has_failed ≡ false }
+    requires { errors.old.failure ≡ None }
     ensures whole { OnOk result (HasWritten (first.now ++ second.now ++ third.now) errors.old errors.new) }
     ensures cut { IfErr result (λ _. IsCut (first.now ++ second.now ++ third.now) errors.old errors.new) }
 {
@@ -51,7 +51,7 @@ fn write_parts<E: Write>(
 
 /// Writes the line of a fault of the file.
 fn report_file<E: Write>(fault: FileFault, errors: &mut Output<E>) -> Result<(), WriteFault>
-    requires { errors.old.has_failed ≡ false }
+    requires { errors.old.failure ≡ None }
     ensures whole { OnOk result (HasWritten (file_line fault) errors.old errors.new) }
     ensures cut { IfErr result (λ _. IsCut (file_line fault) errors.old errors.new) }
 {
@@ -77,7 +77,7 @@ fn report_file<E: Write>(fault: FileFault, errors: &mut Output<E>) -> Result<(),
 
 /// Writes the line of a failure. Where that writer fails too, the line ends early, and the answer is that fault.
 fn report<E: Write>(failure: Failure, errors: &mut Output<E>) -> Result<(), WriteFault>
-    requires { errors.old.has_failed ≡ false }
+    requires { errors.old.failure ≡ None }
     ensures whole { OnOk result (HasWritten (failure_line failure) errors.old errors.new) }
     ensures cut { IfErr result (λ _. IsCut (failure_line failure) errors.old errors.new) }
 {
@@ -100,7 +100,7 @@ fn report<E: Write>(failure: Failure, errors: &mut Output<E>) -> Result<(), Writ
 
 /// Ends with the line of a failure: the status is 2.
 pub fn fail_with<E: Write>(failure: Failure, errors: &mut Output<E>) -> u8
-    requires { errors.old.has_failed ≡ false }
+    requires { errors.old.failure ≡ None }
     ensures status { result ≡ 2 }
     ensures line { IsReported (failure_line failure) errors.old errors.new }
 {

@@ -92,7 +92,7 @@ fn read_all<R: Threads + Sync>(
 
 /// The job that the entries make, each level's cells in this order: a case for each entry. An entry whose source or rules
 /// can't be read, or whose index leaves no level, makes a case that is refused. At most so many threads read the sources, as many
-/// as there are workers.
+/// as there are workers. They wait for nobody, and the call waits for them.
 pub fn prepare<R: Threads + Sync>(
     rt: &R,
     alloc: Global,

@@ -50,6 +50,7 @@ part_behind x y rest l m n a b c cause p q = record {
       rw front (Appends-more a.contents b.contents c.contents x (take q.count y) p.written.sent q.sent);
   why = λ other. reaches (2 ^ 64) (m + length y) (l + length (x ++ (y ++ rest)))
       (omega (arith, length-append x (y ++ rest), length-append y rest, p.counted)) (q.why other);
+  sound = λ memory. q.sound memory ∙ p.written.sound;
 }
 
 -- what went out whole, before there was no memory for more, is a part of what follows it too
@@ -60,6 +61,7 @@ part_sent x rest l m a b p = record {
   within = omega (arith, length-append x rest);
   sent = rw (take-append-le (length x) x rest (omega arith) ∙ take_all (length x) x (omega arith)) p.written.sent;
   why = λ other. absurd (other refl);
+  sound = λ _. p.written.sound;
 }
 
 pub part_is : (text whole : List ℕ) (l m : ℕ) (a b : Writes) (cause : Cause) → text ≡ whole → IsSentInPart whole l m a b cause → IsSentInPart text l m a b cause
@@ -69,7 +71,7 @@ part_is text whole l m a b cause e p = rw e p
 pub ended_for : (text : List ℕ) (fault : WriteFault) (a b : Writes) → IsSentInPart text 0 fault.written a b fault.cause → EndsFor fault text a b
 ended_for text fault a b p =
     let is : fault.written ≡ p.count = omega (arith, p.counted) in
-    record { within = rw is p.within; sent = rw is p.sent; why = λ other. reaches (2 ^ 64) (0 + length text) (length text) (omega arith) (p.why other) }
+    record { within = rw is p.within; sent = rw is p.sent; why = λ other. reaches (2 ^ 64) (0 + length text) (length text) (omega arith) (p.why other); sound = p.sound }
 
 -- of a text a front went out and the rest is kept back; a line more, of all that is kept back some goes out, and the rest is kept back
 pub kept_more : (whole front line sent held more now left : List ℕ) → whole ≡ front ++ line → front ≡ sent ++ held → more ≡ held ++ line → more ≡ now ++ left → whole ≡ (sent ++ now) ++ left

@@ -1,24 +1,30 @@
 -- What goes out to a writer, and is counted.
-use Rattle.std.specs.Prelude.{◌≡◌, ◌≢◌, ◌⊎◌, ◌≤◌, ◌^◌, ℕ, ◌+◌, Bool, true, List, Option, length, take}
+use Rattle.std.specs.Prelude.{◌≡◌, ◌≢◌, ◌⊎◌, ◌≤◌, ◌^◌, ℕ, ◌+◌, zero, suc, List, Option, Some, Result, Ok, Err, length, take}
 use Rattle.std.specs.Io.KnownBytes.{Appends}
 use Rattle.pz_lines.specs.declared.fault.Cause.{Cause}
-use Rattle.pz_lines.specs.declared.fault.Cause.TheVariants.{Memory}
+use Rattle.pz_lines.specs.declared.fault.Cause.TheVariants.{Memory, Device, Zero}
 use Rattle.pz_lines.specs.declared.fault.WriteFault.{WriteFault}
 
--- what contracts see of a writer: the bytes that it holds, where they are known, and whether a write of some bytes answered an error or took nothing
+-- what a write of some bytes answered: how many it took, or why it failed; one that takes nothing has failed
+abbrev pub taken : {E : Type 0} → Result ℕ E → Result ℕ Cause
+taken (Ok zero) = Err Zero
+taken (Ok (suc more)) = Ok (suc more)
+taken (Err error) = Err Device
+
+-- what contracts see of a writer: the bytes that it holds, where they are known, and why a write failed, if one did
 pub record Writes : Type 0 where
   pub contents : Option (List ℕ)
-  pub has_failed : Bool
+  pub failure : Option Cause
 
 -- a text went out whole, and no write failed
 pub record HasWritten (text : List ℕ) (old new : Writes) : Type 0 where
   pub sent : Appends old.contents new.contents text
-  pub sound : new.has_failed ≡ old.has_failed
+  pub sound : new.failure ≡ old.failure
 
--- a text went out, and then a write failed
+-- a text went out, and then a write failed, which is kept in mind; want of memory is no failure of a write
 pub record HasFailed (cause : Cause) (text : List ℕ) (old new : Writes) : Type 0 where
   pub sent : Appends old.contents new.contents text
-  pub failed : new.has_failed ≡ true
+  pub failed : new.failure ≡ Some cause
   pub other : cause ≢ Memory
 
 -- a text went out whole, and was counted
@@ -32,10 +38,12 @@ pub record IsSentInPart (text : List ℕ) (before after : ℕ) (old new : Writes
   pub counted : after ≡ before + count
   pub within : count ≤ length text
   pub sent : Appends old.contents new.contents (take count text)
-  pub why : cause ≢ Memory → (new.has_failed ≡ true) ⊎ (2 ^ 64 ≤ before + length text)
+  pub why : cause ≢ Memory → (new.failure ≡ Some cause) ⊎ (2 ^ 64 ≤ before + length text)
+  pub sound : cause ≡ Memory → new.failure ≡ old.failure
 
--- the writing of a text ended for a fault, which tells how many first bytes went out
+-- the writing of a text ended for a fault, which tells how many first bytes went out: a write failed for the very cause that is told, or none failed and memory was refused
 pub record EndsFor (fault : WriteFault) (text : List ℕ) (old new : Writes) : Type 0 where
   pub within : fault.written ≤ length text
   pub sent : Appends old.contents new.contents (take fault.written text)
-  pub why : fault.cause ≢ Memory → (new.has_failed ≡ true) ⊎ (2 ^ 64 ≤ length text)
+  pub why : fault.cause ≢ Memory → (new.failure ≡ Some fault.cause) ⊎ (2 ^ 64 ≤ length text)
+  pub sound : fault.cause ≡ Memory → new.failure ≡ old.failure

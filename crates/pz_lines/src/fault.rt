@@ -5,7 +5,7 @@ use thiserror::Error;
 /// What ended the writing.
 #[derive(Clone, Copy, Debug, PartialEq, Eq)]
 pub enum Cause {
-    /// There was no memory for a line.
+    /// There was no memory for the lines that were to go out next.
     Memory,
     /// A write answered an error.
     Device,

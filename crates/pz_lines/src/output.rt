@@ -1,17 +1,28 @@
 //! A writer whose failures are kept in mind.
 
-ghost use Rattle.std.specs.Prelude.{◌≡◌, ◌≤◌, ◌<◌, false, [], length, take, IfErr, IfOk, OnOk};
-ghost use Rattle.pz_lines.specs.Writing.{HasFailed, HasWritten};
+ghost use Rattle.std.specs.Prelude.{◌≡◌, ◌≤◌, ◌<◌, None, [], length, take, IfErr, IfOk, OnOk};
+ghost use Rattle.pz_lines.specs.Writing.{HasFailed, HasWritten, taken};
 
 use crate::fault::{Cause, WriteFault};
-use std::io::Write;
+use std::io::{self, Write};
 use std::marker::Model;
 
-/// A writer, and whether a write of some bytes answered an error or took nothing. It is called by `write` alone, since no other module sees it.
+/// How many bytes a write took, or why it failed.
+fn taken(answer: io::Result<usize>) -> Result<usize, Cause>
+    ensures { result ≡ taken answer }
+{
+    match answer {
+        Ok(0) => Err(Cause::Zero),
+        Ok(count) => Ok(count),
+        Err(_) => Err(Cause::Device),
+    }
+}
+
+/// A writer, and why a write of some bytes failed, if one did. It is called by `write` alone, since no other module sees it.
 #[derive(Drop)]
 pub struct Output<W: Write> {
     writer: W,
-    has_failed: bool,
+    failure: Option<Cause>,
 }
 
 impl<W: Write> Model for Output<W> {
@@ -19,17 +30,17 @@ impl<W: Write> Model for Output<W> {
 
     ghost Value = { Writes };
 
-    ghost view = { λ o. record { contents = W.contents o.writer; has_failed = o.has_failed } };
+    ghost view = { λ o. record { contents = W.contents o.writer; failure = o.failure } };
 }
 
 impl<W: Write> Output<W> {
     /// A writer that has not failed.
     pub fn new(writer: W) -> Output<W>
-        ensures { result ≡ record { contents = W.contents writer; has_failed = false } }
+        ensures { result ≡ record { contents = W.contents writer; failure = None } }
     {
         Output {
             writer,
-            has_failed: false,
+            failure: None,
         }
     }
 
@@ -45,28 +56,22 @@ impl<W: Write> Output<W> {
 
     /// Hands bytes to the writer once, and says how many it took: one at least. A writer that has failed is not called again.
     fn write(&mut self, bytes: &[u8]) -> Result<usize, Cause>
-        requires sound { self.old.has_failed ≡ false }
+        requires sound { self.old.failure ≡ None }
         requires some { 1 ≤ length bytes.now }
         ensures some { IfOk result (λ count. (1 ≤ count) × (count ≤ length bytes.now)) }
         ensures written { IfOk result (λ count. HasWritten (take count bytes.now) self.old self.new) }
         ensures failed { IfErr result (λ cause. HasFailed cause [] self.old self.new) }
     {
-        match self.writer.write(bytes) {
-            Ok(0) => {
-                self.has_failed = true;
-                Err(Cause::Zero)
-            }
-            Ok(count) => Ok(count),
-            Err(_) => {
-                self.has_failed = true;
-                Err(Cause::Device)
-            }
+        let answer = taken(self.writer.write(bytes));
+        if let Err(cause) = answer {
+            self.failure = Some(cause);
         }
+        answer
     }
 
     /// Writes bytes to the last, or up to a write that fails, which ends the writing for good. Each write is handed all that is left.
     pub fn write_whole(&mut self, bytes: &[u8]) -> Result<(), WriteFault>
-        requires { self.old.has_failed ≡ false }
+        requires { self.old.failure ≡ None }
         ensures ok { OnOk result (HasWritten bytes.now self.old self.new) }
         ensures within { IfErr result (λ fault. fault.written < length bytes.now) }
         ensures err { IfErr result (λ fault. HasFailed fault.cause (take fault.written bytes.now) self.old self.new) }

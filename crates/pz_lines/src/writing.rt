@@ -1,6 +1,6 @@
 //! The writing of a recording.
 
-ghost use Rattle.std.specs.Prelude.{◌≡◌, ◌++◌, ℕ, false, List, OnOk, IfOk, IfErr};
+ghost use Rattle.std.specs.Prelude.{◌≡◌, ◌++◌, ℕ, None, List, OnOk, IfOk, IfErr};
 ghost use Rattle.pz_lines.specs.Lines.{lines_of, text_of};
 ghost use Rattle.pz_lines.specs.Writing.{EndsFor, HasWritten, IsSent, IsSentInPart};
 
@@ -21,7 +21,7 @@ fn write_lines<W: Write>(
     written: &mut u64,
     output: &mut Output<W>,
 ) -> Result<(), Cause>
-    requires { output.old.has_failed ≡ false }
+    requires { output.old.failure ≡ None }
     ensures ok { OnOk result (IsSent lines.now written.old written.new output.old output.new) }
     ensures err { IfErr result (IsSentInPart lines.now written.old written.new output.old output.new) }
 {
@@ -46,7 +46,7 @@ fn write_full<W: Write>(
     written: &mut u64,
     output: &mut Output<W>,
 ) -> Result<Vec<u8>, Cause>
-    requires { output.old.has_failed ≡ false }
+    requires { output.old.failure ≡ None }
     ensures ok { IfOk result (λ left. (sent : List ℕ) × (lines.items ≡ sent ++ left.items) × IsSent sent written.old written.new output.old output.new) }
     ensures err { IfErr result (IsSentInPart lines.items written.old written.new output.old output.new) }
 {
@@ -67,7 +67,7 @@ fn write_session<W: Write>(
     written: &mut u64,
     output: &mut Output<W>,
 ) -> Result<Vec<u8>, Cause>
-    requires { output.old.has_failed ≡ false }
+    requires { output.old.failure ≡ None }
     ensures ok { IfOk result (λ left. (sent : List ℕ) × (before.items ++ lines_of session shown.now ≡ sent ++ left.items) × IsSent sent written.old written.new output.old output.new) }
     ensures err { IfErr result (IsSentInPart (before.items ++ lines_of session shown.now) written.old written.new output.old output.new) }
 {
@@ -91,7 +91,7 @@ pub fn write_recording<W: Write>(
     recording: &Recording,
     output: &mut Output<W>,
 ) -> Result<(), WriteFault>
-    requires { output.old.has_failed ≡ false }
+    requires { output.old.failure ≡ None }
     ensures ok { OnOk result (HasWritten (text_of recording.now) output.old output.new) }
     ensures err { IfErr result (λ fault. EndsFor fault (text_of recording.now) output.old output.new) }
 {

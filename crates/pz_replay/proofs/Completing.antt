@@ -23,7 +23,7 @@ of_others : (k c : ℕ) (xs : List Item) → c ≢ k → of_session k (messages_
 of_others k c [] ne = refl
 of_others k c (x ∷ xs) ne = rw (ne_eqb c k ne) (of_others k c xs ne)
 
-counts : (k c : ℕ) (ks : List ℕ) → times k (c ∷ ks) ≡ cond (c == k) 1 0 + times k ks
+pub counts : (k c : ℕ) (ks : List ℕ) → times k (c ∷ ks) ≡ cond (c == k) 1 0 + times k ks
 counts k c ks = sum_by-cons (λ y. cond (y == k) 1 0) c ks
 
 of_none : (sessions : List (List Item)) (k : ℕ) (ks : List ℕ) → times k ks ≡ 0 → of_session k (messages_for sessions ks) ≡ []
@@ -88,7 +88,7 @@ one_holder k (ns ∷ lists) e =
     (λ none. later_holds k ns lists none (one_holder k lists (omega arith)))
     (λ some_here. first_holds k ns lists (omega arith) (omega arith))
 
-once_yes : (x n : ℕ) → x < n → once_below x n ≡ 1
+pub once_yes : (x n : ℕ) → x < n → once_below x n ≡ 1
 once_yes x n h = grind (arith, nat_tests)
 
 -- what the lane j has of the session k

@@ -61,6 +61,12 @@ passed_on fault e f all out was now same other is =
     let here : e ≡ fault = cc in
     other (was ∙ ap Err here)
 
+-- so is which fault it is
+pub handed_on : {A B : Type 0} (fault e f : ReplayFault) (all : Result A ReplayFault) (out : Result B ReplayFault) → all ≡ Err e → out ≡ Err f → f ≡ e → out ≡ Err fault → all ≡ Err fault
+handed_on fault e f all out was now same is =
+    let here : e ≡ fault = cc in
+    was ∙ ap Err here
+
 pub some_made : (made workers : ℕ) → made ≡ workers → (workers ≡ 0 → ⊥) → 0 < made
 some_made made workers is some = positive made (λ none. some (sym is ∙ none))
   where

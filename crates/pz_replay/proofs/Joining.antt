@@ -12,7 +12,6 @@ use Rattle.pz_case.specs.declared.item.Item.{Item}
 use Rattle.pz_case.specs.declared.case.Case.{Case}
 use Rattle.pz_replay.specs.Lane.{LaneId}
 use Rattle.pz_replay.specs.declared.lane.End.{End}
-use Rattle.pz_replay.specs.declared.lane.End.TheVariants.{GateClosed as gate_closed}
 use Rattle.pz_replay.specs.declared.lane.Message.{Message}
 use Rattle.pz_replay.specs.declared.lane.Message.TheVariants.{Last}
 use Rattle.pz_case.specs.Playing.{sessions_of}
@@ -187,15 +186,6 @@ not_workers out h is = only_memory Workers (λ (e : Workers ≡ Memory). cc) out
 
 pub not_closed : {A : Type 0} (out : Result A ReplayFault) → IfErr out (λ f. f ≡ Memory) → out ≡ Err GateClosed → ⊥
 not_closed out h is = only_memory GateClosed (λ (e : GateClosed ≡ Memory). cc) out h is
-
--- a gate that lets all pass was not closed to the worker, nor to those below it
-pub still_open : {D : Type 0} (Lets : D → Type 0) (theirs ours : D) (worked : Worked) (below out : Result (Makes × List (List Item)) ReplayFault) → theirs ≡ ours
-    → (Lets theirs → worked.end ≡ gate_closed → ⊥) → (Lets ours → below ≡ Err GateClosed → ⊥) → IfErr out (λ fault. fault ≡ GateClosed → (worked.end ≡ gate_closed) ⊎ (below ≡ Err GateClosed)) → Lets ours → out ≡ Err GateClosed → ⊥
-still_open Lets theirs ours worked below out same mine others opened lets is =
-    ⊎_elim
-    (λ (e : worked.end ≡ gate_closed). mine (subst Lets (sym same) lets) e)
-    (λ (e : below ≡ Err GateClosed). others lets e)
-    (subst (λ (o : Result (Makes × List (List Item)) ReplayFault). IfErr o (λ fault. fault ≡ GateClosed → (worked.end ≡ gate_closed) ⊎ (below ≡ Err GateClosed))) is opened refl)
 
 -- what was lent to the recorder, and came back as it is now, is all that there is
 pub all_back : (many : ℕ) (old lent new : List Inbox) → many ≡ length old → lent ≡ old → map lane_of new ≡ map lane_of lent → take many (new ++ drop (length new) old) ≡ new

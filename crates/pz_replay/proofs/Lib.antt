@@ -3,6 +3,7 @@ pub mod Completing
 pub mod Joining
 pub mod Finishing
 pub mod Gathering
+pub mod Gating
 pub mod Named
 pub mod Sending
 pub mod Settling

@@ -7,7 +7,8 @@ use Rattle.std.proofs.lemmas.Option.{IfSome_then}
 use Rattle.std.specs.Prelude.{Some}
 use Rattle.pz_claims.specs.Holders.{Ending, Holding, Numbers}
 use Rattle.pz_case.specs.declared.item.Item.{Item}
-use Rattle.pz_case.specs.Playing.{items_at}
+use Rattle.pz_case.specs.declared.case.Case.{Case}
+use Rattle.pz_case.specs.Playing.{items_at, sessions_of}
 use Rattle.pz_replay.specs.Lane.{LaneId, Sends}
 use Rattle.pz_replay.specs.Sent.{messages_of, messages_for}
 use Rattle.pz_replay.specs.Worked.{IsWorked}
@@ -36,14 +37,8 @@ all_sent session start now shown rest items none whole so_far =
 pub memory_is_not_finished : Memory ≡ Finished → ⊥
 memory_is_not_finished e = cc
 
-pub memory_is_not_closed : Memory ≡ GateClosed → ⊥
-memory_is_not_closed e = cc
-
 pub closed_is_not_finished : GateClosed ≡ Finished → ⊥
 closed_is_not_finished e = cc
-
-pub finished_is_not_closed : (end : End) → end ≡ Finished → end ≡ GateClosed → ⊥
-finished_is_not_closed end is other = cc
 
 -- one item more was sent
 pub sends_more : (session : ℕ) (start before after : Sends) (shown : List Item) (item : Item)
@@ -110,6 +105,10 @@ begins claims sessions seat sent none nothing = (none_below claims.total seat.nu
 
 pub case_there : (claims : Numbers) (many : ℕ) (seat : Holding) (number : ℕ) → number < seat.of.total → seat.of ≡ claims → claims.total ≡ many → number < many
 case_there claims many seat number within table whole = subst (λ n. number < n) (ap (λ (c : Numbers). c.total) table ∙ whole) within
+
+-- the session of a number is one of the job's
+pub case_within : (items_of : Case → List Item) (job : List Case) (number : ℕ) → number < length job → number < length (sessions_of items_of job)
+case_within items_of job number within = subst (λ many. number < many) (sym (length-map job items_of)) within
 
 -- a worker that finds no number left has sent all
 pub ends_whole : (claims : Numbers) (sessions : List (List Item)) (lane : LaneId) (seat : Holding) (ended : Ending) (before : Sends) (worked : Worked)

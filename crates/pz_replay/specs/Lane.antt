@@ -4,7 +4,7 @@ use denote.RawPtr.{Ptr}
 use Rattle.rtrb.specs.Shared.{Names}
 use Rattle.pz_replay.specs.declared.lane.Message.{Message}
 
--- what no other lane has
+-- which lane it is: no two that are there at once have the same
 pub record LaneId : Type 0 where
   pub words : Ptr
   pub slots : Ptr

@@ -2,10 +2,10 @@
 
 use thiserror::Error;
 
-/// Why there is no recording. Where several hold, the first of them is answered.
+/// Why there is no recording. Of the faults that the workers hand back the first in this order is answered.
 #[derive(Clone, Copy, Debug, PartialEq, Eq, Error)]
 pub enum ReplayFault {
-    /// There was no memory, or a worker could not be started.
+    /// There was no memory, or a worker's thread could not be started.
     #[error("no memory was left to replay the sessions")]
     Memory,
     /// The number of workers is not from 1 to 64.

@@ -1,15 +1,20 @@
 //! Gates, which a worker asks before each item that it sends.
 
-ghost use Rattle.std.specs.Prelude.{IsTrue};
+ghost use Rattle.std.specs.Prelude.{ℕ, IsTrue, IsFalse};
 
-/// Asked before each item, the close included. A gate that answers false ends the worker that asked.
+/// Asked before each item, the close included. A gate that answers false ends the worker that asked. It may answer one thing now and another
+/// later; what it may answer of an item is its own to say.
 pub trait Gate {
-    /// Such a gate lets every item pass.
-    ghost lets_all_pass: { Self → Type 0 };
+    /// The gate may answer true for this item of this session.
+    ghost may_pass: { Self → ℕ → ℕ → Type 0 };
+
+    /// The gate may answer false for this item of this session.
+    ghost may_stop: { Self → ℕ → ℕ → Type 0 };
 
     /// Whether the item of this number may be sent, items of a session being counted from 0.
     fn pass(&self, session: usize, item: u64) -> bool
-        ensures { lets_all_pass self.now → IsTrue result };
+        ensures passes { IsTrue result → may_pass self.now session item }
+        ensures stops { IsFalse result → may_stop self.now session item };
 }
 
 /// The gate that is always open.
@@ -17,7 +22,9 @@ pub trait Gate {
 pub struct Always;
 
 impl Gate for Always {
-    ghost lets_all_pass = { λ _. Unit {0} };
+    ghost may_pass = { λ _ session item. Unit {0} };
+
+    ghost may_stop = { λ _ session item. ⊥ };
 
     fn pass(&self, session: usize, item: u64) -> bool {
         let _ = (session, item);

@@ -1,6 +1,7 @@
 //! The replay of a job, by several workers.
 
 ghost use Rattle.std.specs.Prelude.{◌≡◌, ◌≢◌, ◌↔◌, ◌⊎◌, ◌<◌, ◌≤◌, [], length, replicate, Err, IfOk};
+ghost use Rattle.pz_replay.specs.Gates.{HasStop, MayPassAll, MayPassFor};
 ghost use Rattle.pz_replay.specs.Workers.{IsAll};
 ghost use Rattle.pz_case.specs.Playing.{recording, sessions_of};
 
@@ -74,7 +75,8 @@ where
     requires capacity { 1 ≤ capacity }
     ensures workers { (result ≡ Err ReplayFault.Workers) ↔ ((workers ≡ 0) ⊎ (MOST_WORKERS < workers)) }
     ensures recording { IfOk result (λ r. r ≡ recording P.items_of (P.job played.now)) }
-    ensures opened { G.lets_all_pass gate.now → result ≢ Err ReplayFault.GateClosed }
+    ensures passed { IfOk result (λ _. MayPassAll (G.may_pass gate.now) (sessions_of P.items_of (P.job played.now))) }
+    ensures closed { result ≡ Err ReplayFault.GateClosed → HasStop (G.may_stop gate.now) (sessions_of P.items_of (P.job played.now)) }
 {
     if workers == 0 || workers > MOST_WORKERS {
         return Err(ReplayFault::Workers);
@@ -93,7 +95,7 @@ where
         rt,
         |scope| -> Result<(Maker, Sessions), ReplayFault>
             requires { (1 ≤ capacity) × (1 ≤ crew) × (crew ≤ MOST_WORKERS) × (maker.of ≡ table.now) × (maker.made ≡ 0) × (maker.joined ≡ 0) × (maker.numbers ≡ []) × (table.now.total ≡ length (P.job played.now)) × (blank ≡ replicate (length (P.job played.now)) []) }
-            ensures { IfOk result (λ made. IsAll (sessions_of P.items_of (P.job played.entry.now)) table.entry.now crew made.0 made.1) × (G.lets_all_pass gate.entry.now → result ≢ Err ReplayFault.GateClosed) × (result ≢ Err ReplayFault.Workers) }
+            ensures { IfOk result (λ made. IsAll (sessions_of P.items_of (P.job played.entry.now)) table.entry.now crew made.0 made.1) × IfOk result (λ made. MayPassFor (G.may_pass gate.entry.now) (sessions_of P.items_of (P.job played.entry.now)) made.0.numbers) × (result ≡ Err ReplayFault.GateClosed → HasStop (G.may_stop gate.entry.now) (sessions_of P.items_of (P.job played.entry.now))) × (result ≢ Err ReplayFault.Workers) }
         {
             let shared = Shared {
                 rt,
@@ -126,7 +128,8 @@ where
     P::Run: Send,
     ensures workers { (result ≡ Err ReplayFault.Workers) ↔ ((workers ≡ 0) ⊎ (MOST_WORKERS < workers)) }
     ensures recording { IfOk result (λ r. r ≡ recording P.items_of (P.job played.now)) }
-    ensures opened { G.lets_all_pass gate.now → result ≢ Err ReplayFault.GateClosed }
+    ensures passed { IfOk result (λ _. MayPassAll (G.may_pass gate.now) (sessions_of P.items_of (P.job played.now))) }
+    ensures closed { result ≡ Err ReplayFault.GateClosed → HasStop (G.may_stop gate.now) (sessions_of P.items_of (P.job played.now)) }
 {
     replay_with(rt, alloc, played, workers, CAPACITY, gate)
 }

@@ -1,6 +1,7 @@
 //! The run of a worker: it claims a session, plays it, sends its items, and claims again.
 
 ghost use Rattle.std.specs.Prelude.{◌≡◌, ◌≢◌, ◌<◌, ◌++◌, ◌∷◌, [], IfErr, IfSome, OnOk, ℕ, length, take};
+ghost use Rattle.pz_replay.specs.Gates.{HasStop, HasStopIn, IsPassed, MayPassIn, MayPassUpTo};
 ghost use Rattle.pz_case.specs.Playing.{items_at, sessions_of};
 ghost use Rattle.pz_replay.specs.Sent.{messages_of};
 ghost use Rattle.pz_replay.specs.Worked.{IsWorked};
@@ -56,12 +57,12 @@ fn send_items<U: Playing, R: Wait, G: Gate>(
     gate: &G,
 ) -> Result<(), End>
     ensures whole { OnOk result (sender.new ≡ record sender.old { sent = sender.old.sent ++ messages_of session (U.left run.old) }) }
-    ensures part { IfErr result (λ _. (count : ℕ) × (sender.new ≡ record sender.old { sent = sender.old.sent ++ take count (messages_of session (U.left run.old)) })) }
+    ensures passed { OnOk result (MayPassUpTo (G.may_pass gate.now) session (length (U.left run.old))) }
+    ensures part { IfErr result (λ _. (count : ℕ) × (sender.new ≡ record sender.old { sent = sender.old.sent ++ take count (messages_of session (U.left run.old)) }) × MayPassUpTo (G.may_pass gate.now) session count) }
     ensures broken { IfErr result (λ end. end ≢ Finished) }
-    ensures opened { G.lets_all_pass gate.now → IfErr result (λ end. end ≢ GateClosed) }
+    ensures closed { IfErr result (λ end. end ≡ GateClosed → HasStopIn (G.may_stop gate.now) session (length (U.left run.old))) }
 {
-    let mut number: u64 = 0;
-    'items: for _ in rt.forever() {
+    for number in 0..u64::MAX {
         match run.next() {
             Ok(Some(item)) => {
                 if !gate.pass(session, number) {
@@ -70,13 +71,13 @@ fn send_items<U: Playing, R: Wait, G: Gate>(
                     return Err(End::GateClosed);
                 }
                 send(rt, sender, Message::Item(session, item));
-                number = number.wrapping_add(1);
             }
             Ok(None) => return Ok(()),
             Err(_) => return Err(End::Memory),
         }
     }
-    unreachable!()
+    // (no memory holds so many items)
+    Err(End::Memory)
 }
 
 /// Sends the items of a session, or its first ones. The run is made here and lent to the loop, so that the ways out of the loop drop none.
@@ -88,9 +89,10 @@ fn play<P: Playable, R: Wait, G: Gate>(
 ) -> Result<(), End>
     requires { session < length (P.job duty.now.played.now) }
     ensures whole { OnOk result (sender.new ≡ record sender.old { sent = sender.old.sent ++ messages_of session (items_at (sessions_of P.items_of (P.job duty.now.played.now)) session) }) }
-    ensures part { IfErr result (λ _. (count : ℕ) × (sender.new ≡ record sender.old { sent = sender.old.sent ++ take count (messages_of session (items_at (sessions_of P.items_of (P.job duty.now.played.now)) session)) })) }
+    ensures passed { OnOk result (MayPassIn (G.may_pass duty.now.gate.now) (sessions_of P.items_of (P.job duty.now.played.now)) session) }
+    ensures part { IfErr result (λ _. (count : ℕ) × (sender.new ≡ record sender.old { sent = sender.old.sent ++ take count (messages_of session (items_at (sessions_of P.items_of (P.job duty.now.played.now)) session)) }) × MayPassUpTo (G.may_pass duty.now.gate.now) session count) }
     ensures broken { IfErr result (λ end. end ≢ Finished) }
-    ensures opened { G.lets_all_pass duty.now.gate.now → IfErr result (λ end. end ≢ GateClosed) }
+    ensures closed { IfErr result (λ end. end ≡ GateClosed → HasStopIn (G.may_stop duty.now.gate.now) session (length (items_at (sessions_of P.items_of (P.job duty.now.played.now)) session))) }
 {
     let Ok(mut run) = duty.played.begin(duty.alloc, session) else {
         return Err(End::Memory);
@@ -121,7 +123,8 @@ pub fn work<P: Playable, R: Wait, G: Gate>(
     requires sender { sender.sent ≡ [] }
     requires job { duty.now.claims.now.total ≡ length (P.job duty.now.played.now) }
     ensures worked { IsWorked duty.now.claims.now (sessions_of P.items_of (P.job duty.now.played.now)) sender.lane result }
-    ensures opened { G.lets_all_pass duty.now.gate.now → result.end ≢ GateClosed }
+    ensures passed { IsPassed (G.may_pass duty.now.gate.now) (sessions_of P.items_of (P.job duty.now.played.now)) result }
+    ensures closed { result.end ≡ GateClosed → HasStop (G.may_stop duty.now.gate.now) (sessions_of P.items_of (P.job duty.now.played.now)) }
 {
     let mut seat = seat;
     let mut sender = sender;

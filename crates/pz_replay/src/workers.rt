@@ -1,8 +1,9 @@
 //! The workers, each with a lane to the recorder, in one scope of threads.
 
-ghost use Rattle.std.specs.Prelude.{◌≡◌, ◌≢◌, ◌+◌, ◌≤◌, [], map, length, replicate, All, IfOk, IfErr, IfSome, IfNone, IsSome, ◌⊎◌, None, Err, IsOk};
+ghost use Rattle.std.specs.Prelude.{◌≡◌, ◌≢◌, ◌+◌, ◌++◌, ◌≤◌, [], map, length, replicate, All, IfOk, IfErr, IfSome, IfNone, IsSome, ◌⊎◌, None, Err, IsOk};
 ghost use Rattle.pz_claims.specs.declared.limits.TheConstants.{MOST_SEATS};
 ghost use Rattle.pz_replay.specs.declared.lane.End.TheVariants.{GateClosed as gate_closed};
+ghost use Rattle.pz_replay.specs.Gates.{HasStop, IsPassed, MayPassFor};
 ghost use Rattle.pz_replay.specs.Workers.{IsAll, IsDone, IsOpened, IsSettled};
 ghost use Rattle.pz_replay.specs.Faults.{fault_in, fault_of, first_fault};
 ghost use Rattle.pz_case.specs.Playing.{sessions_of};
@@ -43,7 +44,7 @@ struct Task<'a, P, G> {
 }
 
 impl<'a, P: Playable, G: Gate> Promise<Worked> for Task<'a, P, G> {
-    ghost kept_by = { λ task worked. IsWorked task.claims.now (sessions_of P.items_of (P.job task.played.now)) task.lane.value.lane worked × (G.lets_all_pass task.gate.now → worked.end ≢ gate_closed) };
+    ghost kept_by = { λ task worked. IsWorked task.claims.now (sessions_of P.items_of (P.job task.played.now)) task.lane.value.lane worked × IsPassed (G.may_pass task.gate.now) (sessions_of P.items_of (P.job task.played.now)) worked × (worked.end ≡ gate_closed → HasStop (G.may_stop task.gate.now) (sessions_of P.items_of (P.job task.played.now))) };
 }
 
 /// Starts a worker, if a thread can be made. No run leaves the thread that makes it; but what is known of runs is known in another thread only
@@ -154,10 +155,11 @@ fn settle<P: Playable>(
     requires inbox { IsHonest inbox × HasEnded inbox }
     ensures settled { IfOk result (λ made. IfOk below (λ before. IsSettled (sessions_of P.items_of (P.job played.now)) inbox before.0 before.1 made.0 made.1)) }
     ensures below { IfOk result (λ _. IsOk below) }
+    ensures joined { IfOk result (λ made. IfOk below (λ before. IfSome worked.ended (λ ended. made.0.numbers ≡ before.0.numbers ++ ended.numbers) × IsSome worked.ended)) }
     ensures first { fault_in result ≡ first_fault (fault_in below) (fault_of worked) }
     ensures workers { result ≡ Err ReplayFault.Workers → below ≡ Err ReplayFault.Workers }
     ensures lost { result ≡ Err ReplayFault.LaneLost → (worked.sent ≡ None) ⊎ (below ≡ Err ReplayFault.LaneLost) }
-    ensures opened { IfErr result (λ fault. fault ≡ ReplayFault.GateClosed → (worked.end ≡ End.GateClosed) ⊎ (below ≡ Err ReplayFault.GateClosed)) }
+    ensures closed { IfErr result (λ fault. fault ≡ ReplayFault.GateClosed → (worked.end ≡ End.GateClosed) ⊎ (below ≡ Err ReplayFault.GateClosed)) }
 {
     if let Some(fault) = first_fault(&below, &worked) {
         drop(below);
@@ -221,7 +223,8 @@ where
     ensures ended { All IsHonest inboxes.new.items × All HasEnded inboxes.new.items }
     ensures whole { IfOk result (λ made. IsDone (sessions_of P.items_of (P.job shared.now.played.now)) maker left inboxes.new.items made.0 made.1) }
     ensures workers { result ≢ Err ReplayFault.Workers }
-    ensures opened { G.lets_all_pass shared.now.gate.now → result ≢ Err ReplayFault.GateClosed }
+    ensures passed { MayPassFor (G.may_pass shared.now.gate.now) (sessions_of P.items_of (P.job shared.now.played.now)) maker.numbers → IfOk result (λ made. MayPassFor (G.may_pass shared.now.gate.now) (sessions_of P.items_of (P.job shared.now.played.now)) made.0.numbers) }
+    ensures closed { result ≡ Err ReplayFault.GateClosed → HasStop (G.may_stop shared.now.gate.now) (sessions_of P.items_of (P.job shared.now.played.now)) }
 {
     let rt = shared.rt;
     if left == 0 {
@@ -262,7 +265,8 @@ where
     requires blank { blank ≡ replicate (length (P.job shared.now.played.now)) [] }
     ensures workers { result ≢ Err ReplayFault.Workers }
     ensures all { IfOk result (λ made. IsAll (sessions_of P.items_of (P.job shared.now.played.now)) shared.now.claims.now workers made.0 made.1) }
-    ensures opened { G.lets_all_pass shared.now.gate.now → result ≢ Err ReplayFault.GateClosed }
+    ensures passed { IfOk result (λ made. MayPassFor (G.may_pass shared.now.gate.now) (sessions_of P.items_of (P.job shared.now.played.now)) made.0.numbers) }
+    ensures closed { result ≡ Err ReplayFault.GateClosed → HasStop (G.may_stop shared.now.gate.now) (sessions_of P.items_of (P.job shared.now.played.now)) }
 {
     let mut inboxes = Vec::new(shared.alloc);
     run_workers(scope, shared, maker, workers, &mut inboxes, Some(blank))

@@ -130,7 +130,9 @@ impl WaitsFor {
 }
 
 impl Gate for WaitsFor {
-    ghost lets_all_pass = { λ _. ⊥ };
+    ghost may_pass = { λ _ session item. Unit {0} };
+
+    ghost may_stop = { λ _ session item. Unit {0} };
 
     fn pass(&self, session: usize, item: u64) -> bool {
         if (session, item) == (self.session, 0) {

@@ -1,5 +1,7 @@
 //! Sessions, and the jobs that they make.
 
+ghost use Rattle.std.specs.Prelude.{◌≡◌};
+
 use pz_case::job::Job;
 use pz_entries::file::read_sessions;
 use pz_job::job::prepare;
@@ -59,7 +61,9 @@ pub(crate) struct ClosedTo {
 }
 
 impl Gate for ClosedTo {
-    ghost lets_all_pass = { λ _. ⊥ };
+    ghost may_pass = { λ _ session item. Unit {0} };
+
+    ghost may_stop = { λ gate session item. (session ≡ gate.session) × (item ≡ gate.item) };
 
     fn pass(&self, session: usize, item: u64) -> bool {
         (session, item) != (self.session, self.item)

@@ -1,11 +1,12 @@
 -- What the bytes of a file hold, case by case.
-use Rattle.std.proofs.Common.{◌≡◌, ◌≢◌, ◌≤◌, ℕ, List, length, false, Option, Some, None, IfSome, Err, IsUtf8, refl, arith, inl, inr}
+use Rattle.std.proofs.Common.{◌≡◌, ◌≢◌, ◌≤◌, ℕ, List, length, false, Option, Some, None, IfSome, replicate, Err, IsUtf8, refl, arith, inl, inr}
 use Rattle.std.proofs.lemmas.Bool.{lt-ltb, le-ltb, cases_Bool}
 use Rattle.std.proofs.lemmas.Str.{IsUtf8-from_is_utf8, is_utf8-from_IsUtf8}
 use Rattle.std.specs.Str.{is_utf8}
 use Rattle.pz_entries.specs.declared.fault.FileFault.TheVariants.{Memory, TooMany, NotJson}
 use Rattle.pz_entries.specs.File.{entries_of}
-use Rattle.pz_serving.specs.Serving.{sessions_in}
+use Rattle.std.proofs.lemmas.List.{length-replicate}
+use Rattle.pz_serving.specs.Serving.{AreOf, sessions_in}
 
 pub too_long : (bytes : List ℕ) → 16777217 ≤ length bytes → sessions_in bytes ≡ Err TooMany
 unfolding sessions_in
@@ -21,6 +22,13 @@ pub text_in : (bytes : List ℕ) → length bytes ≤ 16777216 → IsUtf8 bytes 
 unfolding sessions_in
 text_in bytes h good = rw (le-ltb 16777216 (length bytes) h, is_utf8-from_IsUtf8 bytes good) refl
 
-pub too_long_if : (input : Option (List ℕ)) → IfSome input (λ bytes. 16777217 ≤ length bytes) → IfSome input (λ bytes. TooMany ≢ Memory → sessions_in bytes ≡ Err TooMany)
-too_long_if None h = tt
-too_long_if (Some bytes) h = λ other. too_long bytes h
+-- some file is too long
+some_long : (n : ℕ) → 16777217 ≤ n → (bytes : List ℕ) × AreOf None bytes × (TooMany ≢ Memory → sessions_in bytes ≡ Err TooMany)
+some_long n h =
+    let long : length (replicate n 0) ≡ n = length-replicate {A = ℕ} n 0 in
+    (replicate n 0, tt, λ other. too_long (replicate n 0) (omega (arith, h, long)))
+
+-- an input is too long: where its bytes are not known, those of some file are
+pub too_long_if : (input : Option (List ℕ)) → IfSome input (λ bytes. 16777217 ≤ length bytes) → (bytes : List ℕ) × AreOf input bytes × (TooMany ≢ Memory → sessions_in bytes ≡ Err TooMany)
+too_long_if None h = some_long 16777217 (omega arith)
+too_long_if (Some bytes) h = (bytes, refl, λ other. too_long bytes h)

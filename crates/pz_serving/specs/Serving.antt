@@ -1,7 +1,11 @@
 -- From the bytes of a file of sessions to the lines of their recording and an exit status.
-use Rattle.std.specs.Prelude.{◌≡◌, ◌≢◌, ℕ, Bool, true, false, List, length, nat_lt, if◌then◌else◌, Option, IfSome, Result, Ok, Err, IsOk}
+use Rattle.std.specs.Prelude.{◌≡◌, ◌≢◌, ◌↔◌, ◌≤◌, ◌+◌, ℕ, Bool, true, false, List, length, nat_lt, if◌then◌else◌, Option, IfSome, Result, Ok, Err, IsOk}
 use Rattle.std.specs.List.{list_all, list_any}
 use Rattle.std.specs.Str.{is_utf8}
+use Rattle.std.specs.IoError.{error_kind}
+use Rattle.std.specs.declared.io.Error.{Error}
+use Rattle.std.specs.declared.io.ErrorKind.{ErrorKind}
+use Rattle.std.specs.declared.io.ErrorKind.TheVariants.{OutOfMemory}
 use Rattle.pz_entries.specs.declared.entry.Entry.{Entry}
 use Rattle.pz_entries.specs.declared.fault.FileFault.{FileFault}
 use Rattle.pz_entries.specs.declared.fault.FileFault.TheVariants as fault
@@ -20,6 +24,7 @@ use Rattle.pz_lines.specs.Writing.{Writes, EndsFor, HasWritten}
 use Rattle.pz_console.specs.declared.failure.Failure.{Failure}
 use Rattle.pz_console.specs.declared.failure.Failure.TheVariants as failure
 use Rattle.pz_console.specs.Failures.{IsReported, failure_line}
+use Rattle.pz_console.specs.Reading.{Reads}
 
 -- the entries that the bytes of a file hold, or its first fault: its length, that it is UTF-8, what it says
 unfoldable pub sessions_in : List ℕ → Result (List Entry) FileFault
@@ -53,16 +58,40 @@ pub record WritesPart (order : Order) (bytes : List ℕ) (cut : WriteFault) (old
   pub read : sessions_in bytes ≡ Ok entries
   pub ended : EndsFor cut (text_of (shown_of order entries)) old new
 
--- what a run over this input leaves in its output, where it ends so: nothing but for sessions that were read and replayed;
--- the command line and the opening of FILE come before it. A lane can be lost only where the entries of the file were read
+-- these are the bytes of the input, where its bytes are known
+abbrev pub AreOf : Option (List ℕ) → List ℕ → Type 0
+AreOf input bytes = IfSome input (λ all. bytes ≡ all)
+
+-- what a run over this input leaves in its output, where it ends so: nothing but for sessions that were read and replayed. The
+-- file's fault, the lines and whether all passed are those of one list of bytes, also where nobody knows the input's bytes before.
+-- The command line and the opening of FILE come before it. A lane can be lost only where the entries of the file were read
 abbrev pub Serves : Order → Option (List ℕ) → Writes → Writes → Result Bool Failure → Type 0
-Serves order input old new (Ok passed) = IfSome input (λ bytes. WritesAll order bytes passed old new)
-Serves order input old new (Err (failure.WriteFault cut)) = IfSome input (λ bytes. WritesPart order bytes cut old new)
-Serves order input old new (Err (failure.File cause)) = (new ≡ old) × IfSome input (λ bytes. cause ≢ fault.Memory → sessions_in bytes ≡ Err cause)
-Serves order input old new (Err failure.LaneLost) = (new ≡ old) × IfSome input (λ bytes. IsOk (sessions_in bytes))
+Serves order input old new (Ok passed) = (bytes : List ℕ) × AreOf input bytes × WritesAll order bytes passed old new
+Serves order input old new (Err (failure.WriteFault cut)) = (bytes : List ℕ) × AreOf input bytes × WritesPart order bytes cut old new
+Serves order input old new (Err (failure.File cause)) = (new ≡ old) × (bytes : List ℕ) × AreOf input bytes × (cause ≢ fault.Memory → sessions_in bytes ≡ Err cause)
+Serves order input old new (Err failure.LaneLost) = (new ≡ old) × (bytes : List ℕ) × AreOf input bytes × IsOk (sessions_in bytes)
 Serves order input old new (Err failure.BadLine) = ⊥
 Serves order input old new (Err failure.OpenFault) = ⊥
 Serves order input old new (Err other) = new ≡ old
+
+-- a run ends with a failed read exactly where a call of the reader answered an error; the calls are bounded
+pub record ReadsFor (end : Result Bool Failure) (reads : Reads) : Type 0 where
+  pub called : reads.calls ≤ MOST_BYTES + 1
+  pub failed : (end ≡ Err failure.ReadFault) ↔ (reads.has_failed ≡ true)
+
+abbrev pub is_want_of_memory : ErrorKind → Bool
+is_want_of_memory OutOfMemory = true
+is_want_of_memory _ = false
+
+-- why FILE was not opened: memory was refused, or else it can't be opened
+abbrev pub failure_at : ErrorKind → Failure
+failure_at kind = if is_want_of_memory kind then failure.Memory else failure.OpenFault
+
+-- what a run over FILE leaves in its output: where FILE was opened, what a run over its bytes leaves, and else nothing
+abbrev pub ServesOpened : Order → Result Reads Error → Result Reads Error → Writes → Writes → Result Bool Failure → Type 0
+ServesOpened order (Ok before) (Ok after) old new end = ReadsFor end after × Serves order before.remaining old new end
+ServesOpened order (Err error) (Err same) old new end = (new ≡ old) × (end ≡ Err (failure_at (error_kind error)))
+ServesOpened order before after old new end = ⊥
 
 -- 0: every session passed; 1: some didn't; 2: there is no whole recording
 abbrev pub status_of : Result Bool Failure → ℕ

@@ -1,10 +1,11 @@
 //! The serving of a file of sessions.
 
-ghost use Rattle.std.specs.Prelude.{◌≡◌, ◌≢◌, ◌≤◌, ◌+◌, ◌⊎◌, ◌↔◌, Bool, true, false, Result, Ok, Err, IfOk, IfErr, length};
+ghost use Rattle.std.specs.Prelude.{◌≡◌, ◌≢◌, ◌≤◌, ◌⊎◌, Bool, false, None, Result, Ok, Err, IfOk, IfErr, length};
+ghost use Rattle.std.specs.IoError.{error_kind};
 ghost use Rattle.pz_entries.specs.declared.fault.FileFault.TheVariants as fault;
 ghost use Rattle.pz_console.specs.declared.options.TheConstants.{MOST_WORKERS};
 ghost use Rattle.pz_console.specs.declared.failure.Failure.{Failure};
-ghost use Rattle.pz_serving.specs.Serving.{Reports, Serves, all_passed, has_passed, sessions_in, shown_of, status_of};
+ghost use Rattle.pz_serving.specs.Serving.{ReadsFor, Reports, Serves, ServesOpened, all_passed, failure_at, has_passed, sessions_in, shown_of, status_of};
 
 use pz_case::item::{Item, Verdict};
 use pz_case::recording::{Record, Recording};
@@ -24,7 +25,7 @@ use pz_replay::gate::Always;
 use pz_replay::replaying::replay;
 use pz_session::by_rules::ByRules;
 use std::alloc::Global;
-use std::io::{Read, Write};
+use std::io::{self, ErrorKind, Read, Write};
 use std::sync::Wait;
 use std::thread::Threads;
 
@@ -39,6 +40,20 @@ fn decode(alloc: Global, bytes: &[u8]) -> Result<Vec<Entry>, FileFault>
         return Err(FileFault::NotJson);
     };
     read_sessions(alloc, text)
+}
+
+/// Why there is no recording, as the program tells it.
+fn failure_of(fault: ReplayFault) -> Failure
+    requires workers { fault ≢ ReplayFault.Workers }
+    requires gate { fault ≢ ReplayFault.GateClosed }
+    ensures memory { fault ≡ ReplayFault.Memory → result ≡ Failure.Memory }
+    ensures lane { fault ≡ ReplayFault.LaneLost → result ≡ Failure.LaneLost }
+{
+    match fault {
+        ReplayFault::Memory => Failure::Memory,
+        ReplayFault::LaneLost => Failure::LaneLost,
+        ReplayFault::Workers | ReplayFault::GateClosed => unreachable!(),
+    }
 }
 
 /// What the sessions of the entries show, which the workers play.
@@ -57,9 +72,7 @@ fn record<T: Threads + Wait + Sync>(
     let job = prepare(rt, alloc, entries, settings.order, settings.workers)?;
     match replay(rt, alloc, &ByRules::new(&job), settings.workers, &Always) {
         Ok(recording) => Ok(recording),
-        Err(ReplayFault::Memory) => Err(Failure::Memory),
-        Err(ReplayFault::LaneLost) => Err(Failure::LaneLost),
-        Err(ReplayFault::Workers | ReplayFault::GateClosed) => unreachable!(),
+        Err(fault) => Err(failure_of(fault)),
     }
 }
 
@@ -90,11 +103,10 @@ fn run<T: Threads + Wait + Sync, R: Read, W: Write>(
     settings: Settings,
 ) -> Result<bool, Failure>
     requires fresh { (input.old.calls ≡ 0) × (input.old.has_failed ≡ false) }
-    requires sound { output.old.has_failed ≡ false }
+    requires sound { output.old.failure ≡ None }
     requires some { 1 ≤ settings.workers }
     requires few { settings.workers ≤ MOST_WORKERS }
-    ensures called { input.new.calls ≤ MOST_BYTES + 1 }
-    ensures failed { (result ≡ Err Failure.ReadFault) ↔ (input.new.has_failed ≡ true) }
+    ensures reads { ReadsFor result input.new }
     ensures served { Serves settings.order input.old.remaining output.old output.new result }
 {
     let bytes = match read_input(alloc, input) {
@@ -127,11 +139,10 @@ pub fn serve<T: Threads + Wait + Sync, R: Read, W: Write, E: Write>(
     settings: Settings,
 ) -> u8
     requires fresh { (input.old.calls ≡ 0) × (input.old.has_failed ≡ false) }
-    requires sound { (output.old.has_failed ≡ false) × (errors.old.has_failed ≡ false) }
+    requires sound { (output.old.failure ≡ None) × (errors.old.failure ≡ None) }
     requires some { 1 ≤ settings.workers }
     requires few { settings.workers ≤ MOST_WORKERS }
-    ensures called { input.new.calls ≤ MOST_BYTES + 1 }
-    ensures served { (end : Result Bool Failure) × (result ≡ status_of end) × ((end ≡ Err Failure.ReadFault) ↔ (input.new.has_failed ≡ true))
+    ensures served { (end : Result Bool Failure) × (result ≡ status_of end) × ReadsFor end input.new
         × Serves settings.order input.old.remaining output.old output.new end
         × Reports errors.old errors.new end }
 {
@@ -139,5 +150,39 @@ pub fn serve<T: Threads + Wait + Sync, R: Read, W: Write, E: Write>(
         Ok(true) => 0,
         Ok(false) => 1,
         Err(failure) => fail_with(failure, errors),
+    }
+}
+
+/// Why a file was not opened.
+fn failure_at(error: &io::Error) -> Failure
+    ensures { result ≡ failure_at (error_kind error.now) }
+{
+    match error.kind() {
+        ErrorKind::OutOfMemory => Failure::Memory,
+        _ => Failure::OpenFault,
+    }
+}
+
+/// Serves a file of sessions that was opened, and not read yet, as `serve` does. Where it was not opened nothing is written to the output, and
+/// one line says why: want of memory, or that it can't be opened.
+pub fn serve_opened<T: Threads + Wait + Sync, R: Read, W: Write, E: Write>(
+    rt: &T,
+    alloc: Global,
+    opened: &mut io::Result<Counted<R>>,
+    output: &mut Output<W>,
+    errors: &mut Output<E>,
+    settings: Settings,
+) -> u8
+    requires fresh { IfOk opened.old (λ file. (file.calls ≡ 0) × (file.has_failed ≡ false)) }
+    requires sound { (output.old.failure ≡ None) × (errors.old.failure ≡ None) }
+    requires some { 1 ≤ settings.workers }
+    requires few { settings.workers ≤ MOST_WORKERS }
+    ensures served { (end : Result Bool Failure) × (result ≡ status_of end)
+        × ServesOpened settings.order opened.old opened.new output.old output.new end
+        × Reports errors.old errors.new end }
+{
+    match opened {
+        Ok(file) => serve(rt, alloc, file, output, errors, settings),
+        Err(error) => fail_with(failure_at(error), errors),
     }
 }

@@ -5,7 +5,7 @@ use pz_console::options::{OptionsFault, Settings, read_options};
 use pz_lines::output::Output;
 use pz_record::order::Order;
 use pz_serving::command_line::serve_words;
-use pz_serving::serving::serve;
+use pz_serving::serving::{serve, serve_opened};
 use std::io;
 use std::io::Read;
 use std::test::Fail;
@@ -194,6 +194,53 @@ fn says_why_a_file_is_not_served(rt: HostRuntime) -> Result<(), Fail> {
         let status = serve_words(&rt, &line, &mut input, &mut output, &mut errors);
         let (output, errors) = (output.into_writer(), errors.into_writer());
         assert_eq!(rt; input.into_reader().calls, 0);
+        assert!(rt;
+            (status, output.as_slice(), errors.as_slice()) == (2, b"".as_slice(), said.as_bytes())
+        );
+    }
+    Ok(())
+}
+
+#[test]
+fn serves_a_file_that_was_opened(rt: HostRuntime) -> Result<(), Fail> {
+    let mut opened = Ok(Counted::new(reader_of(REFUSED.as_bytes(), usize::MAX)));
+    let mut output = Output::new(Vec::new(rt.alloc()));
+    let mut errors = Output::new(Vec::new(rt.alloc()));
+    let status = serve_opened(
+        &rt,
+        rt.alloc(),
+        &mut opened,
+        &mut output,
+        &mut errors,
+        BY_ONE,
+    );
+    let (output, errors) = (output.into_writer(), errors.into_writer());
+    assert!(rt;
+        (status, output.as_slice(), errors.as_slice()) == (1, CLOSE.as_bytes(), b"".as_slice())
+    );
+    assert!(rt; opened.is_ok_and(|file| file.into_reader().calls == REFUSED.len() + 1));
+    Ok(())
+}
+
+#[test]
+fn says_why_a_file_was_not_opened(rt: HostRuntime) -> Result<(), Fail> {
+    for (kind, said) in [
+        (io::ErrorKind::OutOfMemory, "memory\n"),
+        (io::ErrorKind::NotFound, "open-fault\n"),
+        (io::ErrorKind::PermissionDenied, "open-fault\n"),
+    ] {
+        let mut opened: io::Result<Counted<Endless>> = Err(io::Error::from(kind));
+        let mut output = Output::new(Vec::new(rt.alloc()));
+        let mut errors = Output::new(Vec::new(rt.alloc()));
+        let status = serve_opened(
+            &rt,
+            rt.alloc(),
+            &mut opened,
+            &mut output,
+            &mut errors,
+            BY_ONE,
+        );
+        let (output, errors) = (output.into_writer(), errors.into_writer());
         assert!(rt;
             (status, output.as_slice(), errors.as_slice()) == (2, b"".as_slice(), said.as_bytes())
         );

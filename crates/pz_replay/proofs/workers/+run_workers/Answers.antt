@@ -2,7 +2,8 @@ use Rattle.std.proofs.Common.{map, ap, ◌∙◌, ◌-◌, refl, sym, Err}
 use Rattle.pz_case.specs.Playing.{sessions_of}
 use Rattle.pz_replay.specs.Recorded.{lane_of}
 use Rattle.pz_replay.specs.declared.fault.ReplayFault.TheVariants.{Memory}
-use Rattle.pz_replay.proofs.Joining.{lanes_left, last_ended, last_lane, made_of, moved_maker, moved_worked, none_left, not_closed, not_workers, one_fewer, one_there, opens, others_ended, recorded_as, settles, some_left, still_open, taken_off, unopened}
+use Rattle.pz_replay.proofs.Gating.{kept_by, moved_passed, moved_stop, settled_passed, settled_stop}
+use Rattle.pz_replay.proofs.Joining.{lanes_left, last_ended, last_lane, made_of, moved_maker, moved_worked, none_left, not_closed, not_workers, one_fewer, one_there, opens, others_ended, recorded_as, settles, some_left, taken_off, unopened}
 use Rattle.pz_replay.proofs.workers.+run_workers.Goals as goal
 
 -- Each goal is answered, since a search reads all that is known in so long a function.
@@ -22,8 +23,11 @@ returns-then-left-eq0-clause-whole g t c = none_left g.P.Playable.items_of (g.P.
 pub returns-then-left-eq0-clause-workers : goal.returns-then-left-eq0-clause-workers
 returns-then-left-eq0-clause-workers g t c = not_workers c.gather.result c.gather.ensures.fault
 
-pub returns-then-left-eq0-clause-opened : goal.returns-then-left-eq0-clause-opened
-returns-then-left-eq0-clause-opened g t c = λ _. not_closed c.gather.result c.gather.ensures.fault
+pub returns-then-left-eq0-clause-passed : goal.returns-then-left-eq0-clause-passed
+returns-then-left-eq0-clause-passed g t c = kept_by (g.G.Gate.may_pass c.args.shared.now.gate.now) (sessions_of g.P.Playable.items_of (g.P.Playable.job c.args.shared.now.played.now)) c.args.maker c.gather.new.inboxes.items c.args.sessions c.gather.result c.gather.ensures.done
+
+pub returns-then-left-eq0-clause-closed : goal.returns-then-left-eq0-clause-closed
+returns-then-left-eq0-clause-closed g t c = λ is. absurd (not_closed c.gather.result c.gather.ensures.fault is)
 
 pub open_lane-requires : goal.open_lane-requires
 open_lane-requires g t c = c.requires.capacity
@@ -45,8 +49,11 @@ returns-in_default-clause-whole g t c = tt
 pub returns-in_default-clause-workers : goal.returns-in_default-clause-workers
 returns-in_default-clause-workers g t c = not_workers (Err Memory) refl
 
-pub returns-in_default-clause-opened : goal.returns-in_default-clause-opened
-returns-in_default-clause-opened g t c = λ _. not_closed (Err Memory) refl
+pub returns-in_default-clause-passed : goal.returns-in_default-clause-passed
+returns-in_default-clause-passed g t c = λ _. tt
+
+pub returns-in_default-clause-closed : goal.returns-in_default-clause-closed
+returns-in_default-clause-closed g t c = λ is. absurd (not_closed (Err Memory) refl is)
 
 pub split-maker-requires-clause-table : goal.split-maker-requires-clause-table
 split-maker-requires-clause-table g t c = c.requires.maker.0
@@ -80,8 +87,11 @@ returns-in_default-start-clause-whole g t c = tt
 pub returns-in_default-start-clause-workers : goal.returns-in_default-start-clause-workers
 returns-in_default-start-clause-workers g t c = not_workers (Err Memory) refl
 
-pub returns-in_default-start-clause-opened : goal.returns-in_default-start-clause-opened
-returns-in_default-start-clause-opened g t c = λ _. not_closed (Err Memory) refl
+pub returns-in_default-start-clause-passed : goal.returns-in_default-start-clause-passed
+returns-in_default-start-clause-passed g t c = λ _. tt
+
+pub returns-in_default-start-clause-closed : goal.returns-in_default-start-clause-closed
+returns-in_default-start-clause-closed g t c = λ is. absurd (not_closed (Err Memory) refl is)
 
 pub overflow_sub-left : goal.overflow_sub-left
 overflow_sub-left g t c = some_left c.args.left c.if-left-eq0.false
@@ -132,7 +142,15 @@ returns-clause-whole g t c =
 pub returns-clause-workers : goal.returns-clause-workers
 returns-clause-workers g t c = λ is. c.run_workers-below.ensures.workers (c.settle.ensures.workers is)
 
-pub returns-clause-opened : goal.returns-clause-opened
-returns-clause-opened g t c =
+pub returns-clause-passed : goal.returns-clause-passed
+returns-clause-passed g t c =
     let promise = c.in-Some-start.worker.promise in
-    still_open g.G.Gate.lets_all_pass promise.gate.now c.args.shared.now.gate.now c.join-worked.result c.run_workers-below.result c.settle.result c.in-Some-start.ensures.2 c.join-worked.ensures.1 c.run_workers-below.ensures.opened c.settle.ensures.opened
+    let mine = moved_passed g.G.Gate.may_pass (λ played. sessions_of g.P.Playable.items_of (g.P.Playable.job played)) promise.gate.now c.args.shared.now.gate.now promise.played.now c.args.shared.now.played.now c.join-worked.result c.in-Some-start.ensures.2 c.in-Some-start.ensures.1 c.join-worked.ensures.1 in
+    settled_passed (g.G.Gate.may_pass c.args.shared.now.gate.now) (sessions_of g.P.Playable.items_of (g.P.Playable.job c.args.shared.now.played.now)) c.split-maker.result.0 c.args.maker c.join-worked.result c.run_workers-below.result c.settle.result
+    (ap (λ made. made.numbers) c.split-maker.ensures.maker) c.run_workers-below.ensures.passed c.settle.ensures.joined c.settle.ensures.below mine
+
+pub returns-clause-closed : goal.returns-clause-closed
+returns-clause-closed g t c =
+    let promise = c.in-Some-start.worker.promise in
+    let stopped = moved_stop g.G.Gate.may_stop (λ played. sessions_of g.P.Playable.items_of (g.P.Playable.job played)) promise.gate.now c.args.shared.now.gate.now promise.played.now c.args.shared.now.played.now c.in-Some-start.ensures.2 c.in-Some-start.ensures.1 in
+    settled_stop (g.G.Gate.may_stop c.args.shared.now.gate.now) (sessions_of g.P.Playable.items_of (g.P.Playable.job c.args.shared.now.played.now)) c.join-worked.result c.run_workers-below.result c.settle.result (λ is. stopped (c.join-worked.ensures.2 is)) c.run_workers-below.ensures.closed c.settle.ensures.closed
