@@ -1,4 +1,4 @@
-"""tools/costs: on a crate of two functions, whose files tell when each part was checked."""
+"""dev/costs: on a crate of two functions, whose files tell when each part was checked."""
 import os
 import unittest
 

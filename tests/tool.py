@@ -6,7 +6,7 @@ import tempfile
 import unittest
 from pathlib import Path
 
-TOP = Path(__file__).resolve().parent.parent.parent
+TOP = Path(__file__).resolve().parent.parent
 CASES = TOP / "conformance" / "cases"
 
 
@@ -57,10 +57,10 @@ class OnSmallCrates(InARoom):
         self.write("HANDLES", "Handles allowed: none.\n")
         for line in crates.splitlines():
             self.write(f"crates/{line.partition(':')[0]}/src/lib.rt", CRATE)
-        self.tool = self.room / "tools" / name
+        self.tool = self.room / "dev" / name
         self.tool.parent.mkdir()
         for file in (name, "crates.py"):
-            shutil.copy(TOP / "tools" / file, self.tool.parent)
+            shutil.copy(TOP / "dev" / file, self.tool.parent)
 
     def write(self, path, text):
         file = self.room / path

@@ -1,4 +1,4 @@
-"""tools/attack: on a repository of one crate with a wrong body on either shelf, one of which can't be made."""
+"""dev/attack: on a repository of one crate with a wrong body on either shelf, one of which can't be made."""
 import unittest
 
 from tool import CRATE, OnSmallCrates, run

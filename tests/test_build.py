@@ -1,4 +1,4 @@
-"""tools/build: on a repository of a program and the library that it stands on."""
+"""dev/build: on a repository of a program and the library that it stands on."""
 import subprocess
 import unittest
 

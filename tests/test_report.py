@@ -1,4 +1,4 @@
-"""tools/report: the page is read back, and its levels are those of the lines. tools/tests-browser looks at it in a browser."""
+"""tools/report: the page is read back, and its levels are those of the lines. dev/tests-browser looks at it in a browser."""
 import base64
 import hashlib
 import json
