@@ -1,4 +1,4 @@
-"""tools/explain: on the example, whose lines are played by hand, and on cases of conformance/."""
+"""`saxtegun explain`: on the example, whose lines are played by hand, and on cases of conformance/."""
 import json
 import unittest
 

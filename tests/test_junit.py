@@ -1,4 +1,4 @@
-"""tools/junit: read back by a reader of XML."""
+"""`saxtegun junit`: read back by a reader of XML."""
 import unittest
 from xml.etree import ElementTree
 
@@ -14,7 +14,7 @@ class JUnit(OnSessions):
         return ElementTree.fromstring(answer.out)[0]
 
     def test_the_example_has_a_failure_with_the_words_of_explain(self):
-        suite = self.suite(self.lines, EXAMPLE)
+        suite = self.suite(EXAMPLE, self.lines)
         self.assertEqual(suite.attrib, {"name": "block-pushing.json", "tests": "5", "failures": "1", "errors": "0", "skipped": "0"})
         self.assertEqual([len(it) for it in suite], [0, 0, 0, 0, 1])
         self.assertEqual((suite[4].get("name"), suite[4][0].tag, suite[4][0].get("type")), ("a recording that has gone stale", "failure", "differs"))
@@ -33,13 +33,13 @@ class JUnit(OnSessions):
 
     def test_cases_of_one_name_are_told_apart(self):
         sessions, lines = cases_in_rows()
-        suite = self.suite(self.write("lines", lines), self.write("sessions.json", sessions), "--order", "rows")
+        suite = self.suite(self.write("sessions.json", sessions), self.write("lines", lines), "--order", "rows")
         names = [it.get("name") for it in suite]
         self.assertEqual((len(set(names)), len(names)), (len(names), int(suite.get("tests"))))
 
     def test_no_name_breaks_the_file(self):
         sessions, lines = sessions_and_lines(NAMES, LETTERS)
-        suite = self.suite(self.write("lines", lines), self.write("sessions.json", sessions))
+        suite = self.suite(self.write("sessions.json", sessions), self.write("lines", lines))
         names = [it.get("name") for it in suite][::2]
         self.assertEqual(names[:4], list(NAMES[:4]))
         self.assertIn("\\u{0}\\u{1}\x7f\\u{fffe}\\u{ffff}\ufeff", names[4])

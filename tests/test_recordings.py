@@ -1,4 +1,4 @@
-"""tools/with-source and tools/accept: an edited game under old recordings, and what it reaches as the new ones."""
+"""`saxtegun source` and `saxtegun accept`: an edited game under old recordings, and what it reaches as the new ones."""
 import json
 import os
 import subprocess
@@ -20,22 +20,28 @@ class WithSource(OnSessions):
         self.game = self.write("game.txt", 'title "B" \u00e4\r\n')
 
     def test_only_the_source_is_another(self):
-        answer = run("with-source", self.game, self.write("odd.json", ODD))
+        answer = run("source", self.game, self.write("odd.json", ODD))
         new = '"title \\"B\\" \u00e4\\r\\n"'
         self.assertEqual((answer.status, answer.out), (0, ODD.replace('"one"', new).replace('"two"', new)))
         self.assertIn("2 sessions got another source, of 2", answer.errors)
         self.assertIn("2 different sources", answer.errors)
 
     def test_with_only_names_the_others_stay(self):
-        answer = run("with-source", self.game, self.write("odd.json", ODD), "--only", "b")
+        answer = run("source", self.game, self.write("odd.json", ODD), "--only", "b")
         self.assertEqual((answer.status, answer.out), (0, ODD.replace('"two"', '"title \\"B\\" \u00e4\\r\\n"')))
 
     def test_a_name_that_is_not_there_is_refused(self):
-        self.assert_refused(run("with-source", self.game, self.write("odd.json", ODD), "--only", "b", "c"), "has no session named 'c'")
+        self.assert_refused(run("source", self.game, self.write("odd.json", ODD), "--only", "b", "--only", "c"), "has no session named 'c'")
+
+    def test_sessions_of_several_games_do_not_get_one_source(self):
+        entries = [["one", ["title One\n", [], ""]], ["two", ["title Two\n", [], ""]]]
+        sessions = self.write("games.json", json.dumps(entries))
+        self.assert_refused(run("source", self.game, sessions), "the sessions are of 2 games")
+        self.assertIn("2 sessions got another source", run("source", self.game, sessions, "--all").errors)
 
     def test_a_game_that_is_not_utf_8_is_refused_with_its_line(self):
         self.game.write_bytes(b"title A\nOBJECTS \xff\n")
-        self.assert_refused(run("with-source", self.game, EXAMPLE), "game.txt, line 2: byte 8 of it is not UTF-8")
+        self.assert_refused(run("source", self.game, EXAMPLE), "game.txt, line 2: byte 8 of it is not UTF-8")
 
 
 class Accept(OnSessions):
@@ -69,6 +75,27 @@ class Accept(OnSessions):
     def test_lines_of_other_recordings_are_refused(self):
         accepted = self.write("accepted.json", run("accept", EXAMPLE, self.lines).out)
         self.assert_refused(run("accept", accepted, self.lines), "session 4 is closed as differs, and its last level says otherwise")
+        self.assert_refused(run("explain", accepted, self.lines), "session 4 is closed as differs, and its last level says otherwise")
+
+    def test_in_place_the_file_is_replaced(self):
+        sessions = self.write("sessions.json", EXAMPLE.read_text(encoding="utf-8"))
+        answer = run("accept", sessions, self.lines, "--in-place", "--only", "a recording*")
+        self.assertEqual((answer.status, answer.out), (0, ""))
+        self.assertEqual(sessions.read_text(encoding="utf-8"), run("accept", EXAMPLE, self.lines).out)
+        self.assertEqual(sorted(it.name for it in self.room.iterdir()), ["example.lines", "sessions.json"])
+
+    def test_lines_of_the_other_order_are_not_accepted(self):
+        sessions, lines = case("a-column-text-differs-with-order-rows")
+        answer = run("accept", sessions, lines, "--order", "rows", "--only", "a")
+        self.assertEqual((answer.status, answer.out), (1, sessions.read_text(encoding="utf-8")))
+        self.assertIn("in the other order than rows: play it in the order that it was recorded in", answer.errors)
+
+    def test_one_after_the_other_is_shown_and_asked(self):
+        for answers, changed in (("y\n", 1), ("n\n", 0), ("\nwhat\na\n", 1), ("q\n", 0), ("", 0)):
+            ran = subprocess.run([sys.executable, TOP / "saxtegun", "accept", EXAMPLE, self.lines, "--review"], input=answers.encode(), stdout=subprocess.PIPE, stderr=subprocess.PIPE)
+            self.assertEqual(ran.returncode, 0)
+            self.assertIn("    reached    recorded\n", ran.stderr.decode())
+            self.assertIn(f"{changed} of 5 recorded levels changed", ran.stderr.decode())
 
     def test_a_level_that_can_not_be_read_back_is_not_accepted(self):
         sessions = self.write("sessions.json", '[["comma", ["", [], "a:0,"]]]')
@@ -80,9 +107,9 @@ class Accept(OnSessions):
 
     def test_no_tool_writes_over_what_it_reads(self):
         sessions = self.write("sessions.json", EXAMPLE.read_text(encoding="utf-8"))
-        for words in (["with-source", self.lines, sessions], *([tool, sessions, self.lines] for tool in ("accept", "explain", "report", "junit"))):
+        for words in (["source", self.lines, sessions], *([verb, sessions, self.lines] for verb in ("accept", "explain", "report", "junit"))):
             with self.subTest(words[0]), open(sessions, "ab") as output:
-                ran = subprocess.run([sys.executable, TOP / "tools" / words[0], *words[1:]], stdout=output, stderr=subprocess.PIPE)
+                ran = subprocess.run([sys.executable, TOP / "saxtegun", *words], stdout=output, stderr=subprocess.PIPE)
                 self.assertEqual((ran.returncode, b"which is read" in ran.stderr), (2, True))
         self.assertEqual(sessions.read_bytes(), EXAMPLE.read_bytes())
 
@@ -98,7 +125,7 @@ class Day(OnSessions):
     def test_a_broken_recording_passes_again_once_it_is_accepted(self):
         self.assertEqual(self.play(EXAMPLE)[1].read_text(), self.lines.read_text())
         game = self.write("game.txt", json.loads(EXAMPLE.read_text(encoding="utf-8"))[0][1][0].replace(PUSHED, PULLED))
-        edited = self.write("edited.json", run("with-source", game, EXAMPLE).out)
+        edited = self.write("edited.json", run("source", game, EXAMPLE).out)
         status, lines = self.play(edited)
         self.assertEqual(status, 1)
         self.assertIn("session 0, both levels solved: differs", run("explain", edited, lines).out)

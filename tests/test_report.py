@@ -1,7 +1,8 @@
-"""tools/report: the page is read back, and its levels are those of the lines. dev/tests-browser looks at it in a browser."""
+"""`saxtegun report`: the page is read back, and its levels are those of the lines. dev/tests-browser looks at it in a browser."""
 import base64
 import hashlib
 import json
+import os
 import re
 import unittest
 from html.parser import HTMLParser
@@ -10,7 +11,7 @@ from day import EXAMPLE, OnSessions, case, cases_in_rows
 from strangers import LETTERS, NAMES, sessions_and_lines
 from tool import TOP, run
 
-PAGE = (TOP / "tools/report_page/page.html").read_text(encoding="utf-8")
+PAGE = (TOP / "python/saxtegun/page/page.html").read_text(encoding="utf-8")
 
 
 class Reader(HTMLParser):
@@ -140,21 +141,21 @@ class Report(OnSessions):
         self.assertTrue(page.policy.startswith("default-src 'none'; "))
 
     def test_the_script_makes_no_elements_of_texts(self):
-        script = (TOP / "tools/report_page/page.js").read_text(encoding="utf-8")
+        script = (TOP / "python/saxtegun/page/page.js").read_text(encoding="utf-8")
         self.assertIsNone(re.search(r"innerHTML|outerHTML|insertAdjacent|document\.write|eval|Function\(|setAttribute\(.on|fetch|XMLHttp|import", script))
 
     def test_without_lines_the_sessions_are_played(self):
-        tools = self.room / "tools"
-        tools.mkdir()
-        for file in (TOP / "tools").iterdir():
-            if file.name == "report" or file.suffix == ".py":
-                (tools / file.name).write_bytes(file.read_bytes())
-        (tools / "report_page").symlink_to(TOP / "tools/report_page")
-        replay = self.write("replay", f'#!/bin/sh\n[ "$*" = "--order columns {EXAMPLE}" ] || exit 2\ncat {self.lines}\nexit 1\n')
-        replay.chmod(0o755)
-        played = run(tools / "report", EXAMPLE)
-        self.assertEqual((played.status, played.out), (0, run("report", EXAMPLE, self.lines).out))
-        self.assertIn("ended with status 2", run(tools / "report", EXAMPLE, "--order", "rows").errors)
+        played = self.write("program", f'#!/bin/sh\n[ "$1 $2" = "--order columns" ] || {{ echo "open-fault" >&2; exit 2; }}\ncat {self.lines}\nexit 1\n')
+        played.chmod(0o755)
+        os.environ["SAXTEGUN_PROGRAM"], before = str(played), os.environ.get("SAXTEGUN_PROGRAM")
+        try:
+            answer, refused = run("report", EXAMPLE), run("report", EXAMPLE, "--order", "rows")
+        finally:
+            os.environ.pop("SAXTEGUN_PROGRAM")
+            if before is not None:
+                os.environ["SAXTEGUN_PROGRAM"] = before
+        self.assertEqual((answer.status, answer.out), (0, run("report", EXAMPLE, self.lines).out))
+        self.assert_refused(refused, "block-pushing.json was not played: it can't be opened (open-fault)")
 
 
 if __name__ == "__main__":

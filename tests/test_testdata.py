@@ -1,10 +1,10 @@
-"""tools/from-testdata: each form of the published test data is read as JavaScript reads it, or refused with its line."""
+"""`saxtegun testdata`: each form of the published test data is read as JavaScript reads it, or refused with its line."""
 import json
-import tempfile
 import unittest
-from pathlib import Path
 
-from tool import run
+from tool import InARoom, run  # puts the package on the path
+from saxtegun.commands import Refused
+from saxtegun.javascript import list_of
 
 READ = {
     "an empty list": ("[]", []),
@@ -36,26 +36,67 @@ REFUSED = {
 }
 
 
-class TestData(unittest.TestCase):
-    def read(self, text):
-        with tempfile.TemporaryDirectory() as room:
-            file = Path(room) / "testdata.js"
-            file.write_bytes(text.encode())
-            return run("from-testdata", file)
+ENTRY = '["My Game", ["title..\\nx", [0, 3], "..", 0, "1614"]]'
+VALUE = ["My Game", ["title..\nx", [0, 3], "..", 0, "1614"]]
+PRINTED = {
+    "one": f" {ENTRY},\n",
+    "a list": f"[{ENTRY}]",
+    "test data": f"var testdata = [\n\t{ENTRY},\n];\n",
+    "one behind the other": f"{ENTRY}\n{ENTRY}\n",
+    "commas between": f"{ENTRY},\n{ENTRY},",
+    "a mark of byte order": f"\ufeff{ENTRY}\r\n",
+}
+NO_ENTRIES = {
+    "a number in a list": ("[\n1]", "line 1: no entry: "),
+    "one of two": (f"[{ENTRY},\n[1]]", "line 2: no entry: "),
+    "an input that is none": ('["a",["",[5],""]]', "line 1: no entry: its input 0 is neither"),
+    "something behind": (f"{ENTRY}\nundefined", "line 2: no entry, where one or the end is wanted"),
+    "a letter beyond the last": (r'[["\u{110000}",["",[],""]]]', "line 1: a letter of number 110000"),
+    "many brackets": ("[" * 5000, "line 1: lists in one another"),
+    "two lists": ("[[]]\n[[]]", "line 1: no entry: "),
+}
 
+
+class JavaScript(unittest.TestCase):
     def test_each_form_is_read(self):
         for name, (text, entries) in READ.items():
             with self.subTest(name):
-                answer = self.read(text)
-                self.assertEqual((answer.status, answer.errors), (0, f"from-testdata: {len(entries)} entries\n"))
-                self.assertEqual(json.loads(answer.out), entries)
+                self.assertEqual(json.loads("[" + ",".join(it.json for it in list_of(text)) + "]"), entries)
 
     def test_each_other_form_is_refused_with_its_line(self):
         for name, (text, why) in REFUSED.items():
+            with self.subTest(name), self.assertRaises(Refused) as refused:
+                list_of(text)
+            self.assertIn(why, str(refused.exception))
+
+
+class TestData(InARoom):
+    def read(self, text):
+        file = self.room / "testdata.js"
+        file.write_bytes(text.encode())
+        return run("testdata", file)
+
+    def test_what_a_console_prints_is_read_as_entries(self):
+        for name, text in PRINTED.items():
             with self.subTest(name):
                 answer = self.read(text)
-                self.assertEqual((answer.status, answer.out), (2, ""))
+                entries = [VALUE] * text.count("My Game")
+                told = "1 entry" if len(entries) == 1 else "2 entries"
+                self.assertEqual((answer.status, json.loads(answer.out), answer.errors), (0, entries, f"testdata: {told}\n"))
+
+    def test_what_is_no_entry_is_refused_whole(self):
+        for name, (text, why) in NO_ENTRIES.items():
+            with self.subTest(name):
+                answer = self.read(text)
+                self.assertEqual((answer.status, answer.out, answer.errors.count("\n")), (2, "", 1))
                 self.assertIn(why, answer.errors)
+
+    def test_what_can_not_be_read_is_told_in_a_line(self):
+        (self.room / "latin").write_bytes(b"['\xe4']")
+        for words in ((self.room / "nothing",), (self.room,), (self.room / "latin",), ("-",), ()):
+            answer = run("testdata", *words)
+            self.assertEqual((answer.status, answer.out, answer.errors.count("\n")), (2, "", 1))
+        self.assertEqual(run("testdata", "--help").status, 0)
 
 
 if __name__ == "__main__":

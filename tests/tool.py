@@ -7,6 +7,7 @@ import unittest
 from pathlib import Path
 
 TOP = Path(__file__).resolve().parent.parent
+sys.path.insert(0, str(TOP / "python"))
 CASES = TOP / "conformance" / "cases"
 
 
@@ -18,9 +19,9 @@ class Answer:
 
 
 def run(tool, *words):
-    """Runs the tool of this repository, or the one at a path, with these words."""
-    path = tool if isinstance(tool, Path) else TOP / "tools" / tool
-    return Answer(subprocess.run([sys.executable, path, *map(str, words)], stdout=subprocess.PIPE, stderr=subprocess.PIPE))
+    """Runs a verb of `./saxtegun`, or the tool at a path, with these words."""
+    command = [tool] if isinstance(tool, Path) else [TOP / "saxtegun", tool]
+    return Answer(subprocess.run([sys.executable, *command, *map(str, words)], stdout=subprocess.PIPE, stderr=subprocess.PIPE, stdin=subprocess.DEVNULL))
 
 
 # A crate of one function, which is proved.

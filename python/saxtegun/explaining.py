@@ -1,10 +1,15 @@
 """What the program's lines say of a session, in words."""
+from __future__ import annotations
+
 from collections import Counter
 from functools import lru_cache
+from typing import Iterable, List, Optional, Tuple
 
-from commands import plural, printable
-from games import Game
-from levels import Labels, differing, in_rows, position, read_cells, width_of
+from saxtegun.commands import plural, printable
+from saxtegun.games import Game
+from saxtegun.lines import Run
+from saxtegun.sessions import Entry
+from saxtegun.levels import Labels, differing, in_rows, position, read_cells, width_of
 
 # How many cells that differ are told.
 CELLS_TOLD = 8
@@ -43,18 +48,18 @@ UNREADABLE = "the level that was reached can't be read back, since a name of an 
 
 
 @lru_cache(maxsize=64)
-def game_of(source):
+def game_of(source: str) -> Game:
     """How a game looks. The sessions of a suite share few sources."""
     return Game(source)
 
 
-def fault_in(cause):
+def fault_in(cause: str) -> Optional[Tuple[str, int]]:
     """The fault of a source and its line that a cause names, or None."""
     code, colon, line = cause.partition(":")
     return (code, int(line)) if colon and line.isascii() and line.isdecimal() and len(line) < 10 else None
 
 
-def cause_told(cause):
+def cause_told(cause: str) -> str:
     """A cause as a sentence without its end."""
     fault = fault_in(cause)
     if fault is None or fault[0] not in FAULTS:
@@ -65,38 +70,40 @@ def cause_told(cause):
     return FAULTS[code].format(line=f"line {number}")
 
 
-def source_line(source, number):
+def source_line(source: str, number: int) -> Optional[str]:
     """A line of a source by its number, or None."""
     lines = source.split("\n")
     return lines[number - 1].rstrip("\r") if 1 <= number <= len(lines) else None
 
 
-def cell_told(names):
-    return " ".join(names) if names else "nothing"
+def cell_told(names: Iterable[str]) -> str:
+    return " ".join(names) or "nothing"
 
 
 class Ending:
     """The level that a session reached beside the recorded one. `reached` and `recorded` are their cells by labels, or None where a
     text is no level text; `cells` are the numbers of those that differ, where both levels have equally many."""
 
-    def __init__(self, entry, run, labels=None):
+    def __init__(self, entry: Entry, run: Run, labels: Optional[Labels] = None) -> None:
         self.labels = labels or Labels()
         text = run.frames[-1].level
         self.reached, self.recorded = read_cells(text, self.labels), read_cells(entry.level, self.labels)
         self.width = width_of(text, len(self.reached or []))
-        self.is_comparable = self.reached is not None and self.recorded is not None and len(self.reached) == len(self.recorded)
-        self.cells = differing(self.reached, self.recorded) if self.is_comparable else []
+        self.is_comparable, self.cells = False, []
+        if self.reached is not None and self.recorded is not None and len(self.reached) == len(self.recorded):
+            self.is_comparable, self.cells = True, differing(self.reached, self.recorded)
 
-    def names(self, label):
+    def names(self, label: int) -> Tuple[str, ...]:
         return self.labels.names[label]
 
-    def is_turned(self, order):
+    def is_turned(self, order: str) -> bool:
         """Whether the recorded level is the reached one in the other order of cells."""
+        assert self.reached is not None
         step = self.width if order == "rows" else len(self.reached) // self.width
         return bool(self.cells) and self.recorded == [label for first in range(step) for label in self.reached[first::step]]
 
 
-def ending_told(ending, order):
+def ending_told(ending: Ending, order: str) -> str:
     """What differs at the end, in a sentence without its end."""
     if ending.reached is None:
         return UNREADABLE
@@ -110,9 +117,11 @@ def ending_told(ending, order):
     return f"{len(ending.cells)} of {plural(len(ending.reached), 'cell')} ({columns} wide, {rows} high) {differ} from the recorded level{turned}"
 
 
-def cells_told(ending, order):
+def cells_told(ending: Ending, order: str) -> List[str]:
     """The first cells that differ, a line each. Columns and rows are counted from 1."""
-    lines = []
+    lines: List[str] = []
+    if ending.reached is None or ending.recorded is None:
+        return lines
     for number in ending.cells[:CELLS_TOLD]:
         column, row = position(order, ending.width, len(ending.reached), number)
         reached, recorded = (cell_told(ending.names(it[number])) for it in (ending.reached, ending.recorded))
@@ -121,19 +130,20 @@ def cells_told(ending, order):
     return [*lines, f"and {plural(more, 'more cell')}"] if more > 0 else lines
 
 
-def drawings(ending, game, order):
+def drawings(ending: Ending, game: Game, order: str) -> List[str]:
     """The two levels by the game's own letters, side by side, where each cell has one."""
     drawn = []
-    for cells in (ending.reached, ending.recorded):
+    for cells in (ending.reached or [], ending.recorded or []):
         rows = in_rows(order, ending.width, cells)
-        drawn.append(game.drawing([[ending.names(label) for label in row] for row in rows]))
-    if None in drawn:
-        return []
+        letters = game.drawing([[ending.names(label) for label in row] for row in rows])
+        if letters is None:
+            return []
+        drawn.append(letters)
     room = max(ending.width, len("reached")) + 4
     return ["reached".ljust(room) + "recorded", *(one.ljust(room) + other for one, other in zip(*drawn))]
 
 
-def told(run, entry=None, order="columns"):
+def told(run: Run, entry: Optional[Entry] = None, order: str = "columns") -> Tuple[str, List[str]]:
     """What a session that did not pass came to: a sentence, and lines below it. Without its entry only what its lines say."""
     if run.cause is not None:
         fault = fault_in(run.cause)
@@ -151,7 +161,7 @@ def told(run, entry=None, order="columns"):
     return f"{plural(len(run.frames), 'frame')}, {plural(len(entry.inputs), 'input')}; {ending_told(ending, order)}", below
 
 
-def summary(closes):
+def summary(closes: Iterable[str]) -> str:
     """How many sessions closed in which way."""
     counts = Counter(closes)
     words = {"differs": "differs" if counts["differs"] == 1 else "differ"}
@@ -159,5 +169,5 @@ def summary(closes):
     return f"{plural(sum(counts.values()), 'session')}: {', '.join(parts)}"
 
 
-def heading(run):
+def heading(run: Run) -> str:
     return printable(f"session {run.number}, {run.name}: {run.close}")

@@ -1,8 +1,10 @@
 """A game's source cut into lines without comments, each with its section, as docs/language.md has it."""
-import re
-from collections import namedtuple
+from __future__ import annotations
 
-from commands import fold
+import re
+from typing import List, NamedTuple, Optional, Tuple
+
+from saxtegun.commands import fold
 
 # What Unicode calls white space; Python's own idea of it has four letters more.
 WHITE = "\t-\r \x85\xa0\u1680\u2000-\u200a\u2028\u2029\u202f\u205f\u3000"
@@ -13,25 +15,31 @@ HEADINGS = ("objects", "legend", "sounds", "collisionlayers", "rules", "wincondi
 # So many letters tell a word from all keywords that end the reading of comments, and are kept of it.
 WORD_KEPT = 10
 
-Line = namedtuple("Line", "number section text")
+
+class Line(NamedTuple):
+    """A line of a source without its comments."""
+
+    number: int
+    section: str
+    text: str
 
 
-def trimmed(text):
+def trimmed(text: str) -> str:
     return ENDS.sub("", text)
 
 
-def words_of(text):
+def words_of(text: str) -> List[str]:
     return WORD.findall(text)
 
 
-def ends_word(section, is_first, word, letter):
+def ends_word(section: str, is_first: bool, word: str, letter: str) -> bool:
     """Whether a letter ends the word before it: white space, and in RULES what stands by itself."""
     if SPACE.match(letter):
         return True
-    return section == "rules" and (letter in "[]|" or (letter == ">" and word.endswith("-")) or (is_first and not word and letter == "+"))
+    return section == "rules" and bool(letter in "[]|" or (letter == ">" and word.endswith("-")) or (is_first and not word and letter == "+"))
 
 
-def is_plain_from(section, is_first, word, letter):
+def is_plain_from(section: str, is_first: bool, word: str, letter: str) -> bool:
     """Whether the rest of the line is plain text from this letter on."""
     if section == "prelude":
         return not SPACE.match(letter)
@@ -42,11 +50,12 @@ def is_plain_from(section, is_first, word, letter):
     return False
 
 
-def without_comments(section, depth, line):
+def without_comments(section: str, depth: int, line: str) -> Tuple[str, int]:
     """A line without its comments, and how many brackets are open behind it, where so many are before it."""
     if depth == 0 and "(" not in line:
         return line, 0
-    left, word, is_first = [], "", True
+    left: List[str] = []
+    word, is_first = "", True
     for at, letter in enumerate(line):
         if depth:
             depth += (letter == "(") - (letter == ")")
@@ -62,16 +71,17 @@ def without_comments(section, depth, line):
     return "".join(left), depth
 
 
-def heading_in(section, text):
+def heading_in(section: str, text: str) -> Optional[str]:
     """The section that a line begins, or None."""
     if section == "prelude" and fold(text[:7]) == "objects" and (len(text) == 7 or SPACE.match(text[7])):
         return "objects"
     return fold(text) if fold(text) in HEADINGS else None
 
 
-def lines_of(source):
+def lines_of(source: str) -> List[Line]:
     """The lines of a source that are not left out, without headings."""
-    lines, section, depth = [], "prelude", 0
+    lines: List[Line] = []
+    section, depth = "prelude", 0
     for number, raw in enumerate(source.split("\n"), 1):
         line, before = trimmed(raw), depth
         left, depth = without_comments(section, depth, line)
