@@ -1,0 +1,50 @@
+"""One command with many verbs: finds the verb, reads its words, and ends with its status."""
+from __future__ import annotations
+
+import importlib
+import sys
+
+from saxtegun.commands import fail, parser, serve
+
+VERBS = {
+    "explain": "tells in words which sessions did not pass, and why",
+    "report": "writes a page that shows each session frame by frame",
+    "junit": "writes lines as a JUnit file",
+    "accept": "takes what was reached as the new recorded level",
+    "source": "puts an edited game under recordings",
+    "testdata": "turns published test data, or what an editor's console prints, into a sessions file",
+    "split": "splits a sessions file into parts",
+    "join": "joins the lines of the parts",
+}
+
+
+def overview() -> str:
+    """What `./saxtegun --help` shows."""
+    room = max(map(len, VERBS)) + 2
+    rows = "".join(f"  {verb.ljust(room)}{told}\n" for verb, told in VERBS.items())
+    return (
+        f"usage: saxtegun VERB ..\n\n{rows}\n`saxtegun VERB --help` tells more of each. "
+        "Exit status: 0 all is well, 1 something differs, 2 there is no answer.\n"
+    )
+
+
+def main() -> int:
+    words = sys.argv[1:]
+    if words[:1] in (["--help"], ["-h"], ["help"]):
+        sys.stdout.write(overview())
+        return 0
+    if not words:
+        fail("saxtegun", f"a verb is wanted, one of {', '.join(VERBS)}")
+        return 2
+    if words[0] not in VERBS:
+        fail("saxtegun", f"there is no verb {words[0]!r}; there are {', '.join(VERBS)}")
+        return 2
+    verb = importlib.import_module(f"saxtegun.verbs.{words[0]}")
+    reader = parser(f"saxtegun {words[0]}", f"saxtegun {verb.USAGE}", verb.__doc__ or "")
+    verb.add_words(reader)
+    return int(verb.main(reader.parse_args(words[1:])))
+
+
+def call() -> None:
+    """Runs the command, and ends with its status."""
+    serve("saxtegun" if len(sys.argv) < 2 or sys.argv[1] not in VERBS else f"saxtegun {sys.argv[1]}", main)

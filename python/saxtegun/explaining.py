@@ -1,0 +1,173 @@
+"""What the program's lines say of a session, in words."""
+from __future__ import annotations
+
+from collections import Counter
+from functools import lru_cache
+from typing import Iterable, List, Optional, Tuple
+
+from saxtegun.commands import plural, printable
+from saxtegun.games import Game
+from saxtegun.lines import Run
+from saxtegun.sessions import Entry
+from saxtegun.levels import Labels, differing, in_rows, position, read_cells, width_of
+
+# How many cells that differ are told.
+CELLS_TOLD = 8
+STOPS = {
+    "loop-limit": "a group of rules or a loop still changed something in its 200th pass",
+    "again-limit": "an input needed more than 500 ticks of `again`",
+    "match-limit": "a rule had more than 1,048,576 places or combinations",
+    "no-level": "no level is left from its index on",
+}
+# What is wrong with the line that a fault names; `{line}` is that line.
+FAULTS = {
+    "TooLong": "the source is longer than 1,048,576 bytes",
+    "Section": "the heading on {line} stands out of its order, or is there twice",
+    "OutsideProfile": "{line} has what is not played here: `random`, `randomdir`, `rigid`, `realtime_interval`, or a row with two `...`",
+    "BadObject": "the object on {line} has no colours directly behind its name, or a sprite that is not five rows of five",
+    "Duplicate": "{line} gives a name that is there already",
+    "TooLarge": "{line} is one too many, or too large: objects, names, layers, levels, the sides of a level and of a rule have limits",
+    "BadLegend": "{line} is no definition of the legend, or defines a name by itself",
+    "Unknown": "{line} has a name that is not there",
+    "Mixed": "{line} has an aggregate (a name joined by `and`) where none may stand, or a property (one joined by `or`) in an aggregate",
+    "Missing": "`background` or `player` is not there, or is joined by `and`",
+    "NoLayer": "the object on {line} is in no collision layer",
+    "BadWin": "{line} is no win condition",
+    "BadGlyph": "{line} is a row of a level with a letter that draws nothing",
+    "NoLevel": "it has no level",
+    "BadRule": "{line} is no rule",
+    "Shape": "the two sides of the rule on {line} have not the same shape",
+    "LateMovement": "the late rule on {line} has a movement word",
+    "AmbiguousRight": "on the right of the rule on {line} it is open which choice of the left is meant",
+    "TooManyRules": "with {line} the rules have more than 65,536 pairs of a direction and a choice",
+    "RightClash": "the right of the rule on {line} places in one cell what can't stand there together",
+}
+WHOLE = {"Section": "a section that must be there is missing"}
+
+UNREADABLE = "the level that was reached can't be read back, since a name of an object in it holds a comma"
+
+
+@lru_cache(maxsize=64)
+def game_of(source: str) -> Game:
+    """How a game looks. The sessions of a suite share few sources."""
+    return Game(source)
+
+
+def fault_in(cause: str) -> Optional[Tuple[str, int]]:
+    """The fault of a source and its line that a cause names, or None."""
+    code, colon, line = cause.partition(":")
+    return (code, int(line)) if colon and line.isascii() and line.isdecimal() and len(line) < 10 else None
+
+
+def cause_told(cause: str) -> str:
+    """A cause as a sentence without its end."""
+    fault = fault_in(cause)
+    if fault is None or fault[0] not in FAULTS:
+        return STOPS.get(cause, f"its cause is {cause}")
+    code, number = fault
+    if number == 0:
+        return WHOLE.get(code, FAULTS[code].format(line="the source"))
+    return FAULTS[code].format(line=f"line {number}")
+
+
+def source_line(source: str, number: int) -> Optional[str]:
+    """A line of a source by its number, or None."""
+    lines = source.split("\n")
+    return lines[number - 1].rstrip("\r") if 1 <= number <= len(lines) else None
+
+
+def cell_told(names: Iterable[str]) -> str:
+    return " ".join(names) or "nothing"
+
+
+class Ending:
+    """The level that a session reached beside the recorded one. `reached` and `recorded` are their cells by labels, or None where a
+    text is no level text; `cells` are the numbers of those that differ, where both levels have equally many."""
+
+    def __init__(self, entry: Entry, run: Run, labels: Optional[Labels] = None) -> None:
+        self.labels = labels or Labels()
+        text = run.frames[-1].level
+        self.reached, self.recorded = read_cells(text, self.labels), read_cells(entry.level, self.labels)
+        self.width = width_of(text, len(self.reached or []))
+        self.is_comparable, self.cells = False, []
+        if self.reached is not None and self.recorded is not None and len(self.reached) == len(self.recorded):
+            self.is_comparable, self.cells = True, differing(self.reached, self.recorded)
+
+    def names(self, label: int) -> Tuple[str, ...]:
+        return self.labels.names[label]
+
+    def is_turned(self, order: str) -> bool:
+        """Whether the recorded level is the reached one in the other order of cells."""
+        assert self.reached is not None
+        step = self.width if order == "rows" else len(self.reached) // self.width
+        return bool(self.cells) and self.recorded == [label for first in range(step) for label in self.reached[first::step]]
+
+
+def ending_told(ending: Ending, order: str) -> str:
+    """What differs at the end, in a sentence without its end."""
+    if ending.reached is None:
+        return UNREADABLE
+    if ending.recorded is None:
+        return "the recorded level is no level text"
+    if not ending.is_comparable:
+        return f"the recorded level has {plural(len(ending.recorded), 'cell')}, and the one that was reached {len(ending.reached)}"
+    columns, rows = ending.width, len(ending.reached) // ending.width
+    differ = "differs" if len(ending.cells) == 1 else "differ"
+    turned = f"; the recorded level is this one in the other order than {order}" if ending.is_turned(order) else ""
+    return f"{len(ending.cells)} of {plural(len(ending.reached), 'cell')} ({columns} wide, {rows} high) {differ} from the recorded level{turned}"
+
+
+def cells_told(ending: Ending, order: str) -> List[str]:
+    """The first cells that differ, a line each. Columns and rows are counted from 1."""
+    lines: List[str] = []
+    if ending.reached is None or ending.recorded is None:
+        return lines
+    for number in ending.cells[:CELLS_TOLD]:
+        column, row = position(order, ending.width, len(ending.reached), number)
+        reached, recorded = (cell_told(ending.names(it[number])) for it in (ending.reached, ending.recorded))
+        lines.append(f"column {column + 1}, row {row + 1}: {reached}; recorded: {recorded}")
+    more = len(ending.cells) - CELLS_TOLD
+    return [*lines, f"and {plural(more, 'more cell')}"] if more > 0 else lines
+
+
+def drawings(ending: Ending, game: Game, order: str) -> List[str]:
+    """The two levels by the game's own letters, side by side, where each cell has one."""
+    drawn = []
+    for cells in (ending.reached or [], ending.recorded or []):
+        rows = in_rows(order, ending.width, cells)
+        letters = game.drawing([[ending.names(label) for label in row] for row in rows])
+        if letters is None:
+            return []
+        drawn.append(letters)
+    room = max(ending.width, len("reached")) + 4
+    return ["reached".ljust(room) + "recorded", *(one.ljust(room) + other for one, other in zip(*drawn))]
+
+
+def told(run: Run, entry: Optional[Entry] = None, order: str = "columns") -> Tuple[str, List[str]]:
+    """What a session that did not pass came to: a sentence, and lines below it. Without its entry only what its lines say."""
+    if run.cause is not None:
+        fault = fault_in(run.cause)
+        line = source_line(entry.source, fault[1]) if entry and fault else None
+        below = [f"line {fault[1]}: {line}"] if line is not None else []
+        return f"{cause_told(run.cause)} ({run.cause}); {plural(len(run.frames), 'frame')}", below
+    if run.close == "passed":
+        return plural(len(run.frames), "frame"), []
+    if entry is None:
+        return f"the level that was reached is not the recorded one; {plural(len(run.frames), 'frame')}", []
+    ending = Ending(entry, run)
+    below = cells_told(ending, order)
+    if ending.is_comparable:
+        below += drawings(ending, game_of(entry.source), order)
+    return f"{plural(len(run.frames), 'frame')}, {plural(len(entry.inputs), 'input')}; {ending_told(ending, order)}", below
+
+
+def summary(closes: Iterable[str]) -> str:
+    """How many sessions closed in which way."""
+    counts = Counter(closes)
+    words = {"differs": "differs" if counts["differs"] == 1 else "differ"}
+    parts = [f"{counts[close]} {words.get(close, close)}" for close in ("passed", "differs", "stopped", "refused")]
+    return f"{plural(sum(counts.values()), 'session')}: {', '.join(parts)}"
+
+
+def heading(run: Run) -> str:
+    return printable(f"session {run.number}, {run.name}: {run.close}")

@@ -1,0 +1,185 @@
+"""What a source says of how its levels look: objects with their colours, sprites and layers, and the glyphs of cells.
+
+A source that is refused is read as far as it goes: nothing here fails, and what is missing is left out."""
+from __future__ import annotations
+
+import re
+from typing import Dict, FrozenSet, Iterable, List, NamedTuple, Optional, Sequence, Set, Tuple
+
+from saxtegun.commands import fold
+from saxtegun.sources import SPACE, lines_of, trimmed, words_of
+
+PALETTE = {
+    "black": "#000000", "white": "#ffffff", "grey": "#9d9d9d", "darkgrey": "#697175", "lightgrey": "#cccccc", "gray": "#9d9d9d",
+    "darkgray": "#697175", "lightgray": "#cccccc", "red": "#be2633", "darkred": "#732930", "lightred": "#e06f8b", "brown": "#a46422",
+    "darkbrown": "#493c2b", "lightbrown": "#eeb62f", "orange": "#eb8931", "yellow": "#f7e26b", "green": "#44891a", "darkgreen": "#2f484e",
+    "lightgreen": "#a3ce27", "blue": "#1d57f7", "lightblue": "#b2dcef", "darkblue": "#1b2632", "purple": "#342a97", "pink": "#de65e2",
+}
+DEFAULT_PALETTE = ("arnecolors", "1")
+OTHER_COLOUR = "grey"
+CLEAR = "transparent"
+HEX = re.compile("#(?:[0-9a-f]{3}|[0-9a-f]{6})")
+PIXELS = re.compile("[0-9.]+")
+SIDE = 5
+# A pixel is a digit, so no further colour is drawn.
+MOST_COLOURS = 10
+
+
+class Object(NamedTuple):
+    """An object: its name, its colours (None: transparent), 25 pixels or none at all, and its layer or None."""
+
+    name: str
+    colours: List[Optional[str]]
+    sprite: str
+    layer: Optional[int]
+
+
+class Block(NamedTuple):
+    """A block of OBJECTS as it is written."""
+
+    names: List[str]
+    colours: List[str]
+    rows: List[str]
+
+
+class Game:
+    """How a game looks. `notes` tells what is drawn otherwise than the game draws it."""
+
+    def __init__(self, source: str) -> None:
+        lines = lines_of(source)
+        of = {section: [line.text for line in lines if line.section == section] for section in ("prelude", "objects", "legend", "collisionlayers")}
+        self.notes: List[str] = []
+        self.title = "a game"
+        self.ground = PALETTE["black"]
+        self.read_prelude(of["prelude"])
+        blocks = blocks_of(of["objects"])
+        self.first_names = {name: block.names[0] for block in reversed(blocks) for name in block.names}
+        self.definitions: Dict[str, Tuple[str, List[str]]] = dict(reversed([it for it in map(definition_of, of["legend"]) if it]))
+        layers = self.layers_of(of["collisionlayers"])
+        self.objects = [Object(it.names[0], self.colours_of(it), self.sprite_of(it), layers.get(it.names[0])) for it in blocks]
+        self.glyphs = self.glyphs_of(of["objects"] + of["legend"], layers)
+        grounds = {layers.get(name) for name in self.members("background")[:1]}
+        self.grounds = {it.name for it in self.objects if it.layer is not None and it.layer in grounds}
+
+    def read_prelude(self, lines: Sequence[str]) -> None:
+        for line in lines:
+            keyword, value = (*SPACE.split(line, 1), "")[:2]
+            if fold(keyword) == "title":
+                self.title = trimmed(value)
+            elif fold(keyword) == "background_color":
+                self.ground = self.colour_of(fold(trimmed(value))) or self.ground
+            elif fold(keyword) == "color_palette" and fold(trimmed(value)) not in DEFAULT_PALETTE:
+                self.notes.append(f"its palette {trimmed(value)} is drawn by the colours of arnecolors")
+
+    def colour_of(self, word: str) -> Optional[str]:
+        """The colour of a word by its numbers, or None where it is transparent."""
+        if HEX.fullmatch(word):
+            return word if len(word) == 7 else "#" + "".join(2 * digit for digit in word[1:])
+        if word not in PALETTE and word != CLEAR:
+            self.notes.append(f"its colour {word} is drawn as {OTHER_COLOUR}")
+            word = OTHER_COLOUR
+        return PALETTE.get(word)
+
+    def colours_of(self, block: Block) -> List[Optional[str]]:
+        return [self.colour_of(word) for word in block.colours[:MOST_COLOURS]]
+
+    def sprite_of(self, block: Block) -> str:
+        """The pixels of an object, row by row, or none at all where it is a block of its first colour."""
+        pixels = "".join(block.rows)
+        if len(block.rows) != SIDE or len(pixels) != SIDE * SIDE:
+            return ""
+        if any(pixel != "." and int(pixel) >= len(block.colours) for pixel in pixels):
+            self.notes.append(f"pixels of {block.names[0]} have a number beyond its colours, and are left out")
+        return pixels
+
+    def members(self, name: str) -> List[str]:
+        """The objects that a name stands for, in the order of first mention. A name that reaches itself is gone through once."""
+        found: Dict[str, bool] = {}
+        seen: Set[str] = set()
+        left = [name]
+        while left:
+            it = left.pop()
+            if it not in seen:
+                seen.add(it)
+                if it in self.first_names:
+                    found[self.first_names[it]] = True
+                elif it in self.definitions:
+                    left += reversed(self.definitions[it][1])
+        return list(found)
+
+    def draws(self, name: str) -> bool:
+        """Whether a name is one of an object or an aggregate, or a synonym of one."""
+        seen: Set[str] = set()
+        while name in self.definitions and self.definitions[name][0] == "same" and name not in seen:
+            seen.add(name)
+            name = self.definitions[name][1][0]
+        return name in self.first_names or (name in self.definitions and self.definitions[name][0] == "and")
+
+    def layers_of(self, lines: Sequence[str]) -> Dict[str, int]:
+        """The layer of each object: the last that names it."""
+        layers: Dict[str, int] = {}
+        number = 0
+        for line in lines:
+            names = dict.fromkeys(map(fold, words_of(line.replace(",", " "))))
+            for name in names:
+                layers.update(dict.fromkeys(self.members(name), number))
+            number += bool(names)
+        return layers
+
+    def glyphs_of(self, lines: Sequence[str], layers: Dict[str, int]) -> Dict[FrozenSet[str], str]:
+        """For a set of objects the letter that draws it in LEVELS, as it was written first. Of one layer the last object stands."""
+        glyphs: Dict[FrozenSet[str], str] = {}
+        for letter in dict.fromkeys(word for line in lines for word in words_of(line) if len(word) == 1):
+            if self.draws(fold(letter)):
+                glyphs.setdefault(frozenset({layers.get(name): name for name in self.members(fold(letter))}.values()), letter)
+        return glyphs
+
+    def glyph_of(self, names: Iterable[str]) -> Optional[str]:
+        """The letter that draws a cell of these names, with the background or without it, or None."""
+        return self.glyphs.get(frozenset(names)) or self.glyphs.get(frozenset(names) - self.grounds)
+
+    def drawing(self, rows: Iterable[Iterable[Iterable[str]]]) -> Optional[List[str]]:
+        """Rows of cells by their letters, or None where a cell has none."""
+        letters = [[self.glyph_of(names) for names in row] for row in rows]
+        if any(it is None for row in letters for it in row):
+            return None
+        return ["".join(it for it in row if it is not None) for row in letters]
+
+
+def is_blank(line: str) -> bool:
+    return line == ""
+
+
+def blocks_of(lines: Sequence[str]) -> List[Block]:
+    """The objects of OBJECTS as they are written."""
+    blocks: List[Block] = []
+    at = 0
+    while at < len(lines):
+        names = [fold(word) for word in words_of(lines[at])]
+        at += 1
+        if not names:
+            continue
+        colours: List[str] = []
+        rows: List[str] = []
+        if at < len(lines) and not is_blank(lines[at]):
+            colours = [fold(word) for word in words_of(lines[at])]
+            at += 1
+            while at < len(lines) and len(rows) < SIDE and PIXELS.fullmatch(lines[at]):
+                rows.append(lines[at])
+                at += 1
+        blocks.append(Block(names, colours, rows))
+    return blocks
+
+
+def definition_of(line: str) -> Optional[Tuple[str, Tuple[str, List[str]]]]:
+    """The name that a line of LEGEND defines, with how (`same`, `and`, `or`) and by which names; None where it defines none."""
+    at = line.find("=", 1)
+    left, right = words_of(line[:at]) if at > 0 else [], [fold(word) for word in words_of(line[at + 1 :])]
+    if len(left) != 1 or len(right) % 2 == 0:
+        return None
+    if len(right) == 1:
+        return fold(left[0]), ("same", right)
+    joint = right[1]
+    if joint not in ("and", "or") or any(it != joint for it in right[1::2]):
+        return None
+    return fold(left[0]), (joint, right[::2])

@@ -1,0 +1,96 @@
+"""Plays sessions with the program, and tells what it refuses in words with file, session and name."""
+from __future__ import annotations
+
+import os
+import re
+import subprocess
+import tempfile
+from contextlib import contextmanager
+from pathlib import Path
+from typing import Iterator, List, NamedTuple, Optional, Sequence
+
+from saxtegun.commands import Refused
+from saxtegun.files import write_whole
+from saxtegun.lines import Run, read_runs
+from saxtegun.sessions import Entry, Sessions, written
+
+TOP = Path(__file__).resolve().parent.parent.parent
+# What the program's lines at status 2 mean; the number is that of a session or of bytes.
+REFUSALS = {
+    "open-fault": "it can't be opened",
+    "read-fault": "it can't be read",
+    "too-many": "it has more than 16 MiB or 65,536 sessions: play it in parts, by saxtegun split",
+    "not-json": "it is no JSON list",
+    "bad-entry": "session {number} is no entry of a name, a source, inputs and a level",
+    "bad-level": "the recorded level of session {number} is no level text",
+    "memory": "there is not enough memory",
+    "lane-lost": "a worker was lost",
+    "write-fault": "writing ended after {number} bytes",
+}
+
+
+class Played(NamedTuple):
+    """What a program wrote, as a file, and how it ended: 0 or 1."""
+
+    lines: str
+    status: int
+
+
+def program_words(named: Optional[str] = None) -> List[str]:
+    """How the program is called: the one that is named, that of SAXTEGUN_PROGRAM, or ./replay, which builds it where it must."""
+    path = named or os.environ.get("SAXTEGUN_PROGRAM")
+    if not path:
+        return [str(TOP / "replay")]
+    if not os.path.isfile(path) or not os.access(path, os.X_OK):
+        raise Refused(f"there is no program at {path!r}")
+    return [os.path.abspath(path)]
+
+
+def refusal(said: str, path: str, entries: Sequence[Entry] = ()) -> str:
+    """What the program's line of a failure says, in words."""
+    line = (said.strip().splitlines() or ["nothing is told"])[-1]
+    match = re.fullmatch(r"([a-z-]+)(?: (\d+))?", line)
+    if match is None or match[1] not in REFUSALS:
+        return f"{path} was not played: {line}"
+    number = int(match[2]) if match[2] else None
+    name = f" ({entries[number].name})" if number is not None and match[1].startswith("bad-") and number < len(entries) else ""
+    told = REFUSALS[match[1]].format(number=f"{match[2]}{name}")
+    return f"{path} was not played: {told} ({line})"
+
+
+def play_file(path: str, lines: str, order: str = "columns", workers: Optional[int] = None, program: Optional[str] = None, of: Optional[Sessions] = None) -> Played:
+    """Plays a sessions file, and leaves its lines in a file. Refused where there is no whole output."""
+    words = [*program_words(program), "--order", order, *(["--workers", str(workers)] if workers else []), path]
+    try:
+        with open(lines, "wb") as file:
+            ran = subprocess.run(words, stdin=subprocess.DEVNULL, stdout=file, stderr=subprocess.PIPE, check=False)
+    except OSError as why:
+        raise Refused(f"{words[0]} can't be run: {why.strerror}") from None
+    if ran.returncode not in (0, 1):
+        raise Refused(refusal(ran.stderr.decode("utf-8", "replace"), of.path if of else path, of.entries if of else ()))
+    return Played(lines, ran.returncode)
+
+
+@contextmanager
+def playing(entries: Sequence[Entry], of: Sessions, order: str = "columns", workers: Optional[int] = None, program: Optional[str] = None) -> Iterator[Played]:
+    """Plays entries; the lines are there as long as this lasts."""
+    with tempfile.TemporaryDirectory(prefix="saxtegun-") as room:
+        path = os.path.join(room, "sessions.json")
+        write_whole(path, written(entries))
+        yield play_file(path, os.path.join(room, "lines"), order, workers, program, of._replace(entries=list(entries)))
+
+
+def runs_of(entries: Sequence[Entry], of: Sessions, order: str = "columns", workers: Optional[int] = None, program: Optional[str] = None) -> List[Run]:
+    """What playing entries shows, numbered from 0 as they stand here."""
+    with playing(entries, of, order, workers, program) as played:
+        return [*read_runs(played.lines)]
+
+
+@contextmanager
+def lines_or_played(sessions: Sessions, lines: Optional[str], order: str) -> Iterator[Iterator[Run]]:
+    """The runs of lines that are there, or else of the sessions, which are played now."""
+    if lines is not None:
+        yield read_runs(lines, sessions)
+    else:
+        with playing(sessions.entries, sessions, order) as played:
+            yield read_runs(played.lines, sessions)

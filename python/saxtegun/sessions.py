@@ -1,0 +1,171 @@
+"""A sessions file, read as docs/sessions.md has it, and refused by a sentence with the place."""
+from __future__ import annotations
+
+import json
+import re
+from fnmatch import fnmatchcase
+from typing import Any, Dict, List, NamedTuple, NoReturn, Optional, Sequence, Tuple, Union
+
+from saxtegun.commands import Refused
+from saxtegun.files import MARK, read_text
+
+SPACE = re.compile(r"[ \t\n\r]*")
+LONE_SURROGATE = re.compile("[\ud800-\udfff]")
+WORDS = ("undo", "restart", "tick")
+
+Input = Union[int, str]
+Item = Tuple[Any, int, int]
+
+
+class Entry(NamedTuple):
+    """An entry of a sessions file. `spans` says where its source and its level stand in the text of the file, and where it does itself."""
+
+    number: int
+    name: str
+    source: str
+    inputs: List[Input]
+    level: str
+    index: int
+    spans: Dict[str, Tuple[int, int]]
+    is_solved_wanted: bool
+
+
+class Sessions(NamedTuple):
+    """What a sessions file holds, with its text."""
+
+    path: str
+    text: str
+    entries: List[Entry]
+
+
+def no_number(word: str) -> NoReturn:
+    raise ValueError(f"{word} is no JSON")
+
+
+READER = json.JSONDecoder(parse_constant=no_number)
+
+
+def after_space(text: str, at: int) -> int:
+    """Where the text goes on behind white space."""
+    match = SPACE.match(text, at)
+    return match.end() if match else at
+
+
+def next_mark(text: str, at: int, marks: str) -> Tuple[str, int]:
+    """The mark that stands next, which must be one of these, and where the text goes on behind it."""
+    at = after_space(text, at)
+    if text[at : at + 1] not in marks or at == len(text):
+        raise json.JSONDecodeError(f"{' or '.join(marks)} is wanted", text, at)
+    return text[at], after_space(text, at + 1)
+
+
+def items_of(text: str, at: int) -> Tuple[List[Item], int]:
+    """The items of the JSON list that begins here, each with its value, its begin and its end; and where the list ends."""
+    items: List[Item] = []
+    mark, at = next_mark(text, at, "[")
+    if text[at : at + 1] == "]":
+        return items, at + 1
+    while mark != "]":
+        value, end = READER.raw_decode(text, at)
+        items.append((value, at, end))
+        mark, begin = next_mark(text, end, ",]")
+        at, end = begin, end
+    # behind the bracket itself, and not behind the white space that follows it
+    return items, text.index("]", items[-1][2]) + 1
+
+
+def is_number(value: Any, most: int) -> bool:
+    return type(value) is int and 0 <= value <= most
+
+
+def fault_of(entry: Any) -> Optional[str]:
+    """What makes a value no entry of a sessions file, or None."""
+    if not isinstance(entry, list) or len(entry) < 2 or not isinstance(entry[0], str) or not isinstance(entry[1], list):
+        return "it is no list of a name and a list"
+    body = entry[1]
+    if len(body) < 3 or not isinstance(body[0], str) or not isinstance(body[1], list) or not isinstance(body[2], str):
+        return "behind its name there is no list of a source, a list of inputs and a level text"
+    for place, it in enumerate(body[1]):
+        if not (is_number(it, 4) or (isinstance(it, str) and it in WORDS)):
+            return f"its input {place} is neither 0 to 4 nor undo, restart or tick"
+    if len(body) > 3 and not (body[3] is None or is_number(body[3], 2**64 - 1)):
+        return "its index is no whole number"
+    if any(LONE_SURROGATE.search(it) for it in (entry[0], body[0], body[2])):
+        return "a text of it holds half a letter (a lone surrogate)"
+    return None
+
+
+def entry_of(path: str, text: str, number: int, value: Any, begin: int, end: int) -> Entry:
+    fault = fault_of(value)
+    if fault:
+        raise Refused(f"{path}, session {number}, line {text.count(chr(10), 0, begin) + 1}: {fault}")
+    name, body = value[0], value[1]
+    parts = items_of(text, items_of(text, begin)[0][1][1])[0]
+    spans = {"source": parts[0][1:], "level": parts[2][1:], "entry": (begin, end)}
+    index = body[3] if len(body) > 3 and body[3] is not None else 0
+    return Entry(number, name, body[0], body[1], body[2], index, spans, "solved" in value[2:])
+
+
+def sessions_in(path: str, text: str) -> Sessions:
+    """The sessions of a file's text."""
+    try:
+        if text.startswith(MARK):
+            raise Refused(f"{path}, line 1: a mark of byte order stands before the list, which is no JSON; save the file without it")
+        items, end = items_of(text, 0)
+        end = after_space(text, end)
+        if end != len(text):
+            raise json.JSONDecodeError("something stands behind the list", text, end)
+        return Sessions(path, text, [entry_of(path, text, number, *item) for number, item in enumerate(items)])
+    except json.JSONDecodeError as why:
+        raise Refused(f"{path}, line {why.lineno}, letter {why.colno}: no JSON list of sessions ({why.msg})") from None
+    except (ValueError, RecursionError) as why:
+        raise Refused(f"{path}: no JSON list of sessions ({why})") from None
+
+
+def read_sessions(path: str) -> Sessions:
+    """The sessions of a file."""
+    return sessions_in(path, read_text(path))
+
+
+def changed(sessions: Sessions, changes: Dict[int, Tuple[str, str]]) -> str:
+    """The text of a sessions file with other sources or levels: `changes` maps a session's number to the part that is changed and its new
+    text. All else stays letter by letter."""
+    pieces, at = [], 0
+    for number in sorted(changes):
+        part, new = changes[number]
+        begin, end = sessions.entries[number].spans[part]
+        pieces += [sessions.text[at:begin], json.dumps(new, ensure_ascii=False)]
+        at = end
+    return "".join([*pieces, sessions.text[at:]])
+
+
+def fits(name: str, pattern: str) -> bool:
+    """Whether a name is that of a pattern: the same, or like it where `*`, `?` and `[..]` stand for letters."""
+    return name == pattern or fnmatchcase(name, pattern)
+
+
+def chosen(sessions: Sessions, patterns: Optional[Sequence[str]]) -> List[Entry]:
+    """The entries whose names fit one of these patterns, of which each must fit something; all entries where none are given."""
+    if patterns is None:
+        return sessions.entries
+    for pattern in patterns:
+        if not any(fits(entry.name, pattern) for entry in sessions.entries):
+            raise Refused(f"{sessions.path} has no session named {pattern!r}")
+    return [entry for entry in sessions.entries if any(fits(entry.name, it) for it in patterns)]
+
+
+def with_source(sessions: Sessions, game: str, source: str) -> Sessions:
+    """The sessions with a game's text as the source of each whose source is the empty text. The text of the file stays as it is."""
+    if all(it.source for it in sessions.entries) and sessions.entries:
+        raise Refused(f"{sessions.path} has no session whose source is the empty text, so nothing of it is played over {game}")
+    return sessions._replace(entries=[it if it.source else it._replace(source=source) for it in sessions.entries])
+
+
+def value_of(entry: Entry) -> List[Any]:
+    """An entry as a sessions file has it."""
+    return [entry.name, [entry.source, entry.inputs, entry.level, entry.index]]
+
+
+def written(entries: Sequence[Entry]) -> str:
+    """A sessions file of entries."""
+    return "[\n" + ",\n".join(json.dumps(value_of(it), ensure_ascii=False, separators=(",", ":")) for it in entries) + "\n]\n"

@@ -1,0 +1,95 @@
+"""A game's source cut into lines without comments, each with its section, as docs/language.md has it."""
+from __future__ import annotations
+
+import re
+from typing import List, NamedTuple, Optional, Tuple
+
+from saxtegun.commands import fold
+
+# What Unicode calls white space; Python's own idea of it has four letters more.
+WHITE = "\t-\r \x85\xa0\u1680\u2000-\u200a\u2028\u2029\u202f\u205f\u3000"
+SPACE = re.compile(f"[{WHITE}]")
+WORD = re.compile(f"[^{WHITE}]+")
+ENDS = re.compile(f"^[{WHITE}]+|[{WHITE}]+$")
+HEADINGS = ("objects", "legend", "sounds", "collisionlayers", "rules", "winconditions", "levels")
+# So many letters tell a word from all keywords that end the reading of comments, and are kept of it.
+WORD_KEPT = 10
+
+
+class Line(NamedTuple):
+    """A line of a source without its comments."""
+
+    number: int
+    section: str
+    text: str
+
+
+def trimmed(text: str) -> str:
+    return ENDS.sub("", text)
+
+
+def words_of(text: str) -> List[str]:
+    return WORD.findall(text)
+
+
+def ends_word(section: str, is_first: bool, word: str, letter: str) -> bool:
+    """Whether a letter ends the word before it: white space, and in RULES what stands by itself."""
+    if SPACE.match(letter):
+        return True
+    return section == "rules" and bool(letter in "[]|" or (letter == ">" and word.endswith("-")) or (is_first and not word and letter == "+"))
+
+
+def is_plain_from(section: str, is_first: bool, word: str, letter: str) -> bool:
+    """Whether the rest of the line is plain text from this letter on."""
+    if section == "prelude":
+        return not SPACE.match(letter)
+    if section == "levels":
+        return is_first and fold(word) == "message" and bool(SPACE.match(letter))
+    if section == "rules":
+        return (fold(word) == "message" and bool(SPACE.match(letter) or letter in "[]|")) or (fold(word) == "message-" and letter == ">")
+    return False
+
+
+def without_comments(section: str, depth: int, line: str) -> Tuple[str, int]:
+    """A line without its comments, and how many brackets are open behind it, where so many are before it."""
+    if depth == 0 and "(" not in line:
+        return line, 0
+    left: List[str] = []
+    word, is_first = "", True
+    for at, letter in enumerate(line):
+        if depth:
+            depth += (letter == "(") - (letter == ")")
+        elif letter == "(":
+            depth = 1
+        elif is_plain_from(section, is_first, word, letter):
+            return "".join(left) + line[at:], 0
+        else:
+            left.append(letter)
+            ends = ends_word(section, is_first, word, letter)
+            is_first = is_first and (not ends or (not word and bool(SPACE.match(letter))))
+            word = "" if ends else (word + letter)[-WORD_KEPT:]
+    return "".join(left), depth
+
+
+def heading_in(section: str, text: str) -> Optional[str]:
+    """The section that a line begins, or None."""
+    if section == "prelude" and fold(text[:7]) == "objects" and (len(text) == 7 or SPACE.match(text[7])):
+        return "objects"
+    return fold(text) if fold(text) in HEADINGS else None
+
+
+def lines_of(source: str) -> List[Line]:
+    """The lines of a source that are not left out, without headings."""
+    lines: List[Line] = []
+    section, depth = "prelude", 0
+    for number, raw in enumerate(source.split("\n"), 1):
+        line, before = trimmed(raw), depth
+        left, depth = without_comments(section, depth, line)
+        text = trimmed(left)
+        heading = heading_in(section, text)
+        is_left_out = (before > 0 or len(left) < len(line)) if not text else not text.strip("=")
+        if heading:
+            section = heading
+        elif not is_left_out:
+            lines.append(Line(number, section, text))
+    return lines

@@ -1,0 +1,103 @@
+"""Takes what was reached as the new recorded level, for sessions that were played to their end.
+
+SESSIONS is the file that was played, LINES what the program wrote for it; without LINES the sessions are played now. Each session that
+differs gets the level of its last frame as its recorded level, with --only those whose names fit (`level 2*`); all else stays letter by
+letter. The new file goes to standard output, or with --in-place into the place of SESSIONS, renamed there once it is whole. Look at what
+you accept first, by `saxtegun report` or `saxtegun explain`, or by --review, which shows one after the other with both levels and asks.
+Says on standard error which sessions it changed, and which it could not: one that was stopped or refused was not played to its end, and
+one whose recorded level is the reached one in the other order was not played in the order that it was recorded in. Exit status 0; 1
+where a session that --only names could not be changed; 2 where a file is refused."""
+from __future__ import annotations
+
+import sys
+from argparse import ArgumentParser, Namespace
+from typing import Dict, List, Optional, Tuple
+
+from saxtegun.commands import Refused, add_order, plural, printable, say
+from saxtegun.explaining import UNREADABLE, Ending, cause_told, heading, told
+from saxtegun.files import guard_output, write_whole
+from saxtegun.lines import Run
+from saxtegun.playing import lines_or_played
+from saxtegun.sessions import Entry, changed, chosen, read_sessions
+
+USAGE = "accept SESSIONS [LINES] [--only PATTERN..] [--review] [--in-place] [--order rows|columns] [>NEW]"
+ASKED = "accept it? y: yes, n: no, a: it and all that follow, q: none of those that follow "
+
+
+def add_words(words: ArgumentParser) -> None:
+    words.add_argument("sessions", metavar="SESSIONS")
+    words.add_argument("lines", metavar="LINES", nargs="?")
+    words.add_argument("--only", metavar="PATTERN", action="append", help="accept sessions whose names fit; may be said again")
+    words.add_argument("--review", action="store_true")
+    words.add_argument("--in-place", action="store_true")
+    add_order(words)
+
+
+def obstacle(entry: Entry, run: Run, order: str) -> Optional[str]:
+    """Why what a session reached can't be recorded, or None."""
+    if run.cause is not None:
+        return cause_told(run.cause)
+    ending = Ending(entry, run)
+    if ending.reached is None:
+        return UNREADABLE
+    if ending.is_comparable and ending.is_turned(order):
+        return f"the recorded level is the reached one in the other order than {order}: play it in the order that it was recorded in"
+    return None
+
+
+class Review:
+    """Shows what differs, and asks whether it is accepted."""
+
+    def __init__(self, order: str) -> None:
+        self.order, self.all, self.ended = order, False, False
+
+    def accepts(self, entry: Entry, run: Run) -> bool:
+        if self.all or self.ended:
+            return self.all
+        sentence, below = told(run, entry, self.order)
+        for line in [f"{heading(run)}: {sentence}", *(f"    {it}" for it in below)]:
+            say(line)
+        while True:
+            print(ASKED, end="", file=sys.stderr, flush=True)
+            answer = sys.stdin.readline()
+            word = answer.strip().lower()
+            self.all, self.ended = word == "a", word == "q" or not answer
+            if word in ("y", "a"):
+                return True
+            if word in ("n", "q") or not answer:
+                return False
+
+
+def main(given: Namespace) -> int:
+    if given.review and (given.lines == "-" or given.sessions == "-"):
+        raise Refused("--review asks on standard input, which can't be a file that is read too")
+    if given.in_place and given.sessions == "-":
+        raise Refused("--in-place wants a file, and standard input is none")
+    if not given.in_place:
+        guard_output(given.sessions, *([given.lines] if given.lines else []))
+    sessions = read_sessions(given.sessions)
+    wanted = {it.number for it in chosen(sessions, given.only)}
+    review = Review(given.order) if given.review else None
+    changes: Dict[int, Tuple[str, str]] = {}
+    said: List[str] = []
+    failed = False
+    with lines_or_played(sessions, given.lines, given.order) as runs:
+        for run in runs:
+            if run.number not in wanted or run.close == "passed":
+                continue
+            why = obstacle(sessions.entries[run.number], run, given.order)
+            failed = failed or why is not None
+            if why is None and (review is None or review.accepts(sessions.entries[run.number], run)):
+                changes[run.number] = ("level", run.frames[-1].level)
+                said.append(f"{heading(run)}, accepted")
+            else:
+                said.append(f"{heading(run)}, not accepted" + (f": {why}" if why else ""))
+    if not given.in_place:
+        sys.stdout.write(changed(sessions, changes))
+        sys.stdout.flush()
+    elif changes:
+        write_whole(given.sessions, changed(sessions, changes))
+    for line in said:
+        say(f"accept: {printable(line)}")
+    say(f"accept: {len(changes)} of {plural(len(sessions.entries), 'recorded level')} changed")
+    return 1 if failed and given.only else 0

@@ -1,0 +1,41 @@
+"""Tells in words which sessions did not pass, and why.
+
+SESSIONS is the file that was played, LINES what the program wrote for it (`-`: standard input); without LINES the sessions are played
+now. For each session that did not pass there is a line with its cause; below it the source's line that the cause names, or the first
+cells that differ, with what stands there and what was recorded, and both levels by the game's own letters where each cell has one.
+Sessions and frames are counted from 0, as the program does, columns and rows from 1. The order is the one that the lines were written
+in. Exit status 0, or 2 where a file is refused."""
+from __future__ import annotations
+
+import sys
+from argparse import ArgumentParser, Namespace
+from typing import List
+
+from saxtegun.commands import add_order, printable
+from saxtegun.explaining import heading, summary, told
+from saxtegun.files import guard_output
+from saxtegun.playing import lines_or_played
+from saxtegun.sessions import read_sessions
+
+USAGE = "explain SESSIONS [LINES] [--order rows|columns]"
+
+
+def add_words(words: ArgumentParser) -> None:
+    words.add_argument("sessions", metavar="SESSIONS")
+    words.add_argument("lines", metavar="LINES", nargs="?")
+    add_order(words)
+
+
+def main(given: Namespace) -> int:
+    guard_output(given.sessions, *([given.lines] if given.lines else []))
+    sessions = read_sessions(given.sessions)
+    closes: List[str] = []
+    lines: List[str] = []
+    with lines_or_played(sessions, given.lines, given.order) as runs:
+        for run in runs:
+            closes.append(run.close)
+            if run.close != "passed":
+                sentence, below = told(run, sessions.entries[run.number], given.order)
+                lines += [f"{heading(run)}: {printable(sentence)}", *(f"    {printable(it)}" for it in below)]
+    sys.stdout.write("\n".join([*lines, summary(closes)]) + "\n")
+    return 0

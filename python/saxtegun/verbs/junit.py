@@ -1,0 +1,32 @@
+"""Writes the program's lines as a JUnit file, for CI systems that show one.
+
+A test case a session: `differs` and `stopped` are failures, `refused` is an error, or with --refused skipped a test that was skipped. With
+SESSIONS, the file that was played, each has the words of `saxtegun explain`. Exit status 0, or 2 where a file is refused."""
+from __future__ import annotations
+
+import sys
+from argparse import ArgumentParser, Namespace
+from pathlib import Path
+
+from saxtegun.commands import Refused, add_order
+from saxtegun.files import guard_output
+from saxtegun.junit import junit_of
+from saxtegun.lines import read_runs
+from saxtegun.sessions import read_sessions
+
+USAGE = "junit [SESSIONS] LINES [--order rows|columns] [--refused error|skipped] >junit.xml"
+
+
+def add_words(words: ArgumentParser) -> None:
+    words.add_argument("files", metavar="[SESSIONS] LINES", nargs="+")
+    add_order(words)
+    words.add_argument("--refused", choices=("error", "skipped"), default="error")
+
+
+def main(given: Namespace) -> int:
+    if len(given.files) > 2:
+        raise Refused("one or two files are wanted: the sessions, and the lines")
+    guard_output(*given.files)
+    sessions = read_sessions(given.files[0]) if len(given.files) == 2 else None
+    sys.stdout.write(junit_of(read_runs(given.files[-1], sessions), Path(given.files[0]).name, sessions, given.order, given.refused))
+    return 0

@@ -1,0 +1,40 @@
+"""Puts an edited game under recordings: which of them still pass?
+
+Writes SESSIONS with the text of GAME.txt as the source of each session, or with --only of those whose names fit; all else stays letter by
+letter. `saxtegun test GAME.txt SESSIONS` does it for recordings whose source is the empty text, and plays them at once. Says on standard
+error how many sessions got the source. Exit status 0, or 2 where a file is refused or no session has a name, and also where sessions of
+different games would get this one's source: name those of the game with --only, or say --all."""
+from __future__ import annotations
+
+import sys
+from argparse import ArgumentParser, Namespace
+
+from saxtegun.commands import Refused, plural, say
+from saxtegun.explaining import game_of
+from saxtegun.files import MARK, guard_output, read_text
+from saxtegun.sessions import changed, chosen, read_sessions
+
+USAGE = "source GAME.txt SESSIONS [--only PATTERN..] [--all] >NEW"
+
+
+def add_words(words: ArgumentParser) -> None:
+    words.add_argument("game", metavar="GAME.txt")
+    words.add_argument("sessions", metavar="SESSIONS")
+    words.add_argument("--only", metavar="PATTERN", action="append", help="change sessions whose names fit; may be said again")
+    words.add_argument("--all", action="store_true", help="also where they are of different games, by their titles")
+
+
+def main(given: Namespace) -> int:
+    guard_output(given.game, given.sessions)
+    source, sessions = read_text(given.game).lstrip(MARK), read_sessions(given.sessions)
+    entries = [it for it in chosen(sessions, given.only) if it.source != source]
+    titles = {game_of(it.source).title for it in entries if it.source}
+    if len(titles) > 1 and not given.all and not given.only:
+        raise Refused(f"the sessions are of {len(titles)} games, by their titles: name those of {given.game} with --only, or say --all")
+    sys.stdout.write(changed(sessions, {it.number: ("source", source) for it in entries}))
+    sys.stdout.flush()
+    games = len({it.source for it in entries})
+    say(f"source: {plural(len(entries), 'session')} got another source, of {len(sessions.entries)}")
+    if games > 1:
+        say(f"source: they had {games} different sources; name sessions with --only where these are different games")
+    return 0

@@ -1,0 +1,101 @@
+"""`saxtegun explain`: on the example, whose lines are played by hand, and on cases of conformance/."""
+import json
+import unittest
+
+from day import EXAMPLE, OnSessions, case, cases_in_rows
+from tool import run
+
+# The example's session 4, worked out by hand from its level and its inputs.
+STALE = """\
+session 4, a recording that has gone stale: differs: 17 frames, 16 inputs; 5 of 42 cells (6 wide, 7 high) differ from the recorded level
+    column 2, row 3: background crate; recorded: background
+    column 2, row 4: background target; recorded: background crate target
+    column 2, row 5: background player; recorded: background
+    column 3, row 4: background crate; recorded: background player
+    column 4, row 5: background; recorded: background crate
+    reached    recorded
+    ####..     ####..
+    #.O#..     #.O#..
+    #*.###     #..###
+    #O*..#     #@P..#
+    #P...#     #..*.#
+    #..###     #..###
+    ####..     ####..
+5 sessions: 4 passed, 1 differs, 0 stopped, 0 refused
+"""
+# For a case the words that its explanation must have.
+TOLD = {
+    "the-word-random-in-a-rule": ("(OutsideProfile:26)", "    line 26: random [ Player ] -> [ Player ]\n"),
+    "a-level-row-with-an-unknown-glyph": ("a letter that draws nothing", "    line 28: x\n"),
+    "an-empty-source-is-refused-by-its-sections": ("a section that must be there is missing (Section:0); 0 frames",),
+    "two-rules-that-undo-each-other-stop-at-the-loop-limit": ("stopped: a group of rules or a loop still changed something in its 200th pass",),
+    "an-index-beyond-the-levels-is-refused": ("no level is left from its index on",),
+    "walk-with-a-recorded-level-of-three-cells-differs": ("the recorded level has 3 cells, and the one that was reached 4",),
+    "a-column-text-differs-with-order-rows": ("2 of 6 cells (2 wide, 3 high) differ", "in the other order than rows", "    .p         ..\n    ..         .p\n"),
+    "a-name-with-marks-that-json-escapes": ("session 0, \\u{1}\"\\/\\u{7f}\u00e9\\u{a}: refused",),
+}
+
+
+class Explain(OnSessions):
+    def test_the_example_is_told_with_its_cells_and_drawn(self):
+        answer = run("explain", EXAMPLE, self.lines)
+        self.assertEqual((answer.status, answer.out, answer.errors), (0, STALE, ""))
+
+    def test_a_case_is_told_with_its_cause(self):
+        for name, wanted in TOLD.items():
+            with self.subTest(name):
+                answer = run("explain", *case(name), "--order", "rows")
+                self.assertEqual((answer.status, answer.errors), (0, ""))
+                for words in wanted:
+                    self.assertIn(words, answer.out)
+
+    def test_every_case_is_explained(self):
+        sessions, lines = cases_in_rows()
+        answer = run("explain", self.write("sessions.json", sessions), self.write("lines", lines), "--order", "rows")
+        self.assertEqual((answer.status, answer.errors), (0, ""))
+        failed = sum(1 for line in lines.split("\n")[:-1] if json.loads(line).get("close") in ("differs", "stopped", "refused"))
+        self.assertEqual(sum(line.startswith("session ") for line in answer.out.split("\n")), failed)
+        self.assertNotIn("its cause is", answer.out)
+
+    def test_a_level_is_not_drawn_where_a_cell_has_no_letter(self):
+        source = json.loads(EXAMPLE.read_text(encoding="utf-8"))[4][1][0].replace("* = Crate", "Box = Crate")
+        entries = json.loads(EXAMPLE.read_text(encoding="utf-8"))
+        entries[4][1][0] = source
+        answer = run("explain", self.write("sessions.json", json.dumps(entries)), self.lines)
+        self.assertIn("column 2, row 3: background crate; recorded: background", answer.out)
+        self.assertNotIn("####..", answer.out)
+
+    def test_lines_of_another_file_are_refused(self):
+        lines = self.lines.read_text(encoding="utf-8")
+        for text, what in (
+            (lines.replace("half way", "half-way"), "session 2 is named 'half-way through the first', and in the file 'half way"),
+            ("".join(lines.splitlines(keepends=True)[:-1]), "the lines end within session 4, which has no close"),
+            ("".join(lines.splitlines(keepends=True)[:-18]), "closes 4 sessions, and"),
+            ("".join(lines.splitlines(keepends=True)[1:]), "line 1: not frame 0 of session 0"),
+            ("\n" + lines, "line 1: no line of the program"),
+            (lines.replace("move", "jump"), "line 2: not frame 1 of session 0"),
+        ):
+            with self.subTest(what):
+                self.assert_refused(run("explain", EXAMPLE, self.write("lines", text)), what)
+
+    def test_a_file_that_is_no_sessions_file_is_refused_with_the_place(self):
+        entry = '["a", ["", [0], ""]]'
+        for text, what in (
+            ("", "line 1, letter 1"),
+            ("{}", "line 1, letter 1"),
+            (f"[{entry},\n", "line 2, letter 1"),
+            (f"[{entry}]\n!", "line 2, letter 1: no JSON list of sessions (something stands behind the list)"),
+            (f"[{entry},\n7]", "session 1, line 2: it is no list of a name and a list"),
+            ('[["a", ["", [0, 5], ""]]]', "session 0, line 1: its input 1 is neither"),
+            ('[["a", ["", [0], "", -1]]]', "session 0, line 1: its index is no whole number"),
+            ('[["\\ud800", ["", [0], ""]]]', "session 0, line 1: a text of it holds half a letter"),
+            ("[" * 100_000, "no JSON list of sessions"),
+            ("[NaN]", "NaN is no JSON"),
+        ):
+            with self.subTest(what):
+                self.assert_refused(run("explain", self.write("sessions.json", text), self.lines), what)
+        self.assert_refused(run("explain", self.room / "nothing", self.lines), "nothing can't be read")
+
+
+if __name__ == "__main__":
+    unittest.main()

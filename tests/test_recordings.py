@@ -1,0 +1,137 @@
+"""`saxtegun source` and `saxtegun accept`: an edited game under old recordings, and what it reaches as the new ones."""
+import json
+import os
+import subprocess
+import sys
+import unittest
+
+from day import EXAMPLE, PROGRAM, OnSessions, case, lines_of_example
+from tool import TOP, run
+
+PULLED = "[ < Player | Crate ] -> [ < Player | < Crate ]"
+PUSHED = "[ > Player | Crate ] -> [ > Player | > Crate ]"
+# Entries as a file may have them, with a seed and white space that no writer of JSON would give back.
+ODD = '[ ["a\\u0041", [ "one" ,[0, "undo"],\t"",null, 1e400 ], {"x" : 1.0}],\n["b",["two",[],"x:0,",7]] ]\n'
+
+
+class WithSource(OnSessions):
+    def setUp(self):
+        super().setUp()
+        self.game = self.write("game.txt", 'title "B" \u00e4\r\n')
+
+    def test_only_the_source_is_another(self):
+        answer = run("source", self.game, self.write("odd.json", ODD))
+        new = '"title \\"B\\" \u00e4\\r\\n"'
+        self.assertEqual((answer.status, answer.out), (0, ODD.replace('"one"', new).replace('"two"', new)))
+        self.assertIn("2 sessions got another source, of 2", answer.errors)
+        self.assertIn("2 different sources", answer.errors)
+
+    def test_with_only_names_the_others_stay(self):
+        answer = run("source", self.game, self.write("odd.json", ODD), "--only", "b")
+        self.assertEqual((answer.status, answer.out), (0, ODD.replace('"two"', '"title \\"B\\" \u00e4\\r\\n"')))
+
+    def test_a_name_that_is_not_there_is_refused(self):
+        self.assert_refused(run("source", self.game, self.write("odd.json", ODD), "--only", "b", "--only", "c"), "has no session named 'c'")
+
+    def test_sessions_of_several_games_do_not_get_one_source(self):
+        entries = [["one", ["title One\n", [], ""]], ["two", ["title Two\n", [], ""]]]
+        sessions = self.write("games.json", json.dumps(entries))
+        self.assert_refused(run("source", self.game, sessions), "the sessions are of 2 games")
+        self.assertIn("2 sessions got another source", run("source", self.game, sessions, "--all").errors)
+
+    def test_a_game_that_is_not_utf_8_is_refused_with_its_line(self):
+        self.game.write_bytes(b"title A\nOBJECTS \xff\n")
+        self.assert_refused(run("source", self.game, EXAMPLE), "game.txt, line 2: byte 8 of it is not UTF-8")
+
+
+class Accept(OnSessions):
+    def test_what_was_reached_is_recorded(self):
+        answer = run("accept", EXAMPLE, self.lines)
+        self.assertEqual(answer.status, 0)
+        self.assertIn("session 4, a recording that has gone stale: differs, accepted\n", answer.errors)
+        self.assertIn("1 of 5 recorded levels changed", answer.errors)
+        old, new = json.loads(EXAMPLE.read_text(encoding="utf-8")), json.loads(answer.out)
+        self.assertEqual(new[:4], old[:4])
+        self.assertIn('"close":"passed"', lines_of_example(answer.out).splitlines()[-1])
+
+    def test_a_session_that_was_not_played_to_its_end_is_left(self):
+        sessions, lines = case("nine-sessions-with-workers-1")
+        answer = run("accept", sessions, lines)
+        old, new = json.loads(sessions.read_text(encoding="utf-8")), json.loads(answer.out)
+        self.assertEqual(answer.status, 0)
+        self.assertEqual([number for number in range(9) if old[number] != new[number]], [1])
+        self.assertIn("session 4, a: stopped, not accepted: a group of rules", answer.errors)
+
+    def test_a_named_session_that_can_not_be_accepted_gives_status_1(self):
+        sessions, lines = case("the-word-random-in-a-rule")
+        answer = run("accept", sessions, lines, "--only", "case")
+        self.assertEqual((answer.status, answer.out), (1, sessions.read_text(encoding="utf-8")))
+        self.assertIn("refused, not accepted", answer.errors)
+
+    def test_with_only_names_the_others_stay(self):
+        answer = run("accept", EXAMPLE, self.lines, "--only", "both levels solved")
+        self.assertEqual((answer.status, answer.out), (0, EXAMPLE.read_text(encoding="utf-8")))
+
+    def test_lines_of_other_recordings_are_refused(self):
+        accepted = self.write("accepted.json", run("accept", EXAMPLE, self.lines).out)
+        self.assert_refused(run("accept", accepted, self.lines), "session 4 is closed as differs, and its last level says otherwise")
+        self.assert_refused(run("explain", accepted, self.lines), "session 4 is closed as differs, and its last level says otherwise")
+
+    def test_in_place_the_file_is_replaced(self):
+        sessions = self.write("sessions.json", EXAMPLE.read_text(encoding="utf-8"))
+        answer = run("accept", sessions, self.lines, "--in-place", "--only", "a recording*")
+        self.assertEqual((answer.status, answer.out), (0, ""))
+        self.assertEqual(sessions.read_text(encoding="utf-8"), run("accept", EXAMPLE, self.lines).out)
+        self.assertEqual(sorted(it.name for it in self.room.iterdir()), ["example.lines", "sessions.json"])
+
+    def test_lines_of_the_other_order_are_not_accepted(self):
+        sessions, lines = case("a-column-text-differs-with-order-rows")
+        answer = run("accept", sessions, lines, "--order", "rows", "--only", "a")
+        self.assertEqual((answer.status, answer.out), (1, sessions.read_text(encoding="utf-8")))
+        self.assertIn("in the other order than rows: play it in the order that it was recorded in", answer.errors)
+
+    def test_one_after_the_other_is_shown_and_asked(self):
+        for answers, changed in (("y\n", 1), ("n\n", 0), ("\nwhat\na\n", 1), ("q\n", 0), ("", 0)):
+            ran = subprocess.run([sys.executable, TOP / "saxtegun", "accept", EXAMPLE, self.lines, "--review"], input=answers.encode(), stdout=subprocess.PIPE, stderr=subprocess.PIPE)
+            self.assertEqual(ran.returncode, 0)
+            self.assertIn("    reached    recorded\n", ran.stderr.decode())
+            self.assertIn(f"{changed} of 5 recorded levels changed", ran.stderr.decode())
+
+    def test_a_level_that_can_not_be_read_back_is_not_accepted(self):
+        sessions = self.write("sessions.json", '[["comma", ["", [], "a:0,"]]]')
+        frame = '{"at":0,"frame":0,"kind":"start","level":"a,b:0,\\n","session":0}\n'
+        lines = self.write("lines", frame + '{"close":"differs","frames":1,"name":"comma","session":0}\n')
+        answer = run("accept", sessions, lines)
+        self.assertEqual((answer.status, answer.out), (0, '[["comma", ["", [], "a:0,"]]]'))
+        self.assertIn("holds a comma", answer.errors)
+
+    def test_no_tool_writes_over_what_it_reads(self):
+        sessions = self.write("sessions.json", EXAMPLE.read_text(encoding="utf-8"))
+        for words in (["source", self.lines, sessions], *([verb, sessions, self.lines] for verb in ("accept", "explain", "report", "junit"))):
+            with self.subTest(words[0]), open(sessions, "ab") as output:
+                ran = subprocess.run([sys.executable, TOP / "saxtegun", *words], stdout=output, stderr=subprocess.PIPE)
+                self.assertEqual((ran.returncode, b"which is read" in ran.stderr), (2, True))
+        self.assertEqual(sessions.read_bytes(), EXAMPLE.read_bytes())
+
+
+@unittest.skipUnless(os.access(PROGRAM, os.X_OK), "the program is not built, and SAXTEGUN_PROGRAM names none")
+class Day(OnSessions):
+    """A rule is edited, a recording breaks, is looked at and accepted, and passes again."""
+
+    def play(self, sessions):
+        ran = subprocess.run([PROGRAM, sessions], stdout=subprocess.PIPE)
+        return ran.returncode, self.write(f"{sessions.stem}.lines", ran.stdout.decode())
+
+    def test_a_broken_recording_passes_again_once_it_is_accepted(self):
+        self.assertEqual(self.play(EXAMPLE)[1].read_text(), self.lines.read_text())
+        game = self.write("game.txt", json.loads(EXAMPLE.read_text(encoding="utf-8"))[0][1][0].replace(PUSHED, PULLED))
+        edited = self.write("edited.json", run("source", game, EXAMPLE).out)
+        status, lines = self.play(edited)
+        self.assertEqual(status, 1)
+        self.assertIn("session 0, both levels solved: differs", run("explain", edited, lines).out)
+        accepted = self.write("accepted.json", run("accept", edited, lines).out)
+        self.assertEqual(self.play(accepted)[0], 0)
+
+
+if __name__ == "__main__":
+    unittest.main()

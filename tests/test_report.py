@@ -1,0 +1,162 @@
+"""`saxtegun report`: the page is read back, and its levels are those of the lines. dev/tests-browser looks at it in a browser."""
+import base64
+import hashlib
+import json
+import os
+import re
+import unittest
+from html.parser import HTMLParser
+
+from day import EXAMPLE, OnSessions, case, cases_in_rows
+from strangers import LETTERS, NAMES, sessions_and_lines
+from tool import TOP, run
+
+PAGE = (TOP / "python/saxtegun/page/page.html").read_text(encoding="utf-8")
+
+
+class Reader(HTMLParser):
+    """The elements of a page, and what its scripts hold by their ids."""
+
+    def __init__(self, text):
+        super().__init__(convert_charrefs=True)
+        self.tags, self.policy, self.blocks, self.open = [], "", {}, None
+        self.feed(text)
+        self.close()
+
+    def handle_starttag(self, tag, attrs):
+        words = dict(attrs)
+        if tag == "meta" and words.get("http-equiv") == "Content-Security-Policy":
+            self.policy = words["content"]
+        self.open = words.get("id", tag) if tag in ("script", "style") else None
+        if self.open is None:
+            self.tags.append((tag, tuple(sorted(words))))
+        else:
+            self.blocks[self.open] = ""
+
+    def handle_endtag(self, tag):
+        self.open = None
+
+    def handle_data(self, data):
+        if self.open is not None:
+            self.blocks[self.open] += data
+
+    def json(self, name):
+        return json.loads(self.blocks[name])
+
+
+def levels_shown(session, letters):
+    """The levels of a session of the page, each as the names in its cells."""
+
+    def unpacked(level):
+        return [letters.index(it) if isinstance(it, str) else it for it in level["cells"]]
+
+    cells = []
+    for _, _, change in session["frames"]:
+        if isinstance(change, dict):
+            cells = unpacked(change)
+        elif change:
+            cells = list(cells)
+            for number, label in zip(change[::2], change[1::2]):
+                cells[number] = label
+        yield [session["labels"][label] for label in cells]
+
+
+def level_in(text):
+    """The names in the cells of a level text that the program wrote."""
+    sets, cells = [], []
+    for piece in text.replace("\n", "").split(",")[:-1]:
+        if ":" in piece:
+            sets.append(piece.rpartition(":")[0].split())
+        cells.append(sets[int(piece.rpartition(":")[2])])
+    return cells
+
+
+class Report(OnSessions):
+    def page(self, *words):
+        answer = run("report", *words)
+        self.assertEqual((answer.status, answer.errors), (0, ""))
+        return Reader(answer.out)
+
+    def assert_shows(self, page, lines):
+        """Every frame of these lines is in the page."""
+        levels, letters = {}, page.json("index")["letters"]
+        for line in map(json.loads, lines.split("\n")[:-1]):
+            if "level" in line:
+                levels.setdefault(line["session"], []).append(level_in(line["level"]))
+        for number, wanted in levels.items():
+            with self.subTest(session=number):
+                self.assertEqual(list(levels_shown(page.json(f"session-{number}"), letters)), wanted)
+
+    def test_the_example_is_shown_frame_by_frame(self):
+        page = self.page(EXAMPLE, self.lines)
+        index, stale = page.json("index"), page.json("session-4")
+        self.assertEqual([row[1] for row in index["sessions"]], ["passed"] * 4 + ["differs"])
+        self.assert_shows(page, self.lines.read_text(encoding="utf-8"))
+        self.assertEqual(stale["told"], "5 of 42 cells (6 wide, 7 high) differ from the recorded level")
+        self.assertEqual((stale["recorded"]["width"], stale["frames"][16][:2], stale["game"]), (6, [16, 1], 0))
+        crate = [it for it in page.json("game-0")["objects"] if it[0] == "crate"]
+        self.assertEqual(crate, [["crate", 2, ["#eb8931"], "000000...00...00...000000"]])
+
+    def test_every_case_is_shown(self):
+        sessions, lines = cases_in_rows()
+        page = self.page(self.write("sessions.json", sessions), self.write("lines", lines), "--order", "rows")
+        self.assertEqual(len(page.json("index")["sessions"]), len(json.loads(sessions)))
+        self.assert_shows(page, lines)
+        for session in (page.json(f"session-{number}") for number in range(len(json.loads(sessions)))):
+            if session["frames"]:
+                drawn = {it[0] for it in page.json(f"game-{session['game']}")["objects"] if it[1] is not None}
+                reached = {name for level in levels_shown(session, page.json("index")["letters"]) for names in level for name in names}
+                self.assertEqual(reached - drawn, set())
+
+    def test_a_refused_source_is_shown_by_its_line_and_its_neighbours(self):
+        session = self.page(*case("the-word-random-in-a-rule")).json("session-0")
+        self.assertEqual([it[0] for it in session["source"]], list(range(23, 30)))
+        self.assertEqual(session["source"][3], [26, "random [ Player ] -> [ Player ]", True])
+
+    def test_colours_and_sprites_are_read_as_the_language_has_them(self):
+        source = (
+            "color_palette gameboycolour\nbackground_color (not here) #123\nOBJECTS\nBackground\n#AbC transparent DarkGray\n01201\n.....\n00000\n00000\n00000\n"
+            "Player (a p) P\nochre\n(x)\nLEGEND\nThing = Background or Player\nCOLLISIONLAYERS\nThing\n, Player\nRULES\nLEVELS\np"
+        )
+        sessions = self.write("sessions.json", json.dumps([["a", [source, [], "player:0,"]]]))
+        frame = {"at": 0, "frame": 0, "kind": "start", "level": "background player:0,\n", "session": 0}
+        lines = self.write("lines", json.dumps(frame) + '\n{"close":"differs","frames":1,"name":"a","session":0}\n')
+        page = self.page(sessions, lines)
+        objects = [["background", 0, ["#aabbcc", None, "#697175"], "01201.....000000000000000"], ["player", 1, ["#9d9d9d"], ""]]
+        self.assertEqual(page.json("game-0")["objects"], objects)
+        notes = " ".join(page.json("index")["notes"])
+        self.assertIn("its palette gameboycolour is drawn by the colours of arnecolors", notes)
+        self.assertIn("its colour ochre is drawn as grey", notes)
+
+    def test_no_script_of_a_game_is_in_the_page(self):
+        sessions, lines = sessions_and_lines(NAMES, LETTERS)
+        page = self.page(self.write("sessions.json", sessions), self.write("lines", lines))
+        self.assertEqual([row[0] for row in page.json("index")["sessions"]][::2], [*NAMES, LETTERS])
+        self.assertEqual(page.tags, Reader(PAGE).tags)
+        self.assertEqual(sorted(page.blocks), sorted(["index", "game-0", "script", "style", *(f"session-{number}" for number in range(13))]))
+        self.assertFalse([name for _, names in page.tags for name in names if name.startswith("on")])
+        for name in ("script", "style"):
+            digest = base64.b64encode(hashlib.sha256(page.blocks[name].encode()).digest()).decode()
+            self.assertIn(f"{name}-src 'sha256-{digest}'", page.policy)
+        self.assertTrue(page.policy.startswith("default-src 'none'; "))
+
+    def test_the_script_makes_no_elements_of_texts(self):
+        script = (TOP / "python/saxtegun/page/page.js").read_text(encoding="utf-8")
+        self.assertIsNone(re.search(r"innerHTML|outerHTML|insertAdjacent|document\.write|eval|Function\(|setAttribute\(.on|fetch|XMLHttp|import", script))
+
+    def test_without_lines_the_sessions_are_played(self):
+        played = self.write("program", f'#!/bin/sh\n[ "$1 $2" = "--order columns" ] || {{ echo "open-fault" >&2; exit 2; }}\ncat {self.lines}\nexit 1\n')
+        played.chmod(0o755)
+        os.environ["SAXTEGUN_PROGRAM"], before = str(played), os.environ.get("SAXTEGUN_PROGRAM")
+        try:
+            answer, refused = run("report", EXAMPLE), run("report", EXAMPLE, "--order", "rows")
+        finally:
+            os.environ.pop("SAXTEGUN_PROGRAM")
+            if before is not None:
+                os.environ["SAXTEGUN_PROGRAM"] = before
+        self.assertEqual((answer.status, answer.out), (0, run("report", EXAMPLE, self.lines).out))
+        self.assert_refused(refused, "block-pushing.json was not played: it can't be opened (open-fault)")
+
+
+if __name__ == "__main__":
+    unittest.main()

@@ -1,0 +1,161 @@
+"""`saxtegun split` and `saxtegun join`: a suite that is played in parts gives the lines and the status of the whole.
+
+The suites are conformance cases of several sessions, whose lines and status were worked out by hand. What a program writes for a part
+are the lines of the part's sessions, numbered from 0.
+"""
+import json
+import re
+import unittest
+
+from tool import CASES, InARoom, run
+
+SESSION = re.compile(r'"session":(\d+)}$')
+SUITES = ("nine-sessions-with-workers-1", "the-second-of-three-sessions-has-a-refused-source")
+
+
+def part_lines(whole, first, behind):
+    """Of the lines of a whole file those of the sessions from the first to the one behind the last, numbered from 0."""
+    lines = []
+    for line in whole.splitlines(keepends=True):
+        number = int(SESSION.search(line.rstrip("\n"))[1])
+        if first <= number < behind:
+            lines.append(SESSION.sub(f'"session":{number - first}}}', line.rstrip("\n")) + "\n")
+    return "".join(lines)
+
+
+class Suite(InARoom):
+    def setUp(self):
+        super().setUp()
+        self.parts = self.room / "parts"
+
+    def split(self, count, text):
+        file = self.room / "sessions.json"
+        file.write_text(text, encoding="utf-8")
+        return run("split", file, count, self.parts)
+
+    def files(self):
+        return sorted(self.parts.glob("*.json"))
+
+    def play(self, whole):
+        """Puts the lines of each part beside it."""
+        for file in self.files():
+            first = int(file.stem)
+            lines = part_lines(whole, first, first + len(json.loads(file.read_text())))
+            file.with_suffix(".lines").write_text(lines, encoding="utf-8")
+
+    def split_and_play(self, name, count):
+        whole = (CASES / name / "stdout").read_text(encoding="utf-8")
+        self.assertEqual(self.split(count, (CASES / name / "input.json").read_text(encoding="utf-8")).status, 0)
+        self.play(whole)
+        return whole
+
+    def assert_refused(self, answer, what):
+        self.assertEqual(answer.status, 2)
+        self.assertIn(what, answer.errors)
+
+    def test_the_joined_lines_are_those_of_the_whole_file(self):
+        for name in SUITES:
+            for count in (1, 2, 3, 4, 100):
+                with self.subTest(suite=name, parts=count):
+                    self.parts = self.room / f"{name}-{count}"
+                    whole = self.split_and_play(name, count)
+                    joined = run("join", self.parts)
+                    self.assertEqual(joined.out, whole)
+                    self.assertEqual(joined.status, int((CASES / name / "status").read_text()))
+
+    def test_the_status_is_0_where_all_sessions_passed(self):
+        self.split_and_play(SUITES[0], 9)
+        for file in self.files():
+            lines = file.with_suffix(".lines")
+            lines.write_text(re.sub('"cause":"[^"]*",|"close":"\\w+"', lambda it: '"close":"passed"' if "close" in it[0] else "", lines.read_text()))
+        self.assertEqual(run("join", self.parts).status, 0)
+
+    def test_parts_are_consecutive_and_of_nearly_one_length(self):
+        entries = json.loads((CASES / SUITES[0] / "input.json").read_text())
+        self.split_and_play(SUITES[0], 4)
+        self.assertEqual([int(file.stem) for file in self.files()], [0, 2, 4, 6])
+        self.assertEqual([entry for file in self.files() for entry in json.loads(file.read_text())], entries)
+
+    def test_an_entry_is_copied_letter_by_letter(self):
+        entries = ['["a", [1.0, -0,  1e400]]', '{"\\u0041" :\t18446744073709551616}', '"(ä, ]"']
+        self.assertEqual(self.split(3, "[ " + " ,\r\n".join(entries) + " ]\n").status, 0)
+        self.assertEqual([file.read_text(encoding="utf-8") for file in self.files()], [f"[\n{entry}\n]\n" for entry in entries])
+
+    def test_a_file_without_entries_is_one_part(self):
+        self.assertEqual(self.split(3, "[]").status, 0)
+        self.play("")
+        joined = run("join", self.parts)
+        self.assertEqual((len(self.files()), joined.out, joined.status), (1, "", 0))
+
+    def test_what_is_no_list_is_not_split(self):
+        for text in ("", "{}", "[1", "[1 2]", "[1,]", "[,]"):
+            with self.subTest(text=text):
+                self.assert_refused(self.split(2, text), "is no JSON list")
+                self.assertFalse(self.parts.exists())
+
+    def test_a_part_is_no_larger_than_a_file_may_be(self):
+        self.assert_refused(self.split(1, f"[{','.join('0' * 65537)}]"), "more parts")
+
+    def test_a_folder_that_is_there_is_left_alone(self):
+        self.parts.mkdir()
+        self.assert_refused(self.split(2, "[1, 2]"), "is there already")
+        self.assertEqual([*self.parts.iterdir()], [])
+
+    def test_a_missing_part_is_told(self):
+        self.split_and_play(SUITES[0], 3)
+        self.files()[1].with_suffix(".lines").unlink()
+        self.assert_refused(run("join", self.parts), "00000003.lines is missing")
+
+    def test_a_part_that_was_cut_off_is_told(self):
+        self.split_and_play(SUITES[0], 3)
+        lines = self.files()[2].with_suffix(".lines")
+        lines.write_text("".join(lines.read_text().splitlines(keepends=True)[:-1]))
+        self.assert_refused(run("join", self.parts), "closes 2 of 3 sessions")
+
+    def test_the_lines_of_another_part_are_told(self):
+        self.split_and_play(SUITES[0], 9)
+        self.files()[0].with_suffix(".lines").write_text('{"close":"passed","frames":0,"name":"","session":1}\n')
+        self.assert_refused(run("join", self.parts), "has no line of session 0")
+
+    def test_a_part_that_is_gone_is_told(self):
+        self.split_and_play(SUITES[0], 9)
+        for file in (self.files()[3].with_suffix(".lines"), self.files()[3]):
+            file.unlink()
+        self.assert_refused(run("join", self.parts), "00000003.lines is missing")
+
+    def test_a_part_of_another_suite_is_told(self):
+        self.split_and_play(SUITES[0], 9)
+        (self.parts / "00000010.lines").write_text("")
+        self.assert_refused(run("join", self.parts), "is of no part")
+
+    def test_swapped_parts_are_told(self):
+        names = "[" + ",".join(json.dumps([name, ["", [], ""]]) for name in "abcd") + "]"
+        self.assertEqual(self.split(2, names).status, 0)
+        closes = "".join(f'{{"cause":"Section:0","close":"refused","frames":0,"name":"{name}","session":{it}}}\n' for it, name in enumerate("abcd"))
+        self.play(closes)
+        self.assertEqual(run("join", self.parts).out, closes)
+        one, other = (self.parts / name for name in ("00000000.lines", "00000002.lines"))
+        text = one.read_bytes()
+        one.write_bytes(other.read_bytes())
+        other.write_bytes(text)
+        self.assert_refused(run("join", self.parts), "these are lines of another part")
+
+    def test_a_manifest_that_is_cut_is_told(self):
+        self.split_and_play(SUITES[0], 3)
+        manifest = self.parts / "parts.txt"
+        manifest.write_text("".join(manifest.read_text().splitlines(keepends=True)[1:]))
+        self.assert_refused(run("join", self.parts), "not the part that begins with session 0")
+
+    def test_a_folder_without_parts_is_told(self):
+        self.parts.mkdir()
+        self.assert_refused(run("join", self.parts), "has no parts")
+        self.assert_refused(run("join", self.room / "nothing"), "is no folder")
+
+    def test_what_can_not_be_split_is_told_in_a_line(self):
+        for words in ((self.room / "nothing", 2, self.parts), (self.room, 2, self.parts), (self.room, 0, self.parts), (self.room, "x", self.parts)):
+            answer = run("split", *words)
+            self.assertEqual((answer.status, answer.errors.count("\n")), (2, 1))
+
+
+if __name__ == "__main__":
+    unittest.main()
