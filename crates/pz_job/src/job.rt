@@ -91,9 +91,21 @@ fn read_all<R: Threads + Sync>(
 }
 
 /// The job that the entries make, each level's cells in this order: a case for each entry. An entry whose source or rules
-/// can't be read, or whose index leaves no level, makes a case that is refused. At most so many threads read the sources, as many
-/// as there are workers. They wait for nobody, and the call waits for them.
-pub fn prepare<R: Threads + Sync>(
+/// can't be read, or whose index leaves no level, makes a case that is refused. Each source is read once, when its first entry comes,
+/// in the calling thread.
+pub fn prepare(alloc: Global, entries: Vec<Entry>, order: Order) -> Result<Job, AllocError>
+    requires { length entries.items ≤ MOST_ENTRIES }
+    ensures { IfOk result (λ job. job ≡ job_of order entries.items) }
+{
+    let mut rulebooks = Rulebooks::new(alloc);
+    let mut programs = Programs::new(alloc);
+    let cases = make_cases(&mut rulebooks, &mut programs, alloc, entries, order)?;
+    Ok(Job::new(cases))
+}
+
+/// The job that `prepare` makes. At most so many threads read the sources, as many as there are workers. They wait for nobody, and the call
+/// waits for them.
+pub fn prepare_with<R: Threads + Sync>(
     rt: &R,
     alloc: Global,
     entries: Vec<Entry>,

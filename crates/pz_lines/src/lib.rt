@@ -2,7 +2,7 @@
 #![tactic(auto)]
 
 pub mod fault;
-mod line;
+pub mod line;
 mod naming;
 pub mod output;
 pub mod writing;

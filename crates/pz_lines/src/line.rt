@@ -2,12 +2,13 @@
 
 ghost use Rattle.std.specs.Prelude.{◌≡◌, ◌++◌, IfOk, OnOk, decimal};
 ghost use Rattle.json.specs.Print.{quoted};
-ghost use Rattle.pz_lines.specs.Lines.{frame_count, frame_line, close_line, item_line, with_cause};
+ghost use Rattle.pz_lines.specs.Lines.{frame_count, frame_line, close_line, item_line, lines_of, with_cause};
 ghost use Rattle.pz_lines.specs.Naming.{cause_name};
 
 use crate::naming::{cause_name, close_name, quoted_kind};
 use itoa::Buffer;
 use pz_case::item::{Frame, Item, Verdict};
+use pz_case::recording::Record;
 use pz_record::quoted::QuotedText;
 use std::alloc::{AllocError, Global};
 
@@ -125,4 +126,22 @@ pub(crate) fn write_item(
         Item::Frame { number, at, frame } => write_frame(lines, session, *number, *at, frame),
         Item::Close(verdict) => write_close(alloc, lines, session, name, frames, *verdict),
     }
+}
+
+/// Puts the lines of what a session showed behind others.
+pub fn append_session(
+    alloc: Global,
+    before: Vec<u8>,
+    session: u64,
+    shown: &Record,
+) -> Result<Vec<u8>, AllocError>
+    ensures { IfOk result (λ lines. lines.items ≡ before.items ++ lines_of session shown.now) }
+{
+    let items = shown.items.items();
+    let frames = frame_count(items);
+    let mut lines = before;
+    for item in items {
+        lines = write_item(alloc, lines, session, shown.name.as_str(), frames, item)?;
+    }
+    Ok(lines)
 }

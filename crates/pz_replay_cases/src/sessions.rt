@@ -4,7 +4,7 @@ ghost use Rattle.std.specs.Prelude.{◌≡◌};
 
 use pz_case::job::Job;
 use pz_entries::file::read_sessions;
-use pz_job::job::prepare;
+use pz_job::job::prepare_with;
 use pz_record::order::Order;
 use pz_replay::gate::Gate;
 use std::alloc::{AllocError, Global};
@@ -34,7 +34,7 @@ pub(crate) fn job_of<R: Threads + Sync>(
     workers: usize,
 ) -> Result<Job, Fail> {
     let entries = read_sessions(alloc, text).map_err(|_| "no sessions")?;
-    Ok(prepare(rt, alloc, entries, Order::Rows, workers)?)
+    Ok(prepare_with(rt, alloc, entries, Order::Rows, workers)?)
 }
 
 /// A file of so many sessions, each with a source of its own: of three, one has no rules, one has one, and one has a rule with a fault.

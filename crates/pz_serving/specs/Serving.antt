@@ -1,49 +1,21 @@
 -- From the bytes of a file of sessions to the lines of their recording and an exit status.
-use Rattle.std.specs.Prelude.{◌≡◌, ◌≢◌, ◌↔◌, ◌≤◌, ◌+◌, ℕ, Bool, true, false, List, length, nat_lt, if◌then◌else◌, Option, IfSome, Result, Ok, Err, IsOk}
-use Rattle.std.specs.List.{list_all, list_any}
-use Rattle.std.specs.Str.{is_utf8}
+use Rattle.std.specs.Prelude.{◌≡◌, ◌≢◌, ◌↔◌, ◌≤◌, ◌+◌, ℕ, Bool, true, false, List, if◌then◌else◌, Option, IfSome, Result, Ok, Err, IsOk}
 use Rattle.std.specs.IoError.{error_kind}
 use Rattle.std.specs.declared.io.Error.{Error}
 use Rattle.std.specs.declared.io.ErrorKind.{ErrorKind}
 use Rattle.std.specs.declared.io.ErrorKind.TheVariants.{OutOfMemory}
 use Rattle.pz_entries.specs.declared.entry.Entry.{Entry}
-use Rattle.pz_entries.specs.declared.fault.FileFault.{FileFault}
 use Rattle.pz_entries.specs.declared.fault.FileFault.TheVariants as fault
 use Rattle.pz_entries.specs.declared.file.TheConstants.{MOST_BYTES}
 use Rattle.pz_record.specs.declared.order.Order.{Order}
-use Rattle.pz_entries.specs.File.{entries_of}
-use Rattle.pz_case.specs.declared.item.Item.{Item}
-use Rattle.pz_case.specs.declared.item.Item.TheVariants.{Close}
-use Rattle.pz_case.specs.declared.item.Verdict.TheVariants.{Passed}
-use Rattle.pz_case.specs.declared.recording.Record.{Record}
-use Rattle.pz_job.specs.Job.{job_of}
 use Rattle.pz_lines.specs.declared.fault.WriteFault.{WriteFault}
 use Rattle.pz_lines.specs.Lines.{text_of}
-use Rattle.pz_session.specs.Recording.{recording}
 use Rattle.pz_lines.specs.Writing.{Writes, EndsFor, HasWritten}
+use Rattle.pz_engine.specs.Sessions.{all_passed, sessions_in, shown_of}
 use Rattle.pz_console.specs.declared.failure.Failure.{Failure}
 use Rattle.pz_console.specs.declared.failure.Failure.TheVariants as failure
 use Rattle.pz_console.specs.Failures.{IsReported, failure_line}
 use Rattle.pz_console.specs.Reading.{Reads}
-
--- the entries that the bytes of a file hold, or its first fault: its length, that it is UTF-8, what it says
-unfoldable pub sessions_in : List ℕ → Result (List Entry) FileFault
-sessions_in bytes = if nat_lt MOST_BYTES (length bytes) then Err fault.TooMany else (if is_utf8 bytes then entries_of bytes else Err fault.NotJson)
-
--- what the sessions of the entries show, the cells of each level in this order
-abbrev pub shown_of : Order → List Entry → List Record
-shown_of order entries = recording (job_of order entries)
-
-abbrev pub is_pass : Item → Bool
-is_pass (Close Passed) = true
-is_pass other = false
-
--- a session passed if it closed so
-abbrev pub has_passed : Record → Bool
-has_passed shown = list_any is_pass shown.items
-
-abbrev pub all_passed : List Record → Bool
-all_passed shown = list_all has_passed shown
 
 -- all lines went out, and whether every session passed is told
 pub record WritesAll (order : Order) (bytes : List ℕ) (passed : Bool) (old new : Writes) : Type 0 where

@@ -1,22 +1,21 @@
 //! The serving of a file of sessions.
 
-ghost use Rattle.std.specs.Prelude.{◌≡◌, ◌≢◌, ◌≤◌, ◌⊎◌, Bool, false, None, Result, Ok, Err, IfOk, IfErr, length};
+ghost use Rattle.std.specs.Prelude.{◌≡◌, ◌≢◌, ◌≤◌, ◌⊎◌, Bool, false, None, Result, IfOk, IfErr, length};
 ghost use Rattle.std.specs.IoError.{error_kind};
-ghost use Rattle.pz_entries.specs.declared.fault.FileFault.TheVariants as fault;
 ghost use Rattle.pz_console.specs.declared.options.TheConstants.{MOST_WORKERS};
 ghost use Rattle.pz_console.specs.declared.failure.Failure.{Failure};
-ghost use Rattle.pz_serving.specs.Serving.{ReadsFor, Reports, Serves, ServesOpened, all_passed, failure_at, has_passed, sessions_in, shown_of, status_of};
+ghost use Rattle.pz_engine.specs.Sessions.{shown_of};
+ghost use Rattle.pz_serving.specs.Serving.{ReadsFor, Reports, Serves, ServesOpened, failure_at, status_of};
 
-use pz_case::item::{Item, Verdict};
-use pz_case::recording::{Record, Recording};
+use pz_case::recording::Recording;
 use pz_console::counted::Counted;
 use pz_console::failure::{Failure, fail_with};
 use pz_console::input::{InputFault, read_input};
 use pz_console::options::Settings;
+use pz_engine::sessions::{all_passed, decode};
 use pz_entries::entry::Entry;
 use pz_entries::fault::FileFault;
-use pz_entries::file::{MOST_BYTES, read_sessions};
-use pz_job::job::prepare;
+use pz_job::job::prepare_with;
 use pz_lines::output::Output;
 use pz_lines::writing::write_recording;
 use pz_record::limits::MOST_ENTRIES;
@@ -28,19 +27,6 @@ use std::alloc::Global;
 use std::io::{self, ErrorKind, Read, Write};
 use std::sync::Wait;
 use std::thread::Threads;
-
-/// The entries that the bytes of a file hold, or its first fault.
-fn decode(alloc: Global, bytes: &[u8]) -> Result<Vec<Entry>, FileFault>
-    requires { length bytes.now ≤ MOST_BYTES }
-    ensures read { IfOk result (λ entries. sessions_in bytes.now ≡ Ok entries.items) }
-    ensures few { IfOk result (λ entries. length entries.items ≤ MOST_ENTRIES) }
-    ensures refused { IfErr result (λ cause. cause ≢ fault.Memory → sessions_in bytes.now ≡ Err cause) }
-{
-    let Ok(text) = str::from_utf8(bytes) else {
-        return Err(FileFault::NotJson);
-    };
-    read_sessions(alloc, text)
-}
 
 /// Why there is no recording, as the program tells it.
 fn failure_of(fault: ReplayFault) -> Failure
@@ -69,29 +55,11 @@ fn record<T: Threads + Wait + Sync>(
     ensures shown { IfOk result (λ shown. shown ≡ shown_of settings.order entries.items) }
     ensures refused { IfErr result (λ failure. (failure ≡ Failure.Memory) ⊎ (failure ≡ Failure.LaneLost)) }
 {
-    let job = prepare(rt, alloc, entries, settings.order, settings.workers)?;
+    let job = prepare_with(rt, alloc, entries, settings.order, settings.workers)?;
     match replay(rt, alloc, &ByRules::new(&job), settings.workers, &Always) {
         Ok(recording) => Ok(recording),
         Err(fault) => Err(failure_of(fault)),
     }
-}
-
-/// Whether a session passed.
-fn has_passed(shown: &Record) -> bool
-    ensures { result ≡ has_passed shown.now }
-{
-    shown
-        .items
-        .items()
-        .iter()
-        .any(|item| matches!(item, Item::Close(Verdict::Passed)))
-}
-
-/// Whether every session passed.
-fn all_passed(shown: &Recording) -> bool
-    ensures { result ≡ all_passed shown.now }
-{
-    shown.records().iter().all(|shown| has_passed(shown))
 }
 
 /// Reads the sessions, replays them and writes their lines; tells whether every session passed.
