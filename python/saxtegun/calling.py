@@ -9,6 +9,7 @@ from saxtegun.commands import fail, parser, serve
 VERBS = {
     "test": "plays recordings, with a game's text or without, and says what did not pass and what is solved",
     "add": "adds recordings as an editor's console prints them, once they are played",
+    "compare": "tells at which frame two runs of the same sessions part",
     "explain": "tells in words which sessions did not pass, and why",
     "report": "writes a page that shows each session frame by frame",
     "junit": "writes lines as a JUnit file",
