@@ -10,6 +10,7 @@ VERBS = {
     "test": "plays recordings, with a game's text or without, and says what did not pass and what is solved",
     "add": "adds recordings as an editor's console prints them, once they are played",
     "compare": "tells at which frame two runs of the same sessions part",
+    "coverage": "tells which rules and win lines no session needs",
     "explain": "tells in words which sessions did not pass, and why",
     "report": "writes a page that shows each session frame by frame",
     "junit": "writes lines as a JUnit file",
