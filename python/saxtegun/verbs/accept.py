@@ -40,7 +40,7 @@ def obstacle(entry: Entry, run: Run, order: str) -> Optional[str]:
     ending = Ending(entry, run)
     if ending.reached is None:
         return UNREADABLE
-    if ending.is_comparable and ending.is_turned(order):
+    if ending.is_turned_in(order):
         return f"the recorded level is the reached one in the other order than {order}: play it in the order that it was recorded in"
     return None
 
