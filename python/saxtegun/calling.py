@@ -11,6 +11,7 @@ VERBS = {
     "add": "adds recordings as an editor's console prints them, once they are played",
     "compare": "tells at which frame two runs of the same sessions part",
     "coverage": "tells which rules and win lines no session needs",
+    "play": "plays a game in the terminal, and saves it as a recording",
     "explain": "tells in words which sessions did not pass, and why",
     "report": "writes a page that shows each session frame by frame",
     "junit": "writes lines as a JUnit file",
