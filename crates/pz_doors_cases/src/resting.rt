@@ -1,7 +1,7 @@
 //! Groups and loops of rules, run to rest.
 
-ghost use Rattle.std.specs.Prelude.{◌≡◌};
-ghost use Rattle.pz_program.specs.Instance.{IsProgramOf};
+ghost use Rattle.std.specs.Prelude.{IfOk};
+ghost use Rattle.pz_program.specs.Instance.{IsBlockOf, IsProgramOf};
 ghost use Rattle.pz_sheet.specs.Grid.{IsOfGame};
 
 use crate::game::{expect_level, game_of, loaded, program_of};
@@ -27,21 +27,27 @@ fn in_bits(given: Result<(Commands, bool), StepFault>) -> Rested {
     }
 }
 
-/// Runs the first block before the movement to rest.
-fn rest_first(
-    alloc: Global,
-    game: &Game,
-    program: &Program,
-    level: &mut Level,
-) -> Result<Rested, Fail>
+/// The first block before the movement.
+fn first_block<'a>(game: &Game, program: &'a Program) -> Result<&'a Block, Fail>
+    requires { IsProgramOf game.now.layers program.now }
+    ensures { IfOk result (λ block. IsBlockOf game.now.layers block.now) }
+{
+    let _ = game;
+    match program.early() {
+        [block, ..] => Ok(block),
+        _ => Err(Fail::new("no block")),
+    }
+}
+
+/// Runs a block to rest.
+fn rest_block(alloc: Global, game: &Game, block: &Block, level: &mut Level) -> Rested
     requires level_of { IsOfGame game.now level.old.grid }
-    requires program_of { IsProgramOf game.now.layers program.now }
+    requires block_of { IsBlockOf game.now.layers block.now }
     ensures { IsOfGame game.now level.new.grid }
 {
-    match program.early() {
-        [Block::One(group), ..] => Ok(in_bits(rest(alloc, game, group, level))),
-        [Block::Loop(groups), ..] => Ok(in_bits(rest_loop(alloc, game, groups, level))),
-        _ => Err(Fail::new("no block")),
+    match block {
+        Block::One(group) => in_bits(rest(alloc, game, group, level)),
+        Block::Loop(groups) => in_bits(rest_loop(alloc, game, groups, level)),
     }
 }
 
@@ -50,8 +56,9 @@ fn play(alloc: Global, game: &Game, level: &mut Level, dir: Dir) -> Result<Reste
     requires level_of { IsOfGame game.now level.old.grid }
 {
     let program = program_of(alloc, game)?;
+    let block = first_block(game, &program)?;
     push_players(game, level, dir);
-    let rested = rest_first(alloc, game, &program, level)?;
+    let rested = rest_block(alloc, game, block, level);
     resolve(game, level);
     Ok(rested)
 }

@@ -1,7 +1,5 @@
 //! Whole steps of a game, and wins.
 
-ghost use Rattle.std.specs.Prelude.{◌≡◌};
-ghost use Rattle.pz_program.specs.Instance.{IsProgramOf};
 ghost use Rattle.pz_sheet.specs.Grid.{IsOfGame};
 
 use crate::game::{expect_level, game_of, loaded, program_of};
