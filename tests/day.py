@@ -1,12 +1,9 @@
 """Sessions files with their lines, for the tests of the tools that show, explain and accept: the example, played by hand, and cases."""
 import json
-import os
-from pathlib import Path
 
-from tool import CASES, TOP, InARoom
+from tool import CASES, PROGRAM, TOP, InARoom
 
 EXAMPLE = TOP / "examples/block-pushing.json"
-PROGRAM = Path(os.environ.get("SAXTEGUN_PROGRAM") or TOP / "crates/pz_replayer/out/pz_replayer")
 STEPS = {0: (0, -1), 1: (-1, 0), 2: (0, 1), 3: (1, 0)}
 GLYPHS = {".": set(), "#": {"wall"}, "P": {"player"}, "*": {"crate"}, "@": {"crate", "target"}, "O": {"target"}}
 

@@ -13,14 +13,14 @@ session 4, a recording that has gone stale: differs: 17 frames, 16 inputs; 5 of 
     column 2, row 5: background player; recorded: background
     column 3, row 4: background crate; recorded: background player
     column 4, row 5: background; recorded: background crate
-    reached    recorded
-    ####..     ####..
-    #.O#..     #.O#..
-    #*.###     #..###
-    #O*..#     #@P..#
-    #P...#     #..*.#
-    #..###     #..###
-    ####..     ####..
+    | reached    recorded
+    | ####..     ####..
+    | #.O#..     #.O#..
+    | #*.###     #..###
+    | #O*..#     #@P..#
+    | #P...#     #..*.#
+    | #..###     #..###
+    | ####..     ####..
 5 sessions: 4 passed, 1 differs, 0 stopped, 0 refused
 """
 # For a case the words that its explanation must have.
@@ -31,7 +31,7 @@ TOLD = {
     "two-rules-that-undo-each-other-stop-at-the-loop-limit": ("stopped: a group of rules or a loop still changed something in its 200th pass",),
     "an-index-beyond-the-levels-is-refused": ("no level is left from its index on",),
     "walk-with-a-recorded-level-of-three-cells-differs": ("the recorded level has 3 cells, and the one that was reached 4",),
-    "a-column-text-differs-with-order-rows": ("2 of 6 cells (2 wide, 3 high) differ", "in the other order than rows", "    .p         ..\n    ..         .p\n"),
+    "a-column-text-differs-with-order-rows": ("2 of 6 cells (2 wide, 3 high) differ", "in the other order than rows", "    | .p         ..\n    | ..         .p\n"),
     "a-name-with-marks-that-json-escapes": ("session 0, \\u{1}\"\\/\\u{7f}\u00e9\\u{a}: refused",),
 }
 

@@ -1,12 +1,11 @@
 """`saxtegun source` and `saxtegun accept`: an edited game under old recordings, and what it reaches as the new ones."""
 import json
-import os
 import subprocess
 import sys
 import unittest
 
-from day import EXAMPLE, PROGRAM, OnSessions, case, lines_of_example
-from tool import TOP, run
+from day import EXAMPLE, OnSessions, case, lines_of_example
+from tool import PROGRAM, TOP, plays, run
 
 PULLED = "[ < Player | Crate ] -> [ < Player | < Crate ]"
 PUSHED = "[ > Player | Crate ] -> [ > Player | > Crate ]"
@@ -94,7 +93,7 @@ class Accept(OnSessions):
         for answers, changed in (("y\n", 1), ("n\n", 0), ("\nwhat\na\n", 1), ("q\n", 0), ("", 0)):
             ran = subprocess.run([sys.executable, TOP / "saxtegun", "accept", EXAMPLE, self.lines, "--review"], input=answers.encode(), stdout=subprocess.PIPE, stderr=subprocess.PIPE)
             self.assertEqual(ran.returncode, 0)
-            self.assertIn("    reached    recorded\n", ran.stderr.decode())
+            self.assertIn("    | reached    recorded\n", ran.stderr.decode())
             self.assertIn(f"{changed} of 5 recorded levels changed", ran.stderr.decode())
 
     def test_a_level_that_can_not_be_read_back_is_not_accepted(self):
@@ -114,7 +113,7 @@ class Accept(OnSessions):
         self.assertEqual(sessions.read_bytes(), EXAMPLE.read_bytes())
 
 
-@unittest.skipUnless(os.access(PROGRAM, os.X_OK), "the program is not built, and SAXTEGUN_PROGRAM names none")
+@plays
 class Day(OnSessions):
     """A rule is edited, a recording breaks, is looked at and accepted, and passes again."""
 

@@ -1,4 +1,5 @@
 """Runs a tool as its user does, where it is wanted on a small repository of its own."""
+import os
 import shutil
 import subprocess
 import sys
@@ -9,6 +10,7 @@ from pathlib import Path
 TOP = Path(__file__).resolve().parent.parent
 sys.path.insert(0, str(TOP / "python"))
 CASES = TOP / "conformance" / "cases"
+PROGRAM = Path(os.environ.get("SAXTEGUN_PROGRAM") or TOP / "crates/pz_replayer/out/pz_replayer")
 
 
 class Answer:
@@ -18,10 +20,20 @@ class Answer:
         self.out, self.errors, self.status = ran.stdout.decode(), ran.stderr.decode(), ran.returncode
 
 
-def run(tool, *words):
+def plays(tests):
+    """Marks tests that play: they are left out where the program is not there. Their names begin with Day, by which ./check finds them."""
+    return unittest.skipUnless(os.access(PROGRAM, os.X_OK), "the program is not built, and SAXTEGUN_PROGRAM names none")(tests)
+
+
+def environment():
+    """The environment of a tool: it plays with the program of these tests, and knows of no CI."""
+    return {"SAXTEGUN_PROGRAM": str(PROGRAM), **{name: value for name, value in os.environ.items() if name != "CI"}}
+
+
+def run(tool, *words, stdin=b""):
     """Runs a verb of `./saxtegun`, or the tool at a path, with these words."""
     command = [tool] if isinstance(tool, Path) else [TOP / "saxtegun", tool]
-    return Answer(subprocess.run([sys.executable, *command, *map(str, words)], stdout=subprocess.PIPE, stderr=subprocess.PIPE, stdin=subprocess.DEVNULL))
+    return Answer(subprocess.run([sys.executable, *command, *map(str, words)], input=stdin, stdout=subprocess.PIPE, stderr=subprocess.PIPE, env=environment()))
 
 
 # A crate of one function, which is proved.

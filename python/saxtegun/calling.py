@@ -7,6 +7,11 @@ import sys
 from saxtegun.commands import fail, parser, serve
 
 VERBS = {
+    "test": "plays recordings, with a game's text or without, and says what did not pass and what is solved",
+    "add": "adds recordings as an editor's console prints them, once they are played",
+    "compare": "tells at which frame two runs of the same sessions part",
+    "coverage": "tells which rules and win lines no session needs",
+    "play": "plays a game in the terminal, and saves it as a recording",
     "explain": "tells in words which sessions did not pass, and why",
     "report": "writes a page that shows each session frame by frame",
     "junit": "writes lines as a JUnit file",
@@ -42,7 +47,7 @@ def main() -> int:
     verb = importlib.import_module(f"saxtegun.verbs.{words[0]}")
     reader = parser(f"saxtegun {words[0]}", f"saxtegun {verb.USAGE}", verb.__doc__ or "")
     verb.add_words(reader)
-    return int(verb.main(reader.parse_args(words[1:])))
+    return int(verb.main(reader.parse_intermixed_args(words[1:])))
 
 
 def call() -> None:

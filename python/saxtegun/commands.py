@@ -4,7 +4,7 @@ from __future__ import annotations
 import argparse
 import os
 import sys
-from typing import Callable, NoReturn, TextIO
+from typing import Any, Callable, NoReturn, Optional, TextIO
 
 
 class Refused(Exception):
@@ -45,6 +45,11 @@ def fail(name: str, why: str) -> None:
 
 class Words(argparse.ArgumentParser):
     """A reader of the command line, which refuses in one line as all else does."""
+
+    def print_help(self, file: Optional[Any] = None) -> None:
+        # argparse hides where this can't be written
+        sys.stdout.write(self.format_help())
+        sys.stdout.flush()
 
     def error(self, message: str) -> NoReturn:
         raise Refused(f"{message} ({self.prog} --help tells how it is called)")

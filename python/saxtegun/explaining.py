@@ -2,11 +2,11 @@
 from __future__ import annotations
 
 from collections import Counter
-from functools import lru_cache
-from typing import Iterable, List, Optional, Tuple
+from typing import Iterable, List, Optional, Tuple, Union
 
+from saxtegun import culprits, levelsets
 from saxtegun.commands import plural, printable
-from saxtegun.games import Game
+from saxtegun.games import Game, game_of
 from saxtegun.lines import Run
 from saxtegun.sessions import Entry
 from saxtegun.levels import Labels, differing, in_rows, position, read_cells, width_of
@@ -45,12 +45,6 @@ FAULTS = {
 WHOLE = {"Section": "a section that must be there is missing"}
 
 UNREADABLE = "the level that was reached can't be read back, since a name of an object in it holds a comma"
-
-
-@lru_cache(maxsize=64)
-def game_of(source: str) -> Game:
-    """How a game looks. The sessions of a suite share few sources."""
-    return Game(source)
 
 
 def fault_in(cause: str) -> Optional[Tuple[str, int]]:
@@ -96,6 +90,10 @@ class Ending:
     def names(self, label: int) -> Tuple[str, ...]:
         return self.labels.names[label]
 
+    def is_turned_in(self, order: str) -> bool:
+        """Whether both levels can be compared, and the recorded one is the reached one in the other order."""
+        return self.is_comparable and self.is_turned(order)
+
     def is_turned(self, order: str) -> bool:
         """Whether the recorded level is the reached one in the other order of cells."""
         assert self.reached is not None
@@ -140,25 +138,51 @@ def drawings(ending: Ending, game: Game, order: str) -> List[str]:
             return []
         drawn.append(letters)
     room = max(ending.width, len("reached")) + 4
-    return ["reached".ljust(room) + "recorded", *(one.ljust(room) + other for one, other in zip(*drawn))]
+    # the mark before each keeps a game's letters from beginning a line, where a CI would read commands
+    return [f"| {it}" for it in ["reached".ljust(room) + "recorded", *(one.ljust(room) + other for one, other in zip(*drawn))]]
 
 
-def told(run: Run, entry: Optional[Entry] = None, order: str = "columns") -> Tuple[str, List[str]]:
-    """What a session that did not pass came to: a sentence, and lines below it. Without its entry only what its lines say."""
+def culprit_told(entry: Entry, run: Run) -> str:
+    """What the cause of a session comes from, in words that go on behind its sentence, or nothing."""
+    fault = fault_in(run.cause or "")
+    if fault and fault[0] == "Unknown":
+        return culprits.unknown_told(entry.source, game_of(entry.source), fault[1])
+    if fault and fault[0] == "OutsideProfile":
+        found = culprits.outside_told(entry.source, fault[1])
+        return f"; here it is {found}" if found else ""
+    if run.cause in ("loop-limit", "again-limit", "match-limit"):
+        # ticks of an input are shown with it taken; another stop comes before anything of its input is shown
+        at = (run.frames[-1].at if run.frames else -1) - (run.cause == "again-limit")
+        where = f" at input {at} ({input_told(entry.inputs[at])})" if 0 <= at < len(entry.inputs) else " at the start"
+        return where + (culprits.loops_told(entry.source) if run.cause == "loop-limit" else "")
+    return ""
+
+
+def input_told(it: Union[int, str]) -> str:
+    """An input by its word."""
+    return it if isinstance(it, str) else ("up", "left", "down", "right", "action")[it]
+
+
+def told(run: Run, entry: Optional[Entry] = None, order: str = "columns", game: str = "") -> Tuple[str, List[str]]:
+    """What a session that did not pass came to: a sentence, and lines below it. Without its entry only what its lines say. `game` is the file
+    of its source, where it has one."""
     if run.cause is not None:
         fault = fault_in(run.cause)
         line = source_line(entry.source, fault[1]) if entry and fault else None
-        below = [f"line {fault[1]}: {line}"] if line is not None else []
-        return f"{cause_told(run.cause)} ({run.cause}); {plural(len(run.frames), 'frame')}", below
+        place = f"{game}:{fault[1]}" if game and fault else f"line {fault[1]}" if fault else ""
+        below = [f"{place}: {line}"] if line is not None else []
+        culprit = culprit_told(entry, run) if entry else ""
+        return f"{cause_told(run.cause)}{culprit} ({run.cause}); {plural(len(run.frames), 'frame')}", below
     if run.close == "passed":
         return plural(len(run.frames), "frame"), []
     if entry is None:
         return f"the level that was reached is not the recorded one; {plural(len(run.frames), 'frame')}", []
     ending = Ending(entry, run)
-    below = cells_told(ending, order)
+    elsewhere = levelsets.still_in(entry, run, order) if ending.recorded is not None and not ending.is_turned_in(order) else None
+    below = [] if elsewhere else cells_told(ending, order)
     if ending.is_comparable:
         below += drawings(ending, game_of(entry.source), order)
-    return f"{plural(len(run.frames), 'frame')}, {plural(len(entry.inputs), 'input')}; {ending_told(ending, order)}", below
+    return f"{plural(len(run.frames), 'frame')}, {plural(len(entry.inputs), 'input')}; {elsewhere or ending_told(ending, order)}", below
 
 
 def summary(closes: Iterable[str]) -> str:

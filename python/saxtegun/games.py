@@ -4,6 +4,7 @@ A source that is refused is read as far as it goes: nothing here fails, and what
 from __future__ import annotations
 
 import re
+from functools import lru_cache
 from typing import Dict, FrozenSet, Iterable, List, NamedTuple, Optional, Sequence, Set, Tuple
 
 from saxtegun.commands import fold
@@ -183,3 +184,9 @@ def definition_of(line: str) -> Optional[Tuple[str, Tuple[str, List[str]]]]:
     if joint not in ("and", "or") or any(it != joint for it in right[1::2]):
         return None
     return fold(left[0]), (joint, right[::2])
+
+
+@lru_cache(maxsize=64)
+def game_of(source: str) -> Game:
+    """How a game looks. The sessions of a suite share few sources."""
+    return Game(source)

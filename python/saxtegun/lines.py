@@ -86,11 +86,12 @@ def runs_in(path: str) -> Iterator[Tuple[int, Run]]:
         raise Refused(f"{path}: the lines end within session {count}, which has no close")
 
 
-def read_runs(path: str, sessions: Optional[Sessions] = None) -> Iterator[Run]:
-    """What the program's lines say, session by session. With the sessions that they must be of, each is tested to be of its entry."""
+def read_runs(path: str, sessions: Optional[Sessions] = None, is_close_tested: bool = True) -> Iterator[Run]:
+    """What the program's lines say, session by session. With the sessions that they must be of, each is tested to be of its entry: by name
+    and inputs, and by its close, which must be that of its last level."""
     count = 0
     for number, run in runs_in(path):
-        fault = mismatch(sessions, run) if sessions else None
+        fault = mismatch(sessions, run, is_close_tested) if sessions else None
         if fault and sessions:
             raise Refused(f"{path}, line {number}: {fault}; the lines are of another file than {sessions.path}")
         yield run
@@ -99,8 +100,8 @@ def read_runs(path: str, sessions: Optional[Sessions] = None) -> Iterator[Run]:
         raise Refused(f"{path} closes {plural(count, 'session')}, and {sessions.path} has {len(sessions.entries)}")
 
 
-def mismatch(sessions: Sessions, run: Run) -> Optional[str]:
-    """What shows that a run is not of its entry, or None: its name, its inputs, and that it is closed as its last level says."""
+def mismatch(sessions: Sessions, run: Run, is_close_tested: bool) -> Optional[str]:
+    """What shows that a run is not of its entry, or None."""
     if run.number >= len(sessions.entries):
         return f"there is no session {run.number}"
     entry = sessions.entries[run.number]
@@ -111,6 +112,8 @@ def mismatch(sessions: Sessions, run: Run) -> Optional[str]:
     if run.close in ("passed", "differs"):
         if not run.frames:
             return f"session {run.number} was played and has no frame"
+        if not is_close_tested:
+            return None
         is_recorded = is_same_level(run.frames[-1].level, entry.level)
         if is_recorded is not None and is_recorded != (run.close == "passed"):
             return f"session {run.number} is closed as {run.close}, and its last level says otherwise"

@@ -11,8 +11,8 @@ from pathlib import Path
 from typing import Any, Dict, List, Optional, Union
 
 from saxtegun.commands import plural
-from saxtegun.explaining import Ending, cause_told, ending_told, fault_in, game_of
-from saxtegun.games import Game
+from saxtegun.explaining import Ending, cause_told, ending_told, fault_in
+from saxtegun.games import Game, game_of
 from saxtegun.levels import Labels, differing, read_cells, width_of
 from saxtegun.lines import KINDS, Run
 from saxtegun.sessions import Entry, Sessions

@@ -29,6 +29,10 @@ REFUSALS = {
 }
 
 
+BUILT = TOP / "crates/pz_replayer/out/pz_replayer"
+HAS_PLAYED: List[bool] = []
+
+
 class Played(NamedTuple):
     """What a program wrote, as a file, and how it ended: 0 or 1."""
 
@@ -40,7 +44,8 @@ def program_words(named: Optional[str] = None) -> List[str]:
     """How the program is called: the one that is named, that of SAXTEGUN_PROGRAM, or ./replay, which builds it where it must."""
     path = named or os.environ.get("SAXTEGUN_PROGRAM")
     if not path:
-        return [str(TOP / "replay")]
+        # ./replay looks whether the program is that of the sources; what has played once in this process is
+        return [str(BUILT)] if HAS_PLAYED else [str(TOP / "replay")]
     if not os.path.isfile(path) or not os.access(path, os.X_OK):
         raise Refused(f"there is no program at {path!r}")
     return [os.path.abspath(path)]
@@ -66,6 +71,8 @@ def play_file(path: str, lines: str, order: str = "columns", workers: Optional[i
             ran = subprocess.run(words, stdin=subprocess.DEVNULL, stdout=file, stderr=subprocess.PIPE, check=False)
     except OSError as why:
         raise Refused(f"{words[0]} can't be run: {why.strerror}") from None
+    if ran.returncode in (0, 1) and BUILT.is_file() and not HAS_PLAYED:
+        HAS_PLAYED.append(True)
     if ran.returncode not in (0, 1):
         raise Refused(refusal(ran.stderr.decode("utf-8", "replace"), of.path if of else path, of.entries if of else ()))
     return Played(lines, ran.returncode)
@@ -84,6 +91,18 @@ def runs_of(entries: Sequence[Entry], of: Sessions, order: str = "columns", work
     """What playing entries shows, numbered from 0 as they stand here."""
     with playing(entries, of, order, workers, program) as played:
         return [*read_runs(played.lines)]
+
+
+def lines_beyond(entry: Entry, known: int, program: Optional[str] = None) -> List[str]:
+    """The lines of a session behind the first ones, which are known: its frames, and its close as the last."""
+    words = [*program_words(program), "--workers", "1"]
+    try:
+        ran = subprocess.run(words, input=written([entry]).encode(), stdout=subprocess.PIPE, stderr=subprocess.PIPE, check=False)
+    except OSError as why:
+        raise Refused(f"{words[0]} can't be run: {why.strerror}") from None
+    if ran.returncode not in (0, 1):
+        raise Refused(refusal(ran.stderr.decode("utf-8", "replace"), entry.name, [entry]))
+    return ran.stdout.decode().split("\n")[known:-1]
 
 
 @contextmanager

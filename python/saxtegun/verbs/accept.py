@@ -15,12 +15,12 @@ from typing import Dict, List, Optional, Tuple
 
 from saxtegun.commands import Refused, add_order, plural, printable, say
 from saxtegun.explaining import UNREADABLE, Ending, cause_told, heading, told
-from saxtegun.files import guard_output, write_whole
+from saxtegun.files import MARK, guard_output, read_text, write_whole
 from saxtegun.lines import Run
 from saxtegun.playing import lines_or_played
-from saxtegun.sessions import Entry, changed, chosen, read_sessions
+from saxtegun.sessions import Entry, changed, chosen, read_sessions, with_source
 
-USAGE = "accept SESSIONS [LINES] [--only PATTERN..] [--review] [--in-place] [--order rows|columns] [>NEW]"
+USAGE = "accept SESSIONS [LINES] [--only PATTERN..] [--review] [--in-place] [--game GAME.txt] [--order rows|columns] [>NEW]"
 ASKED = "accept it? y: yes, n: no, a: it and all that follow, q: none of those that follow "
 
 
@@ -28,6 +28,7 @@ def add_words(words: ArgumentParser) -> None:
     words.add_argument("sessions", metavar="SESSIONS")
     words.add_argument("lines", metavar="LINES", nargs="?")
     words.add_argument("--only", metavar="PATTERN", action="append", help="accept sessions whose names fit; may be said again")
+    words.add_argument("--game", metavar="GAME.txt", help="the text of recordings whose source is the empty text")
     words.add_argument("--review", action="store_true")
     words.add_argument("--in-place", action="store_true")
     add_order(words)
@@ -40,7 +41,7 @@ def obstacle(entry: Entry, run: Run, order: str) -> Optional[str]:
     ending = Ending(entry, run)
     if ending.reached is None:
         return UNREADABLE
-    if ending.is_comparable and ending.is_turned(order):
+    if ending.is_turned_in(order):
         return f"the recorded level is the reached one in the other order than {order}: play it in the order that it was recorded in"
     return None
 
@@ -76,6 +77,8 @@ def main(given: Namespace) -> int:
     if not given.in_place:
         guard_output(given.sessions, *([given.lines] if given.lines else []))
     sessions = read_sessions(given.sessions)
+    if given.game:
+        sessions = with_source(sessions, given.game, read_text(given.game).lstrip(MARK))
     wanted = {it.number for it in chosen(sessions, given.only)}
     review = Review(given.order) if given.review else None
     changes: Dict[int, Tuple[str, str]] = {}

@@ -10,7 +10,7 @@ import sys
 from argparse import ArgumentParser, Namespace
 
 from saxtegun.commands import Refused, plural, say
-from saxtegun.explaining import game_of
+from saxtegun.games import game_of
 from saxtegun.files import MARK, guard_output, read_text
 from saxtegun.sessions import changed, chosen, read_sessions
 

@@ -1,0 +1,72 @@
+//! A game with rules, win lines and levels of the case, its program and its first level.
+
+ghost use Rattle.std.specs.Prelude.{IfOk};
+ghost use Rattle.pz_program.specs.Instance.{IsProgramOf};
+ghost use Rattle.pz_sheet.specs.Grid.{IsOfGame};
+
+use pz_game::game::Game;
+use pz_grid::Level;
+use pz_level_text::reading_back::level_text;
+use pz_program::instance::Program;
+use pz_record::order::Order;
+use pz_rules::expand::expand;
+use pz_source::reading::read_game;
+use std::alloc::Global;
+use std::test::Fail;
+
+/// The game up to its rules, the first of which stands on line 26.
+const HEAD: &str =
+    "title B\nOBJECTS\nBackground .\nblack\nTarget o\nblue\nPlayer p\nwhite\nWall #\ngrey\nCrate c\nbrown\nSpike s\nred\nMark m\npink\nLEGEND\n@ = Crate and Target\nThing = Crate or Wall\nCOLLISIONLAYERS\nBackground\nTarget\nPlayer, Wall, Crate, Spike\nMark\nRULES\n";
+
+/// What is read of a text. It promises nothing, so that what calls it needn't prove over the meaning of a source.
+fn read(alloc: Global, text: &str) -> Result<Game, Fail> {
+    read_game(alloc, text).map_err(|_| Fail::new("a refused source"))
+}
+
+/// The game with these rules, win lines and levels, whose lines are ended.
+pub(crate) fn game_of(alloc: Global, rules: &str, wins: &str, levels: &str) -> Result<Game, Fail> {
+    let text = format!(in alloc; "{HEAD}{rules}WINCONDITIONS\n{wins}LEVELS\n{levels}")?;
+    read(alloc, text.as_str())
+}
+
+/// The program of its rules.
+pub(crate) fn program_of(alloc: Global, game: &Game) -> Result<Program, Fail>
+    ensures { IfOk result (λ program. IsProgramOf game.now.layers program) }
+{
+    match expand(alloc, game) {
+        Ok(program) => Ok(program),
+        Err(_) => Err(Fail::new("refused rules")),
+    }
+}
+
+/// The level of the first entry of LEVELS.
+pub(crate) fn loaded(alloc: Global, game: &Game) -> Result<Level, Fail>
+    ensures { IfOk result (λ level. IsOfGame game.now level.grid) }
+{
+    match game.levels() {
+        [entry, ..] if entry.playable() => {
+            Level::load(alloc, game, 0).map_err(|_| Fail::new("no memory"))
+        }
+        _ => Err(Fail::new("no level")),
+    }
+}
+
+/// Fails a test where a level has another text, row by row.
+pub(crate) fn expect_level(
+    alloc: Global,
+    game: &Game,
+    level: &Level,
+    text: &str,
+) -> Result<(), Fail> {
+    let found = level_text(alloc, game, Order::Rows, level)?;
+    expect(found.as_str(), text)
+}
+
+/// Fails a test where another text was found. One function compares for all tests: each comparison is dear to prove.
+pub(crate) fn expect(found: &str, wanted: &str) -> Result<(), Fail> {
+    if found == wanted {
+        Ok(())
+    } else {
+        Err(Fail::new(format_args!("{found} and not {wanted}")))
+    }
+}

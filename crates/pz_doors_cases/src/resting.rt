@@ -1,0 +1,205 @@
+//! Groups and loops of rules, run to rest.
+
+ghost use Rattle.std.specs.Prelude.{IfOk};
+ghost use Rattle.pz_program.specs.Instance.{IsBlockOf, IsProgramOf};
+ghost use Rattle.pz_sheet.specs.Grid.{IsOfGame};
+
+use crate::game::{expect_level, game_of, loaded, program_of};
+use bitflags::Flags;
+use pz_game::direction::Dir;
+use pz_game::game::Game;
+use pz_grid::{Level, push_players, resolve};
+use pz_program::commands::Commands;
+use pz_program::instance::{Block, Program};
+use pz_turn::loops::rest_loop;
+use pz_turn::outcome::StepFault;
+use pz_turn::rest::rest;
+use std::alloc::Global;
+use std::test::Fail;
+
+/// What a run gave, with its commands as a number.
+type Rested = Result<(u8, bool), StepFault>;
+
+fn in_bits(given: Result<(Commands, bool), StepFault>) -> Rested {
+    match given {
+        Ok((commands, changed)) => Ok((commands.bits(), changed)),
+        Err(fault) => Err(fault),
+    }
+}
+
+/// The first block before the movement.
+fn first_block<'a>(game: &Game, program: &'a Program) -> Result<&'a Block, Fail>
+    requires { IsProgramOf game.now.layers program.now }
+    ensures { IfOk result (λ block. IsBlockOf game.now.layers block.now) }
+{
+    let _ = game;
+    match program.early() {
+        [block, ..] => Ok(block),
+        _ => Err(Fail::new("no block")),
+    }
+}
+
+/// Runs a block to rest.
+fn rest_block(alloc: Global, game: &Game, block: &Block, level: &mut Level) -> Rested
+    requires level_of { IsOfGame game.now level.old.grid }
+    requires block_of { IsBlockOf game.now.layers block.now }
+    ensures { IsOfGame game.now level.new.grid }
+{
+    match block {
+        Block::One(group) => in_bits(rest(alloc, game, group, level)),
+        Block::Loop(groups) => in_bits(rest_loop(alloc, game, groups, level)),
+    }
+}
+
+/// Pushes the players, runs the first block to rest, and moves all.
+fn play(alloc: Global, game: &Game, level: &mut Level, dir: Dir) -> Result<Rested, Fail>
+    requires level_of { IsOfGame game.now level.old.grid }
+{
+    let program = program_of(alloc, game)?;
+    let block = first_block(game, &program)?;
+    push_players(game, level, dir);
+    let rested = rest_block(alloc, game, block, level);
+    resolve(game, level);
+    Ok(rested)
+}
+
+fn played_in(alloc: Global, game: &Game, dir: Dir, text: &str) -> Result<Rested, Fail> {
+    let mut level = loaded(alloc, game)?;
+    let rested = play(alloc, game, &mut level, dir)?;
+    if rested.is_ok() {
+        expect_level(alloc, game, &level, text)?;
+    }
+    Ok(rested)
+}
+
+/// What the first block gives after a push, where the level is then so.
+fn played(alloc: Global, rules: &str, level: &str, dir: Dir, text: &str) -> Result<Rested, Fail> {
+    let game = game_of(alloc, rules, "", level)?;
+    played_in(alloc, &game, dir, text)
+}
+
+fn expect_rest(
+    alloc: Global,
+    rules: &str,
+    level: &str,
+    dir: Dir,
+    text: &str,
+    wanted: Rested,
+) -> Result<(), Fail> {
+    let found = played(alloc, rules, level, dir, text)?;
+    if found == wanted {
+        Ok(())
+    } else {
+        Err(Fail::new(format_args!("{rules}: {found:?}")))
+    }
+}
+
+#[test]
+fn pushes_three_crates(rt: HostRuntime) -> Result<(), Fail> {
+    expect_rest(
+        rt.alloc(),
+        "[ > Player | Crate ] -> [ > Player | > Crate ]\n+ [ > Crate | Crate ] -> [ > Crate | > Crate ]\n",
+        "pccc.\n",
+        Dir::Right,
+        "background:0,background player:1,background crate:2,2,2,\n",
+        Ok((0, true)),
+    )
+}
+
+#[test]
+fn leaves_what_no_rule_names(rt: HostRuntime) -> Result<(), Fail> {
+    expect_rest(
+        rt.alloc(),
+        "[ > Player | Crate ] -> [ > Player | > Crate ]\n",
+        "p.#\n",
+        Dir::Right,
+        "background:0,background player:1,background wall:2,\n",
+        Ok((0, false)),
+    )
+}
+
+#[test]
+fn gives_commands_and_changes_nothing(rt: HostRuntime) -> Result<(), Fail> {
+    expect_rest(
+        rt.alloc(),
+        "[ > Player | Spike ] -> cancel\n+ [ > Player | Spike ] -> again win\n",
+        "ps\n",
+        Dir::Right,
+        "background player:0,background spike:1,\n",
+        Ok((19, false)),
+    )
+}
+
+#[test]
+fn stops_two_rules_that_undo_each_other(rt: HostRuntime) -> Result<(), Fail> {
+    expect_rest(
+        rt.alloc(),
+        "[ action Player | Mark ] -> [ action Player | Target ]\n+ [ action Player | Target ] -> [ action Player | Mark ]\n",
+        ".pm\n",
+        Dir::Action,
+        "",
+        Err(StepFault::LoopLimit),
+    )
+}
+
+/// A level of so many columns and rows of the background.
+fn empty_level(alloc: Global, columns: usize, rows: usize) -> Result<String, Fail> {
+    let mut text = String::new(alloc);
+    for _ in 0..rows {
+        add_columns(&mut text, columns)?;
+        text.push('\n')?;
+    }
+    Ok(text)
+}
+
+fn add_columns(text: &mut String, columns: usize) -> Result<(), Fail> {
+    for _ in 0..columns {
+        text.push('.')?;
+    }
+    Ok(())
+}
+
+/// What a rule with a combination for each two cells gives.
+fn rested_everywhere(alloc: Global, columns: usize, rows: usize) -> Result<Rested, Fail> {
+    let level = empty_level(alloc, columns, rows)?;
+    let game = game_of(alloc, "[ ] [ ] -> [ ] [ ]\n", "", level.as_str())?;
+    rested_in(alloc, &game)
+}
+
+fn rested_in(alloc: Global, game: &Game) -> Result<Rested, Fail> {
+    let mut level = loaded(alloc, game)?;
+    play(alloc, game, &mut level, Dir::Action)
+}
+
+#[test]
+fn stops_beyond_the_limit_of_combinations(rt: HostRuntime) -> Result<(), Fail> {
+    let within = rested_everywhere(rt.alloc(), 32, 32)?;
+    let beyond = rested_everywhere(rt.alloc(), 41, 25)?;
+    assert_eq!(rt; within, Ok((0, false)));
+    assert_eq!(rt; beyond, Err(StepFault::MatchLimit));
+    Ok(())
+}
+
+#[test]
+fn runs_a_loop_until_it_has_spread(rt: HostRuntime) -> Result<(), Fail> {
+    expect_rest(
+        rt.alloc(),
+        "startloop\n[ Mark ] -> [ Target ]\nright [ Target | no Target no Mark ] -> [ Target | Mark ]\nendloop\n",
+        "m..\n",
+        Dir::Action,
+        "background target:0,0,0,\n",
+        Ok((0, true)),
+    )
+}
+
+#[test]
+fn stops_a_loop_that_undoes_itself(rt: HostRuntime) -> Result<(), Fail> {
+    expect_rest(
+        rt.alloc(),
+        "startloop\n[ Mark ] -> [ Target ]\n[ Target ] -> [ Mark ]\nendloop\n",
+        "m\n",
+        Dir::Action,
+        "",
+        Err(StepFault::LoopLimit),
+    )
+}

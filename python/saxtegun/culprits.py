@@ -1,0 +1,83 @@
+"""What in a source is the culprit of a fault: the name that isn't there, the keyword that isn't played, the lines of a loop."""
+from __future__ import annotations
+
+import re
+from difflib import get_close_matches
+from typing import List, Optional, Set
+
+from saxtegun.commands import fold
+from saxtegun.games import Game
+from saxtegun.sources import Line, lines_of, words_of
+
+OUTSIDE = ("random", "randomdir", "rigid", "realtime_interval")
+SYNTAX = re.compile(r"[\[\]|,=]|->|\.\.\.")
+RULE_WORDS = set(
+    "up down left right late rigid random randomdir horizontal vertical orthogonal moving stationary perpendicular parallel action no "
+    "> < ^ v + startloop endloop cancel checkpoint restart win again message all any some on and or".split()
+)
+MOST_LINES = 8
+
+
+def is_command(word: str) -> bool:
+    return bool(re.fullmatch(r"sfx\d+", word))
+
+
+def names_in(game: Game) -> Set[str]:
+    return {*game.first_names, *game.definitions}
+
+
+def unknown_in(source: str, game: Game, number: int) -> List[str]:
+    """The words of a line that are neither a name nor a word of the language, as they stand there."""
+    line = next((it for it in lines_of(source) if it.number == number), None)
+    if line is None:
+        return []
+    known = names_in(game) | RULE_WORDS
+    words = words_of(SYNTAX.sub(" ", line.text))
+    if line.section == "legend":
+        words = words_of(line.text.partition("=")[2])
+    return [word for word in dict.fromkeys(words) if fold(word) not in known and not is_command(fold(word))]
+
+
+def unknown_told(source: str, game: Game, number: int) -> str:
+    """Which name isn't there, and the nearest one that is: behind the words of a fault, or nothing."""
+    told = []
+    for word in unknown_in(source, game, number):
+        near = get_close_matches(fold(word), sorted(names_in(game)), 1, 0.6)
+        told.append(f"`{word}`" + (f" (near: `{near[0]}`)" if near else ""))
+    return f": {', '.join(told)}" if told else ""
+
+
+def outside_told(source: str, number: int) -> str:
+    """The keyword of a line that isn't played here, or the row with two `...`."""
+    text = source.split("\n")[number - 1] if 1 <= number <= source.count("\n") + 1 else ""
+    line = next((it.text for it in lines_of(source) if it.number == number), text)
+    found = [word for word in OUTSIDE if word in words_of(fold(SYNTAX.sub(" ", line)))]
+    return f"`{found[0]}`" if found else "a row with two `...`" if line.count("...") > 1 else ""
+
+
+def loops_in(source: str) -> List[str]:
+    """The loops of a source and its groups of several lines, by their lines."""
+    found: List[str] = []
+    begin: Optional[int] = None
+    group: List[Line] = []
+    for line in [*(it for it in lines_of(source) if it.section == "rules" and it.text), Line(0, "rules", "")]:
+        word = fold(line.text)
+        if not line.text.startswith("+"):
+            if len(group) > 1:
+                found.append(f"the group of lines {group[0].number} to {group[-1].number}")
+            group = []
+        if word == "startloop":
+            begin = line.number
+        elif word == "endloop" and begin is not None:
+            found.append(f"the loop of lines {begin} to {line.number}")
+            begin = None
+        else:
+            group.append(line)
+    return found
+
+
+def loops_told(source: str) -> str:
+    """Which loops and groups there are, for a session that hung in one."""
+    loops = loops_in(source)
+    more = f" and {len(loops) - MOST_LINES} more" if len(loops) > MOST_LINES else ""
+    return f"; it may be {', '.join(loops[:MOST_LINES])}{more}, or a rule by itself" if loops else ""

@@ -1,0 +1,105 @@
+"""Where two runs of one session part: the first frame, after which input, which cells, both levels."""
+from __future__ import annotations
+
+from itertools import zip_longest
+from typing import List, NamedTuple, Optional
+
+from saxtegun.commands import plural
+from saxtegun.explaining import CELLS_TOLD, cell_told, input_told
+from saxtegun.games import game_of
+from saxtegun.levels import Labels, differing, in_rows, position, read_cells, width_of
+from saxtegun.lines import Frame, Run
+from saxtegun.sessions import Entry
+
+
+class Parting(NamedTuple):
+    """Where two runs part: the number of the frame (the one behind the last where only their closes differ), and each run's frame there, or
+    None where it has no more."""
+
+    frame: int
+    one: Optional[Frame]
+    other: Optional[Frame]
+
+    @property
+    def kind(self) -> str:
+        """In which way they part: what shrinking a session must keep."""
+        if self.one is None and self.other is None:
+            return "close"
+        if self.one is None or self.other is None:
+            return "end"
+        return "kind" if (self.one.at, self.one.kind) != (self.other.at, self.other.kind) else "level"
+
+
+def is_same_frame(one: Optional[Frame], other: Optional[Frame]) -> bool:
+    """Whether two frames are the same; where their texts differ, by the cells that they spell."""
+    if one is None or other is None or (one.at, one.kind) != (other.at, other.kind):
+        return False
+    if one.level == other.level:
+        return True
+    labels = Labels()
+    cells = read_cells(one.level, labels)
+    return cells is not None and cells == read_cells(other.level, labels) and one.level.partition("\n")[0].count(",") == other.level.partition("\n")[0].count(",")
+
+
+def parting_of(one: Run, other: Run) -> Optional[Parting]:
+    """Where two runs part, or None where they are the same."""
+    for number, (left, right) in enumerate(zip_longest(one.frames, other.frames)):
+        if not is_same_frame(left, right):
+            return Parting(number, left, right)
+    return None if (one.close, one.cause) == (other.close, other.cause) else Parting(len(one.frames), None, None)
+
+
+def after_told(entry: Optional[Entry], at: int) -> str:
+    """Behind which input a frame was shown."""
+    if at == 0:
+        return "at the start"
+    name = f" ({input_told(entry.inputs[at - 1])})" if entry and at <= len(entry.inputs) else ""
+    return f"after input {at - 1}{name}"
+
+
+def close_told(run: Run) -> str:
+    return f"{run.close} ({run.cause})" if run.cause else run.close
+
+
+def sentence_of(parting: Parting, one: Run, other: Run, entry: Optional[Entry]) -> str:
+    """Where two runs part, in a sentence without its end."""
+    if parting.kind == "close":
+        return f"the same {plural(parting.frame, 'frame')}, and then one is {close_told(one)}, the other {close_told(other)}"
+    frames = [it for it in (parting.one, parting.other) if it is not None]
+    where = f"frame {parting.frame}, {after_told(entry, frames[0].at)}"
+    if parting.kind == "end":
+        ended, name = (one, "one") if parting.one is None else (other, "the other")
+        return f"{where}: {name} has no more frames, and is {close_told(ended)}"
+    if parting.kind == "kind":
+        return f"{where}: one shows {frames[0].kind} of {frames[0].at} inputs, the other {frames[1].kind} of {frames[1].at}"
+    return where
+
+
+def below_of(parting: Parting, entry: Optional[Entry], order: str) -> List[str]:
+    """The cells that differ at a parting and both levels, as lines."""
+    if parting.one is None or parting.other is None:
+        return []
+    labels = Labels()
+    read = [read_cells(it.level, labels) for it in (parting.one, parting.other)]
+    one, other = read[0] or [], read[1] or []
+    width = width_of(parting.one.level, len(one))
+    if read[0] is None or read[1] is None or len(one) != len(other) or width != width_of(parting.other.level, len(other)):
+        return [f"one has a level of {plural(len(one), 'cell')}, the other of {len(other)}"]
+    numbers = differing(one, other)
+    lines: List[str] = []
+    for number in numbers[:CELLS_TOLD]:
+        column, row = position(order, width, len(one), number)
+        lines.append(f"column {column + 1}, row {row + 1}: {cell_told(labels.names[one[number]])}; the other: {cell_told(labels.names[other[number]])}")
+    if len(numbers) > CELLS_TOLD:
+        lines.append(f"and {plural(len(numbers) - CELLS_TOLD, 'more cell')}")
+    return lines + (side_by_side(entry, labels, one, other, width, order) if entry else [])
+
+
+def side_by_side(entry: Entry, labels: Labels, one: List[int], other: List[int], width: int, order: str) -> List[str]:
+    """Two levels by the game's own letters, where each cell has one."""
+    game = game_of(entry.source)
+    drawn = [game.drawing([[labels.names[it] for it in row] for row in in_rows(order, width, cells)]) for cells in (one, other)]
+    if drawn[0] is None or drawn[1] is None:
+        return []
+    room = max(width, len("one")) + 4
+    return [f"| {it}" for it in ["one".ljust(room) + "the other", *(left.ljust(room) + right for left, right in zip(drawn[0], drawn[1]))]]

@@ -1,0 +1,68 @@
+"""What did not pass, for those who read it elsewhere: a Markdown summary, and the annotations of GitHub."""
+from __future__ import annotations
+
+import html
+import re
+from typing import Iterable, List, NamedTuple
+
+from saxtegun.commands import plural, printable
+
+MOST_FAILURES = 20
+MOST_LETTERS = 200
+
+
+class Failure(NamedTuple):
+    """A session that did not pass: its name, how it closed, a sentence, lines below it, and the file and line of a source where it has one."""
+
+    name: str
+    close: str
+    sentence: str
+    below: List[str]
+    file: str
+    line: int
+
+
+def cut(text: str) -> str:
+    text = printable(text)
+    return text if len(text) <= MOST_LETTERS else f"{text[:MOST_LETTERS]}.."
+
+
+def in_table(text: str) -> str:
+    """A text of a stranger in a cell of a table of Markdown."""
+    return re.sub(r"([\\`*_{}\[\]()#+!|~@:-])", lambda it: f"&#{ord(it[1])};", html.escape(cut(text)))
+
+
+def fenced(lines: Iterable[str]) -> str:
+    """Lines as a block of code, whose fence is longer than any in it."""
+    text = "\n".join(printable(it) for it in lines)
+    fence = "`" * max(3, 1 + max((len(it) for it in re.findall("`+", text)), default=0))
+    return f"{fence}text\n{text}\n{fence}\n"
+
+
+def markdown(failures: List[Failure], counts: str) -> str:
+    """A job's summary: a table of failures, and below it what was reached beside what was recorded."""
+    parts = [f"**{in_table(counts)}**\n"]
+    if failures:
+        rows = [f"| {in_table(it.name)} | {it.close} | {in_table(it.sentence)} |" for it in failures[:MOST_FAILURES]]
+        more = [f"\nAnd {plural(len(failures) - MOST_FAILURES, 'more failure')}."] if len(failures) > MOST_FAILURES else []
+        parts.append("\n".join(["| session | close | why |", "|---|---|---|", *rows, *more]) + "\n")
+        parts += [f"{in_table(it.name)}\n\n{fenced(it.below)}" for it in failures[:MOST_FAILURES] if it.below]
+    return "\n".join(parts)
+
+
+def escaped(text: str, is_property: bool = False) -> str:
+    """A text as GitHub's commands have it."""
+    text = text.replace("%", "%25").replace("\r", "%0D").replace("\n", "%0A")
+    return text.replace(":", "%3A").replace(",", "%2C") if is_property else text
+
+
+def annotation(failure: Failure) -> str:
+    """A failure as GitHub shows it beside the code."""
+    place = f"file={escaped(failure.file, True)},line={failure.line}," if failure.file else ""
+    below = "\n".join([cut(failure.sentence), *map(printable, failure.below)])
+    return f"::error {place}title={escaped(cut(failure.name), True)}::{escaped(below)}"
+
+
+def for_a_ci(line: str) -> str:
+    """A line of a log in which no letters are a command of the CI's."""
+    return re.sub(r"##(?=\[)", "#\\\\u{23}", re.sub(r"^(\s*)::", r"\1| ::", line))

@@ -1,0 +1,86 @@
+"""Adds recordings to a sessions file, as an editor's console prints them or as published test data has them.
+
+CONSOLE.txt (`-`, or no word: standard input) has one entry or several, with or without commas between or behind, or a list of them. They are
+read as JavaScript, refused whole where something is no entry, and played before they are added: one whose source is refused or that stops is
+not added, and so nothing is. One that differs from what was recorded is refused too, but for --anyway. With --game GAME.txt an entry whose source
+is that text is added with the empty text in its place, to be played by `saxtegun test GAME.txt SESSIONS.json`; without it entries keep theirs.
+Where SESSIONS.json isn't there it is made. What stands in it stays letter by letter; the new file is written beside it and renamed.
+Exit status 0; 1 where a recording did not pass and so nothing was added; 2 where a file is refused."""
+from __future__ import annotations
+
+import json
+import os
+from argparse import ArgumentParser, Namespace
+from typing import List
+
+from saxtegun.commands import Refused, add_order, plural, say
+from saxtegun.explaining import told
+from saxtegun.files import MARK, read_text, write_whole
+from saxtegun.javascript import entries_of
+from saxtegun.playing import runs_of
+from saxtegun.sessions import Entry, Sessions, read_sessions, sessions_in
+
+USAGE = "add SESSIONS.json [CONSOLE.txt|-] [--game GAME.txt] [--anyway] [--order rows|columns]"
+
+
+def add_words(words: ArgumentParser) -> None:
+    words.add_argument("sessions", metavar="SESSIONS.json")
+    words.add_argument("console", metavar="CONSOLE.txt", nargs="?", default="-")
+    words.add_argument("--game", metavar="GAME.txt", help="the text that stands for sources that are the same, or empty")
+    words.add_argument("--anyway", action="store_true", help="also what differs from what was recorded")
+    words.add_argument("--workers", metavar="N", type=int)
+    words.add_argument("--program", metavar="PROGRAM", help="play with this program")
+    add_order(words)
+
+
+def same_text(one: str, other: str) -> bool:
+    """Whether two sources are the same, but for how lines end and what stands behind the last."""
+    return one.replace("\r\n", "\n").rstrip() == other.replace("\r\n", "\n").rstrip()
+
+
+def read_new(path: str) -> Sessions:
+    """The entries that are to be added."""
+    text = "[\n" + ",\n".join(entries_of(path, read_text(path))) + "\n]"
+    return sessions_in(path, text)
+
+
+def without_source(entry: Entry, text: str) -> str:
+    """The text of an entry with the empty text as its source."""
+    begin, end = entry.spans["entry"]
+    first, behind = entry.spans["source"]
+    return f'{text[begin:first]}""{text[behind:end]}'
+
+
+def with_more(old: Sessions, new: List[str]) -> str:
+    """The text of a sessions file with more entries behind its own."""
+    close = old.text.rstrip().rindex("]")
+    head = old.text[:close].rstrip()
+    return head + (",\n" if old.entries else "\n") + ",\n".join(new) + "\n" + old.text[close:]
+
+
+def main(given: Namespace) -> int:
+    if given.sessions == "-":
+        raise Refused("a sessions file is wanted, to which something can be added")
+    is_there = os.path.exists(given.sessions)
+    old = read_sessions(given.sessions) if is_there else Sessions(given.sessions, "[]\n", [])
+    new = read_new(given.console)
+    game = read_text(given.game).lstrip(MARK) if given.game else ""
+    entries = [it._replace(source=game) if game and not it.source else it for it in new.entries]
+    failed = 0
+    for entry, run in zip(entries, runs_of(entries, new, given.order, given.workers, given.program) if entries else []):
+        if run.close == "passed":
+            continue
+        sentence, below = told(run, entry, given.order, given.game or "")
+        is_let = given.anyway and run.close == "differs"
+        failed += not is_let
+        say(f"add: {entry.name}: {run.close}{'' if is_let else ', not added'}: {sentence}")
+        for line in below:
+            say(f"    {line}")
+    if failed:
+        say(f"add: {plural(failed, 'recording')} of {len(entries)} did not pass, so nothing was added")
+        return 1
+    texts = [without_source(it, new.text) if game and same_text(it.source, game) else new.text[slice(*it.spans["entry"])] for it in new.entries]
+    if texts:
+        write_whole(given.sessions, with_more(old, texts))
+    say(f"add: {plural(len(texts), 'recording')} added to {given.sessions}, which has {len(old.entries) + len(texts)}")
+    return 0

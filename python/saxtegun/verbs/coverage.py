@@ -1,0 +1,135 @@
+"""Tells which rules and win lines no session needs: each is left out in turn, and the suite is played again.
+
+    saxtegun coverage SESSIONS.json
+    saxtegun coverage GAME.txt SESSIONS.json      the game's text is that of recordings whose source is the empty text
+
+A session notices that a line is gone if it closes otherwise; a win line also if it wins otherwise. Lines of a game whose sessions all are refused
+are left out, and so is what can't be left out alone, since the rest is refused then. Exit status 0 where some session notices each line, 1 where
+there are lines that none notices, 2 where there is no whole answer."""
+from __future__ import annotations
+
+import sys
+from argparse import ArgumentParser, Namespace
+from typing import Dict, Iterator, List, NamedTuple, Set, Tuple
+
+from saxtegun.commands import Refused, add_order, plural, printable
+from saxtegun.files import MARK, guard_output, read_text
+from saxtegun.games import game_of
+from saxtegun.leaving import Part, parts_of
+from saxtegun.lines import Run
+from saxtegun.levelsets import wins_of
+from saxtegun.playing import runs_of
+from saxtegun.sessions import Entry, Sessions, read_sessions, with_source
+from saxtegun.solving import MOST_INPUTS, ONE_MORE
+
+USAGE = "coverage [GAME.txt] SESSIONS.json [--order rows|columns] [--workers N]"
+# So much is played at once.
+MOST_LETTERS = 2_000_000
+MOST_ENTRIES = 5_000
+Signature = Tuple[object, ...]
+
+
+def add_words(words: ArgumentParser) -> None:
+    words.add_argument("files", metavar="[GAME.txt] SESSIONS.json", nargs="+")
+    words.add_argument("--workers", metavar="N", type=int)
+    words.add_argument("--program", metavar="PROGRAM", help="play with this program")
+    add_order(words)
+
+
+class Trial(NamedTuple):
+    """A line of a source that is left out, with the sessions that are played without it."""
+
+    source: str
+    part: Part
+    entries: List[Entry]
+
+
+def longer(entry: Entry) -> Entry:
+    return entry._replace(inputs=[*entry.inputs, ONE_MORE]) if len(entry.inputs) < MOST_INPUTS else entry
+
+
+def batches(trials: List[Trial]) -> Iterator[List[Trial]]:
+    """The trials in parts, each of which is played at once."""
+    batch: List[Trial] = []
+    letters, count = 0, 0
+    for trial in trials:
+        batch.append(trial)
+        letters += sum(len(it.source) + len(it.level) + 4 * len(it.inputs) for it in trial.entries)
+        count += len(trial.entries)
+        if letters > MOST_LETTERS or count > MOST_ENTRIES:
+            yield batch
+            batch, letters, count = [], 0, 0
+    if batch:
+        yield batch
+
+
+def progress(done: int, count: int) -> None:
+    if sys.stderr.isatty():
+        print(f"\r{done} of {plural(count, 'line')}", end="\n" if done == count else "", file=sys.stderr, flush=True)
+
+
+class Coverage:
+    """The lines of the sources of sessions, and which of them some session notices."""
+
+    def __init__(self, sessions: Sessions, given: Namespace) -> None:
+        self.sessions, self.given = sessions, given
+        self.before: Dict[int, Tuple[Signature, Signature]] = {}
+        self.unnoticed: List[Trial] = []
+        self.tried, self.alone = 0, 0
+
+    def play(self, entries: List[Entry]) -> List[Run]:
+        return runs_of(entries, self.sessions, self.given.order, self.given.workers, self.given.program) if entries else []
+
+    def signatures(self, entries: List[Entry]) -> List[Tuple[Signature, Signature]]:
+        """For each session how it closes, and how it wins."""
+        runs = self.play([it for entry in entries for it in (entry, longer(entry))])
+        return [((one.close, one.cause), (wins_of(more), any(it.kind == "over" for it in more.frames))) for one, more in zip(runs[::2], runs[1::2])]
+
+    def trials(self) -> List[Trial]:
+        """All lines to be left out, with the sessions of their source that are played."""
+        of: Dict[str, List[Entry]] = {}
+        for entry, found in zip(self.sessions.entries, self.signatures(self.sessions.entries)):
+            self.before[entry.number] = found
+            if found[0][0] != "refused":
+                of.setdefault(entry.source, []).append(entry)
+        return [Trial(source, part, [it._replace(source=part.source) for it in entries]) for source, entries in of.items() for part in parts_of(source)]
+
+    def judge(self, trial: Trial, found: List[Tuple[Signature, Signature]]) -> None:
+        if all(close[0] == "refused" for close, _ in found):
+            self.alone += 1
+            return
+        self.tried += 1
+        is_win = trial.part.section == "winconditions"
+        before = [self.before[it.number] for it in trial.entries]
+        if all(one[0] == other[0] and (not is_win or one[1] == other[1]) for one, other in zip(before, found)):
+            self.unnoticed.append(trial)
+
+    def run(self) -> None:
+        trials = self.trials()
+        done = 0
+        for batch in batches(trials):
+            found = iter(self.signatures([it for trial in batch for it in trial.entries]))
+            for trial in batch:
+                self.judge(trial, [next(found) for _ in trial.entries])
+            done += len(batch)
+            progress(done, len(trials))
+
+
+def main(given: Namespace) -> int:
+    if len(given.files) > 2:
+        raise Refused("a sessions file is wanted, and before it a game's text or nothing")
+    guard_output(*given.files)
+    game, sessions = given.files[0] if len(given.files) == 2 else "", read_sessions(given.files[-1])
+    if game:
+        sessions = with_source(sessions, game, read_text(game).lstrip(MARK))
+    coverage = Coverage(sessions, given)
+    coverage.run()
+    sources: Set[str] = {it.source for it in coverage.unnoticed}
+    for trial in coverage.unnoticed:
+        place = game or f"{game_of(trial.source).title}, line "
+        number = f":{trial.part.number}" if game else str(trial.part.number)
+        print(printable(f"{place}{number}: no session notices it: {trial.part.text}"))
+    alone = f", {plural(coverage.alone, 'line')} can't be left out alone" if coverage.alone else ""
+    games = f" in {plural(len(sources), 'source')}" if len(sources) > 1 else ""
+    print(f"{plural(coverage.tried, 'line')} left out in turn: {len(coverage.unnoticed)} that no session notices{games}{alone}")
+    return 1 if coverage.unnoticed else 0

@@ -1,0 +1,135 @@
+"""Plays a game in the terminal, each key by the program itself, and saves what was played as a recording.
+
+Arrows or w a s d move, x or space acts, z or u takes back, r begins again, t is a tick, q ends. The level is drawn in the game's colours, or
+with --letters by its letters. --level N starts at the N-th level, messages left out. With --save NAME SESSIONS.json what was played is added
+there under that name at the end, with its last level as the recorded one, and the empty text in place of the game's: `saxtegun test GAME.txt
+SESSIONS.json` plays it. Where standard input is no terminal its letters are the keys. Exit status 0, or 2 where the game is refused."""
+from __future__ import annotations
+
+import json
+import os
+import select
+import sys
+from argparse import ArgumentParser, Namespace
+from contextlib import contextmanager
+from typing import Iterator, List, Optional
+
+from saxtegun.commands import Refused, plural, printable, say
+from saxtegun.explaining import cause_told, told
+from saxtegun.files import MARK, read_text, write_whole
+from saxtegun.games import game_of
+from saxtegun.levels import Labels, in_rows, read_cells, width_of
+from saxtegun.levelsets import count_of_levels, entries_of_levels
+from saxtegun.lines import Frame
+from saxtegun.playing import lines_beyond, runs_of
+from saxtegun.sessions import Entry, Input, Sessions, read_sessions
+from saxtegun.terminal import CLEAR, KEYS, lettered, painted
+from saxtegun.verbs.add import with_more
+
+USAGE = "play GAME.txt [--level N] [--save NAME SESSIONS.json] [--letters]"
+HELP = "arrows move, x acts, z takes back, r begins again, t ticks, q ends"
+
+
+def add_words(words: ArgumentParser) -> None:
+    words.add_argument("game", metavar="GAME.txt")
+    words.add_argument("--level", metavar="N", type=int, default=1)
+    words.add_argument("--save", metavar=("NAME", "SESSIONS.json"), nargs=2)
+    words.add_argument("--letters", action="store_true", help="draw by the game's letters, without colours")
+    words.add_argument("--program", metavar="PROGRAM", help="play with this program")
+
+
+@contextmanager
+def raw_terminal() -> Iterator[bool]:
+    """Reads keys as they are pressed, where standard input is a terminal."""
+    if not sys.stdin.isatty():
+        yield False
+        return
+    import termios
+    import tty
+
+    before = termios.tcgetattr(0)
+    try:
+        tty.setcbreak(0)
+        yield True
+    finally:
+        termios.tcsetattr(0, termios.TCSADRAIN, before)
+
+
+def next_key(is_terminal: bool) -> str:
+    """A key: a letter, or the three of an arrow; the empty text where there are no more."""
+    letter = os.read(0, 1).decode("latin-1")
+    if letter == "\x1b" and (not is_terminal or select.select([0], [], [], 0.05)[0]):
+        return letter + os.read(0, 1).decode("latin-1") + os.read(0, 1).decode("latin-1")
+    return letter
+
+
+class Play:
+    """A game while it is played: the inputs so far, and what they show."""
+
+    def __init__(self, given: Namespace) -> None:
+        self.given, self.source = given, read_text(given.game).lstrip(MARK)
+        levels = entries_of_levels(self.source)
+        places = [place for place, it in enumerate(levels) if it.rows]
+        if given.level < 1 or (places and given.level > len(places)):
+            raise Refused(f"{given.game} has {plural(count_of_levels(self.source), 'level')}, and none of number {given.level}")
+        self.index = places[given.level - 1] if places else 0
+        self.inputs: List[Input] = []
+        self.frames: List[Frame] = []
+        run = runs_of([self.entry()], Sessions(given.game, "", []), program=given.program)[0]
+        if run.cause is not None:
+            sentence, below = told(run, self.entry(), game=given.game)
+            raise Refused(f"{given.game} is not played: {sentence}" + (f": {below[0]}" if below else ""))
+        self.frames = run.frames
+
+    def entry(self, level: str = "") -> Entry:
+        return Entry(0, self.given.game, self.source, self.inputs, level, self.index, {}, False)
+
+    def press(self, key: Input) -> str:
+        """Plays one more input; what there is to say of it."""
+        self.inputs.append(key)
+        lines = [json.loads(it) for it in lines_beyond(self.entry(), len(self.frames), self.given.program)]
+        if lines[-1].get("cause"):
+            self.inputs.pop()
+            return f"{cause_told(lines[-1]['cause'])}: the key is left out"
+        new = [Frame(it["at"], it["kind"], it["level"]) for it in lines[:-1]]
+        self.frames += new
+        kinds = [it.kind for it in new]
+        return "solved: all levels" if "over" in kinds else "the next level" if "load" in kinds else ""
+
+    def draw(self, word: str, is_terminal: bool) -> None:
+        text, labels = self.frames[-1].level, Labels()
+        cells = read_cells(text, labels)
+        game = game_of(self.source)
+        if cells is None:
+            lines = ["a name of an object holds a comma, so the level can't be drawn"]
+        else:
+            rows = [[labels.names[it] for it in row] for row in in_rows("columns", width_of(text, len(cells)), cells)]
+            lines = lettered(game, rows) if self.given.letters or not is_terminal else painted(game, rows)
+        head = CLEAR if is_terminal else ""
+        sys.stdout.write(head + "\n".join([*lines, printable(f"{game.title}: {plural(len(self.inputs), 'input')} {word}"), *([HELP] if is_terminal else [])]) + "\n")
+        sys.stdout.flush()
+
+    def save(self, name: str, path: str) -> None:
+        old = read_sessions(path) if os.path.exists(path) else Sessions(path, "[]\n", [])
+        value = [name, ["", self.inputs, self.frames[-1].level, self.index]]
+        write_whole(path, with_more(old, [json.dumps(value, ensure_ascii=False, separators=(",", ":"))]))
+        say(f"play: {name}: {plural(len(self.inputs), 'input')} saved in {path}")
+
+
+def main(given: Namespace) -> int:
+    if given.save and os.path.exists(given.save[1]):
+        read_sessions(given.save[1])  # refused before anything is played, and not behind it
+    play = Play(given)
+    with raw_terminal() as is_terminal:
+        play.draw("", is_terminal)
+        while True:
+            key = next_key(is_terminal)
+            if key in ("", "q", "\x03", "\x04"):
+                break
+            it: Optional[Input] = KEYS.get(key)
+            if it is not None:
+                word = play.press(it)
+                play.draw(word, is_terminal)
+    if given.save:
+        play.save(*given.save)
+    return 0

@@ -1,0 +1,211 @@
+"""Plays recordings, says what did not pass and how each session ended, and ends with the program's status.
+
+    saxtegun test game.txt recordings.json     the game's text is that of each recording whose source is the empty text
+    saxtegun test suite.json other.json        recordings that have their sources
+
+`passed` says that the last level is as recorded, not that it was won; so each session also says whether it is solved (all levels), solved up
+to a level, or not. An entry with a further element, [name, [..], "solved"], or a name that fits --solved must be solved, and else fails as
+no longer solved. With --watch the same is played again at each save of a file that was read, until it is stopped. Exit status 0 where all
+passed, 1 where some session did not, 2 where there is no whole answer."""
+from __future__ import annotations
+
+import os
+import sys
+import time
+from argparse import ArgumentParser, Namespace
+from collections import Counter
+from pathlib import Path
+from typing import Dict, List, NamedTuple, Optional, Tuple
+
+from saxtegun.commands import Refused, add_order, fail, plural, printable, say
+from saxtegun.explaining import fault_in, summary, told
+from saxtegun.files import MARK, guard_output, read_text, write_whole
+from saxtegun.junit import junit_of
+from saxtegun.lines import Run
+from saxtegun.pages import Report
+from saxtegun.playing import runs_of
+from saxtegun.sessions import Entry, Sessions, fits, read_sessions, with_source
+from saxtegun.solving import SOLVED, solved_of
+from saxtegun.telling import Failure, annotation, for_a_ci, markdown
+
+USAGE = "test [GAME.txt] SESSIONS.json.. [options]"
+PAUSE = 0.2
+
+
+def add_words(words: ArgumentParser) -> None:
+    words.add_argument("files", metavar="FILE", nargs="+", help="a game's text (a first file that doesn't end with .json), and sessions files")
+    words.add_argument("--filter", metavar="PATTERN", action="append", help="play sessions whose names fit ('level 2*'); may be said again")
+    words.add_argument("--solved", metavar="PATTERN", action="append", default=[], help="sessions whose names fit must be solved; may be said again")
+    words.add_argument("--quiet", action="store_true", help="counts and failures alone")
+    words.add_argument("--max-fail", metavar="N", type=int, help="tell N failures, and count the others")
+    words.add_argument("--watch", action="store_true", help="play again at each save of a file")
+    words.add_argument("--junit", metavar="F", help="write a JUnit file")
+    words.add_argument("--report", metavar="F", help="write a page that shows each session frame by frame")
+    words.add_argument("--markdown", metavar="F", help="write a summary in Markdown")
+    words.add_argument("--github", action="store_true", help="write annotations for GitHub")
+    words.add_argument("--workers", metavar="N", type=int)
+    words.add_argument("--program", metavar="PROGRAM", help="play with this program")
+    add_order(words)
+
+
+class Suite(NamedTuple):
+    """What was played: the sessions of all files, numbered through, what they showed, how they ended, and the file of each."""
+
+    sessions: Sessions
+    runs: List[Run]
+    solved: Dict[int, str]
+    files: List[Tuple[str, int]]
+
+
+def split_files(files: List[str]) -> Tuple[str, List[str]]:
+    """The game's text, or the empty text, and the sessions files."""
+    game = files[0] if not files[0].endswith(".json") and files[0] != "-" else ""
+    if game and len(files) == 1:
+        raise Refused(f"{game} is taken for a game's text, since it doesn't end with .json, and no sessions file is named")
+    return game, files[1:] if game else files
+
+
+def picked(sessions: Sessions, patterns: Optional[List[str]]) -> List[Entry]:
+    if patterns is None:
+        return sessions.entries
+    return [it for it in sessions.entries if any(fits(it.name, pattern) for pattern in patterns)]
+
+
+def played(given: Namespace) -> Suite:
+    game, paths = split_files(given.files)
+    entries: List[Entry] = []
+    runs: List[Run] = []
+    solved: Dict[int, str] = {}
+    files: List[Tuple[str, int]] = []
+    source = read_text(game).lstrip(MARK) if game else ""
+    for path in paths:
+        sessions = read_sessions(path)
+        sessions = with_source(sessions, game, source) if game else sessions
+        chosen, first = picked(sessions, given.filter), len(entries)
+        shown = runs_of(chosen, sessions, given.order, given.workers, given.program) if chosen else []
+        ended = solved_of(chosen, shown, sessions, given.order, given.workers, given.program)
+        files += [(path, it.number) for it in chosen]
+        entries += [it._replace(number=first + place) for place, it in enumerate(chosen)]
+        runs += [it._replace(number=first + it.number) for it in shown]
+        solved.update({first + place: it for place, it in ended.items()})
+    if given.filter and not entries:
+        raise Refused(f"no session is named as --filter says ({', '.join(given.filter)})")
+    return Suite(Sessions(", ".join(Path(it).name for it in paths), "", entries), runs, solved, files)
+
+
+def unsolved_in(suite: Suite, patterns: List[str]) -> Dict[int, str]:
+    """Why sessions fail that passed, and must be solved."""
+    wanted = [it for it in suite.sessions.entries if it.is_solved_wanted or any(fits(it.name, pattern) for pattern in patterns)]
+    ends = {it.number: suite.solved.get(it.number, "not played") for it in wanted}
+    return {number: f"no longer solved: {end}" for number, end in ends.items() if end != SOLVED and suite.runs[number].close == "passed"}
+
+
+def failures_of(suite: Suite, unsolved: Dict[int, str], given: Namespace) -> List[Failure]:
+    game, paths = split_files(given.files)
+    found: List[Failure] = []
+    for entry, run in zip(suite.sessions.entries, suite.runs):
+        path, number = suite.files[entry.number]
+        place = f"{path}: session {number}" if len(paths) > 1 else f"session {number}"
+        if run.close == "passed" and entry.number not in unsolved:
+            continue
+        sentence, below = told(run, entry, given.order, game)
+        fault = fault_in(run.cause or "")
+        if run.close == "passed":
+            sentence, below = unsolved[entry.number], []
+        is_of_game = bool(game and fault)
+        found.append(Failure(f"{place}, {entry.name}", run.close, sentence, below, game if is_of_game else path, fault[1] if is_of_game and fault else 1))
+    return found
+
+
+def show(line: str, is_for_ci: bool) -> None:
+    line = printable(line)
+    print(for_a_ci(line) if is_for_ci else line)
+
+
+def tell(suite: Suite, failures: List[Failure], given: Namespace) -> str:
+    """Says how the sessions ended; the counts are handed on."""
+    is_for_ci = given.github or bool(os.environ.get("CI"))
+    if not given.quiet:
+        for run in suite.runs:
+            if run.close == "passed":
+                show(f"passed, {suite.solved.get(run.number, 'not played')}: {run.name}", is_for_ci)
+    most = given.max_fail if given.max_fail is not None else len(failures)
+    for failure in failures[:most]:
+        show(f"{failure.name}: {failure.close}: {failure.sentence}", is_for_ci)
+        for line in failure.below:
+            show(f"    {line}", is_for_ci)
+    if len(failures) > most:
+        show(f"and {plural(len(failures) - most, 'more failure')}", is_for_ci)
+    ends = Counter("solved" if it == SOLVED else "not solved" if it == "not solved" else "solved in part" for it in suite.solved.values())
+    unsolved = sum(it.close == "passed" for it in failures)
+    counts = summary(it.close for it in suite.runs) + (f", {unsolved} no longer solved" if unsolved else "")
+    counts += f"; {', '.join(f'{ends[it]} {it}' for it in ('solved', 'solved in part', 'not solved'))}"
+    show(counts, is_for_ci)
+    if given.github:
+        for failure in failures[:most]:
+            print(annotation(failure))
+    sys.stdout.flush()
+    return counts
+
+
+def write_files(suite: Suite, failures: List[Failure], unsolved: Dict[int, str], counts: str, given: Namespace) -> None:
+    if given.junit:
+        write_whole(given.junit, junit_of(suite.runs, suite.sessions.path, suite.sessions, given.order, "error", unsolved))
+    if given.report:
+        report = Report(suite.sessions, given.order)
+        for run in suite.runs:
+            report.add(run)
+        write_whole(given.report, report.page())
+    if given.markdown:
+        write_whole(given.markdown, markdown(failures, counts))
+
+
+def test(given: Namespace) -> int:
+    suite = played(given)
+    unsolved = unsolved_in(suite, given.solved)
+    failures = failures_of(suite, unsolved, given)
+    write_files(suite, failures, unsolved, tell(suite, failures, given), given)
+    return 1 if failures else 0
+
+
+def times_of(files: List[str]) -> List[Optional[Tuple[int, int]]]:
+    found: List[Optional[Tuple[int, int]]] = []
+    for path in files:
+        try:
+            it = os.stat(path)
+            found.append((it.st_mtime_ns, it.st_size))
+        except OSError:
+            found.append(None)
+    return found
+
+
+def watch(given: Namespace) -> int:
+    """Tests again at each save, until it is stopped; the status is that of the last time."""
+    status = 2
+    try:
+        while True:
+            times = times_of(given.files)
+            try:
+                status = test(given)
+            except Refused as why:
+                fail("test", str(why))
+                status = 2
+            say(f"test: waiting for a save of {', '.join(given.files)}")
+            while times_of(given.files) == times:
+                time.sleep(PAUSE)
+            print(flush=True)
+    except KeyboardInterrupt:
+        return status
+
+
+def main(given: Namespace) -> int:
+    if given.max_fail is not None and given.max_fail < 0:
+        raise Refused("--max-fail wants a number that is not below 0")
+    if "-" in given.files and (given.watch or given.files.count("-") > 1):
+        raise Refused("standard input is read once: it can be one sessions file, and not be watched")
+    read = [os.path.realpath(it) for it in given.files if it != "-"]
+    for path in (given.junit, given.report, given.markdown):
+        if path and os.path.realpath(path) in read:
+            raise Refused(f"{path} is read: write to another file")
+    guard_output(*given.files)
+    return watch(given) if given.watch else test(given)

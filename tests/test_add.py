@@ -1,0 +1,63 @@
+"""`saxtegun add`: recordings as a console prints them, which are played and then added, or refused whole."""
+import json
+import unittest
+
+from test_test import OfAGame
+from day import EXAMPLE
+from tool import plays, run
+
+
+@plays
+class DayOfAdding(OfAGame):
+    def setUp(self):
+        super().setUp()
+        self.whole = json.loads(EXAMPLE.read_text(encoding="utf-8"))
+        self.suite = self.write("suite.json", '[ ["odd\\u0041" ,["", [ ],"",null, 1] ] ]\n')
+
+    def console(self, *numbers, behind=","):
+        return "\n".join(json.dumps(self.whole[it], separators=(" ,", ":")) + behind for it in numbers)
+
+    def test_one_and_several_are_added_behind_what_is_there(self):
+        for behind in (",", "", "\r\n"):
+            suite = self.write("suite.json", '[ ["odd\\u0041" ,["", [ ],"",null, 1] ] ]\n')
+            answer = run("add", suite, self.write("console.txt", self.console(0, 1, behind=behind)))
+            self.assertEqual((answer.status, answer.out, answer.errors), (0, "", f"add: 2 recordings added to {suite}, which has 3\n"))
+            text = suite.read_text(encoding="utf-8")
+            self.assertEqual(json.loads(text)[1:], self.whole[:2])
+            self.assertTrue(text.startswith('[ ["odd\\u0041" ,["", [ ],"",null, 1] ],\n["both'))
+
+    def test_a_file_that_is_not_there_is_made(self):
+        new = self.room / "new.json"
+        self.assertEqual(run("add", new, stdin=self.console(0).encode()).status, 0)
+        self.assertEqual(json.loads(new.read_text(encoding="utf-8")), self.whole[:1])
+        self.assertEqual(run("test", new).status, 0)
+
+    def test_the_text_of_the_game_is_left_out(self):
+        new = self.room / "new.json"
+        self.assertEqual(run("add", new, "--game", self.game, "-", stdin=self.console(0, 2).encode()).status, 0)
+        self.assertEqual([entry[1][0] for entry in json.loads(new.read_text(encoding="utf-8"))], ["", ""])
+        self.assertEqual(run("test", self.game, new).status, 0)
+
+    def test_what_did_not_pass_is_not_added_and_nothing_is(self):
+        before = self.suite.read_bytes()
+        answer = run("add", self.suite, stdin=self.console(0, 4).encode())
+        self.assertEqual((answer.status, self.suite.read_bytes()), (1, before))
+        self.assertIn("a recording that has gone stale: differs, not added: 17 frames", answer.errors)
+        self.assertEqual(run("add", self.suite, "--anyway", stdin=self.console(0, 4).encode()).status, 0)
+        self.assertEqual(len(json.loads(self.suite.read_text(encoding="utf-8"))), 3)
+
+    def test_what_is_no_entry_is_refused_whole(self):
+        before = self.suite.read_bytes()
+        for text, what in ((self.console(0) + "\n[1]", "line 2: no entry"), ("hello", "line 1: no list of entries"), ("", "line 1: no list of entries"), (self.console(0)[:-9], "line 1: ")):
+            answer = run("add", self.suite, stdin=text.encode())
+            self.assert_refused(answer, what)
+            self.assertEqual(self.suite.read_bytes(), before)
+        self.assertEqual(sorted(it.name for it in self.room.iterdir()), ["example.lines", "game.txt", "recordings.json", "suite.json"])
+
+    def test_a_place_that_can_not_be_written_is_told(self):
+        self.assert_refused(run("add", self.room / "no/where.json", stdin=self.console(0).encode()), "can't be written")
+        self.assert_refused(run("add", "-", stdin=b""), "a sessions file is wanted")
+
+
+if __name__ == "__main__":
+    unittest.main()

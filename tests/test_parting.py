@@ -1,0 +1,89 @@
+"""`saxtegun compare`: where two runs part, on the example's lines, each changed in one place."""
+import json
+import unittest
+
+from day import EXAMPLE
+from test_test import RULE, OfAGame
+from tool import PROGRAM, plays, run
+from saxtegun.lines import Frame, Run
+from saxtegun.parting import parting_of
+
+SAME = "5 sessions: 5 the same, 0 part\n"
+
+
+class Compare(OfAGame):
+    def compare(self, text, *words):
+        return run("compare", self.lines, self.write("other.lines", text), *words)
+
+    def changed(self, number, **changes):
+        """The example's lines with one line changed."""
+        lines = self.lines.read_text(encoding="utf-8").splitlines()
+        lines[number] = json.dumps({**json.loads(lines[number]), **changes})
+        return "\n".join(lines) + "\n"
+
+    def test_lines_that_are_the_same_have_status_0(self):
+        answer = self.compare(self.lines.read_text(encoding="utf-8"))
+        self.assertEqual((answer.status, answer.out, answer.errors), (0, SAME, ""))
+
+    def test_a_level_that_is_spelled_otherwise_is_the_same(self):
+        text = json.loads(self.lines.read_text(encoding="utf-8").splitlines()[0])["level"]
+        self.assertEqual(self.compare(self.changed(0, level=text.replace("background wall:", "Wall background:"))).out, SAME)
+
+    def test_the_first_frame_that_differs_is_told_with_its_input(self):
+        text = json.loads(self.lines.read_text(encoding="utf-8").splitlines()[2])["level"]
+        answer = self.compare(self.changed(2, level=text.replace("player", "wall")), EXAMPLE)
+        names = ("up", "left", "down", "right", "action")
+        self.assertEqual(answer.status, 1)
+        self.assertIn(f"session 0, both levels solved: frame 2, after input 1 ({names[self.entries[0][1][1][1]]})\n    column ", answer.out)
+        self.assertIn("background player; the other: background wall\n", answer.out)
+        self.assertIn("    | one       the other\n", answer.out)
+        self.assertTrue(answer.out.endswith("5 sessions: 4 the same, 1 part\n"))
+
+    def test_another_kind_and_another_close_are_told(self):
+        self.assertIn("frame 1, after input 0: one shows move of 1 inputs, the other tick of 1", self.compare(self.changed(1, kind="tick")).out)
+        last = len(self.lines.read_text(encoding="utf-8").splitlines()) - 1
+        self.assertIn("the same 17 frames, and then one is differs, the other passed", self.compare(self.changed(last, close="passed"), EXAMPLE).out)
+
+    def test_a_run_that_ends_before_the_other_is_told(self):
+        frames = [Frame(0, "start", "a:0,\n"), Frame(1, "move", "a:0,\n")]
+        parting = parting_of(Run(0, "a", "passed", None, frames), Run(0, "a", "stopped", "loop-limit", frames[:1]))
+        self.assertEqual((parting.frame, parting.kind, parting.other), (1, "end", None))
+        self.assertIsNone(parting_of(Run(0, "a", "passed", None, frames), Run(0, "a", "passed", None, list(frames))))
+
+    def test_lines_of_other_sessions_are_refused(self):
+        lines = self.lines.read_text(encoding="utf-8")
+        self.assert_refused(self.compare(lines.replace("half way", "half-way")), "session 2 is named 'half way through the first' in")
+        self.assertEqual(self.compare("".join(lines.splitlines(keepends=True)[:-18])).status, 2)
+        self.assertEqual(self.compare("x").status, 2)
+        for words in ((self.lines,), (EXAMPLE, "--engines", "a"), (EXAMPLE, "--engines", "a", "b", "--sources", "c", "d"), (EXAMPLE, EXAMPLE, "--engines", "a", "b")):
+            answer = run("compare", *words)
+            self.assertEqual((answer.status, answer.errors.count("\n")), (2, 1))
+
+    def test_a_report_shows_both_runs_up_to_where_they_part(self):
+        page = self.room / "compare.html"
+        text = json.loads(self.lines.read_text(encoding="utf-8").splitlines()[2])["level"]
+        answer = self.compare(self.changed(2, level=text.replace("player", "wall")), EXAMPLE, "--report", page)
+        self.assertEqual(answer.status, 1)
+        self.assertIn("both levels solved: the other, up to frame 2", page.read_text(encoding="utf-8"))
+
+
+@plays
+class DayOfComparing(OfAGame):
+    def test_two_texts_of_a_game_are_compared(self):
+        pulled = self.write("pulled.txt", self.source.replace(RULE, "[ < Player | Crate ] -> [ < Player | < Crate ]"))
+        answer = run("compare", "--sources", self.game, pulled, self.recordings)
+        self.assertEqual((answer.status, answer.errors), (1, ""))
+        # by hand: the second input goes away from a crate, which is pulled
+        self.assertIn("session 0, both levels solved: frame 2, after input 1 (left)\n    column 3, row 5: background; the other: background crate\n", answer.out)
+        self.assertEqual(run("compare", "--sources", self.game, self.game, self.recordings).out, SAME)
+
+    def test_two_programs_are_compared(self):
+        program = self.write("program", f'#!/bin/sh\n"{PROGRAM}" "$@" | sed \'2s/"move"/"tick"/\'\nexit 1\n')
+        program.chmod(0o755)
+        answer = run("compare", EXAMPLE, "--engines", PROGRAM, program)
+        self.assertEqual((answer.status, answer.out.count("session ")), (1, 1))
+        self.assertIn("frame 1, after input 0 (", answer.out)
+
+
+if __name__ == "__main__":
+    unittest.main()

@@ -1,0 +1,194 @@
+"""`saxtegun test`: on the example, of which is known by hand what passes and what is solved, and on games with one fault each."""
+import json
+import os
+import signal
+import subprocess
+import sys
+import unittest
+from xml.etree import ElementTree
+
+from day import EXAMPLE, OnSessions
+from strangers import NAMES
+from tool import TOP, environment, plays, run
+from saxtegun.culprits import loops_in, outside_told, unknown_told
+from saxtegun.games import Game
+from saxtegun.levelsets import count_of_levels, entries_of_levels, first_level
+from saxtegun.sessions import sessions_in
+from saxtegun.telling import Failure, annotation, for_a_ci, markdown
+
+# Of the example's sessions the first two play both levels to their end, the others stay within a level.
+ENDS = ("passed, solved: both levels solved", "passed, solved: the second level alone", "passed, not solved: half way through the first", "passed, not solved: there and back again")
+COUNTS = "5 sessions: 4 passed, 1 differs, 0 stopped, 0 refused; 2 solved, 0 solved in part, 3 not solved"
+RULE = "[ > Player | Crate ] -> [ > Player | > Crate ]"
+
+
+class OfAGame(OnSessions):
+    """Tests where game.txt and recordings.json lie apart, as an author keeps them."""
+
+    def setUp(self):
+        super().setUp()
+        self.entries = json.loads(EXAMPLE.read_text(encoding="utf-8"))
+        self.source = self.entries[0][1][0]
+        self.game = self.write("game.txt", self.source)
+        for entry in self.entries:
+            entry[1][0] = ""
+        self.recordings = self.write_entries(self.entries)
+
+    def write_entries(self, entries, name="recordings.json"):
+        return self.write(name, json.dumps(entries))
+
+    def with_rule(self, rule):
+        return self.write("game.txt", self.source.replace(RULE, rule))
+
+
+@plays
+class DayOfTests(OfAGame):
+    def test_a_game_and_its_recordings_are_played_together(self):
+        answer = run("test", self.game, self.recordings)
+        self.assertEqual((answer.status, answer.errors), (1, ""))
+        lines = answer.out.splitlines()
+        self.assertEqual((tuple(lines[:4]), lines[-1]), (ENDS, COUNTS))
+        self.assertTrue(lines[4].startswith("session 4, a recording that has gone stale: differs: 17 frames, 16 inputs; 5 of 42 cells"))
+        self.assertEqual(run("test", EXAMPLE).out, answer.out)
+
+    def test_a_file_that_passes_has_status_0(self):
+        answer = run("test", self.game, self.write_entries(self.entries[:4]), "--quiet")
+        self.assertEqual((answer.status, answer.out), (0, "4 sessions: 4 passed, 0 differ, 0 stopped, 0 refused; 2 solved, 0 solved in part, 2 not solved\n"))
+
+    def test_what_must_be_solved_and_is_not_fails(self):
+        for entry, words in ((["half way", self.entries[2][1], "solved"], ()), (["half way", self.entries[2][1]], ("--solved", "half*"))):
+            answer = run("test", self.game, self.write_entries([entry]), *words)
+            self.assertEqual(answer.status, 1)
+            self.assertIn("session 0, half way: passed: no longer solved: not solved\n", answer.out)
+        self.assertEqual(run("test", self.game, self.write_entries([[*self.entries[0], "solved"]])).status, 0)
+
+    def test_a_session_that_ends_in_the_second_level_is_solved_in_part(self):
+        name, (source, inputs, level, index) = self.entries[0]
+        second = [name, [source, inputs[:-1], level, index]]
+        self.assertIn("1 solved in part", run("test", self.game, self.write_entries([second])).out)
+
+    def test_a_session_that_ends_in_another_level_says_so(self):
+        first = [self.entries[0][0], ["", [], self.entries[0][1][2]]]
+        answer = run("test", self.game, self.write_entries([first]))
+        self.assertIn("still in level 1, and recorded is level 2", answer.out)
+        self.assertNotIn("column ", answer.out)
+
+    def test_a_filter_picks_sessions_and_must_pick_some(self):
+        answer = run("test", self.game, self.recordings, "--filter", "the second*", "--filter", "there*")
+        self.assertEqual((answer.status, answer.out.splitlines()[:2]), (0, [ENDS[1], ENDS[3]]))
+        self.assert_refused(run("test", self.game, self.recordings, "--filter", "level 9*"), "no session is named as --filter says")
+
+    def test_of_many_failures_some_are_told(self):
+        answer = run("test", self.game, self.write_entries(self.entries[4:] * 3), "--max-fail", 1)
+        self.assertEqual((answer.out.count(": differs: "), answer.out.splitlines()[-2]), (1, "and 2 more failures"))
+
+    def test_a_name_that_is_not_there_is_told_with_the_nearest(self):
+        self.with_rule("[ > Player | Create ] -> [ > Player | > Crate ]")
+        answer = run("test", self.game, self.recordings, "--max-fail", 1)
+        self.assertIn("has a name that is not there: `Create` (near: `crate`) (Unknown:", answer.out)
+        self.assertIn(f"    {self.game}:{1 + self.source[: self.source.index(RULE)].count(chr(10))}: [ > Player | Create ]", answer.out)
+
+    def test_a_keyword_outside_the_profile_is_told(self):
+        self.with_rule("random [ > Player | Crate ] -> [ > Player | > Crate ]")
+        self.assertIn("; here it is `random` (OutsideProfile:", run("test", self.game, self.recordings).out)
+
+    def test_a_loop_is_told_with_the_input_that_hung(self):
+        self.with_rule(f"startloop\n{RULE}\n[ > Player ] -> [ < Player ]\n[ < Player ] -> [ > Player ]\nendloop")
+        number = 1 + self.source[: self.source.index(RULE)].count("\n")
+        answer = run("test", self.game, self.write_entries(self.entries[:1]))
+        self.assertIn(f" at input 0 ({('up', 'left', 'down', 'right')[self.entries[0][1][1][0]]}); it may be the loop of lines {number} to {number + 4}", answer.out)
+
+    def test_files_for_a_ci_are_written(self):
+        junit, page, summary = (self.room / name for name in ("junit.xml", "report.html", "summary.md"))
+        answer = run("test", self.game, self.recordings, "--junit", junit, "--report", page, "--markdown", summary, "--github", "--solved", "half*")
+        self.assertEqual(answer.status, 1)
+        suite = ElementTree.fromstring(junit.read_text(encoding="utf-8"))[0]
+        self.assertEqual((suite.get("tests"), suite.get("failures"), suite[2][0].get("message")), ("5", "2", "no longer solved: not solved"))
+        self.assertIn("Replay report", page.read_text(encoding="utf-8"))
+        self.assertIn("```text\n", summary.read_text(encoding="utf-8"))
+        self.assertEqual(sum(line.startswith("::error file=") for line in answer.out.splitlines()), 2)
+
+    def test_several_files_are_told_apart(self):
+        other = self.write_entries(self.entries[4:], "other.json")
+        answer = run("test", self.game, self.recordings, other, "--quiet")
+        self.assertIn(f"{other}: session 0, a recording that has gone stale", answer.out)
+        self.assertIn("6 sessions: 4 passed, 2 differ", answer.out)
+
+    def test_what_can_not_be_played_is_refused_in_a_line(self):
+        bad = self.write("bad.json", '[["the name", ["", [], "x"]]]')
+        for words, what in (
+            ((self.game,), "no sessions file is named"),
+            ((self.game, EXAMPLE), "no session whose source is the empty text"),
+            ((self.game, self.room / "nothing.json"), "can't be read"),
+            ((self.game, bad), "bad.json was not played: the recorded level of session 0 (the name) is no level text (bad-level 0)"),
+            ((self.game, self.recordings, "--junit", self.recordings), "is read: write to another file"),
+            ((self.game, self.recordings, "--program", self.game), "there is no program at"),
+            ((self.game, self.recordings, "--markdown", self.room / "no/where"), "can't be written"),
+        ):
+            with self.subTest(what):
+                answer = run("test", *words)
+                self.assertEqual((answer.status, answer.errors.count("\n")), (2, 1))
+                self.assertIn(what, answer.errors)
+
+    def test_a_full_device_and_a_closed_pipe_are_status_2(self):
+        for command in ("> /dev/full", "| true; exit ${PIPESTATUS[0]}"):
+            ran = subprocess.run(["bash", "-c", f'"$0" "$@" {command}', sys.executable, TOP / "saxtegun", "test", EXAMPLE], stderr=subprocess.PIPE, env=environment())
+            self.assertNotIn(b"Traceback", ran.stderr)
+            if "full" in command:
+                self.assertEqual((ran.returncode, ran.stderr.count(b"\n")), (2, 1))
+
+    def test_a_save_is_played_again(self):
+        words = [sys.executable, TOP / "saxtegun", "test", self.game, self.write_entries(self.entries[:1]), "--watch", "--quiet"]
+        with subprocess.Popen(words, stdout=subprocess.PIPE, stderr=subprocess.STDOUT, env=environment(), start_new_session=True) as ran:
+            for wanted in (b"1 passed", b"1 differs"):
+                line = b""
+                while wanted not in line:
+                    line = ran.stdout.readline()
+                while b"waiting for a save" not in line:
+                    line = ran.stdout.readline()
+                self.with_rule("")
+            os.kill(ran.pid, signal.SIGINT)
+            ran.stdout.read()
+            self.assertEqual(ran.wait(timeout=20), 1)
+
+
+class Words(OfAGame):
+    def test_the_names_near_a_name_are_told(self):
+        source = self.source.replace(RULE, "[ > Player | Create ] -> [ zzz | > Crate ]")
+        number = 1 + source[: source.index("[ > Player | Create")].count("\n")
+        self.assertEqual(unknown_told(source, Game(source), number), ": `Create` (near: `crate`), `zzz`")
+        self.assertEqual(unknown_told(source, Game(source), 10_000), "")
+
+    def test_keywords_and_rows_outside_the_profile_are_told(self):
+        for rule, told in (("late RIGID [ a ] -> [ ]", "`rigid`"), ("[ a | ... | b | ... | c ] -> [ ]", "a row with two `...`"), ("[ randomize ] -> [ ]", "")):
+            self.assertEqual(outside_told(f"RULES\n{rule}", 2), told)
+
+    def test_loops_and_groups_are_told_by_their_lines(self):
+        source = "RULES\n[ a ] -> [ b ]\n+ [ b ] -> [ a ]\nstartloop\n[ a ] -> [ b ]\nendloop\n[ c ] -> [ ]\n+ [ d ] -> [ ]\n+ [ e ] -> [ ]\n"
+        self.assertEqual(loops_in(source), ["the group of lines 2 to 3", "the loop of lines 4 to 6", "the group of lines 7 to 9"])
+
+    def test_levels_are_counted_without_messages(self):
+        source = "LEVELS\n\nmessage one\n\n##\n#.\n\n\n..\nmessage two\n..\n"
+        self.assertEqual([it.rows for it in entries_of_levels(source)], [(), ("##", "#."), ("..",), (), ("..",)])
+        self.assertEqual(count_of_levels(source), 3)
+        entry = sessions_in("x", json.dumps([["a", [source, [], "", 3]]])).entries[0]
+        self.assertEqual(first_level(entry), 3)
+
+    def test_no_line_of_a_game_is_a_command_of_a_ci(self):
+        for line in ("::error::", "   ::set-output name=a::", "##[error]x", "a ##[group]"):
+            self.assertFalse(for_a_ci(line).strip().startswith("::"))
+            self.assertNotIn("##[", for_a_ci(line))
+        told = annotation(Failure("a,b:c\n::error::", "differs", "50%\r\n::x", ["::error::y"], "g:1,a", 7))
+        self.assertEqual(told.count("\n"), 0)
+        self.assertTrue(told.startswith("::error file=g%3A1%2Ca,line=7,title=a%2Cb%3Ac"))
+
+    def test_a_summary_holds_no_markup_of_a_game(self):
+        failures = [Failure(name, "differs", name, ["````", name], "", 1) for name in NAMES * 4]
+        text = markdown(failures, "24 sessions")
+        self.assertNotIn("<script", text.replace("\n", " ").split("`````")[0])
+        self.assertEqual((text.count("\n| "), "And 4 more failures." in text), (21, True))
+        self.assertIn("`````text\n````\n", text)
+
+
+if __name__ == "__main__":
+    unittest.main()
