@@ -10,15 +10,14 @@ use pz_record::order::Order;
 use pz_session::run::{Run, frames};
 use std::alloc::{AllocError, Global};
 use std::test::Fail;
-use std::thread::Threads;
 
 /// A walk of two steps against a wall, and a source that is refused.
 const SESSIONS: &str =
     r#"[["walk",["OBJECTS\nBackground .\nblack\nPlayer p\nwhite\nWall #\ngrey\nLEGEND\nCOLLISIONLAYERS\nBackground\nPlayer, Wall\nLEVELS\n#p.#\n",[3,3],"background wall:0,background:1,background player:2,0,\n"]],["refused",["",[3],"background:0,\n"]]]"#;
 
-fn job_of<R: Threads + Sync>(rt: &R, alloc: Global) -> Result<Job, Fail> {
+fn job_of(alloc: Global) -> Result<Job, Fail> {
     let entries = read_sessions(alloc, SESSIONS).map_err(|_| "no sessions")?;
-    Ok(prepare(rt, alloc, entries, Order::Rows, 1)?)
+    Ok(prepare(alloc, entries, Order::Rows)?)
 }
 
 fn kind_name(kind: FrameKind) -> &'static str {
@@ -89,13 +88,8 @@ fn frames_text(alloc: Global, case: &Case) -> Result<String, AllocError> {
 }
 
 /// What a case of the job shows, and what it shows one by one, asked so often.
-fn shown<R: Threads + Sync>(
-    rt: &R,
-    alloc: Global,
-    number: usize,
-    times: usize,
-) -> Result<(String, String), Fail> {
-    let job = job_of(rt, alloc)?;
+fn shown(alloc: Global, number: usize, times: usize) -> Result<(String, String), Fail> {
+    let job = job_of(alloc)?;
     if number >= job.len() {
         return Err(Fail::new("no case"));
     }
@@ -108,14 +102,14 @@ const WALKED: &str =
 
 #[test]
 fn shows_a_walk_item_by_item(rt: HostRuntime) -> Result<(), Fail> {
-    let (whole, single) = shown(&rt, rt.alloc(), 0, 4)?;
+    let (whole, single) = shown(rt.alloc(), 0, 4)?;
     expect(whole.as_str(), WALKED)?;
     expect(single.as_str(), WALKED)
 }
 
 #[test]
 fn has_nothing_after_the_close(rt: HostRuntime) -> Result<(), Fail> {
-    let (whole, single) = shown(&rt, rt.alloc(), 1, 3)?;
+    let (whole, single) = shown(rt.alloc(), 1, 3)?;
     expect(whole.as_str(), "refused")?;
     expect(single.as_str(), "refused|none|none")
 }

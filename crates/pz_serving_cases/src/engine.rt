@@ -1,0 +1,47 @@
+//! The engine as a library: from the bytes of a file to its lines.
+
+use pz_engine::engine::lines;
+use pz_entries::fault::FileFault;
+use pz_record::order::Order;
+use std::test::Fail;
+
+/// A walk of two steps against a wall, which passes by rows, and a source that is refused.
+const SESSIONS: &str =
+    r#"[["walk",["OBJECTS\nBackground .\nblack\nPlayer p\nwhite\nWall #\ngrey\nLEGEND\nCOLLISIONLAYERS\nBackground\nPlayer, Wall\nLEVELS\n#p.#\n",[3,3],"background wall:0,background:1,background player:2,0,\n"]],["refused",["",[3],"background:0,\n"]]]"#;
+
+const LINES: &str = concat!(
+    "{\"at\":0,\"frame\":0,\"kind\":\"start\",\"level\":\"background wall:0,background player:1,background:2,0,\\n\",\"session\":0}\n",
+    "{\"at\":1,\"frame\":1,\"kind\":\"move\",\"level\":\"background wall:0,background:1,background player:2,0,\\n\",\"session\":0}\n",
+    "{\"at\":2,\"frame\":2,\"kind\":\"move\",\"level\":\"background wall:0,background:1,background player:2,0,\\n\",\"session\":0}\n",
+    "{\"close\":\"passed\",\"frames\":3,\"name\":\"walk\",\"session\":0}\n",
+    "{\"cause\":\"Section:0\",\"close\":\"refused\",\"frames\":0,\"name\":\"refused\",\"session\":1}\n",
+);
+
+#[test]
+fn plays_each_session_of_a_file(rt: HostRuntime) -> Result<(), Fail> {
+    let played = lines(rt.alloc(), SESSIONS.as_bytes(), Order::Rows).map_err(|_| "no lines")?;
+    assert!(rt; played.lines.as_slice() == LINES.as_bytes());
+    assert!(rt; !played.passed);
+    Ok(())
+}
+
+#[test]
+fn plays_a_file_without_sessions(rt: HostRuntime) -> Result<(), Fail> {
+    let played = lines(rt.alloc(), b"[]".as_slice(), Order::Columns).map_err(|_| "no lines")?;
+    assert!(rt; played.lines.is_empty());
+    assert!(rt; played.passed);
+    Ok(())
+}
+
+#[test]
+fn says_what_is_wrong_with_a_file(rt: HostRuntime) -> Result<(), Fail> {
+    for (bytes, fault) in [
+        (b"".as_slice(), FileFault::NotJson),
+        (b"\xff".as_slice(), FileFault::NotJson),
+        (b"[1]".as_slice(), FileFault::BadEntry(0)),
+    ] {
+        let answer = lines(rt.alloc(), bytes, Order::Rows);
+        assert!(rt; answer.is_err_and(|cause| cause == fault));
+    }
+    Ok(())
+}
