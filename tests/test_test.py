@@ -140,16 +140,20 @@ class DayOfTests(OfAGame):
     def test_a_save_is_played_again(self):
         words = [sys.executable, TOP / "saxtegun", "test", self.game, self.write_entries(self.entries[:1]), "--watch", "--quiet"]
         with subprocess.Popen(words, stdout=subprocess.PIPE, stderr=subprocess.STDOUT, env=environment(), start_new_session=True) as ran:
-            for wanted in (b"1 passed", b"1 differs"):
-                line = b""
-                while wanted not in line:
-                    line = ran.stdout.readline()
-                while b"waiting for a save" not in line:
-                    line = ran.stdout.readline()
-                self.with_rule("")
-            os.kill(ran.pid, signal.SIGINT)
-            ran.stdout.read()
-            self.assertEqual(ran.wait(timeout=20), 1)
+            try:
+                for wanted in (b"1 passed", b"1 differs"):
+                    said = b""
+                    while b"waiting for a save" not in said:
+                        line = ran.stdout.readline()
+                        self.assertTrue(line, said)
+                        said += line
+                    self.assertIn(wanted, said)
+                    self.with_rule("")
+                os.kill(ran.pid, signal.SIGINT)
+                ran.stdout.read()
+                self.assertEqual(ran.wait(timeout=20), 1)
+            finally:
+                ran.kill()
 
 
 class Words(OfAGame):

@@ -10,6 +10,7 @@ passed, 1 where some session did not, 2 where there is no whole answer."""
 from __future__ import annotations
 
 import os
+import signal
 import sys
 import time
 from argparse import ArgumentParser, Namespace
@@ -180,7 +181,9 @@ def times_of(files: List[str]) -> List[Optional[Tuple[int, int]]]:
 
 
 def watch(given: Namespace) -> int:
-    """Tests again at each save, until it is stopped; the status is that of the last time."""
+    """Tests again at each save, until it is stopped; the status is that of the last time. It can be stopped so too where whoever started it ignores
+    interrupts, as a shell does for what it starts in the background."""
+    signal.signal(signal.SIGINT, signal.default_int_handler)
     status = 2
     try:
         while True:
