@@ -1,4 +1,4 @@
-"""The worked examples of docs/language.md and docs/sessions.md are what the cases of conformance/ say."""
+"""The worked examples of docs/language.md and docs/sessions.md are what the cases of conformance/ say, and the program of docs/library.md is built."""
 import json
 import re
 import unittest
@@ -54,6 +54,11 @@ class Documents(unittest.TestCase):
             with self.subTest(name):
                 lines = (case / name).read_text(encoding="utf-8").splitlines()
                 self.assertIn("".join(f"    {line}\n" for line in lines), text)
+
+    def test_the_program_of_the_library_page_is_the_one_that_is_built(self):
+        text = (TOP / "docs" / "library.md").read_text(encoding="utf-8")
+        program = (TOP / "crates" / "pz_library_example" / "src" / "main.rt").read_text(encoding="utf-8")
+        self.assertIn(f"```rust\n{program}```\n", text)
 
 
 if __name__ == "__main__":

@@ -4,7 +4,7 @@ use pz_base::fault::SourceFault;
 use pz_record::quoted::QuotedText;
 
 /// Why a frame is shown.
-#[derive(Clone, Copy)]
+#[derive(Clone, Copy, Debug, PartialEq, Eq)]
 pub enum FrameKind {
     /// The level as it was loaded first.
     Start,
@@ -30,7 +30,7 @@ pub struct Frame {
 }
 
 /// Why a session stopped before all of its inputs were played.
-#[derive(Clone, Copy)]
+#[derive(Clone, Copy, Debug, PartialEq, Eq)]
 pub enum Stop {
     /// A group of rules, or a loop of groups, that doesn't come to rest.
     LoopLimit,
@@ -41,7 +41,7 @@ pub enum Stop {
 }
 
 /// Why a session is not played.
-#[derive(Clone, Copy)]
+#[derive(Clone, Copy, Debug, PartialEq, Eq)]
 pub enum Refusal {
     /// Its source is refused.
     Source(SourceFault),
@@ -50,7 +50,7 @@ pub enum Refusal {
 }
 
 /// How a session closes.
-#[derive(Clone, Copy)]
+#[derive(Clone, Copy, Debug, PartialEq, Eq)]
 pub enum Verdict {
     /// Every input was played, and the last level is the recorded one.
     Passed,

@@ -22,7 +22,7 @@ order_of (Some text) = if bytes_eq text (codes "rows") then Some Rows else (if b
 
 -- what the values of --workers, --order and FILE choose
 abbrev pub choice_of : Option Text → Option Text → Option Text → Option Chosen
-choice_of workers order file = option_and_then (λ n. option_map (λ o. record { settings = record { workers = n; order = o }; file = file }) (order_of order)) (workers_of workers)
+choice_of workers order file = option_and_then (λ n. option_map (λ o. record { options = record { workers = n; order = o }; file = file }) (order_of order)) (workers_of workers)
 
 abbrev pub workers_rule : Rule
 workers_rule = record (new_rule (codes "workers")) { long = Some (codes "workers"); parser = Some (parser.Unsigned 1 MOST_WORKERS) }

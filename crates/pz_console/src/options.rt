@@ -14,7 +14,7 @@ use std::alloc::{AllocError, Global};
 
 /// How many threads play, and the order in which the cells of a level are written.
 #[derive(Clone, Copy, Debug, PartialEq, Eq)]
-pub struct Settings {
+pub struct Options {
     pub workers: usize,
     pub order: Order,
 }
@@ -22,7 +22,7 @@ pub struct Settings {
 /// What a command line asks for. Without a file, standard input is read.
 #[derive(Drop, Debug)]
 pub struct Chosen {
-    pub settings: Settings,
+    pub options: Options,
     pub file: Option<Text>,
 }
 
@@ -120,8 +120,8 @@ fn choose(alloc: Global, matches: &ArgMatches) -> Result<Chosen, OptionsFault>
         (first_value (found_of matches.now) (codes "order")) (first_value (found_of matches.now) (codes "file")) ≡ Some chosen) }
     ensures refused { IfErr result (λ fault. fault ≢ OptionsFault.Memory → choice_of (first_value (found_of matches.now) (codes "workers"))
         (first_value (found_of matches.now) (codes "order")) (first_value (found_of matches.now) (codes "file")) ≡ None) }
-    ensures some { IfOk result (λ chosen. 1 ≤ chosen.settings.workers) }
-    ensures few { IfOk result (λ chosen. chosen.settings.workers ≤ MOST_WORKERS) }
+    ensures some { IfOk result (λ chosen. 1 ≤ chosen.options.workers) }
+    ensures few { IfOk result (λ chosen. chosen.options.workers ≤ MOST_WORKERS) }
 {
     let Some(workers) = workers(matches.get_str("workers")) else {
         return Err(OptionsFault::BadLine);
@@ -133,7 +133,7 @@ fn choose(alloc: Global, matches: &ArgMatches) -> Result<Chosen, OptionsFault>
         return Err(OptionsFault::Memory);
     };
     Ok(Chosen {
-        settings: Settings { workers, order },
+        options: Options { workers, order },
         file,
     })
 }
@@ -143,8 +143,8 @@ fn choose(alloc: Global, matches: &ArgMatches) -> Result<Chosen, OptionsFault>
 pub fn read_options<'a>(alloc: Global, words: &'a [String]) -> Result<Chosen, OptionsFault>
     ensures chosen { IfOk result (λ chosen. options_of (map string_bytes words.entry.now) ≡ Some chosen) }
     ensures refused { IfErr result (λ fault. fault ≢ OptionsFault.Memory → options_of (map string_bytes words.entry.now) ≡ None) }
-    ensures some { IfOk result (λ chosen. 1 ≤ chosen.settings.workers) }
-    ensures few { IfOk result (λ chosen. chosen.settings.workers ≤ MOST_WORKERS) }
+    ensures some { IfOk result (λ chosen. 1 ≤ chosen.options.workers) }
+    ensures few { IfOk result (λ chosen. chosen.options.workers ≤ MOST_WORKERS) }
 {
     let Ok(command) = command(alloc) else {
         return Err(OptionsFault::Memory);

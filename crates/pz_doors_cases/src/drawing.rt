@@ -1,10 +1,8 @@
 //! The instances of a program, drawn on a line: for each its scan, the rows of its left and its right, and the letters of its commands.
 
 use bitflags::Flags;
-use pz_game::direction::Dir;
-use pz_game::pattern::{Item, Pattern, Row, Word};
-use pz_program::group::{Group, Segment};
-use pz_program::instance::{Block, Groups, Instance};
+use pz_rules::{Block, Group, Groups, Instance, Item, Pattern, Row, Segment, Word};
+use pz_source::Dir;
 use std::alloc::{AllocError, Global};
 
 fn glyph(object: usize) -> char {

@@ -2,9 +2,8 @@
 
 use crate::drawing::drawn;
 use crate::game::{expect, game_of, program_of};
-use pz_base::fault::{Code, SourceFault};
-use pz_game::game::Game;
-use pz_rules::expand::expand;
+use pz_rules::expand;
+use pz_source::{Code, Game, SourceFault};
 use std::alloc::Global;
 use std::test::Fail;
 
@@ -138,6 +137,13 @@ fn names_the_fault_of_a_rule(rt: HostRuntime) -> Result<(), Fail> {
     expect_fault(alloc, "[ Mark ] -> [ Mark Thing ]\n", Code::AmbiguousRight)?;
     expect_fault(alloc, "[ Mark ] -> [ Crate Wall ]\n", Code::RightClash)?;
     expect_fault(alloc, "[ Mark | Mark ] -> [ Mark ]\n", Code::Shape)?;
+    expect_fault(alloc, "[ Player | ... ] -> [ Player | ... ]\n", Code::Shape)?;
+    expect_fault(
+        alloc,
+        "[ Player | ... | Wall | ... | Crate ] -> [ Player | ... | Wall | ... | Crate ]\n",
+        Code::OutsideProfile,
+    )?;
+    expect_fault(alloc, "[ Player ] -> [ ] fly\n", Code::BadRule)?;
     expect_fault(
         alloc,
         "late [ > Player ] -> [ Player ]\n",

@@ -1,17 +1,14 @@
 //! A game with rules, win lines and levels of the case, its program and its first level.
 
 ghost use Rattle.std.specs.Prelude.{IfOk};
-ghost use Rattle.pz_program.specs.Instance.{IsProgramOf};
-ghost use Rattle.pz_sheet.specs.Grid.{IsOfGame};
+ghost use Rattle.pz_rules.specs.Instance.{IsProgramOf};
+ghost use Rattle.pz_grid.specs.Grid.{IsOfGame};
 
-use pz_game::game::Game;
 use pz_grid::Level;
-use pz_level_text::reading_back::level_text;
-use pz_program::instance::Program;
-use pz_record::order::Order;
-use pz_rules::expand::expand;
-use pz_source::reading::read_game;
-use std::alloc::Global;
+use pz_rules::{Program, expand};
+use pz_session::{Order, level_text};
+use pz_source::{Game, read_game};
+use std::alloc::{AllocError, Global};
 use std::test::Fail;
 
 /// The game up to its rules, the first of which stands on line 26.
@@ -25,8 +22,18 @@ fn read(alloc: Global, text: &str) -> Result<Game, Fail> {
 
 /// The game with these rules, win lines and levels, whose lines are ended.
 pub(crate) fn game_of(alloc: Global, rules: &str, wins: &str, levels: &str) -> Result<Game, Fail> {
-    let text = format!(in alloc; "{HEAD}{rules}WINCONDITIONS\n{wins}LEVELS\n{levels}")?;
+    let text = source_of(alloc, rules, wins, levels)?;
     read(alloc, text.as_str())
+}
+
+/// The source of that game.
+pub(crate) fn source_of(
+    alloc: Global,
+    rules: &str,
+    wins: &str,
+    levels: &str,
+) -> Result<String, AllocError> {
+    format!(in alloc; "{HEAD}{rules}WINCONDITIONS\n{wins}LEVELS\n{levels}")
 }
 
 /// The program of its rules.

@@ -10,6 +10,8 @@ mod game;
 #[cfg(test)]
 mod matching;
 #[cfg(test)]
+mod reading;
+#[cfg(test)]
 mod resting;
 #[cfg(test)]
 mod running;

@@ -1,19 +1,14 @@
 //! The places of rows, and instances rewritten at them.
 
 ghost use Rattle.std.specs.Prelude.{◌≡◌, true, IfOk, OnOk};
-ghost use Rattle.pz_game.specs.Pattern.{IsOf, AreOf, IsRowOf, AreRowsOf};
-ghost use Rattle.pz_program.specs.Instance.{IsInstanceOf};
-ghost use Rattle.pz_sheet.specs.Grid.{IsOfGame};
+ghost use Rattle.pz_rules.specs.Pattern.{IsOf, AreOf, IsRowOf, AreRowsOf};
+ghost use Rattle.pz_rules.specs.Instance.{IsInstanceOf};
+ghost use Rattle.pz_grid.specs.Grid.{IsOfGame};
 
 use crate::game::{expect, expect_level, game_of, loaded, program_of};
-use pz_game::direction::Dir;
-use pz_game::game::Game;
-use pz_game::pattern::{Item, Pattern, Row, Rows};
-use pz_grid::Level;
-use pz_grid::places::{Place, places, still_matches};
-use pz_grid::rewriting::rewrite;
-use pz_program::group::Group;
-use pz_program::instance::{Block, Instance, Program};
+use pz_grid::{Level, Place, places, rewrite, still_matches};
+use pz_rules::{Block, Group, Instance, Item, Pattern, Program, Row, Rows};
+use pz_source::{Dir, Game};
 use std::alloc::{AllocError, Global};
 use std::test::Fail;
 

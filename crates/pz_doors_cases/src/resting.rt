@@ -1,19 +1,16 @@
 //! Groups and loops of rules, run to rest.
 
 ghost use Rattle.std.specs.Prelude.{IfOk};
-ghost use Rattle.pz_program.specs.Instance.{IsBlockOf, IsProgramOf};
-ghost use Rattle.pz_sheet.specs.Grid.{IsOfGame};
+ghost use Rattle.pz_rules.specs.Instance.{IsBlockOf, IsProgramOf};
+ghost use Rattle.pz_grid.specs.Grid.{IsOfGame};
 
 use crate::game::{expect_level, game_of, loaded, program_of};
 use bitflags::Flags;
-use pz_game::direction::Dir;
-use pz_game::game::Game;
 use pz_grid::{Level, push_players, resolve};
 use pz_program::commands::Commands;
-use pz_program::instance::{Block, Program};
-use pz_turn::loops::rest_loop;
-use pz_turn::outcome::StepFault;
-use pz_turn::rest::rest;
+use pz_rules::{Block, Program};
+use pz_source::{Dir, Game};
+use pz_turn::{StepFault, rest, rest_loop};
 use std::alloc::Global;
 use std::test::Fail;
 

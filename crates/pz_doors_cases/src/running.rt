@@ -1,13 +1,10 @@
 //! The items of a case, one by one.
 
 use crate::game::expect;
-use pz_case::case::Case;
-use pz_case::item::{Frame, FrameKind, Item, Refusal, Stop, Verdict};
-use pz_case::job::Job;
-use pz_entries::file::read_sessions;
-use pz_job::job::prepare;
-use pz_record::order::Order;
-use pz_session::run::{Run, frames};
+use pz_session::{
+    Case, Frame, FrameKind, Item, Job, Order, Refusal, Run, Stop, Verdict, frames, prepare,
+    read_sessions,
+};
 use std::alloc::{AllocError, Global};
 use std::test::Fail;
 

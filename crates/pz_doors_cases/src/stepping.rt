@@ -1,15 +1,12 @@
 //! Whole steps of a game, and wins.
 
-ghost use Rattle.pz_sheet.specs.Grid.{IsOfGame};
+ghost use Rattle.pz_grid.specs.Grid.{IsOfGame};
 
 use crate::game::{expect_level, game_of, loaded, program_of};
 use bitflags::Flags;
-use pz_game::direction::Dir;
-use pz_game::game::Game;
 use pz_grid::Level;
-use pz_turn::outcome::StepFault;
-use pz_turn::step::{StepEnd, step};
-use pz_turn::win::won;
+use pz_source::{Dir, Game};
+use pz_turn::{StepEnd, StepFault, step, won};
 use std::alloc::Global;
 use std::test::Fail;
 

@@ -1,13 +1,9 @@
 //! The texts of levels: written in both orders, read, and compared.
 
 use crate::game::{expect, expect_level, game_of, loaded};
-use pz_entries::reading::read_level_text;
-use pz_game::game::Game;
 use pz_grid::Level;
-use pz_level_text::equality::equals;
-use pz_level_text::reading_back::level_text;
-use pz_record::order::Order;
-use pz_record::recorded::Recorded;
+use pz_session::{Order, Recorded, equals, level_text, read_level_text};
+use pz_source::Game;
 use std::alloc::{AllocError, Global};
 use std::test::Fail;
 

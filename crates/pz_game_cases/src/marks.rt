@@ -8,7 +8,7 @@ use crate::game::{game_of, joined, loaded};
 use pz_game::direction::Dir;
 use pz_game::game::Game;
 use pz_game::pattern::{Item, Pattern, Row, Word};
-use pz_grid::places::{admitted, places_counted};
+use pz_grid::placing::{admitted, places_counted};
 use pz_grid::{Level, push_players, resolve};
 use std::alloc::{AllocError, Global};
 use std::test::Fail;

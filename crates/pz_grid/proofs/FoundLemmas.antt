@@ -7,10 +7,10 @@ use Rattle.std.proofs.lemmas.List.{length-append, append_assoc}
 use Rattle.std.proofs.lemmas.List.Elements.{filter-append}
 use Rattle.pz_game.specs.declared.direction.Dir.{Dir}
 use Rattle.pz_game.specs.Pattern.{RuleRow}
-use Rattle.pz_grid.specs.declared.places.GridFault.{GridFault}
-use Rattle.pz_grid.specs.declared.places.GridFault.TheVariants.{Memory, MatchLimit}
-use Rattle.pz_grid.specs.declared.places.Place.{Place}
-use Rattle.pz_grid.specs.declared.places.TheConstants.{MATCH_LIMIT}
+use Rattle.pz_grid.specs.declared.placing.GridFault.{GridFault}
+use Rattle.pz_grid.specs.declared.placing.GridFault.TheVariants.{Memory, MatchLimit}
+use Rattle.pz_grid.specs.declared.placing.Place.{Place}
+use Rattle.pz_grid.specs.declared.placing.TheConstants.{MATCH_LIMIT}
 use Rattle.pz_sheet.specs.Grid.{Grid}
 use Rattle.pz_grid.specs.Places.{row_holds, place_in, pairs_at, pairs_in, places, gap_count, line_length, line_count, searched}
 use Rattle.pz_grid.proofs.GatherLemmas.{gather, gather_more}

@@ -7,7 +7,7 @@ use Rattle.pz_game.specs.declared.direction.Dir.TheVariants.{Up, Down, Left, Rig
 use Rattle.pz_game.specs.declared.pattern.Item.{Item}
 use Rattle.pz_game.specs.Pattern.{RuleRow, IsRow}
 use Rattle.pz_sheet.specs.Grid.{Grid}
-use Rattle.pz_grid.specs.declared.places.Place.{Place}
+use Rattle.pz_grid.specs.declared.placing.Place.{Place}
 use Rattle.pz_grid.specs.Places.{along, holds_at, holds_behind, distance, cell_holds, row_holds, place_in, gap_count, line_length}
 use Rattle.pz_sheet.proofs.RunLemmas.{enumerate_fails}
 use Rattle.pz_grid.proofs.FoundLemmas.{found_with, found_at, found_at_all}

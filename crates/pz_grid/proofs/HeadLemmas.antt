@@ -12,7 +12,7 @@ use Rattle.pz_game.specs.Pattern.{RuleRow}
 use Rattle.pz_sheet.specs.Grid.{Grid}
 use Rattle.pz_sheet.specs.Runs.{along, holds_at, holds_along, run_holds}
 use Rattle.pz_sheet.proofs.RunLemmas.{numbered_at, enumerate_more, enumerate_all}
-use Rattle.pz_grid.specs.declared.places.Place.{Place}
+use Rattle.pz_grid.specs.declared.placing.Place.{Place}
 use Rattle.pz_grid.specs.Places.{distance, cell_holds, row_holds, holds_behind, cells_before, head_of}
 use Rattle.pz_grid.proofs.PlaceLemmas.{holds_each_cell}
 

@@ -12,7 +12,7 @@ use Rattle.pz_game.specs.declared.direction.Dir.{Dir}
 use Rattle.pz_game.specs.declared.direction.Dir.TheVariants.{Up, Down, Left, Right, Action}
 use Rattle.pz_game.specs.declared.pattern.Item.{Item}
 use Rattle.pz_game.specs.Pattern.{RuleRow, IsRow}
-use Rattle.pz_grid.specs.declared.places.Place.{Place}
+use Rattle.pz_grid.specs.declared.placing.Place.{Place}
 use Rattle.pz_sheet.specs.Grid.{Grid}
 use Rattle.pz_grid.specs.Places.{on_map, along, distance, holds_at, cell_holds, row_holds, line_count, line_length, place_in, gap_count, pairs_at, pairs_in, pairs, places, still_holds}
 use Rattle.pz_sheet.proofs.RunLemmas.{numbered_at}

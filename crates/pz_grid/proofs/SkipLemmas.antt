@@ -13,7 +13,7 @@ use Rattle.pz_game.specs.declared.pattern.Word.TheVariants.{Present, Still, Towa
 use Rattle.pz_game.specs.declared.pattern.Item.{Item}
 use Rattle.pz_game.specs.Pattern.{RuleRow}
 use Rattle.pz_cells.specs.declared.piece.Piece.{Piece}
-use Rattle.pz_grid.specs.declared.places.Place.{Place}
+use Rattle.pz_grid.specs.declared.placing.Place.{Place}
 use Rattle.pz_cells.specs.Standing.{standing}
 use Rattle.pz_sheet.specs.Presence.{is_in}
 use Rattle.pz_sheet.specs.Grid.{Grid, LevelState, cell_at}

@@ -10,7 +10,7 @@ use Rattle.pz_game.specs.Pattern.{RuleRow}
 use Rattle.pz_cells.specs.Pattern.{pattern_holds}
 use Rattle.pz_sheet.specs.Grid.{Grid, cell_at}
 use Rattle.pz_sheet.specs.Searching.{HoldsSomewhere, HoldsInRow, HoldsInColumn}
-use Rattle.pz_grid.specs.declared.places.Place.{Place}
+use Rattle.pz_grid.specs.declared.placing.Place.{Place}
 use Rattle.pz_grid.specs.Places.{on_map, along, distance, holds_at, row_holds, pairs, places}
 use Rattle.pz_grid.specs.Admitted.{line_of, StartsNowhere}
 use Rattle.pz_grid.proofs.PlaceLemmas.{back_from, holds_each_cell}

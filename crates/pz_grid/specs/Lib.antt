@@ -4,3 +4,10 @@ pub mod Rewriting
 pub mod Marks
 pub mod Staying
 pub mod Admitted
+pub use Rattle.pz_bare.specs.Loading
+pub use Rattle.pz_game.specs.Pattern
+pub use Rattle.pz_program.specs.Instance
+pub use Rattle.pz_sheet.specs.Grid
+pub use Rattle.pz_sheet.specs.Pushing
+pub use Rattle.pz_sheet.specs.Sameness
+pub use Rattle.pz_sheet.specs.Standing

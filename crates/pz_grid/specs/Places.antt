@@ -8,10 +8,10 @@ use Rattle.pz_game.specs.declared.direction.Dir.TheVariants.{Up, Down}
 use Rattle.pz_program.specs.declared.instance.Instance.{Instance}
 use Rattle.pz_game.specs.declared.pattern.Item.{Item}
 use Rattle.pz_game.specs.Pattern.{RuleRow}
-use Rattle.pz_grid.specs.declared.places.GridFault.{GridFault}
-use Rattle.pz_grid.specs.declared.places.GridFault.TheVariants.{MatchLimit}
-use Rattle.pz_grid.specs.declared.places.Place.{Place}
-use Rattle.pz_grid.specs.declared.places.TheConstants.{MATCH_LIMIT}
+use Rattle.pz_grid.specs.declared.placing.GridFault.{GridFault}
+use Rattle.pz_grid.specs.declared.placing.GridFault.TheVariants.{MatchLimit}
+use Rattle.pz_grid.specs.declared.placing.Place.{Place}
+use Rattle.pz_grid.specs.declared.placing.TheConstants.{MATCH_LIMIT}
 use Rattle.pz_sheet.specs.Grid.{Grid}
 use Rattle.pz_sheet.specs.Runs.{runs_in_row, runs_in_column}
 pub use Rattle.pz_sheet.specs.Runs.{on_map, along, holds_at}

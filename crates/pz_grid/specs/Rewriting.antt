@@ -8,7 +8,7 @@ use Rattle.pz_game.specs.declared.direction.Dir.{Dir}
 use Rattle.pz_program.specs.declared.instance.Instance.{Instance}
 use Rattle.pz_game.specs.declared.pattern.Item.{Item}
 use Rattle.pz_game.specs.Pattern.{RuleRow}
-use Rattle.pz_grid.specs.declared.places.Place.{Place}
+use Rattle.pz_grid.specs.declared.placing.Place.{Place}
 use Rattle.pz_sheet.specs.Grid.{Grid}
 use Rattle.pz_sheet.specs.Rewriting.{with_rewritten, changes}
 use Rattle.pz_grid.specs.Places.{position_of}

@@ -10,21 +10,24 @@ ghost use Rattle.pz_sheet.specs.Standing.{standing_at, stands, heading_at};
 use pz_bare::BareLevel;
 use pz_cells::piece::Piece;
 use pz_game::direction::Dir;
-use pz_sets::set::NumberSet;
 use std::marker::Model;
 
-mod admitted;
+mod admitting;
 mod headed;
 mod marks;
 mod movement;
-pub mod places;
+pub mod placing;
 mod presence;
 mod pushing;
 pub mod rewriting;
 mod sameness;
 
 pub use movement::resolve;
+pub use placing::{GridFault, MATCH_LIMIT, Place, admitted, places, places_counted, still_matches};
 pub use pushing::push_players;
+pub use pz_sets::set::NumberSet;
+pub use rewriting::rewrite;
+pub use sameness::same;
 
 /// A level: what stands in its cells, and its marks: for each row, for each column and for the whole a set of objects that holds at least
 /// those that stand there.

@@ -1,6 +1,6 @@
 //! The objects that each row and each column of a level may have.
 
-ghost use Rattle.std.specs.Prelude.{◌≡◌, ℕ, ◌<◌, ◌&&◌, All, IfOk, OnOk, OnErr, true, length, nat_eq, []};
+ghost use Rattle.std.specs.Prelude.{◌≡◌, ℕ, ◌<◌, ◌&&◌, All, IfOk, IfErr, OnOk, OnErr, true, length, nat_eq, []};
 ghost use Rattle.pz_sets.specs.Sets.{member};
 ghost use Rattle.pz_sets.specs.declared.set.TheConstants.{CAPACITY};
 ghost use Rattle.pz_sheet.specs.Grid.{IsLawful};
@@ -11,6 +11,7 @@ ghost use Rattle.pz_bare.specs.Loading.{loaded};
 ghost use Rattle.pz_grid.specs.Marks.{is_marked, IsExact, IsMore};
 
 use crate::Level;
+use crate::placing::GridFault;
 use pz_bare::BareLevel;
 use pz_game::game::Game;
 use pz_game::masks::names;
@@ -20,18 +21,37 @@ use std::alloc::{AllocError, Global};
 
 impl Level {
     /// The level of the entry of LEVELS of a number, which is not a message. Err: memory was refused.
-    pub fn load(alloc: Global, game: &Game, index: usize) -> Result<Level, AllocError>
+    pub fn load(alloc: Global, game: &Game, index: usize) -> Result<Level, GridFault>
         requires { is_playable (entry_at game.now index) ≡ true }
         ensures loaded { IfOk result (λ level. level.grid ≡ loaded game.now index) }
         ensures lawful { IfOk result (λ level. IsLawful level.grid) }
         ensures exact { IfOk result IsExact }
+        ensures fault { IfErr result (λ fault. fault ≡ GridFault.Memory) }
     {
-        let bare = BareLevel::load(alloc, game, index)?;
-        Level::marked(alloc, bare)
+        let Ok(bare) = BareLevel::load(alloc, game, index) else {
+            return Err(GridFault::Memory);
+        };
+        match Level::marked(alloc, bare) {
+            Ok(level) => Ok(level),
+            Err(_) => Err(GridFault::Memory),
+        }
     }
 
     /// The same level once more, each set exactly what stands in its line. Err: memory was refused.
-    pub fn copy(&self) -> Result<Level, AllocError>
+    pub fn copy(&self) -> Result<Level, GridFault>
+        ensures copied { IfOk result (λ level. level.grid ≡ self.now.grid) }
+        ensures lawful { IfOk result (λ level. IsLawful level.grid) }
+        ensures exact { IfOk result IsExact }
+        ensures fault { IfErr result (λ fault. fault ≡ GridFault.Memory) }
+    {
+        match self.copied() {
+            Ok(level) => Ok(level),
+            Err(_) => Err(GridFault::Memory),
+        }
+    }
+
+    /// As `copy`, for callers that know no other fault than want of memory.
+    pub fn copied(&self) -> Result<Level, AllocError>
         ensures copied { IfOk result (λ level. level.grid ≡ self.now.grid) }
         ensures lawful { IfOk result (λ level. IsLawful level.grid) }
         ensures exact { IfOk result IsExact }
@@ -47,7 +67,7 @@ impl Level {
         ensures kept { OnErr result (self.new.grid ≡ self.old.grid) }
     {
         if !self.bare.same_size(&other.bare) {
-            *self = other.copy()?;
+            *self = other.copied()?;
             return Ok(());
         }
         self.bare.copy_from(&other.bare)?;

@@ -10,7 +10,7 @@ ghost use Rattle.pz_sheet.specs.Rewriting.{with_rewritten, changes};
 ghost use Rattle.pz_grid.specs.Rewriting.{in_rewrite, rewritten_at, rewritten_along, rewritten_row, rewritten};
 
 use crate::Level;
-use crate::places::Place;
+use crate::placing::Place;
 use pz_game::direction::Dir;
 use pz_game::game::Game;
 use pz_game::pattern::{Pattern, Row};

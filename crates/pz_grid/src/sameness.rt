@@ -14,3 +14,11 @@ impl Level {
         self.bare.equals(&other.bare)
     }
 }
+
+/// Whether two levels are the same, as the method `same` says.
+pub fn same(level: &Level, other: &Level) -> bool
+    ensures same { result ≡ same_grid level.now.grid other.now.grid }
+    ensures equal { IsTrue result ↔ (level.now.grid ≡ other.now.grid) }
+{
+    level.same(other)
+}

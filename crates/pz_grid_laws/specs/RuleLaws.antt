@@ -4,7 +4,7 @@ use Rattle.pz_game.specs.declared.direction.Dir.{Dir}
 use Rattle.pz_game.specs.declared.pattern.Item.{Item}
 use Rattle.pz_game.specs.Pattern.{RuleRow, IsRow, AreOf}
 use Rattle.pz_cells.specs.declared.piece.Piece.{Piece}
-use Rattle.pz_grid.specs.declared.places.Place.{Place}
+use Rattle.pz_grid.specs.declared.placing.Place.{Place}
 use Rattle.pz_cells.specs.Cell.{IsCell}
 use Rattle.pz_sheet.specs.Grid.{Grid, LevelState, IsLawful}
 use Rattle.pz_grid.specs.Places.{places, searched, still_holds, row_holds, line_length}

@@ -1,7 +1,7 @@
 //! Laws of places and of rewriting, each proved as what a function without a body ensures.
 
 ghost use Rattle.std.specs.Prelude.{◌≡◌};
-ghost use Rattle.pz_grid.specs.declared.places.TheConstants.{MATCH_LIMIT};
+ghost use Rattle.pz_grid.specs.declared.placing.TheConstants.{MATCH_LIMIT};
 ghost use Rattle.pz_grid_laws.specs.RuleLaws.{ArePlaces, GaplessIsWithin, HoldsInAdmitted, RewritesLawfully, StartsAreBounded};
 
 /// Every place of a row holds, and every pair of a start and a gap that holds is one of its places.

@@ -13,7 +13,7 @@ use pz_case::item::Refusal;
 use pz_case::rulebook::Rulebook;
 use pz_game::game::Game;
 use pz_program::instance::Program;
-use pz_rules::expand::expand;
+use pz_rules::expanding::expand;
 use pz_source::reading::read_game;
 use std::alloc::{AllocError, Global};
 use std::collections::HashMap;

@@ -8,7 +8,7 @@ use pz_base::fault::SourceFault;
 use pz_entries::entry::Entry;
 use pz_game::game::Game;
 use pz_program::instance::Program;
-use pz_rules::expand::expand;
+use pz_rules::expanding::expand;
 use pz_source::reading::read_game;
 use std::alloc::{AllocError, Global};
 use std::collections::HashSet;

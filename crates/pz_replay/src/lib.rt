@@ -1,11 +1,17 @@
-//! The replay of a job by several workers: its recording has what every session showed, in the order of the sessions.
+//! The replay of a job by several workers: its recording has what every session showed, in the order of the sessions. A door of the library: a
+//! caller lists this crate beside `pz_session`. What divides the work, whoever plays, stands behind it in `pz_crew`, `pz_claims` and `pz_lines`.
 #![tactic(auto)]
 
-pub mod fault;
-pub mod gate;
-pub mod lane;
-mod recorder;
 pub mod replaying;
-mod waiting;
-pub mod work;
-mod workers;
+
+pub use pz_case::recording::{Record, Recording};
+pub use pz_claims::{Claimed, Claims, Ended, Maker, Seat};
+pub use pz_crew::fault::ReplayFault;
+pub use pz_crew::gate::{Always, Gate};
+pub use pz_crew::lane::{End, Message, Sender, SentAll, Taker, lane};
+pub use pz_crew::replaying::MOST_WORKERS;
+pub use pz_crew::work::Worked;
+pub use pz_lines::fault::{Cause, WriteFault};
+pub use pz_lines::output::Output;
+pub use pz_lines::writing::write_recording;
+pub use replaying::{CAPACITY, replay, replay_with, work};

@@ -1,135 +1,88 @@
-//! The replay of a job, by several workers.
+//! A job, played by the rules of its games on several threads.
 
-ghost use Rattle.std.specs.Prelude.{◌≡◌, ◌≢◌, ◌↔◌, ◌⊎◌, ◌<◌, ◌≤◌, [], length, replicate, Err, IfOk};
-ghost use Rattle.pz_replay.specs.Gates.{HasStop, MayPassAll, MayPassFor};
-ghost use Rattle.pz_replay.specs.Workers.{IsAll};
-ghost use Rattle.pz_case.specs.Playing.{recording, sessions_of};
+ghost use Rattle.std.specs.Prelude.{◌≡◌, ◌↔◌, ◌⊎◌, ◌<◌, ◌≤◌, [], length, Err, IfOk};
+ghost use Rattle.pz_crew.specs.Gates.{HasStop, IsPassed, MayPassAll};
+ghost use Rattle.pz_crew.specs.Worked.{IsWorked};
+ghost use Rattle.pz_crew.specs.declared.lane.End.TheVariants.{GateClosed};
+ghost use Rattle.pz_session.specs.Recording.{recording, sessions};
 
-use crate::fault::ReplayFault;
-use crate::gate::Gate;
-use crate::recorder::Sessions;
-use crate::workers::{Shared, all_started};
-use pz_base::listed::Listed;
-use pz_base::text::Text;
-use pz_case::playing::Playable;
-use pz_case::recording::{Record, Recording};
-use pz_claims::{Claims, Maker};
-use std::alloc::{AllocError, Global};
+use pz_case::job::Job;
+use pz_case::recording::Recording;
+use pz_claims::{Claims, Seat};
+use pz_crew::fault::ReplayFault;
+use pz_crew::gate::Gate;
+use pz_crew::lane::Sender;
+use pz_crew::replaying::MOST_WORKERS;
+use pz_crew::work::{Duty, Worked};
+use pz_session::by_rules::ByRules;
+use std::alloc::Global;
 use std::sync::Wait;
-use std::thread;
 use std::thread::Threads;
 
-/// How many messages a lane holds at once: more than a worker sends while the recorder pauses.
-const CAPACITY: usize = 1024;
+/// How many messages a lane of `replay` holds at once.
+pub const CAPACITY: usize = 64;
 
-/// The most workers that play a job.
-pub const MOST_WORKERS: usize = 64;
-
-/// The limit as a number: a promise, which the constant can't change by itself.
-pub fn workers_are_limited()
-    ensures { MOST_WORKERS ≡ 64 }
-{}
-
-/// The records of a job that is played, from the items of its sessions.
-fn named<P: Playable>(
-    alloc: Global,
-    played: &P,
-    sessions: Sessions,
-) -> Result<Recording, AllocError>
-    requires { sessions ≡ sessions_of P.items_of (P.job played.now) }
-    ensures { IfOk result (λ records. records ≡ recording P.items_of (P.job played.now)) }
-{
-    let job = played.job();
-    let mut records = Vec::new(alloc);
-    for items in sessions.into_items() {
-        let case = job.case(records.len());
-        records.push(Record {
-            name: Text::of_str(alloc, case.name.as_str())?,
-            items: Listed::new(items),
-        })?;
-    }
-    Ok(Recording::new(records))
-}
-
-/// How many workers are started: no more than there are sessions, but one.
-fn crew_for(workers: usize, sessions: usize) -> usize
-    requires { 1 ≤ workers }
-    ensures some { 1 ≤ result }
-    ensures few { result ≤ workers }
-{
-    workers.min(sessions).max(1)
-}
-
-/// What every session of a job shows, by session number. At most so many workers play the sessions, each over a lane that holds `capacity`
-/// messages: none is started for which there is no session.
-pub fn replay_with<'a, P: Playable + Sync, R: Threads + Wait + Sync, G: Gate + Sync>(
+/// The recording of a job, played by at most so many workers, each over a lane that holds `capacity` messages. Err: `Workers`, where their
+/// number is not from 1 to 64, which is tested first; else `Memory`, where a growth or the start of a thread was refused; `GateClosed`, where
+/// the gate answered false; or `LaneLost`. Of several the one that is named first.
+pub fn replay_with<'a, R: Threads + Wait + Sync, G: Gate + Sync>(
     rt: &'a R,
     alloc: Global,
-    played: &'a P,
+    job: &'a Job,
     workers: usize,
     capacity: usize,
     gate: &'a G,
 ) -> Result<Recording, ReplayFault>
-where
-    P::Run: Send,
     requires capacity { 1 ≤ capacity }
     ensures workers { (result ≡ Err ReplayFault.Workers) ↔ ((workers ≡ 0) ⊎ (MOST_WORKERS < workers)) }
-    ensures recording { IfOk result (λ r. r ≡ recording P.items_of (P.job played.now)) }
-    ensures passed { IfOk result (λ _. MayPassAll (G.may_pass gate.now) (sessions_of P.items_of (P.job played.now))) }
-    ensures closed { result ≡ Err ReplayFault.GateClosed → HasStop (G.may_stop gate.now) (sessions_of P.items_of (P.job played.now)) }
+    ensures recording { IfOk result (λ r. r ≡ recording job.now) }
+    ensures passed { IfOk result (λ _. MayPassAll (G.may_pass gate.now) (sessions job.now)) }
+    ensures closed { result ≡ Err ReplayFault.GateClosed → HasStop (G.may_stop gate.now) (sessions job.now) }
 {
-    if workers == 0 || workers > MOST_WORKERS {
-        return Err(ReplayFault::Workers);
-    }
-    let count = played.job().len();
-    let Ok(blank) = Sessions::blank(alloc, count) else {
-        return Err(ReplayFault::Memory);
-    };
-    let Ok((claims, maker)) = Claims::new(alloc, count) else {
-        return Err(ReplayFault::Memory);
-    };
-    let table = &claims;
-    let crew = crew_for(workers, count);
-    let all = thread::scope(
-        thread::scope_env(),
-        rt,
-        |scope| -> Result<(Maker, Sessions), ReplayFault>
-            requires { (1 ≤ capacity) × (1 ≤ crew) × (crew ≤ MOST_WORKERS) × (maker.of ≡ table.now) × (maker.made ≡ 0) × (maker.joined ≡ 0) × (maker.numbers ≡ []) × (table.now.total ≡ length (P.job played.now)) × (blank ≡ replicate (length (P.job played.now)) []) }
-            ensures { IfOk result (λ made. IsAll (sessions_of P.items_of (P.job played.entry.now)) table.entry.now crew made.0 made.1) × IfOk result (λ made. MayPassFor (G.may_pass gate.entry.now) (sessions_of P.items_of (P.job played.entry.now)) made.0.numbers) × (result ≡ Err ReplayFault.GateClosed → HasStop (G.may_stop gate.entry.now) (sessions_of P.items_of (P.job played.entry.now))) × (result ≢ Err ReplayFault.Workers) }
-        {
-            let shared = Shared {
-                rt,
-                alloc,
-                claims: table,
-                played,
-                gate,
-                capacity,
-            };
-            all_started(scope, &shared, maker, crew, blank)
-        },
-    );
-    let (maker, sessions) = all?;
-    claims.close(maker);
-    match named(alloc, played, sessions) {
-        Ok(recording) => Ok(recording),
-        Err(_) => Err(ReplayFault::Memory),
-    }
+    let played = ByRules::new(job);
+    pz_crew::replaying::replay_with(rt, alloc, &played, workers, capacity, gate)
 }
 
-/// What every session of a job shows, by session number, played by so many workers.
-pub fn replay<'a, P: Playable + Sync, R: Threads + Wait + Sync, G: Gate + Sync>(
+/// The recording of a job, played by at most so many workers, over lanes of `CAPACITY` messages.
+pub fn replay<'a, R: Threads + Wait + Sync, G: Gate + Sync>(
     rt: &'a R,
     alloc: Global,
-    played: &'a P,
+    job: &'a Job,
     workers: usize,
     gate: &'a G,
 ) -> Result<Recording, ReplayFault>
-where
-    P::Run: Send,
     ensures workers { (result ≡ Err ReplayFault.Workers) ↔ ((workers ≡ 0) ⊎ (MOST_WORKERS < workers)) }
-    ensures recording { IfOk result (λ r. r ≡ recording P.items_of (P.job played.now)) }
-    ensures passed { IfOk result (λ _. MayPassAll (G.may_pass gate.now) (sessions_of P.items_of (P.job played.now))) }
-    ensures closed { result ≡ Err ReplayFault.GateClosed → HasStop (G.may_stop gate.now) (sessions_of P.items_of (P.job played.now)) }
+    ensures recording { IfOk result (λ r. r ≡ recording job.now) }
+    ensures passed { IfOk result (λ _. MayPassAll (G.may_pass gate.now) (sessions job.now)) }
+    ensures closed { result ≡ Err ReplayFault.GateClosed → HasStop (G.may_stop gate.now) (sessions job.now) }
 {
-    replay_with(rt, alloc, played, workers, CAPACITY, gate)
+    replay_with(rt, alloc, job, workers, CAPACITY, gate)
+}
+
+/// A worker's whole run, on a seat that holds nothing and a lane on which nothing was sent: it claims a session, plays it, sends its items, and
+/// claims again. A full lane is tried again until it has room.
+pub fn work<R: Wait, G: Gate>(
+    rt: &R,
+    alloc: Global,
+    claims: &Claims,
+    seat: Seat,
+    sender: Sender,
+    job: &Job,
+    gate: &G,
+) -> Worked
+    requires seat { (seat.of ≡ claims.now) × (seat.numbers ≡ []) }
+    requires sender { sender.sent ≡ [] }
+    requires job { claims.now.total ≡ length job.now }
+    ensures worked { IsWorked claims.now (sessions job.now) sender.lane result }
+    ensures passed { IsPassed (G.may_pass gate.now) (sessions job.now) result }
+    ensures closed { result.end ≡ GateClosed → HasStop (G.may_stop gate.now) (sessions job.now) }
+{
+    let played = ByRules::new(job);
+    let duty = Duty {
+        alloc,
+        claims,
+        played: &played,
+        gate,
+    };
+    pz_crew::work::work(rt, &duty, seat, sender)
 }

@@ -2,24 +2,34 @@
 
 ghost use Rattle.std.specs.Prelude.{◌≡◌};
 
-use pz_replay::lane::{End, Message, Taker, lane};
+use pz_replay::{End, Message, Taker, lane};
 use std::test::Fail;
+
+/// How a worker ended, as its last message says.
+fn end_in(message: Message) -> Option<End> {
+    match message {
+        Message::Last(end) => Some(end),
+        Message::Piece(_, _) => None,
+    }
+}
 
 /// How a worker ended, where a last message is there.
 fn take_end(taker: &mut Taker) -> Option<End>
     ensures { taker.new.lane ≡ taker.old.lane }
 {
-    match taker.try_take() {
-        Some(Message::Last(end)) => Some(end),
-        _ => None,
-    }
+    end_in(taker.try_take()?)
+}
+
+/// The message that comes back where a lane is full.
+fn come_back(sent: Result<(), Message>) -> Option<End> {
+    end_in(sent.err()?)
 }
 
 #[test]
 fn holds_one_message_at_once(rt: HostRuntime) -> Result<(), Fail> {
     let (mut sender, mut taker) = lane(rt.alloc(), 1)?;
     let sends_first = sender.try_send(Message::Last(End::Memory)).is_ok();
-    let sends_second = sender.try_send(Message::Last(End::Finished)).is_ok();
+    let comes_back = come_back(sender.try_send(Message::Last(End::Finished)));
     let first = take_end(&mut taker);
     let sends_again = sender.try_send(Message::Last(End::Finished)).is_ok();
     let mut all = sender.finish().ok_or("the taker is there")?;
@@ -30,7 +40,7 @@ fn holds_one_message_at_once(rt: HostRuntime) -> Result<(), Fail> {
     assert_eq!(rt;
         (
             sends_first,
-            sends_second,
+            comes_back,
             first,
             sends_again,
             one_left,
@@ -40,7 +50,7 @@ fn holds_one_message_at_once(rt: HostRuntime) -> Result<(), Fail> {
         ),
         (
             true,
-            false,
+            Some(End::Finished),
             Some(End::Memory),
             true,
             1,

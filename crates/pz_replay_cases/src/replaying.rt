@@ -1,17 +1,10 @@
 //! The replay of a job by several workers.
 
 use crate::sessions::{ClosedTo, LONG, REFUSED, STALE, WALK, job_of, many_sources};
-use pz_base::listed::Listed;
-use pz_base::text::Text;
-use pz_case::job::Job;
-use pz_case::recording::{Record, Recording};
-use pz_lines::output::Output;
-use pz_lines::writing::write_recording;
-use pz_replay::fault::ReplayFault;
-use pz_replay::gate::{Always, Gate};
-use pz_replay::replaying::{replay, replay_with};
-use pz_session::by_rules::ByRules;
-use pz_session::run::frames;
+use pz_replay::{
+    Always, Gate, Output, Record, Recording, ReplayFault, replay, replay_with, write_recording,
+};
+use pz_session::{Job, Listed, Text, frames};
 use std::alloc::{AllocError, Global};
 use std::sync::Wait;
 use std::sync::atomic::{AtomicBool, Ordering};
@@ -53,9 +46,8 @@ fn records<R: Threads + Wait + Sync>(
     workers: usize,
     bytes: &[u8],
 ) -> Result<bool, Fail> {
-    let played = ByRules::new(job);
-    let narrow = replay_with(rt, alloc, &played, workers, 1, &Always).map_err(|_| "no recording")?;
-    let wide = replay(rt, alloc, &played, workers, &Always).map_err(|_| "no recording")?;
+    let narrow = replay_with(rt, alloc, job, workers, 1, &Always).map_err(|_| "no recording")?;
+    let wide = replay(rt, alloc, job, workers, &Always).map_err(|_| "no recording")?;
     Ok(bytes_of(alloc, &narrow)?.as_slice() == bytes && bytes_of(alloc, &wide)?.as_slice() == bytes)
 }
 
@@ -93,9 +85,8 @@ fn prepares_the_same_with_any_number_of_threads(rt: HostRuntime) -> Result<(), F
 #[test]
 fn refuses_other_numbers_of_workers(rt: HostRuntime) -> Result<(), Fail> {
     let job = nine_sessions(&rt, rt.alloc())?;
-    let played = ByRules::new(&job);
     for workers in [0, 65] {
-        let end = replay(&rt, rt.alloc(), &played, workers, &Always);
+        let end = replay(&rt, rt.alloc(), &job, workers, &Always);
         assert!(rt; matches!(end, Err(ReplayFault::Workers)));
     }
     Ok(())
@@ -142,26 +133,63 @@ impl Gate for WaitsFor {
     }
 }
 
+/// So many walks.
+fn walks<R: Threads + Sync>(rt: &R, alloc: Global, count: usize) -> Result<Job, Fail> {
+    let mut text = String::from_str(alloc, "[")?;
+    for number in 0..count {
+        text.push_str(if number == 0 { "" } else { "," })?;
+        text.push_str(WALK)?;
+    }
+    text.push_str("]")?;
+    job_of(rt, alloc, text.as_str(), 1)
+}
+
+fn end_of(answer: Result<Recording, ReplayFault>) -> Result<(), ReplayFault> {
+    match answer {
+        Ok(_) => Ok(()),
+        Err(fault) => Err(fault),
+    }
+}
+
+/// How a replay ends whose session 0 waits for another, over lanes of one message and of 64.
+fn ends<R: Threads + Wait + Sync>(
+    rt: &R,
+    alloc: Global,
+    job: &Job,
+    workers: usize,
+    waits_for: usize,
+    tries: u64,
+) -> [Result<(), ReplayFault>; 2] {
+    let gate = WaitsFor::new(waits_for, tries);
+    let narrow = replay_with(rt, alloc, job, workers, 1, &gate);
+    let gate = WaitsFor::new(waits_for, tries);
+    let wide = replay(rt, alloc, job, workers, &gate);
+    [end_of(narrow), end_of(wide)]
+}
+
 #[test]
 fn plays_a_session_beside_one_that_waits(rt: HostRuntime) -> Result<(), Fail> {
-    let job = nine_sessions(&rt, rt.alloc())?;
-    let played = ByRules::new(&job);
+    let nine = nine_sessions(&rt, rt.alloc())?;
     for session in [1, 2] {
-        let gate = WaitsFor::new(session, 1_000_000_000);
-        let narrow = replay_with(&rt, rt.alloc(), &played, 2, 1, &gate);
-        let gate = WaitsFor::new(session, 1_000_000_000);
-        let wide = replay(&rt, rt.alloc(), &played, 2, &gate);
-        assert!(rt; narrow.is_ok() && wide.is_ok());
+        let found = ends(&rt, rt.alloc(), &nine, 2, session, 1_000_000_000);
+        assert_eq!(rt; found, [Ok(()), Ok(())]);
     }
+    let two = walks(&rt, rt.alloc(), 2)?;
+    let found = ends(&rt, rt.alloc(), &two, 2, 1, 1_000_000_000);
+    assert_eq!(rt; found, [Ok(()), Ok(())]);
     Ok(())
 }
 
 #[test]
 fn plays_one_session_at_a_time_with_one_worker(rt: HostRuntime) -> Result<(), Fail> {
-    let job = nine_sessions(&rt, rt.alloc())?;
-    let gate = WaitsFor::new(1, 1000);
-    let end = replay(&rt, rt.alloc(), &ByRules::new(&job), 1, &gate);
-    assert!(rt; matches!(end, Err(ReplayFault::GateClosed)));
+    for count in [2, 3] {
+        let job = walks(&rt, rt.alloc(), count)?;
+        let found = ends(&rt, rt.alloc(), &job, 1, 1, 1000);
+        assert_eq!(rt;
+            found,
+            [Err(ReplayFault::GateClosed), Err(ReplayFault::GateClosed)]
+        );
+    }
     Ok(())
 }
 
@@ -173,12 +201,11 @@ fn misses_each_item<R: Threads + Wait + Sync>(
     session: usize,
     items: usize,
 ) -> bool {
-    let played = ByRules::new(job);
     let mut missed = true;
     for item in 0..items as u64 {
         let gate = ClosedTo { session, item };
-        let one = replay_with(rt, alloc, &played, 1, 1, &gate);
-        let three = replay_with(rt, alloc, &played, 3, 1, &gate);
+        let one = replay_with(rt, alloc, job, 1, 1, &gate);
+        let three = replay_with(rt, alloc, job, 3, 1, &gate);
         missed = missed
             && matches!(one, Err(ReplayFault::GateClosed))
             && matches!(three, Err(ReplayFault::GateClosed));

@@ -2,11 +2,8 @@
 
 ghost use Rattle.std.specs.Prelude.{◌≡◌};
 
-use pz_case::job::Job;
-use pz_entries::file::read_sessions;
-use pz_job::job::prepare_with;
-use pz_record::order::Order;
-use pz_replay::gate::Gate;
+use pz_replay::Gate;
+use pz_session::{Job, Order, prepare_with, read_sessions};
 use std::alloc::{AllocError, Global};
 use std::test::Fail;
 use std::thread::Threads;

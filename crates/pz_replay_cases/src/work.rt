@@ -3,12 +3,8 @@
 ghost use Rattle.std.specs.Prelude.{◌≡◌};
 
 use crate::sessions::{ClosedTo, WALK, job_of};
-use pz_case::job::Job;
-use pz_claims::Claims;
-use pz_replay::gate::{Always, Gate};
-use pz_replay::lane::{End, Message, SentAll, Taker, lane};
-use pz_replay::work::{Duty, work};
-use pz_session::by_rules::ByRules;
+use pz_replay::{Always, Claims, End, Gate, Message, SentAll, Taker, lane, work};
+use pz_session::Job;
 use std::alloc::{AllocError, Global};
 use std::sync::Wait;
 use std::test::Fail;
@@ -30,7 +26,7 @@ enum Taken {
 
 fn take_next(taker: &mut Taker) -> Taken {
     match taker.try_take() {
-        Some(Message::Item(session, _)) => Taken::ItemOf(session),
+        Some(Message::Piece(session, _)) => Taken::ItemOf(session),
         Some(Message::Last(end)) => Taken::LastOf(end),
         None => Taken::Nothing,
     }
@@ -62,14 +58,7 @@ fn played<R: Threads + Wait + Sync, G: Gate>(
         let _ = claims.claim(other);
     }
     let (sender, mut taker) = lane(alloc, 16)?;
-    let played = ByRules::new(&job);
-    let duty = Duty {
-        alloc,
-        claims: &claims,
-        played: &played,
-        gate,
-    };
-    let worked = work(rt, &duty, seat, sender);
+    let worked = work(rt, alloc, &claims, seat, sender, &job, gate);
     let mut all = worked.sent.ok_or("the taker is there")?;
     Ok((worked.end, take_all(alloc, &mut taker, &mut all)?))
 }
@@ -95,9 +84,10 @@ fn sends_two_walks(rt: HostRuntime) -> Result<(), Fail> {
 
 #[test]
 fn leaves_what_others_claimed(rt: HostRuntime) -> Result<(), Fail> {
-    let (_, sent) = played(&rt, rt.alloc(), true, &Always)?;
+    let (end, sent) = played(&rt, rt.alloc(), true, &Always)?;
     let last = Taken::LastOf(End::Finished);
     assert!(rt; sent.as_slice() == [SECOND, SECOND, SECOND, SECOND, last].as_slice());
+    assert_eq!(rt; end, End::Finished);
     Ok(())
 }
 

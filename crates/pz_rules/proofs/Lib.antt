@@ -1,5 +1,5 @@
 mod CountingLemmas
-mod Expanding
+mod ExpansionLemmas
 mod Mapped
 mod Belonging
 mod Ownership

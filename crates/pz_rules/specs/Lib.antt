@@ -4,3 +4,7 @@ pub mod Instances
 pub mod Expansion
 pub mod Sides
 pub mod Drafts
+pub use Rattle.pz_game.specs.Pattern
+pub use Rattle.pz_program.specs.Commands
+pub use Rattle.pz_program.specs.Instance
+pub use Rattle.pz_program.specs.Segments

@@ -1,12 +1,19 @@
-//! The rules of a game, expanded: from its rule lines to the program of instances.
+//! The rules of a game, expanded: from its rule lines to the program of instances. A door of the library: a caller lists this crate beside
+//! `pz_source`.
 #![tactic(auto)]
 
 pub mod counting;
 pub mod draft;
-pub mod expand;
+pub mod expanding;
 pub mod expansion;
 pub mod instances;
 pub mod kept;
 pub mod patterns;
 pub mod sides;
 pub mod turning;
+
+pub use expanding::expand;
+pub use pz_game::pattern::{Item, Pattern, Row, Rows, Word};
+pub use pz_program::commands::Commands;
+pub use pz_program::group::{Group, Segment};
+pub use pz_program::instance::{Block, Blocks, Groups, Instance, Program};

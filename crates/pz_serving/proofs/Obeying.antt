@@ -20,13 +20,13 @@ Ends remaining words input input_after status old new before after =
     (end : Result Bool Failure) × (status ≡ status_of end) × Obeys remaining words input input_after old new end × Reports before after end
 
 obeyed : {F : Type 0} (remaining : F → Option (List ℕ)) (words : List Text) (chosen : Chosen) (input input_after reads reads_after : Reads) (old new : Writes) (end : Result Bool Failure) → options_of words ≡ Some chosen
-    → IsReader remaining chosen input input_after reads reads_after → ReadsFor end reads_after → Serves chosen.settings.order reads.remaining old new end → Obeys remaining words input input_after old new end
+    → IsReader remaining chosen input input_after reads reads_after → ReadsFor end reads_after → Serves chosen.options.order reads.remaining old new end → Obeys remaining words input input_after old new end
 obeyed remaining words chosen input input_after reads reads_after old new end said reader read served = by_end end read served
   where
-    all : (e : Result Bool Failure) → ReadsFor e reads_after → Serves chosen.settings.order reads.remaining old new e → ServesChosen remaining words input input_after old new e
+    all : (e : Result Bool Failure) → ReadsFor e reads_after → Serves chosen.options.order reads.remaining old new e → ServesChosen remaining words input input_after old new e
     all e r s = record { chosen = chosen; said = said; before = reads; after = reads_after; reader = reader; reads = r; served = s }
 
-    by_end : (e : Result Bool Failure) → ReadsFor e reads_after → Serves chosen.settings.order reads.remaining old new e → Obeys remaining words input input_after old new e
+    by_end : (e : Result Bool Failure) → ReadsFor e reads_after → Serves chosen.options.order reads.remaining old new e → Obeys remaining words input input_after old new e
     by_end (Ok passed) r s = all (Ok passed) r s
     by_end (Err Memory) r s = s
     by_end (Err BadLine) r s = absurd s
@@ -39,7 +39,7 @@ obeyed remaining words chosen input input_after reads reads_after old new end sa
 -- the sessions of the input
 pub ends_served : {F : Type 0} (remaining : F → Option (List ℕ)) (words : List Text) (chosen : Chosen) (input input_after : Reads) (status : ℕ) (old new before after : Writes) → options_of words ≡ Some chosen
     → IsNone chosen.file
-    → ((end : Result Bool Failure) × (status ≡ status_of end) × ReadsFor end input_after × Serves chosen.settings.order input.remaining old new end × Reports before after end)
+    → ((end : Result Bool Failure) × (status ≡ status_of end) × ReadsFor end input_after × Serves chosen.options.order input.remaining old new end × Reports before after end)
     → Ends remaining words input input_after status old new before after
 ends_served remaining words chosen input input_after status old new before after said none run =
     (run.0, run.1, obeyed remaining words chosen input input_after input input_after old new run.0 said (inl (none, refl, refl)) run.2 run.3, run.4)
@@ -55,7 +55,7 @@ unopened remaining words chosen input old new kind end said named same why =
 -- those of FILE, or why it was not opened
 pub ends_opened : {F : Type 0} (remaining : F → Option (List ℕ)) (words : List Text) (chosen : Chosen) (input : Reads) (opened opened_after : Result Reads Error) (status : ℕ) (old new before after : Writes) → options_of words ≡ Some chosen
     → IsSome chosen.file → IfOk opened (IsFresh remaining)
-    → ((end : Result Bool Failure) × (status ≡ status_of end) × ServesOpened chosen.settings.order opened opened_after old new end × Reports before after end)
+    → ((end : Result Bool Failure) × (status ≡ status_of end) × ServesOpened chosen.options.order opened opened_after old new end × Reports before after end)
     → Ends remaining words input input status old new before after
 ends_opened remaining words chosen input (Ok reads) (Ok reads_after) status old new before after said named fresh run =
     (run.0, run.1, obeyed remaining words chosen input input reads reads_after old new run.0 said (inr (named, fresh)) run.2.0 run.2.1, run.3)

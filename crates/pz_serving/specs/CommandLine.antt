@@ -27,7 +27,7 @@ pub record ServesChosen {F : Type 0} (remaining : F → Option (List ℕ)) (word
   pub after : Reads
   pub reader : IsReader remaining chosen input input_after before after
   pub reads : ReadsFor end after
-  pub served : Serves chosen.settings.order before.remaining old new end
+  pub served : Serves chosen.options.order before.remaining old new end
 
 -- the words name a FILE
 pub record NamesFile (words : List Text) : Type 0 where

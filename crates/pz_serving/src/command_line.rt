@@ -45,14 +45,14 @@ pub fn serve_words<T: Files + Threads + Wait + Sync + AllocGlobal, R: Read, W: W
         × Obeys T.File.remaining (map string_bytes words.now) input.old input.new output.old output.new end
         × Reports errors.old errors.new end }
 {
-    let Chosen { settings, file } = match read_options(rt.alloc(), words) {
+    let Chosen { options, file } = match read_options(rt.alloc(), words) {
         Ok(chosen) => chosen,
         Err(OptionsFault::Memory) => return fail_with(Failure::Memory, errors),
         Err(OptionsFault::BadLine) => return fail_with(Failure::BadLine, errors),
     };
     let Some(name) = file else {
-        return serve(rt, rt.alloc(), input, output, errors, settings);
+        return serve(rt, rt.alloc(), input, output, errors, options);
     };
     let mut opened = open(rt, name.as_str());
-    serve_opened(rt, rt.alloc(), &mut opened, output, errors, settings)
+    serve_opened(rt, rt.alloc(), &mut opened, output, errors, options)
 }

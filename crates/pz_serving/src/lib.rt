@@ -4,3 +4,9 @@
 
 pub mod command_line;
 pub mod serving;
+
+pub use command_line::serve_words;
+pub use pz_console::counted::Counted;
+pub use pz_console::options::{Chosen, Options, OptionsFault, read_options};
+pub use pz_lines::output::Output;
+pub use serving::{serve, serve_opened};

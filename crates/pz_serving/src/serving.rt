@@ -11,7 +11,7 @@ use pz_case::recording::Recording;
 use pz_console::counted::Counted;
 use pz_console::failure::{Failure, fail_with};
 use pz_console::input::{InputFault, read_input};
-use pz_console::options::Settings;
+use pz_console::options::Options;
 use pz_engine::sessions::{all_passed, decode};
 use pz_entries::entry::Entry;
 use pz_entries::fault::FileFault;
@@ -19,10 +19,7 @@ use pz_job::job::prepare_with;
 use pz_lines::output::Output;
 use pz_lines::writing::write_recording;
 use pz_record::limits::MOST_ENTRIES;
-use pz_replay::fault::ReplayFault;
-use pz_replay::gate::Always;
-use pz_replay::replaying::replay;
-use pz_session::by_rules::ByRules;
+use pz_replay::{Always, ReplayFault, replay};
 use std::alloc::Global;
 use std::io::{self, ErrorKind, Read, Write};
 use std::sync::Wait;
@@ -47,16 +44,16 @@ fn record<T: Threads + Wait + Sync>(
     rt: &T,
     alloc: Global,
     entries: Vec<Entry>,
-    settings: Settings,
+    options: Options,
 ) -> Result<Recording, Failure>
     requires entries { length entries.items ≤ MOST_ENTRIES }
-    requires some { 1 ≤ settings.workers }
-    requires few { settings.workers ≤ MOST_WORKERS }
-    ensures shown { IfOk result (λ shown. shown ≡ shown_of settings.order entries.items) }
+    requires some { 1 ≤ options.workers }
+    requires few { options.workers ≤ MOST_WORKERS }
+    ensures shown { IfOk result (λ shown. shown ≡ shown_of options.order entries.items) }
     ensures refused { IfErr result (λ failure. (failure ≡ Failure.Memory) ⊎ (failure ≡ Failure.LaneLost)) }
 {
-    let job = prepare_with(rt, alloc, entries, settings.order, settings.workers)?;
-    match replay(rt, alloc, &ByRules::new(&job), settings.workers, &Always) {
+    let job = prepare_with(rt, alloc, entries, options.order, options.workers)?;
+    match replay(rt, alloc, &job, options.workers, &Always) {
         Ok(recording) => Ok(recording),
         Err(fault) => Err(failure_of(fault)),
     }
@@ -68,14 +65,14 @@ fn run<T: Threads + Wait + Sync, R: Read, W: Write>(
     alloc: Global,
     input: &mut Counted<R>,
     output: &mut Output<W>,
-    settings: Settings,
+    options: Options,
 ) -> Result<bool, Failure>
     requires fresh { (input.old.calls ≡ 0) × (input.old.has_failed ≡ false) }
     requires sound { output.old.failure ≡ None }
-    requires some { 1 ≤ settings.workers }
-    requires few { settings.workers ≤ MOST_WORKERS }
+    requires some { 1 ≤ options.workers }
+    requires few { options.workers ≤ MOST_WORKERS }
     ensures reads { ReadsFor result input.new }
-    ensures served { Serves settings.order input.old.remaining output.old output.new result }
+    ensures served { Serves options.order input.old.remaining output.old output.new result }
 {
     let bytes = match read_input(alloc, input) {
         Ok(bytes) => bytes,
@@ -87,7 +84,7 @@ fn run<T: Threads + Wait + Sync, R: Read, W: Write>(
         Ok(entries) => entries,
         Err(fault) => return Err(Failure::File(fault)),
     };
-    let recording = record(rt, alloc, entries, settings)?;
+    let recording = record(rt, alloc, entries, options)?;
     match write_recording(alloc, &recording, output) {
         Ok(()) => Ok(all_passed(&recording)),
         Err(fault) => Err(Failure::WriteFault(fault)),
@@ -104,17 +101,17 @@ pub fn serve<T: Threads + Wait + Sync, R: Read, W: Write, E: Write>(
     input: &mut Counted<R>,
     output: &mut Output<W>,
     errors: &mut Output<E>,
-    settings: Settings,
+    options: Options,
 ) -> u8
     requires fresh { (input.old.calls ≡ 0) × (input.old.has_failed ≡ false) }
     requires sound { (output.old.failure ≡ None) × (errors.old.failure ≡ None) }
-    requires some { 1 ≤ settings.workers }
-    requires few { settings.workers ≤ MOST_WORKERS }
+    requires some { 1 ≤ options.workers }
+    requires few { options.workers ≤ MOST_WORKERS }
     ensures served { (end : Result Bool Failure) × (result ≡ status_of end) × ReadsFor end input.new
-        × Serves settings.order input.old.remaining output.old output.new end
+        × Serves options.order input.old.remaining output.old output.new end
         × Reports errors.old errors.new end }
 {
-    match run(rt, alloc, input, output, settings) {
+    match run(rt, alloc, input, output, options) {
         Ok(true) => 0,
         Ok(false) => 1,
         Err(failure) => fail_with(failure, errors),
@@ -139,18 +136,18 @@ pub fn serve_opened<T: Threads + Wait + Sync, R: Read, W: Write, E: Write>(
     opened: &mut io::Result<Counted<R>>,
     output: &mut Output<W>,
     errors: &mut Output<E>,
-    settings: Settings,
+    options: Options,
 ) -> u8
     requires fresh { IfOk opened.old (λ file. (file.calls ≡ 0) × (file.has_failed ≡ false)) }
     requires sound { (output.old.failure ≡ None) × (errors.old.failure ≡ None) }
-    requires some { 1 ≤ settings.workers }
-    requires few { settings.workers ≤ MOST_WORKERS }
+    requires some { 1 ≤ options.workers }
+    requires few { options.workers ≤ MOST_WORKERS }
     ensures served { (end : Result Bool Failure) × (result ≡ status_of end)
-        × ServesOpened settings.order opened.old opened.new output.old output.new end
+        × ServesOpened options.order opened.old opened.new output.old output.new end
         × Reports errors.old errors.new end }
 {
     match opened {
-        Ok(file) => serve(rt, alloc, file, output, errors, settings),
+        Ok(file) => serve(rt, alloc, file, output, errors, options),
         Err(error) => fail_with(failure_at(error), errors),
     }
 }

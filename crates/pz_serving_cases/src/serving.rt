@@ -1,14 +1,17 @@
 //! The command line, and the serving of files.
 
-use pz_console::counted::Counted;
-use pz_console::options::{OptionsFault, Settings, read_options};
-use pz_lines::output::Output;
-use pz_record::order::Order;
-use pz_serving::command_line::serve_words;
-use pz_serving::serving::{serve, serve_opened};
+ghost use Rattle.std.specs.Prelude.{◌≡◌, None};
+
+use pz_serving::{
+    Counted, Options, OptionsFault, Output, read_options, serve, serve_opened, serve_words,
+};
+use pz_session::Order;
+use std::alloc::Global;
 use std::io;
-use std::io::Read;
+use std::io::{Read, Write};
+use std::sync::Wait;
 use std::test::Fail;
+use std::thread::Threads;
 
 fn words(rt: &HostRuntime, line: &str) -> Result<Vec<String>, Fail> {
     let mut words = Vec::new(rt.alloc());
@@ -23,8 +26,8 @@ fn chooses_what_the_words_say(rt: HostRuntime) -> Result<(), Fail> {
     let line = words(&rt, "pz_replayer --workers 64 --order rows in.json")?;
     let chosen = read_options(rt.alloc(), &line);
     assert!(rt;
-        chosen.is_ok_and(|c| c.settings.workers == 64
-            && c.settings.order == Order::Rows
+        chosen.is_ok_and(|c| c.options.workers == 64
+            && c.options.order == Order::Rows
             && c.file.is_some_and(|f| f.as_str() == "in.json"))
     );
     Ok(())
@@ -35,8 +38,8 @@ fn chooses_two_workers_and_columns(rt: HostRuntime) -> Result<(), Fail> {
     let line = words(&rt, "pz_replayer")?;
     let chosen = read_options(rt.alloc(), &line);
     assert!(rt;
-        chosen.is_ok_and(|c| c.settings.workers == 2
-            && c.settings.order == Order::Columns
+        chosen.is_ok_and(|c| c.options.workers == 2
+            && c.options.order == Order::Columns
             && c.file.is_none())
     );
     Ok(())
@@ -84,7 +87,7 @@ impl<'a> Read for Slow<'a> {
 const REFUSED: &str = r#"[["walk",["no game",[3],"",0]]]"#;
 
 /// One worker, and columns.
-const BY_ONE: Settings = Settings {
+const BY_ONE: Options = Options {
     workers: 1,
     order: Order::Columns,
 };
@@ -245,5 +248,87 @@ fn says_why_a_file_was_not_opened(rt: HostRuntime) -> Result<(), Fail> {
             (status, output.as_slice(), errors.as_slice()) == (2, b"".as_slice(), said.as_bytes())
         );
     }
+    Ok(())
+}
+
+/// Takes seven bytes a call, up to its fourth call, which fails. It counts its calls, those after the fourth too.
+#[derive(Drop)]
+struct Failing {
+    bytes: Vec<u8>,
+    calls: u32,
+}
+
+impl Write for Failing {
+    fn write(&mut self, buf: &[u8]) -> io::Result<usize> {
+        self.calls = self.calls.saturating_add(1);
+        if self.calls == 4 {
+            return Err(io::Error::from(io::ErrorKind::BrokenPipe));
+        }
+        let count = buf.len().min(7);
+        self.bytes.extend_from_slice(&buf[..count])?;
+        Ok(count)
+    }
+
+    fn flush(&mut self) -> io::Result<()> {
+        Ok(())
+    }
+}
+
+/// Fails at each call.
+#[derive(Drop)]
+struct Broken {
+    calls: u32,
+}
+
+impl Write for Broken {
+    fn write(&mut self, _buf: &[u8]) -> io::Result<usize> {
+        self.calls = self.calls.saturating_add(1);
+        Err(io::Error::from(io::ErrorKind::BrokenPipe))
+    }
+
+    fn flush(&mut self) -> io::Result<()> {
+        Ok(())
+    }
+}
+
+const WALK: &str =
+    r#"[["walk",["OBJECTS\nBackground .\nblack\nPlayer p\nwhite\nWall #\ngrey\nLEGEND\nCOLLISIONLAYERS\nBackground\nPlayer, Wall\nLEVELS\n#p.#\n",[3,3],"background wall:0,background:1,background player:2,0,\n"]]]"#;
+
+/// Serves the walk to a writer that fails at its fourth call: the status, and the bytes that the writer took.
+fn served_to_a_failing_writer<T: Threads + Wait + Sync, E: Write>(
+    rt: &T,
+    alloc: Global,
+    errors: &mut Output<E>,
+) -> (u8, Vec<u8>, u32)
+    requires { errors.old.failure ≡ None }
+{
+    let mut input = Counted::new(reader_of(WALK.as_bytes(), usize::MAX));
+    let mut output = Output::new(Failing {
+        bytes: Vec::new(alloc),
+        calls: 0,
+    });
+    let status = serve(rt, alloc, &mut input, &mut output, errors, BY_ONE);
+    let Failing { bytes, calls } = output.into_writer();
+    (status, bytes, calls)
+}
+
+const WRITTEN: &[u8] = b"{\"at\":0,\"frame\":0,\"ki";
+
+#[test]
+fn counts_what_was_written_where_the_output_fails(rt: HostRuntime) -> Result<(), Fail> {
+    let mut errors = Output::new(Vec::new(rt.alloc()));
+    let (status, bytes, calls) = served_to_a_failing_writer(&rt, rt.alloc(), &mut errors);
+    let said = errors.into_writer();
+    assert!(rt; (status, bytes.as_slice(), calls) == (2, WRITTEN, 4));
+    assert!(rt; said.as_slice() == b"write-fault 21\n".as_slice());
+    Ok(())
+}
+
+#[test]
+fn ends_the_same_where_the_errors_fail_too(rt: HostRuntime) -> Result<(), Fail> {
+    let mut errors = Output::new(Broken { calls: 0 });
+    let (status, bytes, calls) = served_to_a_failing_writer(&rt, rt.alloc(), &mut errors);
+    assert!(rt; (status, bytes.as_slice(), calls) == (2, WRITTEN, 4));
+    assert_eq!(rt; errors.into_writer().calls, 1);
     Ok(())
 }

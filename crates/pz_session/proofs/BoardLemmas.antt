@@ -12,7 +12,7 @@ use Rattle.pz_sheet.specs.Grid.{Grid, IsOfGame}
 use Rattle.pz_sheet.specs.Sameness.{same_grid}
 use Rattle.pz_bare.specs.Loading.{loaded}
 use Rattle.pz_turn.specs.declared.outcome.StepFault.{StepFault}
-use Rattle.pz_turn.specs.declared.step.StepEnd.{StepEnd}
+use Rattle.pz_turn.specs.declared.stepping.StepEnd.{StepEnd}
 use Rattle.pz_turn.specs.Outcome.{Outcome}
 use Rattle.pz_turn.specs.Step.{given_input, must_cancel, with_cancel, ended, step_ended, step_of, rules_run}
 use Rattle.pz_case.specs.declared.item.FrameKind.{FrameKind}

@@ -8,3 +8,13 @@ pub mod Case
 pub mod Recording
 pub mod Run
 pub mod Laws
+pub use Rattle.pz_case.specs.FirstLevel
+pub use Rattle.pz_case.specs.Plan
+pub use Rattle.pz_case.specs.Playing
+pub use Rattle.pz_entries.specs.Entry
+pub use Rattle.pz_entries.specs.File
+pub use Rattle.pz_entries.specs.Reading
+pub use Rattle.pz_job.specs.Job
+pub use Rattle.pz_level_text.specs.Equality
+pub use Rattle.pz_level_text.specs.LevelNames
+pub use Rattle.pz_level_text.specs.LevelText

@@ -15,6 +15,7 @@ use crate::chain::{PlayFault, Shown};
 use crate::place::{put_aside, put_before, put_copy};
 use crate::turn::is_idle;
 use bitflags::Flags;
+use pz_bare::BareLevel;
 use pz_bare::past::Past;
 use pz_case::first_level::level_after;
 use pz_case::item::{Frame, FrameKind, Verdict};
@@ -29,7 +30,7 @@ use pz_record::input::Input;
 use pz_record::order::Order;
 use pz_record::recorded::Recorded;
 use pz_turn::outcome::StepFault;
-use pz_turn::step::{StepEnd, step_in};
+use pz_turn::stepping::{StepEnd, step_in};
 use pz_turn::win::won;
 use std::alloc::{AllocError, Global};
 use std::marker::Model;
@@ -95,8 +96,8 @@ fn opened(alloc: Global, game: &Game, entry: usize) -> Result<(Level, Level), Al
     ensures level { IfOk result (λ levels. levels.0.grid ≡ loaded game.now entry) }
     ensures target { IfOk result (λ levels. levels.1.grid ≡ loaded game.now entry) }
 {
-    let level = Level::load(alloc, game, entry)?;
-    match level.copy() {
+    let level = Level::marked(alloc, BareLevel::load(alloc, game, entry)?)?;
+    match level.copied() {
         Ok(target) => Ok((level, target)),
         Err(fault) => Err(fault),
     }
@@ -372,7 +373,7 @@ impl<'a> Board<'a> {
     fn start_again(&mut self) -> Result<Shown, PlayFault>
         ensures { GivesLink (Ok (restarted (keeping self.old))) self.new result }
     {
-        let target = self.target.copy()?;
+        let target = self.target.copied()?;
         put_before(&mut self.level, target, &mut self.before);
         let goes_on = self.ticks_at_start();
         self.show(FrameKind::Restart, goes_on)

@@ -35,6 +35,6 @@ pub(crate) fn put_copy(place: &mut Level, level: &Level) -> Result<(), AllocErro
     ensures copied { OnOk result (place.new.grid ≡ level.now.grid) }
     ensures kept { OnErr result (place.new ≡ place.old) }
 {
-    *place = level.copy()?;
+    *place = level.copied()?;
     Ok(())
 }

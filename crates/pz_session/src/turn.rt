@@ -8,7 +8,7 @@ use bitflags::Flags;
 use pz_case::item::Stop;
 use pz_program::commands::Commands;
 use pz_turn::outcome::StepFault;
-use pz_turn::step::StepEnd;
+use pz_turn::stepping::StepEnd;
 
 impl From<StepFault> for PlayFault {
     ghost use Rattle.std.specs.Prelude.{◌≡◌};

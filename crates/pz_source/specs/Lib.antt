@@ -5,3 +5,7 @@ pub mod Wins
 pub mod Levels
 pub mod Profile
 pub mod Reading
+pub use Rattle.pz_base.specs.Fault
+pub use Rattle.pz_game.specs.Denotation
+pub use Rattle.pz_game.specs.Game
+pub use Rattle.pz_game.specs.Level

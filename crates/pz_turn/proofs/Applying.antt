@@ -4,7 +4,7 @@ use Rattle.std.specs.Prelude.{Bool, false, if◌then◌else◌}
 use Rattle.std.proofs.lemmas.List.{append-nil}
 use Rattle.pz_program.specs.declared.commands.Commands.{Commands}
 use Rattle.pz_program.specs.declared.instance.Instance.{Instance}
-use Rattle.pz_grid.specs.declared.places.Place.{Place}
+use Rattle.pz_grid.specs.declared.placing.Place.{Place}
 use Rattle.pz_sheet.specs.Grid.{Grid}
 use Rattle.pz_grid.specs.Rewriting.{Rewriting, in_rewrite}
 use Rattle.pz_turn.specs.declared.outcome.StepFault.{StepFault}

@@ -8,9 +8,9 @@ use Rattle.pz_program.specs.declared.commands.Commands.{Commands}
 use Rattle.pz_program.specs.Commands.{no_commands}
 use Rattle.pz_program.specs.declared.instance.Instance.{Instance}
 use Rattle.pz_game.specs.Pattern.{RuleRow}
-use Rattle.pz_grid.specs.declared.places.GridFault.{GridFault}
-use Rattle.pz_grid.specs.declared.places.GridFault.TheVariants.{MatchLimit}
-use Rattle.pz_grid.specs.declared.places.Place.{Place}
+use Rattle.pz_grid.specs.declared.placing.GridFault.{GridFault}
+use Rattle.pz_grid.specs.declared.placing.GridFault.TheVariants.{MatchLimit}
+use Rattle.pz_grid.specs.declared.placing.Place.{Place}
 use Rattle.pz_sheet.specs.Grid.{Grid, IsLawful}
 use Rattle.pz_grid.specs.Places.{places, searched, still_matches}
 use Rattle.pz_grid.specs.Rewriting.{Rewriting, in_rewrite, rewritten, rewritten_row}

@@ -3,7 +3,7 @@ pub mod Applying
 pub mod Combining
 pub mod Limits
 pub mod Passes
-pub mod Resting
+pub mod RestLemmas
 pub mod Calm
 pub mod Taking
 pub mod SingleRow
@@ -12,5 +12,5 @@ pub mod Effectless
 pub mod Segments
 pub mod Unchanged
 pub mod Stops
-pub mod Stepping
+pub mod StepLemmas
 pub mod WorkedTurns

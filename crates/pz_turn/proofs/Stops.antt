@@ -10,15 +10,15 @@ use Rattle.pz_program.specs.declared.instance.Block.{Block}
 use Rattle.pz_program.specs.declared.instance.Block.TheVariants.{One, Loop}
 use Rattle.pz_program.specs.declared.instance.Program.{Program}
 use Rattle.pz_game.specs.Pattern.{RuleRow}
-use Rattle.pz_grid.specs.declared.places.GridFault.TheVariants as grid
-use Rattle.pz_grid.specs.declared.places.Place.{Place}
-use Rattle.pz_grid.specs.declared.places.TheConstants.{MATCH_LIMIT}
+use Rattle.pz_grid.specs.declared.placing.GridFault.TheVariants as grid
+use Rattle.pz_grid.specs.declared.placing.Place.{Place}
+use Rattle.pz_grid.specs.declared.placing.TheConstants.{MATCH_LIMIT}
 use Rattle.pz_sheet.specs.Grid.{Grid}
 use Rattle.pz_grid.specs.Places.{places, searched}
 use Rattle.pz_turn.specs.declared.outcome.StepFault.{StepFault}
 use Rattle.pz_turn.specs.declared.outcome.StepFault.TheVariants.{Memory, MatchLimit}
 use Rattle.pz_turn.specs.declared.instance.TheConstants.{COMBINATION_LIMIT}
-use Rattle.pz_turn.specs.declared.rest.TheConstants.{PASSES}
+use Rattle.pz_turn.specs.declared.resting.TheConstants.{PASSES}
 use Rattle.pz_turn.specs.Combinations.{combinations}
 use Rattle.pz_turn.specs.Outcome.{Outcome, untouched, joined, followed_by}
 use Rattle.pz_turn.specs.Instance.{found_or_stop, after_row, taken, applied_with, applied}

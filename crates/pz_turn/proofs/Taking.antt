@@ -3,7 +3,7 @@ use Rattle.std.proofs.Common.{◌≡◌, ℕ, ◌+◌, ◌<◌, List, [], ◌∷
 use Rattle.std.proofs.lemmas.List.{at_drop_more}
 use Rattle.pz_program.specs.declared.instance.Instance.{Instance}
 use Rattle.pz_game.specs.Pattern.{RuleRow}
-use Rattle.pz_grid.specs.declared.places.Place.{Place}
+use Rattle.pz_grid.specs.declared.placing.Place.{Place}
 use Rattle.pz_sheet.specs.Grid.{Grid}
 use Rattle.pz_turn.specs.declared.outcome.StepFault.{StepFault}
 use Rattle.pz_grid.specs.Places.{searched}

@@ -9,7 +9,7 @@ use Rattle.pz_game.specs.declared.pattern.Item.{Item}
 use Rattle.pz_program.specs.declared.instance.Instance.{Instance}
 use Rattle.pz_game.specs.Pattern.{RuleRow}
 use Rattle.pz_cells.specs.declared.piece.Piece.{Piece}
-use Rattle.pz_grid.specs.declared.places.Place.{Place}
+use Rattle.pz_grid.specs.declared.placing.Place.{Place}
 use Rattle.pz_sheet.specs.Grid.{Grid, cell_at}
 use Rattle.pz_grid.specs.Places.{position_of, still_matches}
 use Rattle.pz_grid.specs.Rewriting.{Rewriting, in_rewrite, rewritten_at, rewritten_along, rewritten_row, rewritten}

@@ -6,10 +6,10 @@ ghost use Rattle.pz_sheet.specs.Grid.{SameSize};
 ghost use Rattle.pz_turn.specs.Instance.{applied};
 ghost use Rattle.pz_turn.specs.Outcome.{GivesOutcome, untouched};
 ghost use Rattle.pz_turn.specs.Rest.{pass_of, rest_of, group_runs};
-ghost use Rattle.pz_turn.specs.declared.rest.TheConstants.{PASSES};
+ghost use Rattle.pz_turn.specs.declared.resting.TheConstants.{PASSES};
 
 use crate::outcome::{Given, StepFault};
-use crate::rest::{Runnable, pass, to_rest};
+use crate::resting::{Runnable, pass, to_rest};
 use pz_grid::Level;
 use pz_program::group::{Group, Segment};
 use std::alloc::Global;

@@ -13,13 +13,13 @@ ghost use Rattle.pz_turn.specs.Outcome.{GivesOutcome, untouched};
 ghost use Rattle.pz_turn.specs.declared.outcome.StepFault.TheVariants.{Memory};
 
 use crate::outcome::{Given, StepFault};
-use crate::rest::Runnable;
+use crate::resting::Runnable;
 use bitflags::Flags;
 use pz_base::listed::Listed;
 use pz_game::direction::Dir;
 use pz_game::pattern::Row;
 use pz_grid::Level;
-use pz_grid::places::{GridFault, Place, places, still_matches};
+use pz_grid::placing::{GridFault, Place, places, still_matches};
 use pz_program::commands::Commands;
 use pz_program::instance::Instance;
 use std::alloc::Global;

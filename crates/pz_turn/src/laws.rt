@@ -2,7 +2,7 @@
 
 ghost use Rattle.std.specs.Prelude.{◌≡◌};
 ghost use Rattle.pz_turn.specs.declared.instance.TheConstants.{COMBINATION_LIMIT};
-ghost use Rattle.pz_turn.specs.declared.rest.TheConstants.{PASSES};
+ghost use Rattle.pz_turn.specs.declared.resting.TheConstants.{PASSES};
 ghost use Rattle.pz_turn.specs.Laws.{IsCounted, QuietPassLeaves, RestLasts, NeverEndsForMemory};
 
 /// There are as many combinations as the product of the numbers of places says.

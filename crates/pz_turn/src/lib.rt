@@ -6,6 +6,12 @@ pub mod instance;
 pub mod laws;
 pub mod loops;
 pub mod outcome;
-pub mod rest;
-pub mod step;
+pub mod resting;
+pub mod stepping;
 pub mod win;
+
+pub use loops::rest_loop;
+pub use outcome::StepFault;
+pub use resting::rest;
+pub use stepping::{StepEnd, step};
+pub use win::won;

@@ -8,7 +8,7 @@ ghost use Rattle.pz_turn.specs.Outcome.{GivesBoth};
 ghost use Rattle.pz_turn.specs.Rest.{pass_of, rest_of, group_runs};
 
 use crate::outcome::StepFault;
-use crate::rest::{PASSES, to_rest};
+use crate::resting::{PASSES, to_rest};
 use pz_game::game::Game;
 use pz_grid::Level;
 use pz_program::commands::Commands;

@@ -1,7 +1,7 @@
 use Rattle.std.proofs.Common.{arith, ◌∙◌, subst}
 use Rattle.std.proofs.lemmas.List.{take_all}
 use Rattle.std.proofs.lemmas.List.Elements.{All-more}
-use Rattle.pz_game.specs.Pattern.{IsRowOf, AreRowsOf}
+use Rattle.pz_rules.specs.Pattern.{IsRowOf, AreRowsOf}
 use Rattle.pz_doors_cases.proofs.matching.are_rows_of.Goals as goal
 
 pub loop-row-preserved : goal.loop-row-preserved

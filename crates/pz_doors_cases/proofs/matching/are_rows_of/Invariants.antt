@@ -1,5 +1,5 @@
 use Rattle.std.proofs.Common.{take}
-use Rattle.pz_game.specs.Pattern.{AreRowsOf}
+use Rattle.pz_rules.specs.Pattern.{AreRowsOf}
 use Rattle.pz_doors_cases.proofs.matching.are_rows_of.Given as goal
 
 abbrev pub invariant-loop-row : goal.invariant-loop-row

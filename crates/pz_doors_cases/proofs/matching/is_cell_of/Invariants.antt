@@ -1,5 +1,5 @@
 use Rattle.std.proofs.Common.{take}
-use Rattle.pz_game.specs.Pattern.{AreOf}
+use Rattle.pz_rules.specs.Pattern.{AreOf}
 use Rattle.pz_doors_cases.proofs.matching.is_cell_of.Given as goal
 
 abbrev pub invariant-loop-item : goal.invariant-loop-item

@@ -1,5 +1,5 @@
 use Rattle.std.proofs.Common.{All, take}
-use Rattle.pz_game.specs.Pattern.{AreOf}
+use Rattle.pz_rules.specs.Pattern.{AreOf}
 use Rattle.pz_doors_cases.proofs.matching.is_row_of.Given as goal
 
 abbrev pub invariant-loop-cell : goal.invariant-loop-cell

@@ -3,10 +3,10 @@ use Rattle.std.specs.Prelude.{IfOk, OnOk, Result, Ok, Err}
 use Rattle.std.proofs.lemmas.List.{append-nil}
 use Rattle.pz_game.specs.Pattern.{IsRowOf}
 use Rattle.pz_sheet.specs.Grid.{LevelState}
-use Rattle.pz_grid.specs.declared.places.GridFault.{GridFault}
-use Rattle.pz_grid.specs.declared.places.GridFault.TheVariants.{MatchLimit}
-use Rattle.pz_grid.specs.declared.places.Place.{Place}
-use Rattle.pz_grid.specs.declared.places.TheConstants.{MATCH_LIMIT}
+use Rattle.pz_grid.specs.declared.placing.GridFault.{GridFault}
+use Rattle.pz_grid.specs.declared.placing.GridFault.TheVariants.{MatchLimit}
+use Rattle.pz_grid.specs.declared.placing.Place.{Place}
+use Rattle.pz_grid.specs.declared.placing.TheConstants.{MATCH_LIMIT}
 use Rattle.pz_grid.specs.Places.{line_count, line_length, pairs_in, places, row_holds}
 use Rattle.pz_grid.specs.Admitted.{searches_line, starts_in}
 use Rattle.pz_grid.proofs.SkipLemmas.{found_nowhere, starts_nowhere, starts_in_line}

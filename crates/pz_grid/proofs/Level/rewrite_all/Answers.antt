@@ -5,7 +5,7 @@ use Rattle.std.proofs.lemmas.List.Folds.{list_any_at}
 use Rattle.std.proofs.lemmas.List.{get_or_default}
 use Rattle.std.proofs.lemmas.Slice.Zip.{length-zip}
 use Rattle.pz_game.specs.Pattern.{RuleRow}
-use Rattle.pz_grid.specs.declared.places.Place.{Place}
+use Rattle.pz_grid.specs.declared.placing.Place.{Place}
 use Rattle.pz_grid.specs.Rewriting.{Rewriting, in_rewrite, rewritten_row}
 use Rattle.pz_grid.specs.Marks.{IsWidenedBy, places_object, row_places}
 use Rattle.pz_grid.proofs.MoveLemmas.{widened_on}

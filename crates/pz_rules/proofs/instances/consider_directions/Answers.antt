@@ -2,7 +2,7 @@ use Rattle.std.proofs.Common.{◌≡◌, ◌<◌, length, get_or, ap, ◌∙◌,
 use Rattle.std.proofs.lemmas.List.{get_or_default}
 use Rattle.pz_game.specs.declared.direction.Dir.{Dir}
 use Rattle.pz_game.specs.declared.direction.Dir.TheVariants.{Up}
-use Rattle.pz_rules.proofs.Expanding.{firsts-possible_more}
+use Rattle.pz_rules.proofs.ExpansionLemmas.{firsts-possible_more}
 use Rattle.pz_rules.proofs.instances.consider_directions.Goals as goal
 
 pub loop-direction-preserved : goal.loop-direction-preserved

@@ -1,5 +1,5 @@
 use Rattle.std.proofs.Common.{◌≡◌, ◌∷◌, [], false, map, fold, drop}
-use Rattle.pz_grid.specs.declared.places.Place.{Place}
+use Rattle.pz_grid.specs.declared.placing.Place.{Place}
 use Rattle.pz_sheet.specs.Grid.{SameSize}
 use Rattle.pz_grid.specs.Rewriting.{in_rewrite}
 use Rattle.pz_turn.specs.Instance.{applied_at}

@@ -5,7 +5,7 @@ use Rattle.std.proofs.lemmas.List.{nil_from_length}
 use Rattle.std.proofs.lemmas.List.Elements.{All-head}
 use Rattle.std.specs.Prelude.{false}
 use Rattle.pz_game.specs.Pattern.{IsRowOf, AreRowsOf}
-use Rattle.pz_grid.specs.declared.places.Place.{Place}
+use Rattle.pz_grid.specs.declared.placing.Place.{Place}
 use Rattle.pz_grid.specs.Rewriting.{Rewriting, in_rewrite}
 use Rattle.pz_turn.specs.declared.outcome.Given.{Given}
 use Rattle.pz_turn.specs.Instance.{applied_at}

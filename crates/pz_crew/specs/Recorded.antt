@@ -1,0 +1,67 @@
+-- What the recorder has taken, and what it keeps.
+use Rattle.std.specs.Prelude.{◌≡◌, ◌≢◌, ◌⊎◌, ◌<◌, ◌==◌, if◌then◌else◌, ℕ, List, [], ◌∷◌, ◌++◌, map, length, slice_index_or, slice_set, Option, Some, None, IfSome, IsSome, All}
+use Rattle.pz_case.specs.declared.item.Item.{Item}
+use Rattle.pz_crew.specs.Lane.{LaneId}
+use Rattle.pz_crew.specs.declared.lane.End.{End}
+use Rattle.pz_crew.specs.declared.lane.Message.{Message}
+use Rattle.pz_crew.specs.declared.lane.Message.TheVariants as messages
+use Rattle.pz_crew.specs.declared.recorder.Inbox.{Inbox}
+
+-- the items of one session among messages
+abbrev pub of_session : ℕ → List Message → List Item
+of_session number [] = []
+of_session number (messages.Piece session item ∷ later) = if session == number then item ∷ of_session number later else of_session number later
+of_session number (messages.Last end ∷ later) = of_session number later
+
+-- the items of each session after one message more
+abbrev pub kept : List (List Item) → Message → List (List Item)
+kept sessions (messages.Piece session item) = slice_set sessions session (slice_index_or sessions session [] ++ item ∷ [])
+kept sessions (messages.Last end) = sessions
+
+-- a session of which one lane alone has items has the items of that lane: `lanes` has what was taken from each
+abbrev pub Gathered : List (List Message) → List (List Item) → Type 0
+Gathered lanes sessions =
+    (number lane : ℕ) → number < length sessions → ((other : ℕ) → other ≢ lane → of_session number (slice_index_or lanes other []) ≡ [])
+    → slice_index_or sessions number [] ≡ of_session number (slice_index_or lanes lane [])
+
+-- the end that is known after a message
+abbrev pub end_after : Message → Option End
+end_after (messages.Piece session item) = None
+end_after (messages.Last end) = Some end
+
+abbrev pub taken_of : Inbox → List Message
+taken_of inbox = inbox.taker.taken
+
+abbrev pub lane_of : Inbox → LaneId
+lane_of inbox = inbox.taker.lane
+
+abbrev pub HasEnded : Inbox → Type 0
+HasEnded inbox = IsSome inbox.end
+
+-- where an end is known, it was the last message
+abbrev pub IsHonest : Inbox → Type 0
+IsHonest inbox = IfSome inbox.end (λ end. (front : List Message) × (taken_of inbox ≡ front ++ messages.Last end ∷ []))
+
+-- sessions that are still kept have grown by the message
+abbrev pub HasKept : Message → Option (List (List Item)) → Option (List (List Item)) → Type 0
+HasKept message before after = IfSome after (λ now. IfSome before (λ was. now ≡ kept was message) × IsSome before)
+
+-- a visit took nothing, or one message
+abbrev pub IsVisited : Inbox → Inbox → Option (List (List Item)) → Option (List (List Item)) → Type 0
+IsVisited old new before after =
+    ((taken_of new ≡ taken_of old) × (new.end ≡ old.end) × (after ≡ before))
+    ⊎ ((message : Message) × (taken_of new ≡ taken_of old ++ message ∷ []) × (new.end ≡ end_after message) × HasKept message before after)
+
+-- the sessions have what was taken at the inboxes
+pub record IsRecorded (inboxes : List Inbox) (sessions : Option (List (List Item))) : Type 0 where
+  pub gathered : IfSome sessions (Gathered (map taken_of inboxes))
+  pub honest : All IsHonest inboxes
+
+-- sessions that are still kept are as many as before
+abbrev pub IsAsLong : Option (List (List Item)) → Option (List (List Item)) → Type 0
+IsAsLong before after = IfSome after (λ now. IfSome before (λ was. length now ≡ length was) × IsSome before)
+
+-- the same lanes, and as many sessions
+pub record GoesOn (old new : List Inbox) (before after : Option (List (List Item))) : Type 0 where
+  pub same : map lane_of new ≡ map lane_of old
+  pub long : IsAsLong before after

@@ -1,0 +1,7 @@
+use Rattle.std.proofs.Common.{◌≡◌, take, true}
+use Rattle.std.specs.List.{list_all, enumerate_from}
+use Rattle.pz_grid.specs.Places.{cell_holds}
+use Rattle.pz_grid.proofs.placing.spread_holds.Given as goal
+
+abbrev pub invariant-loop-index : goal.invariant-loop-index
+invariant-loop-index g l = list_all (cell_holds l.sheet.grid l.row l.dir l.place) (take l.index (enumerate_from 0 l.row.cells)) ≡ true

@@ -1,0 +1,7 @@
+use Rattle.std.proofs.Common.{◌≡◌, take, true}
+use Rattle.std.specs.List.{list_all, zip}
+use Rattle.pz_grid.specs.Places.{still_holds}
+use Rattle.pz_grid.proofs.placing.still_matches.Given as goal
+
+abbrev pub invariant-loop-index : goal.invariant-loop-index
+invariant-loop-index l = list_all (still_holds l.level.grid l.instance.scan) (take l.index (zip l.rows l.places)) ≡ true

@@ -1,0 +1,591 @@
+//! The places of a row of a rule: where it holds.
+
+ghost use Rattle.std.specs.List.{list_all, enumerate_from};
+ghost use Rattle.std.specs.Prelude.{◌≡◌, ◌≢◌, All, take, true, ◌+◌, ◌*◌, ◌<◌, ◌≤◌, cond, [], ◌∷◌, ◌++◌, ◌^◌, filter, length, OnOk, IfOk, IfErr, IfSome, Ok, Err};
+ghost use Rattle.pz_game.specs.declared.limits.TheConstants.{MAX_SIDE};
+ghost use Rattle.pz_game.specs.Pattern.{AreOf, IsRowOf, AreRowsOf};
+ghost use Rattle.pz_grid.specs.Admitted.{admitted, searches_line, starts_in, start_count};
+ghost use Rattle.pz_grid.specs.Places.{on_map, along, position_of, distance, cell_holds, row_holds, line_count, line_length, place_in, holds_behind, pairs_at, head_of, pairs_in, places, searched, starts_with, still_holds, still_matches};
+ghost use Rattle.pz_sets.specs.Next.{IsNext};
+
+use crate::Level;
+use pz_bare::{BareLevel, Sized};
+use pz_game::direction::Dir;
+use pz_game::pattern::{Pattern, Row};
+use pz_program::instance::Instance;
+use pz_sheet::Sheet;
+use pz_sheet::line::{self, Axis, Way};
+use std::alloc::Global;
+
+/// The greatest number of places that a search gives.
+pub const MATCH_LIMIT: usize = 1_048_576;
+
+/// Where a row starts, and how many cells its gap spans: 0, if it has none.
+#[derive(Clone, Copy, Debug, PartialEq, Eq)]
+pub struct Place {
+    pub x: u32,
+    pub y: u32,
+    pub gap: u32,
+}
+
+/// A line of the map that is searched in a direction: a column for up and down, else a row.
+#[derive(Clone, Copy)]
+struct Line {
+    dir: Dir,
+    number: u32,
+}
+
+/// Why a search has no answer: memory was refused, or the row has more places than `MATCH_LIMIT`.
+#[derive(Clone, Copy, Debug, PartialEq, Eq)]
+pub enum GridFault {
+    Memory,
+    MatchLimit,
+}
+
+impl Level {
+    fn on_map(&self, x: usize, y: usize) -> Option<(u32, u32)>
+        ensures position { result ≡ on_map self.now.grid x y }
+        ensures inside { IfSome result (λ at. (at.0 < self.now.grid.width) × (at.1 < self.now.grid.height)) }
+    {
+        if x < self.width() as usize && y < self.height() as usize {
+            Some((x as u32, y as u32))
+        } else {
+            None
+        }
+    }
+
+    fn along(&self, dir: Dir, x: u32, y: u32, steps: usize) -> Option<(u32, u32)>
+        requires near { steps < 2 ^ 33 }
+        ensures position { result ≡ along self.now.grid dir x y steps }
+        ensures inside { IfSome result (λ at. (at.0 < self.now.grid.width) × (at.1 < self.now.grid.height)) }
+    {
+        let x = x as usize;
+        let y = y as usize;
+        match dir {
+            Dir::Right => self.on_map(x + steps, y),
+            Dir::Left => if steps <= x {
+                self.on_map(x - steps, y)
+            } else {
+                None
+            },
+            Dir::Down => self.on_map(x, y + steps),
+            Dir::Up => if steps <= y {
+                self.on_map(x, y - steps)
+            } else {
+                None
+            },
+            Dir::Action => None,
+        }
+    }
+
+    /// Where the cell of a number of a row stands that starts at a place, if that is on the map.
+    pub fn position_of(
+        &self,
+        dir: Dir,
+        gap_at: Option<u32>,
+        place: Place,
+        index: usize,
+    ) -> Option<(u32, u32)>
+        requires near { index < 2 ^ 32 }
+        ensures position { result ≡ position_of self.now.grid dir gap_at place index }
+        ensures inside { IfSome result (λ at. (at.0 < self.now.grid.width) × (at.1 < self.now.grid.height)) }
+    {
+        self.along(dir, place.x, place.y, distance(gap_at, place.gap, index))
+    }
+}
+
+/// How far a row's cell is from its start.
+fn distance(gap_at: Option<u32>, gap: u32, index: usize) -> usize
+    requires { index < 2 ^ 32 }
+    ensures value { result ≡ distance gap_at gap index }
+    ensures near { result < 2 ^ 33 }
+{
+    match gap_at {
+        Some(at) if at as usize <= index => index + gap as usize,
+        _ => index,
+    }
+}
+
+/// Whether all cells of a row, which may have a gap, are on the map and hold, where it starts at a place and those before a number do.
+fn spread_holds<const N: usize>(
+    sheet: &Sheet<N>,
+    row: &Row,
+    dir: Dir,
+    place: Place,
+    from: usize,
+) -> bool
+    requires of_game { IsRowOf sheet.now.grid.layers row.now }
+    requires begun { list_all (cell_holds sheet.now.grid row.now dir place) (take from (enumerate_from 0 row.now.cells)) ≡ true }
+    ensures { result ≡ row_holds sheet.now.grid row.now dir place }
+{
+    let cells = row.cells();
+    for index in from..cells.len() {
+        let steps = distance(row.gap_at(), place.gap, index);
+        if !sheet.holds_along(dir, place.x, place.y, steps, &cells[index]) {
+            return false;
+        }
+    }
+    true
+}
+
+/// Whether all cells of a row are on the map and hold, where it starts at a place: without a gap they stand one after another.
+fn holds_in<const N: usize>(sheet: &Sheet<N>, row: &Row, dir: Dir, place: Place) -> bool
+    requires of_game { IsRowOf sheet.now.grid.layers row.now }
+    ensures { result ≡ row_holds sheet.now.grid row.now dir place }
+{
+    match row.gap_at() {
+        None => sheet.run_holds(dir, place.x, place.y, row.cells()),
+        Some(_) => spread_holds(sheet, row, dir, place, 0),
+    }
+}
+
+/// Whether all cells of a row are on the map and hold, where it starts at a place.
+fn row_holds(bare: &BareLevel, row: &Row, dir: Dir, place: Place) -> bool
+    requires of_game { IsRowOf bare.now.grid.layers row.now }
+    ensures { result ≡ row_holds bare.now.grid row.now dir place }
+{
+    match bare.sheet() {
+        Sized::Small(sheet) => holds_in(sheet, row, dir, place),
+        Sized::Middle(sheet) => holds_in(sheet, row, dir, place),
+        Sized::Large(sheet) => holds_in(sheet, row, dir, place),
+    }
+}
+
+fn line_count(bare: &BareLevel, dir: Dir) -> u32
+    ensures value { result ≡ line_count bare.now.grid dir }
+    ensures small { result ≤ MAX_SIDE }
+{
+    match dir {
+        Dir::Up | Dir::Down => bare.width(),
+        Dir::Left | Dir::Right | Dir::Action => bare.height(),
+    }
+}
+
+fn line_length<const N: usize>(sheet: &Sheet<N>, dir: Dir) -> u32
+    ensures value { result ≡ line_length sheet.now.grid dir }
+    ensures small { result ≤ MAX_SIDE }
+{
+    match dir {
+        Dir::Up | Dir::Down => sheet.height(),
+        Dir::Left | Dir::Right | Dir::Action => sheet.width(),
+    }
+}
+
+fn place_in(line: Line, start: u32, gap: u32) -> Place
+    ensures { result ≡ place_in line.dir line.number start gap }
+{
+    match line.dir {
+        Dir::Up | Dir::Down => Place {
+            x: line.number,
+            y: start,
+            gap,
+        },
+        Dir::Left | Dir::Right | Dir::Action => Place {
+            x: start,
+            y: line.number,
+            gap,
+        },
+    }
+}
+
+/// The cells of a row that stand before its gap: all, if it has none.
+fn head_of(row: &Row) -> &[Pattern]
+    ensures cells { result.now ≡ head_of row.now }
+    ensures some { 0 < length result.now }
+{
+    let cells = row.cells();
+    match row.gap_at() {
+        None => cells,
+        Some(at) => &cells[..at as usize],
+    }
+}
+
+/// The first start from one on in a line from which the cells of a row before its gap hold one after another.
+fn next_start<const N: usize>(
+    sheet: &Sheet<N>,
+    line: Line,
+    from: u32,
+    head: &[Pattern],
+) -> Option<u32>
+    requires some { 0 < length head.now }
+    requires line_in { line.number < line_count sheet.now.grid line.dir }
+    requires of_game { All (AreOf sheet.now.grid.layers) head.now }
+    ensures { IsNext (starts_with sheet.now.grid line.dir line.number head.now) from (line_length sheet.now.grid line.dir) result }
+{
+    match line.dir {
+        Dir::Right => sheet.next_run(
+            line::Line {
+                axis: Axis::Horizontal,
+                number: line.number,
+            },
+            Way::Ahead,
+            from,
+            head,
+        ),
+        Dir::Left => sheet.next_run(
+            line::Line {
+                axis: Axis::Horizontal,
+                number: line.number,
+            },
+            Way::Back,
+            from,
+            head,
+        ),
+        Dir::Down => sheet.next_run(
+            line::Line {
+                axis: Axis::Vertical,
+                number: line.number,
+            },
+            Way::Ahead,
+            from,
+            head,
+        ),
+        Dir::Up => sheet.next_run(
+            line::Line {
+                axis: Axis::Vertical,
+                number: line.number,
+            },
+            Way::Back,
+            from,
+            head,
+        ),
+        Dir::Action => None,
+    }
+}
+
+/// Adds a place.
+fn add_found(place: Place, found: &mut Vec<Place>) -> Result<(), GridFault>
+    requires room { length found.old.items ≤ MATCH_LIMIT }
+    ensures added { OnOk result (found.new.items ≡ found.old.items ++ (place ∷ [])) }
+    ensures room { OnOk result (length found.new.items ≤ MATCH_LIMIT) }
+    ensures limit { result ≡ Err GridFault.MatchLimit → MATCH_LIMIT < length (found.old.items ++ (place ∷ [])) }
+{
+    if found.len() == MATCH_LIMIT {
+        return Err(GridFault::MatchLimit);
+    }
+    if found.push(place).is_err() {
+        return Err(GridFault::Memory);
+    }
+    Ok(())
+}
+
+/// Adds the place if the row holds there, of which the cells before a number do.
+fn add_place<const N: usize>(
+    sheet: &Sheet<N>,
+    row: &Row,
+    dir: Dir,
+    place: Place,
+    from: usize,
+    found: &mut Vec<Place>,
+) -> Result<(), GridFault>
+    requires of_game { IsRowOf sheet.now.grid.layers row.now }
+    requires begun { list_all (cell_holds sheet.now.grid row.now dir place) (take from (enumerate_from 0 row.now.cells)) ≡ true }
+    requires room { length found.old.items ≤ MATCH_LIMIT }
+    ensures added { OnOk result (found.new.items ≡ found.old.items ++ filter (row_holds sheet.now.grid row.now dir) (place ∷ [])) }
+    ensures room { OnOk result (length found.new.items ≤ MATCH_LIMIT) }
+    ensures limit { result ≡ Err GridFault.MatchLimit → MATCH_LIMIT < length (found.old.items ++ filter (row_holds sheet.now.grid row.now dir) (place ∷ [])) }
+{
+    if spread_holds(sheet, row, dir, place, from) {
+        add_found(place, found)
+    } else {
+        Ok(())
+    }
+}
+
+/// The first gap from a place's own on for which the row's first cell behind its gap, that of the number `at`, holds.
+fn next_gap<const N: usize>(
+    sheet: &Sheet<N>,
+    dir: Dir,
+    from: Place,
+    at: u32,
+    behind: &Pattern,
+) -> Option<u32>
+    requires inside { (from.x < sheet.now.grid.width) × (from.y < sheet.now.grid.height) }
+    requires of_game { AreOf sheet.now.grid.layers behind.now }
+    ensures { IsNext (holds_behind sheet.now.grid dir from.x from.y behind.now at) from.gap (line_length sheet.now.grid dir) result }
+{
+    let steps = at as usize + from.gap as usize;
+    if steps >= line_length(sheet, dir) as usize {
+        return None;
+    }
+    match dir {
+        Dir::Right => {
+            let x = sheet.next_in_line(
+                line::Line {
+                    axis: Axis::Horizontal,
+                    number: from.y,
+                },
+                from.x + steps as u32,
+                behind,
+            )?;
+            Some(x - from.x - at)
+        }
+        Dir::Left => {
+            let end = (from.x + 1).saturating_sub(steps as u32);
+            let x = sheet.last_in_line(
+                line::Line {
+                    axis: Axis::Horizontal,
+                    number: from.y,
+                },
+                end,
+                behind,
+            )?;
+            Some(from.x - at - x)
+        }
+        Dir::Down => {
+            let y = sheet.next_in_line(
+                line::Line {
+                    axis: Axis::Vertical,
+                    number: from.x,
+                },
+                from.y + steps as u32,
+                behind,
+            )?;
+            Some(y - from.y - at)
+        }
+        Dir::Up => {
+            let end = (from.y + 1).saturating_sub(steps as u32);
+            let y = sheet.last_in_line(
+                line::Line {
+                    axis: Axis::Vertical,
+                    number: from.x,
+                },
+                end,
+                behind,
+            )?;
+            Some(from.y - at - y)
+        }
+        Dir::Action => None,
+    }
+}
+
+/// Adds the places that start in a cell from which the cells before the gap hold, of a row with a gap before the cell of the number `at`:
+/// the cells behind that one are tested for those gaps alone for which it holds.
+fn add_places_with_gaps<const N: usize>(
+    sheet: &Sheet<N>,
+    row: &Row,
+    line: Line,
+    start: u32,
+    at: u32,
+    found: &mut Vec<Place>,
+) -> Result<(), GridFault>
+    requires of_game { IsRowOf sheet.now.grid.layers row.now }
+    requires line_in { line.number < line_count sheet.now.grid line.dir }
+    requires start_in { start < line_length sheet.now.grid line.dir }
+    requires gap_at { row.now.gap_at ≡ Some at }
+    requires starts { starts_with sheet.now.grid line.dir line.number (head_of row.now) start ≡ true }
+    requires room { length found.old.items ≤ MATCH_LIMIT }
+    ensures added { OnOk result (found.new.items ≡ found.old.items ++ filter (row_holds sheet.now.grid row.now line.dir) (pairs_at sheet.now.grid row.now line.dir line.number start)) }
+    ensures room { OnOk result (length found.new.items ≤ MATCH_LIMIT) }
+    ensures limit { result ≡ Err GridFault.MatchLimit → MATCH_LIMIT < length (found.old.items ++ filter (row_holds sheet.now.grid row.now line.dir) (pairs_at sheet.now.grid row.now line.dir line.number start)) }
+{
+    // (brings the proof how short a line is)
+    let _ = line_length(sheet, line.dir);
+    let behind = &row.cells()[at as usize];
+    let mut from = 0;
+    'gaps: while let Some(gap) = next_gap(
+        sheet,
+        line.dir,
+        place_in(line, start, from),
+        at,
+        behind,
+    ) {
+        let place = place_in(line, start, gap);
+        add_place(sheet, row, line.dir, place, at as usize + 1, found)?;
+        from = gap + 1;
+    }
+    Ok(())
+}
+
+/// Adds the places that start in a cell from which the cells of the row before its gap hold.
+fn add_places_at<const N: usize>(
+    sheet: &Sheet<N>,
+    row: &Row,
+    line: Line,
+    start: u32,
+    found: &mut Vec<Place>,
+) -> Result<(), GridFault>
+    requires of_game { IsRowOf sheet.now.grid.layers row.now }
+    requires line_in { line.number < line_count sheet.now.grid line.dir }
+    requires start_in { start < line_length sheet.now.grid line.dir }
+    requires starts { starts_with sheet.now.grid line.dir line.number (head_of row.now) start ≡ true }
+    requires room { length found.old.items ≤ MATCH_LIMIT }
+    ensures added { OnOk result (found.new.items ≡ found.old.items ++ filter (row_holds sheet.now.grid row.now line.dir) (pairs_at sheet.now.grid row.now line.dir line.number start)) }
+    ensures room { OnOk result (length found.new.items ≤ MATCH_LIMIT) }
+    ensures limit { result ≡ Err GridFault.MatchLimit → MATCH_LIMIT < length (found.old.items ++ filter (row_holds sheet.now.grid row.now line.dir) (pairs_at sheet.now.grid row.now line.dir line.number start)) }
+{
+    match row.gap_at() {
+        None => add_found(place_in(line, start, 0), found),
+        Some(at) => add_places_with_gaps(sheet, row, line, start, at, found),
+    }
+}
+
+/// Adds the places that start in a line, and counts the start cells that it tests: each is searched for the cells before the row's gap, and
+/// the gaps only where these hold.
+fn add_places_in<const N: usize>(
+    sheet: &Sheet<N>,
+    row: &Row,
+    line: Line,
+    found: &mut Vec<Place>,
+    tested: u64,
+) -> Result<u64, GridFault>
+    requires of_game { IsRowOf sheet.now.grid.layers row.now }
+    requires line_in { line.number < line_count sheet.now.grid line.dir }
+    requires room { length found.old.items ≤ MATCH_LIMIT }
+    requires few { tested ≤ 65536 }
+    ensures added { OnOk result (found.new.items ≡ found.old.items ++ filter (row_holds sheet.now.grid row.now line.dir) (pairs_in sheet.now.grid row.now line.dir line.number)) }
+    ensures count { IfOk result (λ count. count ≡ tested + line_length sheet.now.grid line.dir) }
+    ensures few { IfOk result (λ count. count ≤ tested + MAX_SIDE) }
+    ensures room { OnOk result (length found.new.items ≤ MATCH_LIMIT) }
+    ensures limit { result ≡ Err GridFault.MatchLimit → MATCH_LIMIT < length (found.old.items ++ filter (row_holds sheet.now.grid row.now line.dir) (pairs_in sheet.now.grid row.now line.dir line.number)) }
+{
+    let length = line_length(sheet, line.dir);
+    let head = head_of(row);
+    let mut from = 0;
+    'starts: while let Some(start) = next_start(sheet, line, from, head) {
+        add_places_at(sheet, row, line, start, found)?;
+        from = start + 1;
+    }
+    Ok(tested + length as u64)
+}
+
+/// Searches a line: the sheet that a level has adds the places that start there, and counts the start cells that it tests.
+fn search_line(
+    bare: &BareLevel,
+    row: &Row,
+    line: Line,
+    found: &mut Vec<Place>,
+    tested: u64,
+) -> Result<u64, GridFault>
+    requires of_game { IsRowOf bare.now.grid.layers row.now }
+    requires line_in { line.number < line_count bare.now.grid line.dir }
+    requires room { length found.old.items ≤ MATCH_LIMIT }
+    requires few { tested ≤ 65536 }
+    ensures added { OnOk result (found.new.items ≡ found.old.items ++ filter (row_holds bare.now.grid row.now line.dir) (pairs_in bare.now.grid row.now line.dir line.number)) }
+    ensures count { IfOk result (λ count. count ≡ tested + line_length bare.now.grid line.dir) }
+    ensures few { IfOk result (λ count. count ≤ tested + MAX_SIDE) }
+    ensures room { OnOk result (length found.new.items ≤ MATCH_LIMIT) }
+    ensures limit { result ≡ Err GridFault.MatchLimit → MATCH_LIMIT < length (found.old.items ++ filter (row_holds bare.now.grid row.now line.dir) (pairs_in bare.now.grid row.now line.dir line.number)) }
+{
+    match bare.sheet() {
+        Sized::Small(sheet) => add_places_in(sheet, row, line, found, tested),
+        Sized::Middle(sheet) => add_places_in(sheet, row, line, found, tested),
+        Sized::Large(sheet) => add_places_in(sheet, row, line, found, tested),
+    }
+}
+
+impl Level {
+    fn line_count(&self, dir: Dir) -> u32
+        ensures value { result ≡ line_count self.now.grid dir }
+        ensures small { result ≤ MAX_SIDE }
+    {
+        line_count(&self.bare, dir)
+    }
+
+    /// Adds the places that start in a line, if the line is searched, and counts the start cells that it tests.
+    fn add_searched(
+        &self,
+        row: &Row,
+        dir: Dir,
+        line: u32,
+        found: &mut Vec<Place>,
+        tested: u64,
+    ) -> Result<u64, GridFault>
+        requires of_game { IsRowOf self.now.grid.layers row.now }
+        requires line_in { line < line_count self.now.grid dir }
+        requires room { length found.old.items ≤ MATCH_LIMIT }
+        requires few { tested ≤ 65536 }
+        ensures added { OnOk result (found.new.items ≡ found.old.items ++ filter (row_holds self.now.grid row.now dir) (pairs_in self.now.grid row.now dir line)) }
+        ensures low { IfOk result (λ count. tested + starts_in dir (places self.now.grid row.now dir) (line_length self.now.grid dir) line ≤ count) }
+        ensures high { IfOk result (λ count. count ≤ tested + cond (searches_line self.now row.now dir line) (line_length self.now.grid dir) 0) }
+        ensures few { IfOk result (λ count. count ≤ tested + MAX_SIDE) }
+        ensures room { OnOk result (length found.new.items ≤ MATCH_LIMIT) }
+        ensures limit { result ≡ Err GridFault.MatchLimit → MATCH_LIMIT < length (found.old.items ++ filter (row_holds self.now.grid row.now dir) (pairs_in self.now.grid row.now dir line)) }
+    {
+        let _ = &self.bare;
+        if self.may_start(row, dir, line) {
+            search_line(&self.bare, row, Line { dir, number: line }, found, tested)
+        } else {
+            Ok(tested)
+        }
+    }
+}
+
+/// The places of a row in a level, in the order of the scan: by rows from the top for left and right, by columns from the left for
+/// up and down, for one start with ascending gaps. MatchLimit: there are more than `MATCH_LIMIT`.
+pub fn places(alloc: Global, level: &Level, row: &Row, dir: Dir) -> Result<Vec<Place>, GridFault>
+    requires of_game { IsRowOf level.now.grid.layers row.now }
+    ensures found { IfOk result (λ found. searched level.now.grid row.now dir ≡ Ok found.items) }
+    ensures fault { IfErr result (λ fault. fault ≢ GridFault.Memory → searched level.now.grid row.now dir ≡ Err fault) }
+{
+    let (found, _) = places_counted(alloc, level, row, dir)?;
+    Ok(found)
+}
+
+/// The places of a row as `places` gives them, and how many start cells were tested for them. Tested are only cells of lines (rows for left
+/// and right, columns for up and down) that `admitted` counts, each once. A line that is searched counts with all its cells.
+pub fn places_counted(
+    alloc: Global,
+    level: &Level,
+    row: &Row,
+    dir: Dir,
+) -> Result<(Vec<Place>, u64), GridFault>
+    requires of_game { IsRowOf level.now.grid.layers row.now }
+    ensures found { IfOk result (λ r. searched level.now.grid row.now dir ≡ Ok r.0.items) }
+    ensures fault { IfErr result (λ fault. fault ≢ GridFault.Memory → searched level.now.grid row.now dir ≡ Err fault) }
+    ensures low { IfOk result (λ r. start_count level.now.grid dir r.0.items ≤ r.1) }
+    ensures high { IfOk result (λ r. r.1 ≤ admitted level.now row.now dir * line_length level.now.grid dir) }
+{
+    // (brings the proof the law of levels)
+    let _ = level.width();
+    if !level.is_searched_for(row) {
+        return Ok((Vec::new(alloc), 0));
+    }
+    let mut found = Vec::new(alloc);
+    let mut tested = 0;
+    for line in 0..level.line_count(dir) {
+        tested = level.add_searched(row, dir, line, &mut found, tested)?;
+    }
+    Ok((found, tested))
+}
+
+/// The number of lines that are admitted for a row: those whose set of objects has every object that the row's first cell names as
+/// present. A line is a row of the level for left and right, a column for up and down. No place starts in another line.
+pub fn admitted(level: &Level, row: &Row, dir: Dir) -> u32
+    requires of_game { IsRowOf level.now.grid.layers row.now }
+    ensures { result ≡ admitted level.now row.now dir }
+{
+    let mut count = 0;
+    for line in 0..level.line_count(dir) {
+        if level.admits_line(row, dir, line) {
+            count += 1;
+        }
+    }
+    count
+}
+
+/// Whether a row still holds at a place, whose gap is 0 where the row has none.
+fn still_holds(level: &Level, dir: Dir, row: &Row, place: Place) -> bool
+    requires of_game { IsRowOf level.now.grid.layers row.now }
+    ensures { result ≡ still_holds level.now.grid dir (row.now, place) }
+{
+    (row.gap_at().is_some() || place.gap == 0) && row_holds(&level.bare, row, dir, place)
+}
+
+/// Whether the rows of an instance's left all hold at these places, one for each: false for another number of places, for a cell
+/// off the map, and for a gap above 0 where the row has none.
+pub fn still_matches(level: &Level, instance: &Instance, places: &[Place]) -> bool
+    requires of_game { AreRowsOf level.now.grid.layers instance.now.left }
+    ensures { result ≡ still_matches level.now.grid instance.now places.now }
+{
+    let rows = instance.left.items();
+    if places.len() != rows.len() {
+        return false;
+    }
+    for index in 0..rows.len() {
+        if !still_holds(level, instance.scan, &rows[index], places[index]) {
+            return false;
+        }
+    }
+    true
+}

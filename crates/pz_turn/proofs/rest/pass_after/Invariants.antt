@@ -1,9 +1,0 @@
-use Rattle.pz_sheet.specs.Grid.{SameSize}
-use Rattle.pz_turn.proofs.Calm.{Passing}
-use Rattle.pz_turn.proofs.rest.pass_after.Given as goal
-
-abbrev pub invariant-loop-index : goal.invariant-loop-index
-invariant-loop-index g l = record {
-  passing : Passing g.T.Runnable.runs l.items l.initial.level.grid l.calm_from l.index (record { level = l.level.grid; commands = l.so_far.commands; changed = l.so_far.changed }) l.behind_changed;
-  size : SameSize l.initial.level.grid l.level.grid;
-}

@@ -1,4 +1,0 @@
-use Rattle.pz_turn.proofs.rest.rest.Goals as goal
-
-pub rest_group-given-requires : goal.rest_group-given-requires
-rest_group-given-requires c = record { of_game = rw c.requires.level_of.layers c.requires.group_of }

@@ -1,0 +1,53 @@
+use Rattle.std.proofs.Common.{◌≡◌, Bool, true, false, cond, take, Ok, arith, ap, sym, ◌∙◌, subst}
+use Rattle.std.proofs.lemmas.Bool.{or_parts}
+use Rattle.std.proofs.lemmas.Result.{err_from_is_err_and}
+use Rattle.pz_grid.proofs.MovementLemmas.{same_size_on}
+use Rattle.pz_sheet.specs.Grid.{Grid}
+use Rattle.pz_turn.specs.declared.outcome.Given.{Given}
+use Rattle.pz_turn.specs.Calm.{AreCalmFrom}
+use Rattle.pz_turn.specs.Outcome.{Outcome, joined}
+use Rattle.pz_turn.specs.Rest.{pass_of, ends}
+use Rattle.pz_turn.proofs.Calm.{calm_rest, calm_more}
+use Rattle.pz_turn.proofs.RestLemmas.{rest_ends, rest_never_ends, running_more}
+use Rattle.pz_turn.proofs.Unchanged.{not_from, is_true}
+use Rattle.pz_turn.proofs.resting.to_rest.Goals as goal
+
+pub returns-in_err-passed-clause-outcome : goal.returns-in_err-passed-clause-outcome
+returns-in_err-passed-clause-outcome g c =
+    let p = err_from_is_err_and c.from_residual.result c.from_residual.ensures.1 in
+    rw (p.1, p.2)
+    (λ not_memory.
+    let stops = c.in_err-passed.ensures.fault not_memory in
+    rest_ends _ _ _ _ _ c.passes.invariant.running (omega arith) (ap ends stops) ∙ ap (joined (record { level = c.passes.level.grid; commands = c.passes.so_far.commands; changed = c.passes.so_far.changed })) stops)
+
+pub returns-then-not-passed-clause-outcome : goal.returns-then-not-passed-clause-outcome
+returns-then-not-passed-clause-outcome g c =
+    let now = c.passes in
+    let given = c.in_ok-passed.passed.given in
+    let o : Outcome Grid = record { level = now.level.grid; commands = now.so_far.commands; changed = now.so_far.changed } in
+    let quiet = not_from given.changed c.if-not-passed.true in
+    let rest = calm_rest g.T.Runnable.runs c.args.items.now o given.commands given.changed c.pass_after.new.level.grid now.calm_from now.invariant.calm c.in_ok-passed.ensures.outcome quiet (c.in_ok-passed.ensures.kept quiet) in
+    rest_ends _ _ _ _ _ now.invariant.running (omega arith) rest.0 ∙ (rest.1 ∙ ap (λ (all : Given). Ok (record { level = c.pass_after.new.level.grid; commands = all.commands; changed = all.changed })) (sym c.and-so_far.ensures))
+
+pub passes-preserved : goal.passes-preserved
+passes-preserved g c =
+    let runs = g.T.Runnable.runs in
+    let items = c.args.items.now in
+    let now = c.passes in
+    let passed = c.in_ok-passed.passed in
+    let after = c.pass_after.new.level.grid in
+    let o : Outcome Grid = record { level = now.level.grid; commands = now.so_far.commands; changed = now.so_far.changed } in
+    let p : Outcome Grid = record { level = after; commands = passed.given.commands; changed = passed.given.changed } in
+    let changes = is_true passed.given.changed c.if-not-passed.false in
+    record {
+      running = running_more (pass_of runs items) c.args.level.now.grid now.counter o p _ now.invariant.running
+          (subst (λ (b : Bool). pass_of runs (cond b items (take now.calm_from items)) o.level ≡ Ok p) changes c.in_ok-passed.ensures.outcome) changes
+          (ap (λ (all : Given). Ok (record { level = after; commands = all.commands; changed = all.changed })) (sym c.and-so_far.ensures));
+      calm = subst (λ (all : Given). AreCalmFrom runs all.commands after items passed.calm_from) (sym c.and-so_far.ensures) (calm_more runs items now.so_far.commands passed.given.commands after passed.calm_from (c.in_ok-passed.ensures.calm changes));
+      kept = λ none. (let quiet = (or_parts now.so_far.changed passed.given.changed (sym (ap (λ (all : Given). all.changed) c.and-so_far.ensures) ∙ none)).1 in
+          let wrong : true ≡ false = sym changes ∙ quiet in cc);
+      size = same_size_on _ _ _ now.invariant.size c.in_ok-passed.ensures.size;
+    }
+
+pub returns-clause-outcome : goal.returns-clause-outcome
+returns-clause-outcome g c = λ _. rest_never_ends _ _ _ _ _ c.passes.invariant.running (omega arith)

@@ -1,0 +1,258 @@
+//! A step: the input, the early blocks, the movement, the late blocks.
+
+ghost use Rattle.std.specs.Prelude.{◌≡◌, ◌≢◌, ◌<◌, IfOk, IfErr, Ok, Err, length};
+ghost use Rattle.std.specs.List.{list_any, list_all, zip};
+ghost use Rattle.pz_game.specs.Game.{players_of};
+ghost use Rattle.pz_program.specs.Instance.{IsBlockOf, AreBlocksOf, IsProgramOf};
+ghost use Rattle.pz_sheet.specs.Grid.{IsLawful, IsOfGame, SameSize};
+ghost use Rattle.pz_sheet.specs.Presence.{holds_one, cell_of};
+ghost use Rattle.pz_turn.specs.Outcome.{GivesOutcome};
+ghost use Rattle.pz_turn.specs.Step.{block_runs, blocks_run, rules_run, given_input, keeps_player, has_stayed, must_cancel, with_cancel, ended, step_of};
+ghost use Rattle.pz_turn.specs.declared.outcome.StepFault.TheVariants.{Memory};
+
+use crate::group::rest_group;
+use crate::outcome::{Given, StepFault};
+use crate::resting::{Runnable, pass, to_rest};
+use bitflags::Flags;
+use pz_game::direction::Dir;
+use pz_game::game::Game;
+use pz_grid::{Level, push_players, resolve};
+use pz_program::commands::Commands;
+use pz_program::instance::{Block, Program};
+use std::alloc::Global;
+
+/// How a step ends: with the level after it, the commands that were given, and whether that level is another than the one before.
+#[derive(Drop)]
+pub struct StepEnd {
+    pub level: Level,
+    pub commands: Commands,
+    pub changed: bool,
+}
+
+impl Runnable for Block {
+    ghost is_of = { IsBlockOf };
+
+    ghost runs = { block_runs };
+
+    /// Runs a group or a loop of groups to rest.
+    #[tactic(auto, unfolding(crate::specs::Step::block_runs))]
+    fn run(&self, alloc: Global, level: &mut Level) -> Result<Given, StepFault> {
+        match self {
+            Block::One(group) => rest_group(alloc, level, group),
+            Block::Loop(groups) => to_rest(alloc, level, groups.items()),
+        }
+    }
+}
+
+/// Runs blocks, one after another.
+#[tactic(auto, unfolding(crate::specs::Step::blocks_run))]
+fn run_blocks(alloc: Global, level: &mut Level, blocks: &[Block]) -> Result<Given, StepFault>
+    requires of_game { AreBlocksOf level.old.grid.layers blocks.now }
+    ensures outcome { GivesOutcome (blocks_run blocks.now level.old.grid) level.new.grid result }
+    ensures size { SameSize level.old.grid level.new.grid }
+{
+    pass(alloc, level, blocks)
+}
+
+/// Runs the early blocks, the movement and the late blocks.
+#[tactic(auto, unfolding(crate::specs::Step::rules_run))]
+fn run_rules(
+    alloc: Global,
+    game: &Game,
+    level: &mut Level,
+    program: &Program,
+) -> Result<Given, StepFault>
+    requires level_of { IsOfGame game.now level.old.grid }
+    requires program_of { IsProgramOf level.old.grid.layers program.now }
+    ensures outcome { GivesOutcome (rules_run program.now level.old.grid) level.new.grid result }
+    ensures size { SameSize level.old.grid level.new.grid }
+{
+    let early = run_blocks(alloc, level, program.early())?;
+    resolve(game, level);
+    let late = run_blocks(alloc, level, program.late())?;
+    Ok(early.and(late))
+}
+
+fn copy_of(level: &Level) -> Result<Level, StepFault>
+    ensures copied { IfOk result (λ copy. copy.grid ≡ level.now.grid) }
+    ensures fault { IfErr result (λ fault. fault ≡ Memory) }
+{
+    match level.copy() {
+        Ok(copy) => Ok(copy),
+        Err(_) => Err(StepFault::Memory),
+    }
+}
+
+/// A spare level, which becomes a copy of the level.
+fn renewed(level: &Level, spare: Level) -> Result<Level, StepFault>
+    ensures copied { IfOk result (λ copy. copy.grid ≡ level.now.grid) }
+    ensures fault { IfErr result (λ fault. fault ≡ Memory) }
+{
+    let mut copy = spare;
+    match copy.copy_from(level) {
+        Ok(()) => Ok(copy),
+        Err(_) => Err(StepFault::Memory),
+    }
+}
+
+/// A copy of the level, in a spare one if there is one.
+fn copy_in(level: &Level, spare: Option<Level>) -> Result<Level, StepFault>
+    ensures copied { IfOk result (λ copy. copy.grid ≡ level.now.grid) }
+    ensures fault { IfErr result (λ fault. fault ≡ Memory) }
+{
+    match spare {
+        Some(spare) => renewed(level, spare),
+        None => copy_of(level),
+    }
+}
+
+/// A copy of the level, with the input given to the player.
+fn with_input(
+    game: &Game,
+    level: &Level,
+    spare: Option<Level>,
+    input: Option<Dir>,
+) -> Result<Level, StepFault>
+    requires level_of { IsOfGame game.now level.now.grid }
+    ensures given { IfOk result (λ copy. copy.grid ≡ given_input (players_of game.now) input level.now.grid) }
+    ensures size { IfOk result (λ copy. SameSize level.now.grid copy.grid) }
+    ensures fault { IfErr result (λ fault. fault ≡ Memory) }
+{
+    match copy_in(level, spare) {
+        Ok(mut copy) => {
+            match input {
+                Some(dir) => push_players(game, &mut copy, dir),
+                None => {}
+            }
+            Ok(copy)
+        }
+        Err(fault) => Err(fault),
+    }
+}
+
+fn some_player(players: &[usize], level: &Level) -> bool
+    ensures { result ≡ list_any (holds_one players.now) level.now.grid.cells }
+{
+    for index in 0..level.cell_count() {
+        if level.holds_one(index, players) {
+            return true;
+        }
+    }
+    false
+}
+
+fn keeps_player(players: &[usize], before: &Level, after: &Level, index: usize) -> bool
+    requires before_in { index < length before.now.grid.cells }
+    requires after_in { index < length after.now.grid.cells }
+    ensures { result ≡ keeps_player players.now (cell_of before.now.grid index, cell_of after.now.grid index) }
+{
+    !before.holds_one(index, players) || after.holds_one(index, players)
+}
+
+fn all_keep_players(players: &[usize], before: &Level, after: &Level) -> bool
+    ensures { result ≡ list_all (keeps_player players.now) (zip before.now.grid.cells after.now.grid.cells) }
+{
+    for index in 0..before.cell_count().min(after.cell_count()) {
+        if !keeps_player(players, before, after, index) {
+            return false;
+        }
+    }
+    true
+}
+
+fn has_stayed(players: &[usize], before: &Level, after: &Level) -> bool
+    ensures { result ≡ has_stayed players.now before.now.grid after.now.grid }
+{
+    some_player(players, before) && all_keep_players(players, before, after)
+}
+
+/// Whether a step is cancelled since the player had to move and hasn't.
+fn must_cancel(game: &Game, input: Option<Dir>, before: &Level, after: &Level) -> bool
+    ensures { result ≡ must_cancel game.now input before.now.grid after.now.grid }
+{
+    game.options().require_player_movement
+        && (input.is_some() && has_stayed(game.players(), before, after))
+}
+
+fn with_cancel(cancelled: bool, commands: Commands) -> Commands
+    ensures { result ≡ with_cancel cancelled commands }
+{
+    if cancelled {
+        let mut all = commands;
+        all.insert(Commands::CANCEL);
+        all
+    } else {
+        commands
+    }
+}
+
+/// How a step ends that leads from one level to another: where it is cancelled, it leaves the level.
+fn end_of(before: &Level, after: Level, commands: Commands) -> Result<StepEnd, StepFault>
+    requires size { SameSize before.now.grid after.grid }
+    ensures end { IfOk result (λ end. ended before.now.grid after.grid commands ≡ record { level = end.level.grid; commands = end.commands; changed = end.changed }) }
+    ensures size { IfOk result (λ end. SameSize before.now.grid end.level.grid) }
+    ensures lawful { IfOk result (λ end. IsLawful end.level.grid) }
+    ensures fault { IfErr result (λ fault. fault ≡ Memory) }
+{
+    // (brings the proof the law of both levels)
+    let _ = (before.width(), after.width());
+    if commands.contains(Commands::CANCEL) {
+        match renewed(before, after) {
+            Ok(level) => Ok(StepEnd {
+                level,
+                commands,
+                changed: false,
+            }),
+            Err(fault) => Err(fault),
+        }
+    } else {
+        let changed = !after.same(before);
+        Ok(StepEnd {
+            level: after,
+            commands,
+            changed,
+        })
+    }
+}
+
+/// A step as `step` plays it, in a level that is lent for it, if there is one: whatever stands there is written over.
+pub fn step_in(
+    alloc: Global,
+    game: &Game,
+    program: &Program,
+    level: &Level,
+    spare: Option<Level>,
+    input: Option<Dir>,
+) -> Result<StepEnd, StepFault>
+    requires level_of { IsOfGame game.now level.now.grid }
+    requires program_of { IsProgramOf game.now.layers program.now }
+    ensures end { IfOk result (λ end. step_of game.now program.now level.now.grid input ≡ Ok (record { level = end.level.grid; commands = end.commands; changed = end.changed })) }
+    ensures size { IfOk result (λ end. SameSize level.now.grid end.level.grid) }
+    ensures lawful { IfOk result (λ end. IsLawful end.level.grid) }
+    ensures fault { IfErr result (λ fault. fault ≢ Memory → step_of game.now program.now level.now.grid input ≡ Err fault) }
+{
+    let mut work = with_input(game, level, spare, input)?;
+    let given = run_rules(alloc, game, &mut work, program)?;
+    let cancelled = must_cancel(game, input, level, &work);
+    end_of(level, work, with_cancel(cancelled, given.commands))
+}
+
+/// A step of a game from a level, with an input or none. Where a rule gives CANCEL, or the player had to move and hasn't, the end
+/// level is the one handed in and nothing has changed. LoopLimit and MatchLimit: a block stopped with it, whatever was given
+/// before. The level handed in is never changed.
+pub fn step(
+    alloc: Global,
+    game: &Game,
+    program: &Program,
+    level: &Level,
+    input: Option<Dir>,
+) -> Result<StepEnd, StepFault>
+    requires level_of { IsOfGame game.now level.now.grid }
+    requires program_of { IsProgramOf game.now.layers program.now }
+    ensures end { IfOk result (λ end. step_of game.now program.now level.now.grid input ≡ Ok (record { level = end.level.grid; commands = end.commands; changed = end.changed })) }
+    ensures size { IfOk result (λ end. SameSize level.now.grid end.level.grid) }
+    ensures lawful { IfOk result (λ end. IsLawful end.level.grid) }
+    ensures fault { IfErr result (λ fault. fault ≢ Memory → step_of game.now program.now level.now.grid input ≡ Err fault) }
+{
+    step_in(alloc, game, program, level, None, input)
+}
