@@ -10,6 +10,7 @@ from saxtegun.levels import Labels, read_cells
 from saxtegun.sessions import LONE_SURROGATE, Sessions, is_number
 
 KINDS = ("start", "move", "undo", "restart", "load", "tick", "over")
+READER = json.JSONDecoder()
 CLOSES = ("passed", "differs", "stopped", "refused")
 
 
@@ -34,14 +35,15 @@ class Run(NamedTuple):
 def line_of(path: str, number: int, text: str) -> Dict[str, Any]:
     """A line of the program, as its values."""
     try:
-        line = json.loads(text)
+        line = READER.decode(text)
     except (ValueError, RecursionError):
         line = None
     if not isinstance(line, dict) or not is_number(line.get("session"), 2**64):
         raise Refused(f"{path}, line {number}: no line of the program")
     if line.get("kind") is None and line.get("close") not in CLOSES:
         raise Refused(f"{path}, line {number}: neither a frame nor a close")
-    if any(LONE_SURROGATE.search(it) for it in line.values() if isinstance(it, str)):
+    # half a letter is none of UTF-8, and so only an escape makes one
+    if "\\u" in text and any(LONE_SURROGATE.search(it) for it in line.values() if isinstance(it, str)):
         raise Refused(f"{path}, line {number}: a text of it holds half a letter (a lone surrogate)")
     return line
 
