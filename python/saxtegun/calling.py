@@ -10,6 +10,7 @@ VERBS = {
     "test": "plays recordings, with a game's text or without, and says what did not pass and what is solved",
     "add": "adds recordings as an editor's console prints them, once they are played",
     "compare": "tells at which frame two runs of the same sessions part",
+    "shrink": "makes the smallest session on which two programs still part, as a case of conformance/",
     "coverage": "tells which rules and win lines no session needs",
     "play": "plays a game in the terminal, and saves it as a recording",
     "explain": "tells in words which sessions did not pass, and why",

@@ -25,7 +25,7 @@ class Entry(NamedTuple):
     source: str
     inputs: List[Input]
     level: str
-    index: int
+    index: int  # type: ignore[assignment]  # the word of docs/sessions.md, which a tuple has for something else
     spans: Dict[str, Tuple[int, int]]
     is_solved_wanted: bool
 

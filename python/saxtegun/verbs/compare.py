@@ -60,7 +60,7 @@ def runs_to_compare(given: Namespace, stack: ExitStack) -> Tuple[Optional[Sessio
             raise Refused("two files of lines are wanted, and then the sessions or nothing")
         sessions = read_sessions(files[2]) if len(files) == 3 else None
         # the close of either may be that of another recording, so names and inputs alone are held against the sessions
-        return sessions, pairs_of(*(read_runs(it, sessions, False) for it in files[:2]), files)
+        return sessions, pairs_of(read_runs(files[0], sessions, False), read_runs(files[1], sessions, False), files)
     if len(files) != 1:
         raise Refused("one file of sessions is wanted")
     sessions = read_sessions(files[0])
