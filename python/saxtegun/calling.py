@@ -13,6 +13,7 @@ VERBS = {
     "shrink": "makes the smallest session on which two programs still part, as a case of conformance/",
     "coverage": "tells which rules and win lines no session needs",
     "play": "plays a game in the terminal, and saves it as a recording",
+    "lines": "plays recordings and writes the program's lines",
     "explain": "tells in words which sessions did not pass, and why",
     "report": "writes a page that shows each session frame by frame",
     "junit": "writes lines as a JUnit file",

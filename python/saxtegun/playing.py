@@ -7,9 +7,9 @@ import subprocess
 import tempfile
 from contextlib import contextmanager
 from pathlib import Path
-from typing import Iterator, List, NamedTuple, Optional, Sequence
+from typing import IO, Any, Iterator, List, NamedTuple, Optional, Sequence
 
-from saxtegun.commands import Refused
+from saxtegun.commands import Refused, say
 from saxtegun.files import write_whole
 from saxtegun.lines import Run, read_runs
 from saxtegun.sessions import Entry, Sessions, written
@@ -63,19 +63,43 @@ def refusal(said: str, path: str, entries: Sequence[Entry] = ()) -> str:
     return f"{path} was not played: {told} ({line})"
 
 
+class Ran(NamedTuple):
+    """How a program ended, and the last line that it said on standard error."""
+
+    status: int
+    said: str
+
+
+def watched(words: Sequence[str], output: IO[Any], stdin: Optional[int] = None) -> Ran:
+    """Runs a program. What it says before its last line, as ./replay does while it builds, is handed on at once."""
+    last = ""
+    try:
+        with subprocess.Popen(words, stdin=stdin, stdout=output, stderr=subprocess.PIPE) as ran:
+            assert ran.stderr is not None
+            for line in ran.stderr:
+                if last:
+                    say(last)
+                last = line.decode("utf-8", "replace").rstrip("\n")
+    except OSError as why:
+        raise Refused(f"{words[0]} can't be run: {why.strerror}") from None
+    if ran.returncode in (0, 1) and last:
+        say(last)
+    return Ran(ran.returncode, last)
+
+
 def play_file(path: str, lines: str, order: str = "columns", workers: Optional[int] = None, program: Optional[str] = None, of: Optional[Sessions] = None) -> Played:
     """Plays a sessions file, and leaves its lines in a file. Refused where there is no whole output."""
     words = [*program_words(program), "--order", order, *(["--workers", str(workers)] if workers else []), path]
     try:
         with open(lines, "wb") as file:
-            ran = subprocess.run(words, stdin=subprocess.DEVNULL, stdout=file, stderr=subprocess.PIPE, check=False)
+            ran = watched(words, file, subprocess.DEVNULL)
     except OSError as why:
-        raise Refused(f"{words[0]} can't be run: {why.strerror}") from None
-    if ran.returncode in (0, 1) and BUILT.is_file() and not HAS_PLAYED:
+        raise Refused(f"{lines} can't be written: {why.strerror}") from None
+    if ran.status in (0, 1) and BUILT.is_file() and not HAS_PLAYED:
         HAS_PLAYED.append(True)
-    if ran.returncode not in (0, 1):
-        raise Refused(refusal(ran.stderr.decode("utf-8", "replace"), of.path if of else path, of.entries if of else ()))
-    return Played(lines, ran.returncode)
+    if ran.status not in (0, 1):
+        raise Refused(refusal(ran.said, of.path if of else path, of.entries if of else ()))
+    return Played(lines, ran.status)
 
 
 @contextmanager
