@@ -89,7 +89,8 @@ class Adapter(OnSessions):
     def test_an_engine_that_throws_has_no_answer(self):
         sessions = self.write("sessions.json", json.dumps([["no source", ["", [], ""]]]))
         answer = run("test", sessions, "--program", ENGINE)
-        self.assert_refused(answer, "sessions.json was not played: the engine failed: Cannot read")
+        self.assertEqual((answer.status, answer.out), (2, ""))
+        self.assertIn("sessions.json was not played: the engine failed: Cannot read", answer.errors.splitlines()[-1])
 
 
 @plays

@@ -9,9 +9,10 @@ from contextlib import contextmanager
 from pathlib import Path
 from typing import IO, Any, Iterator, List, NamedTuple, Optional, Sequence
 
+from saxtegun.belonging import Tests, read_runs
 from saxtegun.commands import Refused, say
 from saxtegun.files import write_whole
-from saxtegun.lines import Run, read_runs
+from saxtegun.lines import Run, runs_in
 from saxtegun.sessions import Entry, Sessions, written
 
 TOP = Path(__file__).resolve().parent.parent.parent
@@ -114,7 +115,7 @@ def playing(entries: Sequence[Entry], of: Sessions, order: str = "columns", work
 def runs_of(entries: Sequence[Entry], of: Sessions, order: str = "columns", workers: Optional[int] = None, program: Optional[str] = None) -> List[Run]:
     """What playing entries shows, numbered from 0 as they stand here."""
     with playing(entries, of, order, workers, program) as played:
-        return [*read_runs(played.lines)]
+        return [run for _, run in runs_in(played.lines)]
 
 
 def lines_beyond(entry: Entry, known: int, program: Optional[str] = None) -> List[str]:
@@ -130,10 +131,11 @@ def lines_beyond(entry: Entry, known: int, program: Optional[str] = None) -> Lis
 
 
 @contextmanager
-def lines_or_played(sessions: Sessions, lines: Optional[str], order: str) -> Iterator[Iterator[Run]]:
-    """The runs of lines that are there, or else of the sessions, which are played now."""
+def lines_or_played(sessions: Sessions, lines: Optional[str], order: str, is_drawn: bool = False) -> Iterator[Iterator[Run]]:
+    """The runs of lines that are there, or else of the sessions, which are played now. `is_drawn`: lines that are there are refused too where a
+    session doesn't begin with the level that its source draws."""
     if lines is not None:
-        yield read_runs(lines, sessions)
+        yield read_runs(lines, sessions, Tests(order=order, is_drawn=is_drawn))
     else:
         with playing(sessions.entries, sessions, order) as played:
             yield read_runs(played.lines, sessions)

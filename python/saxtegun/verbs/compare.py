@@ -14,9 +14,10 @@ from contextlib import ExitStack
 from itertools import zip_longest
 from typing import Iterator, List, Optional, Sequence, Tuple
 
+from saxtegun.belonging import NAMES_ALONE, read_runs
 from saxtegun.commands import Refused, add_order, plural, printable
 from saxtegun.files import MARK, guard_output, read_text, write_whole
-from saxtegun.lines import Run, read_runs
+from saxtegun.lines import Run
 from saxtegun.pages import Report
 from saxtegun.parting import Parting, below_of, parting_of, sentence_of
 from saxtegun.playing import playing
@@ -60,7 +61,7 @@ def runs_to_compare(given: Namespace, stack: ExitStack) -> Tuple[Optional[Sessio
             raise Refused("two files of lines are wanted, and then the sessions or nothing")
         sessions = read_sessions(files[2]) if len(files) == 3 else None
         # the close of either may be that of another recording, so names and inputs alone are held against the sessions
-        return sessions, pairs_of(read_runs(files[0], sessions, False), read_runs(files[1], sessions, False), files)
+        return sessions, pairs_of(read_runs(files[0], sessions, NAMES_ALONE), read_runs(files[1], sessions, NAMES_ALONE), files)
     if len(files) != 1:
         raise Refused("one file of sessions is wanted")
     sessions = read_sessions(files[0])
