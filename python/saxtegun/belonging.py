@@ -3,7 +3,7 @@ from __future__ import annotations
 
 from typing import Iterator, NamedTuple, Optional
 
-from saxtegun.commands import ORDERS, Refused, plural
+from saxtegun.commands import ORDERS, Refused, cut, plural
 from saxtegun.levels import Labels, read_cells
 from saxtegun.levelsets import drawn_start
 from saxtegun.lines import Run, runs_in
@@ -46,7 +46,7 @@ def mismatch(sessions: Sessions, run: Run, tests: Tests) -> Optional[str]:
         return f"there is no session {run.number}"
     entry = sessions.entries[run.number]
     if entry.name != run.name:
-        return f"session {run.number} is named {run.name!r}, and in the file {entry.name!r}"
+        return f"session {run.number} is named {cut(run.name)!r}, and in the file {cut(entry.name)!r}"
     if run.frames and run.frames[-1].at > len(entry.inputs):
         return f"session {run.number} takes more inputs than its {len(entry.inputs)}"
     if run.close in ("passed", "differs"):

@@ -13,6 +13,8 @@ class Refused(Exception):
 
 SMALL = {ord(letter): letter.lower() for letter in "ABCDEFGHIJKLMNOPQRSTUVWXYZ"}
 ORDERS = ("rows", "columns")
+# So many letters of a name or a line of a source are told.
+MOST_LETTERS = 200
 
 
 def fold(text: str) -> str:
@@ -25,6 +27,11 @@ def printable(text: str) -> str:
     if text.isprintable():
         return text
     return "".join(letter if letter.isprintable() else f"\\u{{{ord(letter):x}}}" for letter in text)
+
+
+def cut(text: str) -> str:
+    """A text of a stranger that is read in a line among others: its beginning, where it is long."""
+    return text if len(text) <= MOST_LETTERS else f"{text[:MOST_LETTERS]}.."
 
 
 def plural(count: int, word: str) -> str:
@@ -79,6 +86,12 @@ def serve(name: str, main: Callable[[], int]) -> NoReturn:
         if hasattr(stream, "reconfigure"):
             stream.reconfigure(encoding="utf-8", newline="\n", errors="backslashreplace")
     status = 2
+    if sys.stderr is None:
+        # the lowest number that is free is that of what is closed
+        sys.stderr = open(os.devnull, "w", encoding="utf-8")
+    if sys.stdout is None:
+        fail(name, "standard output is closed")
+        sys.exit(2)
     try:
         status = main()
         sys.stdout.flush()

@@ -5,7 +5,7 @@ import re
 from difflib import get_close_matches
 from typing import List, NamedTuple, Optional, Set
 
-from saxtegun.commands import fold
+from saxtegun.commands import cut, fold
 from saxtegun.games import Game
 from saxtegun.sources import Line, lines_of, words_of
 
@@ -43,7 +43,7 @@ def unknown_told(source: str, game: Game, number: int) -> str:
     told = []
     for word in unknown_in(source, game, number):
         near = get_close_matches(fold(word), sorted(names_in(game)), 1, 0.6)
-        told.append(f"`{word}`" + (f" (near: `{near[0]}`)" if near else ""))
+        told.append(f"`{cut(word)}`" + (f" (near: `{cut(near[0])}`)" if near else ""))
     return f": {', '.join(told)}" if told else ""
 
 

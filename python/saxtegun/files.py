@@ -14,6 +14,8 @@ MARK = "\ufeff"
 
 def opened(path: str) -> BinaryIO:
     """A file, or standard input where the path is `-`."""
+    if path == "-" and sys.stdin is None:
+        raise Refused("standard input is closed")
     try:
         return sys.stdin.buffer if path == "-" else open(path, "rb")
     except (OSError, ValueError) as why:

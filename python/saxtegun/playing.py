@@ -10,9 +10,9 @@ from pathlib import Path
 from typing import IO, Any, Iterator, List, NamedTuple, Optional, Sequence
 
 from saxtegun.belonging import Tests, read_runs
-from saxtegun.commands import Refused, say
+from saxtegun.commands import Refused, plural, say
 from saxtegun.files import write_whole
-from saxtegun.lines import Run, runs_in
+from saxtegun.lines import Run, frame_of, line_of, runs_in
 from saxtegun.sessions import Entry, Sessions, written
 
 TOP = Path(__file__).resolve().parent.parent.parent
@@ -115,11 +115,15 @@ def playing(entries: Sequence[Entry], of: Sessions, order: str = "columns", work
 def runs_of(entries: Sequence[Entry], of: Sessions, order: str = "columns", workers: Optional[int] = None, program: Optional[str] = None) -> List[Run]:
     """What playing entries shows, numbered from 0 as they stand here."""
     with playing(entries, of, order, workers, program) as played:
-        return [run for _, run in runs_in(played.lines)]
+        runs = [run for _, run in runs_in(played.lines)]
+    names = [it.name for it in entries]
+    if [it.name for it in runs] != names:
+        raise Refused(f"{of.path} was not played: the program closed other sessions than the {len(names)} that it was given")
+    return runs
 
 
-def lines_beyond(entry: Entry, known: int, program: Optional[str] = None) -> List[str]:
-    """The lines of a session behind the first ones, which are known: its frames, and its close as the last."""
+def shown_beyond(entry: Entry, known: int, program: Optional[str] = None) -> Run:
+    """What a session shows behind its first frames, which are known, and how it is closed."""
     words = [*program_words(program), "--workers", "1"]
     try:
         ran = subprocess.run(words, input=written([entry]).encode(), stdout=subprocess.PIPE, stderr=subprocess.PIPE, check=False)
@@ -127,7 +131,13 @@ def lines_beyond(entry: Entry, known: int, program: Optional[str] = None) -> Lis
         raise Refused(f"{words[0]} can't be run: {why.strerror}") from None
     if ran.returncode not in (0, 1):
         raise Refused(refusal(ran.stderr.decode("utf-8", "replace"), entry.name, [entry]))
-    return ran.stdout.decode().split("\n")[known:-1]
+    lines = ran.stdout.decode("utf-8", "replace").split("\n")[known:-1]
+    path = "what the program wrote"
+    values = [line_of(path, number, it) for number, it in enumerate(lines, known + 1)]
+    frames = [it for it in map(frame_of, values[:-1]) if it is not None]
+    if not values or len(frames) != len(values) - 1 or "close" not in values[-1]:
+        raise Refused(f"{path} is no session of more than {plural(known, 'frame')}")
+    return Run(0, entry.name, values[-1]["close"], values[-1].get("cause"), frames)
 
 
 @contextmanager

@@ -13,7 +13,7 @@ import os
 from argparse import ArgumentParser, Namespace
 from typing import List
 
-from saxtegun.commands import Refused, add_order, plural, say
+from saxtegun.commands import Refused, add_order, cut, plural, say
 from saxtegun.explaining import told
 from saxtegun.files import MARK, read_text, write_whole
 from saxtegun.javascript import entries_of
@@ -73,7 +73,7 @@ def main(given: Namespace) -> int:
         sentence, below = told(run, entry, given.order, given.game or "")
         is_let = given.anyway and run.close == "differs"
         failed += not is_let
-        say(f"add: {entry.name}: {run.close}{'' if is_let else ', not added'}: {sentence}")
+        say(f"add: {cut(entry.name)}: {run.close}{'' if is_let else ', not added'}: {sentence}")
         for line in below:
             say(f"    {line}")
     if failed:

@@ -15,7 +15,7 @@ from itertools import zip_longest
 from typing import Iterator, List, Optional, Sequence, Tuple
 
 from saxtegun.belonging import NAMES_ALONE, read_runs
-from saxtegun.commands import Refused, add_order, plural, printable
+from saxtegun.commands import Refused, add_order, cut, plural, printable
 from saxtegun.files import MARK, guard_output, read_text, write_whole
 from saxtegun.lines import Run
 from saxtegun.pages import Report
@@ -105,7 +105,7 @@ def main(given: Namespace) -> int:
             if parting is None:
                 continue
             entry = sessions.entries[one.number] if sessions else None
-            print(printable(f"session {one.number}, {one.name}: {sentence_of(parting, one, other, entry)}"))
+            print(printable(f"session {one.number}, {cut(one.name)}: {sentence_of(parting, one, other, entry)}"))
             for line in below_of(parting, entry, given.order):
                 print(printable(f"    {line}"))
             if given.report:

@@ -12,7 +12,7 @@ import sys
 from argparse import ArgumentParser, Namespace
 from typing import Dict, Iterator, List, NamedTuple, Set, Tuple
 
-from saxtegun.commands import Refused, add_order, plural, printable
+from saxtegun.commands import Refused, add_order, cut, plural, printable
 from saxtegun.files import MARK, guard_output, read_text
 from saxtegun.games import game_of
 from saxtegun.leaving import Part, parts_of
@@ -128,7 +128,7 @@ def main(given: Namespace) -> int:
     for trial in coverage.unnoticed:
         place = game or f"{game_of(trial.source).title}, line "
         number = f":{trial.part.number}" if game else str(trial.part.number)
-        print(printable(f"{place}{number}: no session notices it: {trial.part.text}"))
+        print(printable(f"{place}{number}: no session notices it: {cut(trial.part.text)}"))
     alone = f", {plural(coverage.alone, 'line')} can't be left out alone" if coverage.alone else ""
     games = f" in {plural(len(sources), 'source')}" if len(sources) > 1 else ""
     print(f"{plural(coverage.tried, 'line')} left out in turn: {len(coverage.unnoticed)} that no session notices{games}{alone}")

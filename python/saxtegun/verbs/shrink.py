@@ -15,7 +15,7 @@ import tempfile
 from argparse import ArgumentParser, Namespace
 from typing import Dict, Optional, Tuple
 
-from saxtegun.commands import Refused, add_order, fold, plural, printable, say
+from saxtegun.commands import Refused, add_order, cut, fold, plural, printable, say
 from saxtegun.files import MARK, read_text
 from saxtegun.levels import Labels, read_cells
 from saxtegun.lines import Run
@@ -110,8 +110,8 @@ def main(given: Namespace) -> int:
         print(f"{given.one} and {given.other} show the same")
         return 1
     whole, parting, way = found
-    cut = cut_behind(whole, parting)
-    start = cut if ways_of(programs, [cut]) == [way] else whole
+    shorter = cut_behind(whole, parting)
+    start = shorter if ways_of(programs, [shorter]) == [way] else whole
     shrinking = Shrinking(programs, start, way, told_progress)
     entry = shrinking.run()
     one, other = programs.pairs([entry])[0]
@@ -121,7 +121,7 @@ def main(given: Namespace) -> int:
     write_case(folder, files_of_case(entry, given, sessions))
     last = parting_of(one, other)
     if last is not None:
-        print(printable(f"{entry.name}: {sentence_of(last, one, other, entry)}"))
+        print(printable(f"{cut(entry.name)}: {sentence_of(last, one, other, entry)}"))
         for line in below_of(last, entry, given.order):
             print(printable(f"    {line}"))
     sizes = [f"{plural(len(it.inputs), 'input')} and {plural(len(it.source), 'letter')} of source" for it in (whole, entry)]

@@ -18,7 +18,7 @@ from collections import Counter
 from pathlib import Path
 from typing import Dict, List, NamedTuple, Optional, Tuple
 
-from saxtegun.commands import Refused, add_order, fail, plural, printable, say
+from saxtegun.commands import Refused, add_order, cut, fail, plural, printable, say
 from saxtegun.explaining import fault_in, summary, told
 from saxtegun.files import MARK, guard_output, read_text, write_whole
 from saxtegun.junit import junit_of
@@ -114,7 +114,7 @@ def failures_of(suite: Suite, unsolved: Dict[int, str], given: Namespace) -> Lis
         if run.close == "passed":
             sentence, below = unsolved[entry.number], []
         is_of_game = bool(game and fault)
-        found.append(Failure(f"{place}, {entry.name}", run.close, sentence, below, game if is_of_game else path, fault[1] if is_of_game and fault else 1))
+        found.append(Failure(f"{place}, {cut(entry.name)}", run.close, sentence, below, game if is_of_game else path, fault[1] if is_of_game and fault else 1))
     return found
 
 
@@ -129,7 +129,7 @@ def tell(suite: Suite, failures: List[Failure], given: Namespace) -> str:
     if not given.quiet:
         for run in suite.runs:
             if run.close == "passed":
-                show(f"passed, {suite.solved.get(run.number, 'not played')}: {run.name}", is_for_ci)
+                show(f"passed, {suite.solved.get(run.number, 'not played')}: {cut(run.name)}", is_for_ci)
     most = given.max_fail if given.max_fail is not None else len(failures)
     for failure in failures[:most]:
         show(f"{failure.name}: {failure.close}: {failure.sentence}", is_for_ci)
