@@ -97,7 +97,7 @@ class DayOfTests(OfAGame):
         self.with_rule(f"startloop\n{RULE}\n[ > Player ] -> [ < Player ]\n[ < Player ] -> [ > Player ]\nendloop")
         number = 1 + self.source[: self.source.index(RULE)].count("\n")
         answer = run("test", self.game, self.write_entries(self.entries[:1]))
-        self.assertIn(f" at input 0 ({('up', 'left', 'down', 'right')[self.entries[0][1][1][0]]}); it may be the loop of lines {number} to {number + 4}", answer.out)
+        self.assertIn(f" at input 0 ({('up', 'left', 'down', 'right')[self.entries[0][1][1][0]]}); it is the rule on line {number + 2}", answer.out)
 
     def test_files_for_a_ci_are_written(self):
         junit, page, summary = (self.room / name for name in ("junit.xml", "report.html", "summary.md"))

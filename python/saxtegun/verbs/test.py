@@ -18,6 +18,7 @@ from collections import Counter
 from pathlib import Path
 from typing import Dict, List, NamedTuple, Optional, Tuple
 
+from saxtegun import hanging
 from saxtegun.commands import Refused, add_order, cut, fail, plural, printable, say
 from saxtegun.explaining import fault_in, summary, told
 from saxtegun.files import MARK, guard_output, read_text, write_whole
@@ -31,6 +32,8 @@ from saxtegun.telling import Failure, annotation, for_a_ci, markdown
 
 USAGE = "test [GAME.txt] SESSIONS.json.. [options]"
 PAUSE = 0.2
+# Of so many failures it is found out by playing in what a session hung.
+MOST_HUNG = 20
 
 
 def add_words(words: ArgumentParser) -> None:
@@ -104,12 +107,14 @@ def unsolved_in(suite: Suite, patterns: List[str]) -> Dict[int, str]:
 def failures_of(suite: Suite, unsolved: Dict[int, str], given: Namespace) -> List[Failure]:
     game, paths = split_files(given.files)
     found: List[Failure] = []
+    programs = hanging.Programs(suite.sessions, given.order, given.workers, given.program)
     for entry, run in zip(suite.sessions.entries, suite.runs):
         path, number = suite.files[entry.number]
         place = f"{path}: session {number}" if len(paths) > 1 else f"session {number}"
         if run.close == "passed" and entry.number not in unsolved:
             continue
-        sentence, below = told(run, entry, given.order, game)
+        is_told_hung = run.cause == hanging.HUNG and len(found) < MOST_HUNG
+        sentence, below = told(run, entry, given.order, game, hanging.hung_told(entry, run, programs) if is_told_hung else "")
         fault = fault_in(run.cause or "")
         if run.close == "passed":
             sentence, below = unsolved[entry.number], []
