@@ -68,6 +68,21 @@ class OnStreams(OnSessions):
         status, errors = self.ends(["compare", self.lines, self.write("other", ""), EXAMPLE, "--report", self.room / "no/page"])
         self.assertEqual((status, errors.count("\n")), (2, 1))
 
+    def test_no_file_is_written_that_is_read_or_written_already(self):
+        same = self.room / "same"
+        for words, what in (
+            (["test", EXAMPLE, "--program", self.program, "--report", EXAMPLE], "block-pushing.json is read: write to another file"),
+            (["test", EXAMPLE, "--program", self.program, "--report", same, "--junit", self.room / "x/../same"], "same is written already: write to another file"),
+            (["compare", self.lines, self.lines, EXAMPLE, "--report", self.lines], "example.lines is read: write to another file"),
+        ):
+            self.assert_refused(run(*words), what)
+        self.assertFalse(same.exists())
+
+    def test_numbers_of_workers_are_those_of_the_program(self):
+        for number in ("0", "65", "-1", "two", "\u0662", "9" * 5000):
+            answer = run("test", EXAMPLE, "--program", self.program, f"--workers={number}")
+            self.assert_refused(answer, "argument --workers: a number from 1 to 64 is wanted")
+
     def test_a_pipe_that_nobody_reads_ends_quietly(self):
         for words in self.calls:
             with self.subTest(words[0]):

@@ -15,6 +15,7 @@ SMALL = {ord(letter): letter.lower() for letter in "ABCDEFGHIJKLMNOPQRSTUVWXYZ"}
 ORDERS = ("rows", "columns")
 # So many letters of a name or a line of a source are told.
 MOST_LETTERS = 200
+MOST_WORKERS = 64
 
 
 def fold(text: str) -> str:
@@ -69,6 +70,20 @@ def parser(name: str, usage: str, text: str) -> Words:
 
 def add_order(words: argparse.ArgumentParser) -> None:
     words.add_argument("--order", choices=ORDERS, default="columns", help="the order of cells that the lines have (columns)")
+
+
+def workers_in(word: str) -> int:
+    """A number of workers, as the program takes it."""
+    if not (word.isascii() and word.isdigit() and 1 <= int(word[-9:]) <= MOST_WORKERS and len(word) < 9):
+        raise argparse.ArgumentTypeError(f"a number from 1 to {MOST_WORKERS} is wanted")
+    return int(word)
+
+
+def add_playing(words: argparse.ArgumentParser) -> None:
+    """The words of verbs that play: in which order, by how many workers, and with which program."""
+    add_order(words)
+    words.add_argument("--workers", metavar="N", type=workers_in, help="so many threads play (2)")
+    words.add_argument("--program", metavar="PROGRAM", help="play with this program (./replay, or what SAXTEGUN_PROGRAM names)")
 
 
 def silence(stream: TextIO, descriptor: int) -> None:

@@ -9,7 +9,7 @@ from saxtegun.explaining import input_told
 from saxtegun.games import game_of
 from saxtegun.levels import Labels, in_rows, read_cells, width_of
 from saxtegun.lines import Run
-from saxtegun.playing import runs_of
+from saxtegun.playing import Engine, runs_of
 from saxtegun.sessions import Entry, Input, Sessions
 from saxtegun.sources import lines_of, words_of
 
@@ -19,16 +19,14 @@ FIRST_LETTER = 0xE000
 START_OPTION = "run_rules_on_level_start"
 
 
-class Programs(NamedTuple):
-    """How entries are played."""
+class Player(NamedTuple):
+    """How entries of some sessions are played."""
 
     of: Sessions
-    order: str
-    workers: Optional[int]
-    program: Optional[str]
+    engine: Engine
 
     def runs(self, entries: Sequence[Entry]) -> List[Run]:
-        return runs_of(entries, self.of, self.order, self.workers, self.program)
+        return runs_of(entries, self.of, self.engine)
 
 
 class Hung(NamedTuple):
@@ -38,10 +36,10 @@ class Hung(NamedTuple):
     step: Input
 
 
-def hung_at(entry: Entry, run: Run, programs: Programs) -> Hung:
+def hung_at(entry: Entry, run: Run, player: Player) -> Hung:
     """Where a session hung. It shows the level before; whether the input behind that was begun, a copy without it tells."""
     taken = run.frames[-1].at
-    is_tick = taken == len(entry.inputs) or programs.runs([entry._replace(inputs=entry.inputs[:taken])])[0].cause == HUNG
+    is_tick = taken == len(entry.inputs) or player.runs([entry._replace(inputs=entry.inputs[:taken])])[0].cause == HUNG
     if is_tick:
         return Hung(taken - 1 if taken else None, "tick")
     return Hung(taken, entry.inputs[taken])
@@ -113,12 +111,12 @@ class Step(NamedTuple):
     entry: Entry
     rows: Sequence[Sequence[Tuple[str, ...]]]
     step: Input
-    programs: Programs
+    player: Player
 
     def first_that_hangs(self, before: FrozenSet[int], things: Sequence[Thing]) -> Optional[int]:
         """The first of these things with which the step hangs, each behind those before it; None where there is none, or it isn't sure."""
         kept = [before.union(*(it.lines for it in things[: place + 1])) for place in range(len(things))]
-        runs = self.programs.runs([self.entry._replace(source=source_from(self.entry.source, self.rows, it), inputs=[self.step], level="", index=0) for it in kept])
+        runs = self.player.runs([self.entry._replace(source=source_from(self.entry.source, self.rows, it), inputs=[self.step], level="", index=0) for it in kept])
         # in the step itself, which shows nothing then, and not in what would follow it
         hung = [it.cause == HUNG and len(it.frames) == 1 for it in runs]
         if True not in hung or any(not it.frames for it in runs):
@@ -127,14 +125,14 @@ class Step(NamedTuple):
         return first if all(hung[first:]) else None
 
 
-def hung_in(entry: Entry, run: Run, step: Input, programs: Programs) -> str:
+def hung_in(entry: Entry, run: Run, step: Input, player: Player) -> str:
     """In what it hung, in words, or nothing where that isn't sure: the first thing such that all before it comes to rest, and with it the step hangs.
     In a loop it is a group where that hangs in the first pass; else the loop, or a group in a later pass."""
-    rows = rows_before(run, entry.source, programs.order)
+    rows = rows_before(run, entry.source, player.engine.order)
     things = things_of(entry.source)
     if rows is None or not things:
         return ""
-    of = Step(entry, rows, step, programs)
+    of = Step(entry, rows, step, player)
     first = of.first_that_hangs(frozenset(), things)
     if first is None:
         return ""
@@ -144,12 +142,12 @@ def hung_in(entry: Entry, run: Run, step: Input, programs: Programs) -> str:
     return thing.name if inner is None else thing.inner[inner].name
 
 
-def hung_told(entry: Entry, run: Run, programs: Programs) -> str:
+def hung_told(entry: Entry, run: Run, player: Player) -> str:
     """Where and in what a session hung, in words that go on behind its sentence, or nothing."""
     if run.cause != HUNG or not run.frames:
         return ""
-    hung = hung_at(entry, run, programs)
+    hung = hung_at(entry, run, player)
     where = " at the start" if hung.number is None else f" at input {hung.number} ({input_told(entry.inputs[hung.number])})"
     tick = ", in a tick behind it" if hung.step == "tick" and hung.number is not None and entry.inputs[hung.number] != "tick" else ""
-    name = hung_in(entry, run, hung.step, programs)
+    name = hung_in(entry, run, hung.step, player)
     return f"{where}{tick}" + (f"; {name}" if name else "")

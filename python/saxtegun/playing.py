@@ -5,6 +5,7 @@ import os
 import re
 import subprocess
 import tempfile
+from argparse import Namespace
 from contextlib import contextmanager
 from pathlib import Path
 from typing import IO, Any, Iterator, List, NamedTuple, Optional, Sequence
@@ -52,6 +53,22 @@ def program_words(named: Optional[str] = None) -> List[str]:
     return [os.path.abspath(path)]
 
 
+class Engine(NamedTuple):
+    """How sessions are played: in which order of cells, by how many workers (None: as many as the program takes), with which program (None: ours)."""
+
+    order: str = "columns"
+    workers: Optional[int] = None
+    program: Optional[str] = None
+
+    def words(self) -> List[str]:
+        return [*program_words(self.program), "--order", self.order, *(["--workers", str(self.workers)] if self.workers else [])]
+
+
+def engine_of(given: Namespace) -> Engine:
+    """The engine that the words of a verb name."""
+    return Engine(given.order, given.workers, given.program)
+
+
 def refusal(said: str, path: str, entries: Sequence[Entry] = ()) -> str:
     """What the program's line of a failure says, in words."""
     line = (said.strip().splitlines() or ["nothing is told"])[-1]
@@ -88,9 +105,9 @@ def watched(words: Sequence[str], output: IO[Any], stdin: Optional[int] = None) 
     return Ran(ran.returncode, last)
 
 
-def play_file(path: str, lines: str, order: str = "columns", workers: Optional[int] = None, program: Optional[str] = None, of: Optional[Sessions] = None) -> Played:
+def play_file(path: str, lines: str, engine: Engine, of: Optional[Sessions] = None) -> Played:
     """Plays a sessions file, and leaves its lines in a file. Refused where there is no whole output."""
-    words = [*program_words(program), "--order", order, *(["--workers", str(workers)] if workers else []), path]
+    words = [*engine.words(), path]
     try:
         with open(lines, "wb") as file:
             ran = watched(words, file, subprocess.DEVNULL)
@@ -104,17 +121,17 @@ def play_file(path: str, lines: str, order: str = "columns", workers: Optional[i
 
 
 @contextmanager
-def playing(entries: Sequence[Entry], of: Sessions, order: str = "columns", workers: Optional[int] = None, program: Optional[str] = None) -> Iterator[Played]:
+def playing(entries: Sequence[Entry], of: Sessions, engine: Engine) -> Iterator[Played]:
     """Plays entries; the lines are there as long as this lasts."""
     with tempfile.TemporaryDirectory(prefix="saxtegun-") as room:
         path = os.path.join(room, "sessions.json")
         write_whole(path, written(entries))
-        yield play_file(path, os.path.join(room, "lines"), order, workers, program, of._replace(entries=list(entries)))
+        yield play_file(path, os.path.join(room, "lines"), engine, of._replace(entries=list(entries)))
 
 
-def runs_of(entries: Sequence[Entry], of: Sessions, order: str = "columns", workers: Optional[int] = None, program: Optional[str] = None) -> List[Run]:
+def runs_of(entries: Sequence[Entry], of: Sessions, engine: Engine) -> List[Run]:
     """What playing entries shows, numbered from 0 as they stand here."""
-    with playing(entries, of, order, workers, program) as played:
+    with playing(entries, of, engine) as played:
         runs = [run for _, run in runs_in(played.lines)]
     names = [it.name for it in entries]
     if [it.name for it in runs] != names:
@@ -122,9 +139,9 @@ def runs_of(entries: Sequence[Entry], of: Sessions, order: str = "columns", work
     return runs
 
 
-def shown_beyond(entry: Entry, known: int, program: Optional[str] = None) -> Run:
+def shown_beyond(entry: Entry, known: int, engine: Engine) -> Run:
     """What a session shows behind its first frames, which are known, and how it is closed."""
-    words = [*program_words(program), "--workers", "1"]
+    words = engine.words()
     try:
         ran = subprocess.run(words, input=written([entry]).encode(), stdout=subprocess.PIPE, stderr=subprocess.PIPE, check=False)
     except OSError as why:
@@ -141,11 +158,11 @@ def shown_beyond(entry: Entry, known: int, program: Optional[str] = None) -> Run
 
 
 @contextmanager
-def lines_or_played(sessions: Sessions, lines: Optional[str], order: str, is_drawn: bool = False) -> Iterator[Iterator[Run]]:
+def lines_or_played(sessions: Sessions, lines: Optional[str], engine: Engine, is_drawn: bool = False) -> Iterator[Iterator[Run]]:
     """The runs of lines that are there, or else of the sessions, which are played now. `is_drawn`: lines that are there are refused too where a
     session doesn't begin with the level that its source draws."""
     if lines is not None:
-        yield read_runs(lines, sessions, Tests(order=order, is_drawn=is_drawn))
+        yield read_runs(lines, sessions, Tests(order=engine.order, is_drawn=is_drawn))
     else:
-        with playing(sessions.entries, sessions, order) as played:
+        with playing(sessions.entries, sessions, engine) as played:
             yield read_runs(played.lines, sessions)

@@ -6,7 +6,7 @@ from typing import Callable, List, NamedTuple, Optional, Sequence, Set, Tuple
 from saxtegun.commands import Refused
 from saxtegun.lines import Run
 from saxtegun.parting import Parting, parting_of
-from saxtegun.playing import runs_of
+from saxtegun.playing import Engine, runs_of
 from saxtegun.sessions import Entry, Sessions
 from saxtegun.smaller import STAGES, Stage
 
@@ -22,12 +22,11 @@ class Programs(NamedTuple):
     one: str
     other: str
     of: Sessions
-    order: str
-    workers: Optional[int]
+    engine: Engine
 
     def pairs(self, entries: Sequence[Entry]) -> List[Tuple[Run, Run]]:
         """What both show of entries."""
-        one, other = (runs_of(entries, self.of, self.order, self.workers, program) for program in (self.one, self.other))
+        one, other = (runs_of(entries, self.of, self.engine._replace(program=program)) for program in (self.one, self.other))
         return list(zip(one, other))
 
 

@@ -15,11 +15,11 @@ import sys
 from argparse import ArgumentParser, Namespace
 from typing import Dict, List, Optional, Tuple
 
-from saxtegun.commands import Refused, add_order, plural, printable, say
+from saxtegun.commands import Refused, add_playing, plural, printable, say
 from saxtegun.explaining import UNREADABLE, Ending, cause_told, heading, told
 from saxtegun.files import MARK, guard_output, read_text, write_whole
 from saxtegun.lines import Run
-from saxtegun.playing import lines_or_played
+from saxtegun.playing import engine_of, lines_or_played
 from saxtegun.sessions import Entry, changed, chosen, read_sessions, with_source
 
 USAGE = "accept SESSIONS [LINES] [--only PATTERN..] [--review] [--in-place] [--game GAME.txt] [--order rows|columns] [>NEW]"
@@ -33,7 +33,7 @@ def add_words(words: ArgumentParser) -> None:
     words.add_argument("--game", metavar="GAME.txt", help="the text of recordings whose source is the empty text")
     words.add_argument("--review", action="store_true")
     words.add_argument("--in-place", action="store_true")
-    add_order(words)
+    add_playing(words)
 
 
 def obstacle(entry: Entry, run: Run, order: str) -> Optional[str]:
@@ -87,7 +87,7 @@ def main(given: Namespace) -> int:
     changes: Dict[int, Tuple[str, str]] = {}
     said: List[str] = []
     failed = False
-    with lines_or_played(sessions, given.lines, given.order, is_drawn=True) as runs:
+    with lines_or_played(sessions, given.lines, engine_of(given), is_drawn=True) as runs:
         for run in runs:
             if run.number not in wanted or run.close == "passed":
                 continue

@@ -15,12 +15,12 @@ from itertools import zip_longest
 from typing import Iterator, List, Optional, Sequence, Tuple
 
 from saxtegun.belonging import NAMES_ALONE, read_runs
-from saxtegun.commands import Refused, add_order, cut, plural, printable
-from saxtegun.files import MARK, guard_output, read_text, write_whole
+from saxtegun.commands import Refused, add_playing, cut, plural, printable
+from saxtegun.files import MARK, guard_files, guard_output, read_text, write_whole
 from saxtegun.lines import Run
 from saxtegun.pages import Report
 from saxtegun.parting import Parting, below_of, parting_of, sentence_of
-from saxtegun.playing import playing
+from saxtegun.playing import engine_of, playing
 from saxtegun.sessions import Entry, Sessions, read_sessions
 
 USAGE = "compare (ONE.lines OTHER.lines [SESSIONS] | --engines P Q SESSIONS | --sources OLD.txt NEW.txt SESSIONS) [options]"
@@ -31,9 +31,7 @@ def add_words(words: ArgumentParser) -> None:
     words.add_argument("--engines", metavar=("P", "Q"), nargs=2)
     words.add_argument("--sources", metavar=("OLD.txt", "NEW.txt"), nargs=2)
     words.add_argument("--report", metavar="F")
-    words.add_argument("--workers", metavar="N", type=int)
-    words.add_argument("--program", metavar="PROGRAM", help="play --sources with this program")
-    add_order(words)
+    add_playing(words)
 
 
 def over(sessions: Sessions, path: str) -> List[Entry]:
@@ -67,7 +65,7 @@ def runs_to_compare(given: Namespace, stack: ExitStack) -> Tuple[Optional[Sessio
     sessions = read_sessions(files[0])
     entries = [over(sessions, it) for it in given.sources] if given.sources else [sessions.entries, sessions.entries]
     programs = given.engines or [given.program, given.program]
-    played = [stack.enter_context(playing(it, sessions, given.order, given.workers, program)) for it, program in zip(entries, programs)]
+    played = [stack.enter_context(playing(it, sessions, engine_of(given)._replace(program=program))) for it, program in zip(entries, programs)]
     return sessions._replace(entries=entries[1]), pairs_of(read_runs(played[0].lines), read_runs(played[1].lines), given.engines or given.sources)
 
 
@@ -93,6 +91,7 @@ def write_report(path: str, sessions: Sessions, parted: List[Tuple[Parting, Run,
 
 def main(given: Namespace) -> int:
     guard_output(*given.files, *(given.sources or []))
+    guard_files([given.report], [*given.files, *(given.sources or [])])
     parted: List[Tuple[Parting, Run, Run]] = []
     count = 0
     with ExitStack() as stack:

@@ -9,9 +9,9 @@ import sys
 from argparse import ArgumentParser, Namespace
 from typing import Sequence
 
-from saxtegun.commands import ORDERS, Refused
+from saxtegun.commands import Refused, add_playing
 from saxtegun.files import guard_output
-from saxtegun.playing import program_words, refusal, watched
+from saxtegun.playing import engine_of, refusal, watched
 from saxtegun.sessions import Entry, read_sessions
 
 USAGE = "lines [SESSIONS] [--order rows|columns] [--workers N] >lines"
@@ -19,9 +19,7 @@ USAGE = "lines [SESSIONS] [--order rows|columns] [--workers N] >lines"
 
 def add_words(words: ArgumentParser) -> None:
     words.add_argument("sessions", metavar="SESSIONS", nargs="?", default="-")
-    words.add_argument("--order", choices=ORDERS, default="columns", help="the order of cells of the recorded levels (columns)")
-    words.add_argument("--workers", metavar="N", type=int)
-    words.add_argument("--program", metavar="PROGRAM", help="play with this program")
+    add_playing(words)
 
 
 def entries_of(path: str) -> Sequence[Entry]:
@@ -35,7 +33,7 @@ def entries_of(path: str) -> Sequence[Entry]:
 def main(given: Namespace) -> int:
     guard_output(given.sessions)
     path = given.sessions if not given.sessions.startswith("-") else f"./{given.sessions}"
-    words = [*program_words(given.program), "--order", given.order, *(["--workers", str(given.workers)] if given.workers else [])]
+    words = engine_of(given).words()
     sys.stdout.flush()
     ran = watched([*words, path] if given.sessions != "-" else words, sys.stdout)
     if ran.status not in (0, 1):

@@ -21,7 +21,7 @@ from saxtegun.games import game_of
 from saxtegun.levels import Labels, in_rows, read_cells, width_of
 from saxtegun.levelsets import count_of_levels, entries_of_levels
 from saxtegun.lines import Frame
-from saxtegun.playing import runs_of, shown_beyond
+from saxtegun.playing import Engine, runs_of, shown_beyond
 from saxtegun.sessions import Entry, Input, Sessions, read_sessions
 from saxtegun.terminal import CLEAR, KEYS, lettered, painted
 from saxtegun.verbs.add import with_more
@@ -75,7 +75,7 @@ class Play:
         self.index = places[given.level - 1] if places else 0
         self.inputs: List[Input] = []
         self.frames: List[Frame] = []
-        run = runs_of([self.entry()], Sessions(given.game, "", []), program=given.program)[0]
+        run = runs_of([self.entry()], Sessions(given.game, "", []), Engine(program=given.program))[0]
         if run.cause is not None:
             sentence, below = told(run, self.entry(), game=given.game)
             raise Refused(f"{given.game} is not played: {sentence}" + (f": {below[0]}" if below else ""))
@@ -87,7 +87,7 @@ class Play:
     def press(self, key: Input) -> str:
         """Plays one more input; what there is to say of it."""
         self.inputs.append(key)
-        run = shown_beyond(self.entry(), len(self.frames), self.given.program)
+        run = shown_beyond(self.entry(), len(self.frames), Engine(workers=1, program=self.given.program))
         if run.cause:
             self.inputs.pop()
             return f"{cause_told(run.cause)}: the key is left out"

@@ -15,12 +15,12 @@ import tempfile
 from argparse import ArgumentParser, Namespace
 from typing import Dict, Optional, Tuple
 
-from saxtegun.commands import Refused, add_order, cut, fold, plural, printable, say
+from saxtegun.commands import Refused, add_order, cut, fold, plural, printable, say, workers_in
 from saxtegun.files import MARK, read_text
 from saxtegun.levels import Labels, read_cells
 from saxtegun.lines import Run
 from saxtegun.parting import Parting, below_of, parting_of, sentence_of
-from saxtegun.playing import play_file
+from saxtegun.playing import Engine, play_file
 from saxtegun.sessions import Entry, Sessions, chosen, read_sessions, with_source, written
 from saxtegun.shrinking import Programs, Shrinking, Way, cut_behind, way_of, ways_of
 
@@ -35,7 +35,7 @@ def add_words(words: ArgumentParser) -> None:
     words.add_argument("name", metavar="NAME")
     words.add_argument("folder", metavar="FOLDER", nargs="?", help="where the case is written (by the session's name)")
     words.add_argument("--game", metavar="GAME.txt", help="the text of recordings whose source is the empty text")
-    words.add_argument("--workers", metavar="N", type=int)
+    words.add_argument("--workers", metavar="N", type=workers_in)
     add_order(words)
 
 
@@ -72,7 +72,7 @@ def files_of_case(entry: Entry, given: Namespace, of: Sessions) -> Dict[str, byt
         path, lines = os.path.join(room, "input.json"), os.path.join(room, "lines")
         with open(path, "w", encoding="utf-8", newline="") as file:
             file.write(text)
-        status = play_file(path, lines, given.order, None, given.one, of._replace(entries=[entry])).status
+        status = play_file(path, lines, Engine(given.order, None, given.one), of._replace(entries=[entry])).status
         with open(lines, "rb") as shown:
             stdout = shown.read()
     args = "--order\nrows\n" if given.order == "rows" else ""
@@ -104,7 +104,7 @@ def main(given: Namespace) -> int:
     folder = given.folder or folder_of(given.name)
     if os.path.exists(folder):
         raise Refused(f"{folder} is there already")
-    programs = Programs(given.one, given.other, sessions, given.order, given.workers)
+    programs = Programs(given.one, given.other, sessions, Engine(given.order, given.workers))
     found = first_that_parts(programs, tuple(chosen(sessions, [given.name])))
     if found is None:
         print(f"{given.one} and {given.other} show the same")
