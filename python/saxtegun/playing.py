@@ -32,6 +32,7 @@ REFUSALS = {
 
 
 BUILT = TOP / "crates/pz_replayer/out/pz_replayer"
+RELEASED = TOP / "bin/pz_replayer"  # where a release has the program
 HAS_PLAYED: List[bool] = []
 
 
@@ -43,8 +44,8 @@ class Played(NamedTuple):
 
 
 def program_words(named: Optional[str] = None) -> List[str]:
-    """How the program is called: the one that is named, that of SAXTEGUN_PROGRAM, or ./replay, which builds it where it must."""
-    path = named or os.environ.get("SAXTEGUN_PROGRAM")
+    """How the program is called: the one that is named, that of SAXTEGUN_PROGRAM, that of a release, or ./replay, which builds it where it must."""
+    path = named or os.environ.get("SAXTEGUN_PROGRAM") or (str(RELEASED) if RELEASED.is_file() else None)
     if not path:
         # ./replay looks whether the program is that of the sources; what has played once in this process is
         return [str(BUILT)] if HAS_PLAYED else [str(TOP / "replay")]
