@@ -2,6 +2,7 @@
 import contextlib
 import io
 import json
+import os
 import random
 import unittest
 from unittest import mock
@@ -11,7 +12,9 @@ import tool  # puts the package on the path
 from saxtegun import calling
 from saxtegun.commands import Refused
 
-ROUNDS = 250
+FILES = 1000
+# So many of the files are read by verbs that start a program, which takes some time.
+PLAYED = 150
 LETTERS = '[]{}",:0123456789\\ue\n\x00\ufeff\u2028'
 
 
@@ -19,45 +22,99 @@ def mutated(data, chance):
     """The bytes with a few changed, or cut."""
     data = bytearray(data)
     for _ in range(chance.choice((1, 1, 2, 5, 30))):
-        at = chance.randrange(len(data))
+        at = chance.randrange(len(data)) if data else 0
         kind = chance.randrange(4)
         if kind == 0:
             data[at : at + chance.randrange(1, 9)] = b""
         elif kind == 1:
             data[at:at] = chance.choice(LETTERS).encode()
         elif kind == 2:
-            data[at] = chance.randrange(256)
+            data[at : at + 1] = bytes([chance.randrange(256)])
         else:
             del data[max(at, 20) : None if chance.randrange(8) == 0 else max(at, 20) + 1]
     return bytes(data)
 
 
 class Mutated(OnSessions):
+    def setUp(self):
+        super().setUp()
+        entries = json.loads(EXAMPLE.read_text(encoding="utf-8"))[3:]
+        lines = self.lines.read_bytes().splitlines()
+        # the last two sessions of the example, numbered from 0
+        of = {number: b"".join(it + b"\n" for it in lines if it.endswith(b'"session":%d}' % number)) for number in (3, 4)}
+        run = b"".join(it.replace(b'"session":%d}' % number, b'"session":%d}' % (number - 3)) for number, it in of.items())
+        self.good = {
+            "s.json": json.dumps(entries).encode(),
+            "l": run,
+            "game.txt": entries[0][1][0].encode(),
+            "bare.json": json.dumps([[name, ["", *rest]] for name, [_, *rest] in entries]).encode(),
+            "console.txt": b"".join(json.dumps(it).encode() + b",\n" for it in entries),
+            "parts/parts.txt": b'{"first": 0, "names": ["%b"]}\n{"first": 1, "names": ["%b"]}\n' % tuple(it[0].encode() for it in entries),
+            "parts/00000000.lines": of[3].replace(b'"session":3}', b'"session":0}'),
+            "parts/00000001.lines": of[4].replace(b'"session":4}', b'"session":0}'),
+            "shown": run,
+        }
+        (self.room / "parts").mkdir()
+        for name, data in self.good.items():
+            (self.room / name).write_bytes(data)
+        # a program that shows the same whatever it is given
+        self.program = self.write("program", f"#!/bin/sh\ncat {self.room}/shown\nexit 1\n")
+        self.program.chmod(0o755)
+
     def answer(self, *words):
         """The status of a verb, called within this process; a refusal is 2, and anything else that it raises fails the test."""
         output = io.StringIO()
-        with mock.patch("sys.argv", ["saxtegun", *map(str, words)]), contextlib.redirect_stdout(output), contextlib.redirect_stderr(io.StringIO()):
+        with mock.patch("sys.argv", ["saxtegun", *words]), contextlib.redirect_stdout(output), contextlib.redirect_stderr(io.StringIO()):
             try:
                 return calling.main()
             except Refused:
                 return 2
 
+    def read_mutated(self, uses, files, chance):
+        """Verbs on mutated files: `uses` maps a file to the words of verbs that read it. Answers how many were refused."""
+        refused = 0
+        before = os.getcwd()
+        os.chdir(self.room)
+        try:
+            for _ in range(files):
+                name = chance.choice(sorted(uses))
+                (self.room / name).write_bytes(mutated(self.good[name], chance))
+                words = chance.choice(uses[name]).split()
+                with self.subTest(name=name, words=words):
+                    status = self.answer(*words)
+                    self.assertIn(status, (0, 1, 2))
+                    refused += status == 2
+                (self.room / name).write_bytes(self.good[name])
+                for made in ("new", "more.json"):
+                    tool.shutil.rmtree(made, ignore_errors=True)
+        finally:
+            os.chdir(before)
+        return refused
+
     def test_no_mutated_file_gives_a_traceback(self):
-        chance, refused = random.Random(7), 0
-        small = json.dumps(json.loads(EXAMPLE.read_text(encoding="utf-8"))[3:]).encode()
-        lines = self.lines.read_bytes()
-        kept = b"".join(it + b"\n" for it in lines.splitlines() if b'"session":3}' in it or b'"session":4}' in it)
-        kept = kept.replace(b'"session":3}', b'"session":0}').replace(b'"session":4}', b'"session":1}')
-        for _ in range(ROUNDS):
-            sessions, run = self.room / "s.json", self.room / "l"
-            is_of_sessions = chance.random() < 0.5
-            sessions.write_bytes(mutated(small, chance) if is_of_sessions else small)
-            run.write_bytes(kept if is_of_sessions else mutated(kept, chance))
-            for words in (("explain", sessions, run), ("junit", sessions, run), ("accept", sessions, run), ("testdata", sessions), ("compare", run, self.lines)):
-                status = self.answer(*words)
-                self.assertIn(status, (0, 1, 2))
-                refused += status == 2
-        self.assertGreater(refused, ROUNDS)
+        of_both = ["explain s.json l", "report s.json l", "junit s.json l", "accept s.json l", "accept s.json l --only half*"]
+        uses = {
+            "s.json": [*of_both, "testdata s.json", "split s.json 2 new", "source game.txt s.json --all", "compare l l s.json"],
+            "l": [*of_both, "junit l", "compare l shown", "compare shown l s.json --report page"],
+            "game.txt": ["source game.txt s.json"],
+            "console.txt": ["testdata console.txt"],
+            "parts/parts.txt": ["join parts"],
+            "parts/00000000.lines": ["join parts"],
+            "parts/00000001.lines": ["join parts"],
+        }
+        self.assertGreater(self.read_mutated(uses, FILES - PLAYED, random.Random(7)), 300)
+
+    def test_no_mutated_file_that_is_played_gives_a_traceback(self):
+        program = "--program program"
+        of_lines = [f"test s.json {program} --report page --junit xml --markdown md --github", f"lines s.json {program}", f"add s.json console.txt {program}", f"coverage s.json {program}"]
+        uses = {
+            "s.json": of_lines,
+            "shown": [*of_lines, "shrink program program s.json half* new", "compare --engines program program s.json"],
+            "game.txt": [f"test game.txt bare.json {program}", f"coverage game.txt bare.json {program}"],
+            "bare.json": [f"test game.txt bare.json {program}"],
+            "console.txt": [f"add more.json console.txt {program} --anyway"],
+        }
+        self.assertGreater(self.read_mutated(uses, PLAYED, random.Random(8)), 20)
 
 
 if __name__ == "__main__":

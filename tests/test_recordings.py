@@ -55,7 +55,7 @@ class Accept(OnSessions):
 
     def test_a_session_that_was_not_played_to_its_end_is_left(self):
         sessions, lines = case("nine-sessions-with-workers-1")
-        answer = run("accept", sessions, lines)
+        answer = run("accept", sessions, lines, "--order", "rows")
         old, new = json.loads(sessions.read_text(encoding="utf-8")), json.loads(answer.out)
         self.assertEqual(answer.status, 0)
         self.assertEqual([number for number in range(9) if old[number] != new[number]], [1])
@@ -86,8 +86,19 @@ class Accept(OnSessions):
     def test_lines_of_the_other_order_are_not_accepted(self):
         sessions, lines = case("a-column-text-differs-with-order-rows")
         answer = run("accept", sessions, lines, "--order", "rows", "--only", "a")
-        self.assertEqual((answer.status, answer.out), (1, sessions.read_text(encoding="utf-8")))
-        self.assertIn("in the other order than rows: play it in the order that it was recorded in", answer.errors)
+        self.assert_refused(answer, "in the other order than rows: play it in the order that it was recorded in; nothing is accepted")
+
+    def test_lines_that_begin_in_the_other_order_are_refused(self):
+        for verb in ("accept", "explain", "report", "junit"):
+            refused = run(verb, EXAMPLE, self.lines, "--order", "rows")
+            self.assert_refused(refused, "session 0 was played in the order columns, as its first frame shows, and not in the order rows")
+
+    def test_lines_over_another_source_are_not_accepted(self):
+        entries = json.loads(EXAMPLE.read_text(encoding="utf-8"))
+        entries[0][1][0] = entries[0][1][0].replace("#.O#..", "#..#..")
+        sessions = self.write("sessions.json", json.dumps(entries))
+        self.assert_refused(run("accept", sessions, self.lines), "session 0 doesn't begin with the level that its source draws: it was played over another source")
+        self.assertEqual(run("explain", sessions, self.lines).status, 0)
 
     def test_one_after_the_other_is_shown_and_asked(self):
         for answers, changed in (("y\n", 1), ("n\n", 0), ("\nwhat\na\n", 1), ("q\n", 0), ("", 0)):

@@ -10,9 +10,10 @@ from xml.etree import ElementTree
 from day import EXAMPLE, OnSessions
 from strangers import NAMES
 from tool import TOP, environment, plays, run
-from saxtegun.culprits import loops_in, outside_told, unknown_told
+from saxtegun.culprits import loops_told, repeated_in, outside_told, unknown_told
 from saxtegun.games import Game
-from saxtegun.levelsets import count_of_levels, entries_of_levels, first_level
+from saxtegun.lines import Frame, Run
+from saxtegun.levelsets import count_of_levels, entries_of_levels, first_level, still_in
 from saxtegun.sessions import sessions_in
 from saxtegun.telling import Failure, annotation, for_a_ci, markdown
 
@@ -70,7 +71,7 @@ class DayOfTests(OfAGame):
     def test_a_session_that_ends_in_another_level_says_so(self):
         first = [self.entries[0][0], ["", [], self.entries[0][1][2]]]
         answer = run("test", self.game, self.write_entries([first]))
-        self.assertIn("still in level 1, and recorded is level 2", answer.out)
+        self.assertIn("still in level 1, and the recorded level looks like level 2", answer.out)
         self.assertNotIn("column ", answer.out)
 
     def test_a_filter_picks_sessions_and_must_pick_some(self):
@@ -96,7 +97,7 @@ class DayOfTests(OfAGame):
         self.with_rule(f"startloop\n{RULE}\n[ > Player ] -> [ < Player ]\n[ < Player ] -> [ > Player ]\nendloop")
         number = 1 + self.source[: self.source.index(RULE)].count("\n")
         answer = run("test", self.game, self.write_entries(self.entries[:1]))
-        self.assertIn(f" at input 0 ({('up', 'left', 'down', 'right')[self.entries[0][1][1][0]]}); it may be the loop of lines {number} to {number + 4}", answer.out)
+        self.assertIn(f" at input 0 ({('up', 'left', 'down', 'right')[self.entries[0][1][1][0]]}); it is the rule on line {number + 2}", answer.out)
 
     def test_files_for_a_ci_are_written(self):
         junit, page, summary = (self.room / name for name in ("junit.xml", "report.html", "summary.md"))
@@ -169,7 +170,14 @@ class Words(OfAGame):
 
     def test_loops_and_groups_are_told_by_their_lines(self):
         source = "RULES\n[ a ] -> [ b ]\n+ [ b ] -> [ a ]\nstartloop\n[ a ] -> [ b ]\nendloop\n[ c ] -> [ ]\n+ [ d ] -> [ ]\n+ [ e ] -> [ ]\n"
-        self.assertEqual(loops_in(source), ["the group of lines 2 to 3", "the loop of lines 4 to 6", "the group of lines 7 to 9"])
+        told = ["the group of lines 2 to 3", "the rule on line 5", "the loop of lines 4 to 6", "the group of lines 7 to 9"]
+        self.assertEqual([str(it) for it in repeated_in(source)], told)
+        self.assertEqual(loops_told(source), f"; it may be {told[0]}, {told[2]}, {told[3]}, or a rule by itself")
+
+    def test_what_alone_is_repeated_is_surely_meant(self):
+        self.assertEqual(loops_told("RULES\n[ a ] -> [ b ]\n+ [ b ] -> [ a ]\nLEVELS\n"), "; it is the group of lines 2 to 3")
+        self.assertEqual(loops_told("RULES\n[ a ] -> [ b ]\n"), "; it is the rule on line 2")
+        self.assertEqual(loops_told("RULES\n[ a ] -> [ b ]\n[ b ] -> [ a ]\n"), "")
 
     def test_levels_are_counted_without_messages(self):
         source = "LEVELS\n\nmessage one\n\n##\n#.\n\n\n..\nmessage two\n..\n"
@@ -177,6 +185,14 @@ class Words(OfAGame):
         self.assertEqual(count_of_levels(source), 3)
         entry = sessions_in("x", json.dumps([["a", [source, [], "", 3]]])).entries[0]
         self.assertEqual(first_level(entry), 3)
+
+    def test_another_level_is_surely_meant_where_no_other_has_its_size(self):
+        for levels, told in (("#p.\n\n#p..\n", "is"), ("#p.\n\n##p\n", "looks like")):
+            source = "OBJECTS\nBackground .\na\nWall #\na\nPlayer p\na\nLEGEND\nCOLLISIONLAYERS\nBackground\nPlayer, Wall\nLEVELS\n" + levels
+            recorded = "background wall:0,0,background player:1," if told != "is" else "background wall:0,background player:1,background:2,2,"
+            [entry] = sessions_in("x", json.dumps([["a", [source, [], recorded]]])).entries
+            run_of_it = Run(0, "a", "differs", None, [Frame(0, "start", "background wall:0,background player:1,background:2,")])
+            self.assertEqual(still_in(entry, run_of_it, "rows"), f"still in level 1, and the recorded level {told} level 2")
 
     def test_no_line_of_a_game_is_a_command_of_a_ci(self):
         for line in ("::error::", "   ::set-output name=a::", "##[error]x", "a ##[group]"):

@@ -13,6 +13,9 @@ class Refused(Exception):
 
 SMALL = {ord(letter): letter.lower() for letter in "ABCDEFGHIJKLMNOPQRSTUVWXYZ"}
 ORDERS = ("rows", "columns")
+# So many letters of a name or a line of a source are told.
+MOST_LETTERS = 200
+MOST_WORKERS = 64
 
 
 def fold(text: str) -> str:
@@ -25,6 +28,11 @@ def printable(text: str) -> str:
     if text.isprintable():
         return text
     return "".join(letter if letter.isprintable() else f"\\u{{{ord(letter):x}}}" for letter in text)
+
+
+def cut(text: str) -> str:
+    """A text of a stranger that is read in a line among others: its beginning, where it is long."""
+    return text if len(text) <= MOST_LETTERS else f"{text[:MOST_LETTERS]}.."
 
 
 def plural(count: int, word: str) -> str:
@@ -64,6 +72,20 @@ def add_order(words: argparse.ArgumentParser) -> None:
     words.add_argument("--order", choices=ORDERS, default="columns", help="the order of cells that the lines have (columns)")
 
 
+def workers_in(word: str) -> int:
+    """A number of workers, as the program takes it."""
+    if not (word.isascii() and word.isdigit() and 1 <= int(word[-9:]) <= MOST_WORKERS and len(word) < 9):
+        raise argparse.ArgumentTypeError(f"a number from 1 to {MOST_WORKERS} is wanted")
+    return int(word)
+
+
+def add_playing(words: argparse.ArgumentParser) -> None:
+    """The words of verbs that play: in which order, by how many workers, and with which program."""
+    add_order(words)
+    words.add_argument("--workers", metavar="N", type=workers_in, help="so many threads play (2)")
+    words.add_argument("--program", metavar="PROGRAM", help="play with this program (./replay, or what SAXTEGUN_PROGRAM names)")
+
+
 def silence(stream: TextIO, descriptor: int) -> None:
     """Puts nothing in the place of a stream that can't be written any more, not even at the end."""
     try:
@@ -79,6 +101,12 @@ def serve(name: str, main: Callable[[], int]) -> NoReturn:
         if hasattr(stream, "reconfigure"):
             stream.reconfigure(encoding="utf-8", newline="\n", errors="backslashreplace")
     status = 2
+    if sys.stderr is None:
+        # the lowest number that is free is that of what is closed
+        sys.stderr = open(os.devnull, "w", encoding="utf-8")
+    if sys.stdout is None:
+        fail(name, "standard output is closed")
+        sys.exit(2)
     try:
         status = main()
         sys.stdout.flush()

@@ -3,9 +3,9 @@ from __future__ import annotations
 
 import re
 from difflib import get_close_matches
-from typing import List, Optional, Set
+from typing import List, NamedTuple, Optional, Set
 
-from saxtegun.commands import fold
+from saxtegun.commands import cut, fold
 from saxtegun.games import Game
 from saxtegun.sources import Line, lines_of, words_of
 
@@ -43,7 +43,7 @@ def unknown_told(source: str, game: Game, number: int) -> str:
     told = []
     for word in unknown_in(source, game, number):
         near = get_close_matches(fold(word), sorted(names_in(game)), 1, 0.6)
-        told.append(f"`{word}`" + (f" (near: `{near[0]}`)" if near else ""))
+        told.append(f"`{cut(word)}`" + (f" (near: `{cut(near[0])}`)" if near else ""))
     return f": {', '.join(told)}" if told else ""
 
 
@@ -55,29 +55,46 @@ def outside_told(source: str, number: int) -> str:
     return f"`{found[0]}`" if found else "a row with two `...`" if line.count("...") > 1 else ""
 
 
-def loops_in(source: str) -> List[str]:
-    """The loops of a source and its groups of several lines, by their lines."""
-    found: List[str] = []
+class Repeated(NamedTuple):
+    """What is repeated until it changes nothing: a loop, a group of several rules, or a rule by itself; by its lines, and whether it is in a loop."""
+
+    first: int
+    last: int
+    is_loop: bool
+    is_in_loop: bool
+
+    def __str__(self) -> str:
+        if self.is_loop:
+            return f"the loop of lines {self.first} to {self.last}"
+        return f"the rule on line {self.first}" if self.first == self.last else f"the group of lines {self.first} to {self.last}"
+
+
+def repeated_in(source: str) -> List[Repeated]:
+    """The loops, groups and rules of a source, a loop behind what stands in it."""
+    found: List[Repeated] = []
     begin: Optional[int] = None
-    group: List[Line] = []
+    group: List[int] = []
     for line in [*(it for it in lines_of(source) if it.section == "rules" and it.text), Line(0, "rules", "")]:
         word = fold(line.text)
         if not line.text.startswith("+"):
-            if len(group) > 1:
-                found.append(f"the group of lines {group[0].number} to {group[-1].number}")
+            if group:
+                found.append(Repeated(group[0], group[-1], False, begin is not None))
             group = []
         if word == "startloop":
             begin = line.number
         elif word == "endloop" and begin is not None:
-            found.append(f"the loop of lines {begin} to {line.number}")
+            found.append(Repeated(begin, line.number, True, False))
             begin = None
         else:
-            group.append(line)
+            group.append(line.number)
     return found
 
 
 def loops_told(source: str) -> str:
-    """Which loops and groups there are, for a session that hung in one."""
-    loops = loops_in(source)
+    """In what a session hung, where there is one thing alone that is repeated; else which loops and groups there are."""
+    repeated = repeated_in(source)
+    if len(repeated) == 1:
+        return f"; it is {repeated[0]}"
+    loops = [str(it) for it in repeated if it.first < it.last]
     more = f" and {len(loops) - MOST_LINES} more" if len(loops) > MOST_LINES else ""
     return f"; it may be {', '.join(loops[:MOST_LINES])}{more}, or a rule by itself" if loops else ""

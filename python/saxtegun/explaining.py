@@ -5,7 +5,7 @@ from collections import Counter
 from typing import Iterable, List, Optional, Tuple, Union
 
 from saxtegun import culprits, levelsets
-from saxtegun.commands import plural, printable
+from saxtegun.commands import cut, plural, printable
 from saxtegun.games import Game, game_of
 from saxtegun.lines import Run
 from saxtegun.sessions import Entry
@@ -71,7 +71,7 @@ def source_line(source: str, number: int) -> Optional[str]:
 
 
 def cell_told(names: Iterable[str]) -> str:
-    return " ".join(names) or "nothing"
+    return cut(" ".join(names)) or "nothing"
 
 
 class Ending:
@@ -163,15 +163,15 @@ def input_told(it: Union[int, str]) -> str:
     return it if isinstance(it, str) else ("up", "left", "down", "right", "action")[it]
 
 
-def told(run: Run, entry: Optional[Entry] = None, order: str = "columns", game: str = "") -> Tuple[str, List[str]]:
+def told(run: Run, entry: Optional[Entry] = None, order: str = "columns", game: str = "", hung: str = "") -> Tuple[str, List[str]]:
     """What a session that did not pass came to: a sentence, and lines below it. Without its entry only what its lines say. `game` is the file
-    of its source, where it has one."""
+    of its source, where it has one, and `hung` tells where it hung, where that was found out by playing."""
     if run.cause is not None:
         fault = fault_in(run.cause)
         line = source_line(entry.source, fault[1]) if entry and fault else None
         place = f"{game}:{fault[1]}" if game and fault else f"line {fault[1]}" if fault else ""
-        below = [f"{place}: {line}"] if line is not None else []
-        culprit = culprit_told(entry, run) if entry else ""
+        below = [f"{place}: {cut(line)}"] if line is not None else []
+        culprit = hung or (culprit_told(entry, run) if entry else "")
         return f"{cause_told(run.cause)}{culprit} ({run.cause}); {plural(len(run.frames), 'frame')}", below
     if run.close == "passed":
         return plural(len(run.frames), "frame"), []
@@ -194,4 +194,4 @@ def summary(closes: Iterable[str]) -> str:
 
 
 def heading(run: Run) -> str:
-    return printable(f"session {run.number}, {run.name}: {run.close}")
+    return printable(f"session {run.number}, {cut(run.name)}: {run.close}")

@@ -5,7 +5,7 @@ import os
 import stat
 import sys
 import tempfile
-from typing import BinaryIO, Iterator, Tuple
+from typing import BinaryIO, Iterator, Optional, Sequence, Tuple
 
 from saxtegun.commands import Refused
 
@@ -14,6 +14,8 @@ MARK = "\ufeff"
 
 def opened(path: str) -> BinaryIO:
     """A file, or standard input where the path is `-`."""
+    if path == "-" and sys.stdin is None:
+        raise Refused("standard input is closed")
     try:
         return sys.stdin.buffer if path == "-" else open(path, "rb")
     except (OSError, ValueError) as why:
@@ -47,6 +49,17 @@ def guard_output(*paths: str) -> None:
     for path in paths:
         if path != "-" and os.path.exists(path) and stat.S_ISREG(output.st_mode) and os.path.samestat(output, os.stat(path)):
             raise Refused(f"standard output is {path}, which is read: write to another file, or say --in-place where a verb has it")
+
+
+def guard_files(written: Sequence[Optional[str]], read: Sequence[str]) -> None:
+    """Refuses to write a file that is read, or two things into one file. A device takes what comes."""
+    known = {os.path.realpath(it): "is read" for it in read if it != "-"}
+    for path in (it for it in written if it):
+        place = os.path.realpath(path)
+        if place in known:
+            raise Refused(f"{path} {known[place]}: write to another file")
+        if not os.path.exists(place) or os.path.isfile(place):
+            known[place] = "is written already"
 
 
 def write_whole(path: str, text: str) -> None:

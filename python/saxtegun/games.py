@@ -7,7 +7,7 @@ import re
 from functools import lru_cache
 from typing import Dict, FrozenSet, Iterable, List, NamedTuple, Optional, Sequence, Set, Tuple
 
-from saxtegun.commands import fold
+from saxtegun.commands import cut, fold
 from saxtegun.sources import SPACE, lines_of, trimmed, words_of
 
 PALETTE = {
@@ -66,7 +66,7 @@ class Game:
         for line in lines:
             keyword, value = (*SPACE.split(line, 1), "")[:2]
             if fold(keyword) == "title":
-                self.title = trimmed(value)
+                self.title = cut(trimmed(value))
             elif fold(keyword) == "background_color":
                 self.ground = self.colour_of(fold(trimmed(value))) or self.ground
             elif fold(keyword) == "color_palette" and fold(trimmed(value)) not in DEFAULT_PALETTE:

@@ -9,6 +9,8 @@ from saxtegun.commands import fold
 DIGITS = re.compile("[0-9]+")
 # more cells than any level has, by digits
 MOST_DIGITS = 9
+# so many cells are compared at once
+STRETCH = 32
 
 
 class Labels:
@@ -50,8 +52,35 @@ def read_piece(piece: str, numbered: List[int], labels: Labels) -> Optional[int]
     return numbered[number]
 
 
+def read_written(text: str, labels: Labels) -> Optional[List[int]]:
+    """The cells of a level text, each by its label, where it is spelt as the program spells it; else None. Cut at its colons it falls into
+    parts, which begin with the number that the colon gives; up to the next colon no others are known than those given so far."""
+    if "\r" in text:
+        return None
+    names, *parts = text.replace("\n", "").split(":")
+    known: Dict[str, int] = {}
+    cells: List[int] = []
+    for number, part in enumerate(parts):
+        pieces = part.split(",")
+        if pieces[0] != str(number) or len(pieces) == 1 or "," in names:
+            return None
+        known[pieces[0]] = labels.of(names)
+        names = pieces.pop()
+        try:
+            cells += map(known.__getitem__, pieces)
+        except KeyError:
+            return None
+    return None if names else cells
+
+
 def read_cells(text: str, labels: Labels) -> Optional[List[int]]:
     """The cells of a level text, each by its label, or None where it is no level text."""
+    written = read_written(text, labels)
+    return written if written is not None else read_pieces(text, labels)
+
+
+def read_pieces(text: str, labels: Labels) -> Optional[List[int]]:
+    """As `read_cells`, piece by piece, however it is spelt."""
     pieces = text.replace("\n", "").replace("\r", "").split(",")
     if pieces.pop():
         return None
@@ -93,5 +122,10 @@ def in_rows(order: str, width: int, cells: List[int]) -> List[List[int]]:
 
 
 def differing(cells: Sequence[int], others: Sequence[int]) -> List[int]:
-    """The numbers of the cells that differ, where both levels have equally many."""
-    return [number for number, (one, other) in enumerate(zip(cells, others)) if one != other]
+    """The numbers of the cells that differ, where both levels have equally many. Most stretches of cells don't, and are compared at once."""
+    found: List[int] = []
+    for begin in range(0, len(cells), STRETCH):
+        one, other = cells[begin : begin + STRETCH], others[begin : begin + STRETCH]
+        if one != other:
+            found += [number for number, pair in enumerate(zip(one, other), begin) if pair[0] != pair[1]]
+    return found

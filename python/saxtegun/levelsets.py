@@ -47,6 +47,31 @@ def count_of_levels(source: str) -> int:
     return sum(1 for it in entries_of_levels(source) if it.rows)
 
 
+@lru_cache(maxsize=64)
+def drawn_columns(source: str, index: int) -> Optional[Tuple[Cells, ...]]:
+    """The level that a session begins in, column by column, as the letters of the source draw it; None where there is none."""
+    rows = next((it.rows for it in entries_of_levels(source)[index:] if it.rows), None)
+    if rows is None:
+        return None
+    game = game_of(source)
+    layers = {it.name: it.layer for it in game.objects}
+    width = len(rows[0])
+    columns = list(zip(*(row.ljust(width, row[-1])[:width] for row in rows)))
+    # of one layer the last object stands
+    of = {letter: frozenset({layers.get(name): name for name in game.members(fold(letter))}.values()) for letter in set().union(*columns)}
+    grounds = [name for column in columns for letter in column for name in game.grounds & of[letter]]
+    ground = grounds[0] if grounds else next(iter(game.members("background")), "background")
+    return tuple(tuple(of[it] if of[it] & game.grounds else of[it] | {ground} for it in column) for column in columns)
+
+
+def drawn_start(entry: Entry, order: str) -> Optional[Cells]:
+    """The cells of the level that a session begins in, in an order."""
+    columns = drawn_columns(entry.source, entry.index)
+    if columns is None:
+        return None
+    return tuple(cell for row in (zip(*columns) if order == "rows" else columns) for cell in row)
+
+
 def wins_of(run: Run) -> int:
     """How many levels a session has won, as far as a next one was loaded."""
     return sum(1 for it in run.frames if it.kind == "load")
@@ -64,8 +89,16 @@ def similarity(entry: Entry, level: Drawn, cells: Sequence[FrozenSet[str]], widt
     return sum(1 for letter, cell in zip(letters, cells) if of[letter] <= cell and not (cell - of[letter] - game.grounds))
 
 
-def level_of_recorded(entry: Entry, order: str) -> Optional[int]:
-    """The number of the level that the recorded one is most like, where one is more like it than any other."""
+class Guess(NamedTuple):
+    """The number of a level, and whether it is sure."""
+
+    level: int
+    is_sure: bool
+
+
+def level_of_recorded(entry: Entry, order: str) -> Optional[Guess]:
+    """The level that the recorded one is of: surely where one level alone has so many cells, since play changes no size; else the one that it is
+    most like, where one is more like it than any other."""
     labels = Labels()
     read = read_cells(entry.level, labels)
     if not read:
@@ -73,14 +106,18 @@ def level_of_recorded(entry: Entry, order: str) -> Optional[int]:
     width = width_of(entry.level, len(read))
     cells = [frozenset(labels.names[it]) for it in read]
     drawn = [it for it in entries_of_levels(entry.source) if it.rows]
+    sizes = [len(it.rows) * len(it.rows[0]) for it in drawn]
+    if sizes.count(len(cells)) == 1:
+        return Guess(sizes.index(len(cells)) + 1, True)
     likeness = [similarity(entry, it, cells, width, order) for it in drawn]
     best = max(likeness, default=-1)
-    return likeness.index(best) + 1 if best > 0 and likeness.count(best) == 1 else None
+    return Guess(likeness.index(best) + 1, False) if best > 0 and likeness.count(best) == 1 else None
 
 
 def still_in(entry: Entry, run: Run, order: str) -> Optional[str]:
-    """That a session ended in another level than its recording, in words, or None."""
+    """That a session ended in another level than its recording, in words, or None. Where it is, playing shows: a level is loaded at each win."""
     recorded, reached = level_of_recorded(entry, order), first_level(entry) + wins_of(run)
-    if recorded is None or recorded == reached:
+    if recorded is None or recorded.level == reached:
         return None
-    return f"{'still' if reached < recorded else 'already'} in level {reached}, and recorded is level {recorded}"
+    is_of = "is" if recorded.is_sure else "looks like"
+    return f"{'still' if reached < recorded.level else 'already'} in level {reached}, and the recorded level {is_of} level {recorded.level}"

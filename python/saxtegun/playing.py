@@ -5,13 +5,15 @@ import os
 import re
 import subprocess
 import tempfile
+from argparse import Namespace
 from contextlib import contextmanager
 from pathlib import Path
-from typing import Iterator, List, NamedTuple, Optional, Sequence
+from typing import IO, Any, Iterator, List, NamedTuple, Optional, Sequence
 
-from saxtegun.commands import Refused
+from saxtegun.belonging import Tests, read_runs
+from saxtegun.commands import Refused, plural, say
 from saxtegun.files import write_whole
-from saxtegun.lines import Run, read_runs
+from saxtegun.lines import Run, frame_of, line_of, runs_in
 from saxtegun.sessions import Entry, Sessions, written
 
 TOP = Path(__file__).resolve().parent.parent.parent
@@ -30,6 +32,7 @@ REFUSALS = {
 
 
 BUILT = TOP / "crates/pz_replayer/out/pz_replayer"
+RELEASED = TOP / "bin/pz_replayer"  # where a release has the program
 HAS_PLAYED: List[bool] = []
 
 
@@ -41,14 +44,30 @@ class Played(NamedTuple):
 
 
 def program_words(named: Optional[str] = None) -> List[str]:
-    """How the program is called: the one that is named, that of SAXTEGUN_PROGRAM, or ./replay, which builds it where it must."""
-    path = named or os.environ.get("SAXTEGUN_PROGRAM")
+    """How the program is called: the one that is named, that of SAXTEGUN_PROGRAM, that of a release, or ./replay, which builds it where it must."""
+    path = named or os.environ.get("SAXTEGUN_PROGRAM") or (str(RELEASED) if RELEASED.is_file() else None)
     if not path:
         # ./replay looks whether the program is that of the sources; what has played once in this process is
         return [str(BUILT)] if HAS_PLAYED else [str(TOP / "replay")]
     if not os.path.isfile(path) or not os.access(path, os.X_OK):
         raise Refused(f"there is no program at {path!r}")
     return [os.path.abspath(path)]
+
+
+class Engine(NamedTuple):
+    """How sessions are played: in which order of cells, by how many workers (None: as many as the program takes), with which program (None: ours)."""
+
+    order: str = "columns"
+    workers: Optional[int] = None
+    program: Optional[str] = None
+
+    def words(self) -> List[str]:
+        return [*program_words(self.program), "--order", self.order, *(["--workers", str(self.workers)] if self.workers else [])]
+
+
+def engine_of(given: Namespace) -> Engine:
+    """The engine that the words of a verb name."""
+    return Engine(given.order, given.workers, given.program)
 
 
 def refusal(said: str, path: str, entries: Sequence[Entry] = ()) -> str:
@@ -63,53 +82,88 @@ def refusal(said: str, path: str, entries: Sequence[Entry] = ()) -> str:
     return f"{path} was not played: {told} ({line})"
 
 
-def play_file(path: str, lines: str, order: str = "columns", workers: Optional[int] = None, program: Optional[str] = None, of: Optional[Sessions] = None) -> Played:
-    """Plays a sessions file, and leaves its lines in a file. Refused where there is no whole output."""
-    words = [*program_words(program), "--order", order, *(["--workers", str(workers)] if workers else []), path]
+class Ran(NamedTuple):
+    """How a program ended, and the last line that it said on standard error."""
+
+    status: int
+    said: str
+
+
+def watched(words: Sequence[str], output: IO[Any], stdin: Optional[int] = None) -> Ran:
+    """Runs a program. What it says before its last line, as ./replay does while it builds, is handed on at once."""
+    last = ""
     try:
-        with open(lines, "wb") as file:
-            ran = subprocess.run(words, stdin=subprocess.DEVNULL, stdout=file, stderr=subprocess.PIPE, check=False)
+        with subprocess.Popen(words, stdin=stdin, stdout=output, stderr=subprocess.PIPE) as ran:
+            assert ran.stderr is not None
+            for line in ran.stderr:
+                if last:
+                    say(last)
+                last = line.decode("utf-8", "replace").rstrip("\n")
     except OSError as why:
         raise Refused(f"{words[0]} can't be run: {why.strerror}") from None
-    if ran.returncode in (0, 1) and BUILT.is_file() and not HAS_PLAYED:
+    if ran.returncode in (0, 1) and last:
+        say(last)
+    return Ran(ran.returncode, last)
+
+
+def play_file(path: str, lines: str, engine: Engine, of: Optional[Sessions] = None) -> Played:
+    """Plays a sessions file, and leaves its lines in a file. Refused where there is no whole output."""
+    words = [*engine.words(), path]
+    try:
+        with open(lines, "wb") as file:
+            ran = watched(words, file, subprocess.DEVNULL)
+    except OSError as why:
+        raise Refused(f"{lines} can't be written: {why.strerror}") from None
+    if ran.status in (0, 1) and BUILT.is_file() and not HAS_PLAYED:
         HAS_PLAYED.append(True)
-    if ran.returncode not in (0, 1):
-        raise Refused(refusal(ran.stderr.decode("utf-8", "replace"), of.path if of else path, of.entries if of else ()))
-    return Played(lines, ran.returncode)
+    if ran.status not in (0, 1):
+        raise Refused(refusal(ran.said, of.path if of else path, of.entries if of else ()))
+    return Played(lines, ran.status)
 
 
 @contextmanager
-def playing(entries: Sequence[Entry], of: Sessions, order: str = "columns", workers: Optional[int] = None, program: Optional[str] = None) -> Iterator[Played]:
+def playing(entries: Sequence[Entry], of: Sessions, engine: Engine) -> Iterator[Played]:
     """Plays entries; the lines are there as long as this lasts."""
     with tempfile.TemporaryDirectory(prefix="saxtegun-") as room:
         path = os.path.join(room, "sessions.json")
         write_whole(path, written(entries))
-        yield play_file(path, os.path.join(room, "lines"), order, workers, program, of._replace(entries=list(entries)))
+        yield play_file(path, os.path.join(room, "lines"), engine, of._replace(entries=list(entries)))
 
 
-def runs_of(entries: Sequence[Entry], of: Sessions, order: str = "columns", workers: Optional[int] = None, program: Optional[str] = None) -> List[Run]:
+def runs_of(entries: Sequence[Entry], of: Sessions, engine: Engine) -> List[Run]:
     """What playing entries shows, numbered from 0 as they stand here."""
-    with playing(entries, of, order, workers, program) as played:
-        return [*read_runs(played.lines)]
+    with playing(entries, of, engine) as played:
+        runs = [run for _, run in runs_in(played.lines)]
+    names = [it.name for it in entries]
+    if [it.name for it in runs] != names:
+        raise Refused(f"{of.path} was not played: the program closed other sessions than the {len(names)} that it was given")
+    return runs
 
 
-def lines_beyond(entry: Entry, known: int, program: Optional[str] = None) -> List[str]:
-    """The lines of a session behind the first ones, which are known: its frames, and its close as the last."""
-    words = [*program_words(program), "--workers", "1"]
+def shown_beyond(entry: Entry, known: int, engine: Engine) -> Run:
+    """What a session shows behind its first frames, which are known, and how it is closed."""
+    words = engine.words()
     try:
         ran = subprocess.run(words, input=written([entry]).encode(), stdout=subprocess.PIPE, stderr=subprocess.PIPE, check=False)
     except OSError as why:
         raise Refused(f"{words[0]} can't be run: {why.strerror}") from None
     if ran.returncode not in (0, 1):
         raise Refused(refusal(ran.stderr.decode("utf-8", "replace"), entry.name, [entry]))
-    return ran.stdout.decode().split("\n")[known:-1]
+    lines = ran.stdout.decode("utf-8", "replace").split("\n")[known:-1]
+    path = "what the program wrote"
+    values = [line_of(path, number, it) for number, it in enumerate(lines, known + 1)]
+    frames = [it for it in map(frame_of, values[:-1]) if it is not None]
+    if not values or len(frames) != len(values) - 1 or "close" not in values[-1]:
+        raise Refused(f"{path} is no session of more than {plural(known, 'frame')}")
+    return Run(0, entry.name, values[-1]["close"], values[-1].get("cause"), frames)
 
 
 @contextmanager
-def lines_or_played(sessions: Sessions, lines: Optional[str], order: str) -> Iterator[Iterator[Run]]:
-    """The runs of lines that are there, or else of the sessions, which are played now."""
+def lines_or_played(sessions: Sessions, lines: Optional[str], engine: Engine, is_drawn: bool = False) -> Iterator[Iterator[Run]]:
+    """The runs of lines that are there, or else of the sessions, which are played now. `is_drawn`: lines that are there are refused too where a
+    session doesn't begin with the level that its source draws."""
     if lines is not None:
-        yield read_runs(lines, sessions)
+        yield read_runs(lines, sessions, Tests(order=engine.order, is_drawn=is_drawn))
     else:
-        with playing(sessions.entries, sessions, order) as played:
+        with playing(sessions.entries, sessions, engine) as played:
             yield read_runs(played.lines, sessions)

@@ -6,7 +6,7 @@ import re
 from fnmatch import fnmatchcase
 from typing import Any, Dict, List, NamedTuple, NoReturn, Optional, Sequence, Tuple, Union
 
-from saxtegun.commands import Refused
+from saxtegun.commands import Refused, cut
 from saxtegun.files import MARK, read_text
 
 SPACE = re.compile(r"[ \t\n\r]*")
@@ -25,7 +25,7 @@ class Entry(NamedTuple):
     source: str
     inputs: List[Input]
     level: str
-    index: int
+    index: int  # type: ignore[assignment]  # the word of docs/sessions.md, which a tuple has for something else
     spans: Dict[str, Tuple[int, int]]
     is_solved_wanted: bool
 
@@ -150,7 +150,7 @@ def chosen(sessions: Sessions, patterns: Optional[Sequence[str]]) -> List[Entry]
         return sessions.entries
     for pattern in patterns:
         if not any(fits(entry.name, pattern) for entry in sessions.entries):
-            raise Refused(f"{sessions.path} has no session named {pattern!r}")
+            raise Refused(f"{sessions.path} has no session named {cut(pattern)!r}")
     return [entry for entry in sessions.entries if any(fits(entry.name, it) for it in patterns)]
 
 

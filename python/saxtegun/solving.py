@@ -5,7 +5,7 @@ from typing import Dict, Optional, Sequence
 
 from saxtegun.levelsets import first_level, wins_of
 from saxtegun.lines import Run
-from saxtegun.playing import runs_of
+from saxtegun.playing import Engine, runs_of
 from saxtegun.sessions import Entry, Sessions
 
 SOLVED = "solved"
@@ -24,9 +24,9 @@ def solved_told(entry: Entry, run: Optional[Run]) -> str:
     return f"solved up to level {first_level(entry) + wins - 1}" if wins else "not solved"
 
 
-def solved_of(entries: Sequence[Entry], runs: Sequence[Run], of: Sessions, order: str, workers: Optional[int], program: Optional[str]) -> Dict[int, str]:
+def solved_of(entries: Sequence[Entry], runs: Sequence[Run], of: Sessions, engine: Engine) -> Dict[int, str]:
     """How each session ended that was played, by its place among these."""
     places = [it for it, run in enumerate(runs) if run.close in ("passed", "differs") and len(entries[it].inputs) < MOST_INPUTS]
     longer = [entries[it]._replace(inputs=[*entries[it].inputs, ONE_MORE]) for it in places]
-    shown = runs_of(longer, of, order, workers, program) if longer else []
+    shown = runs_of(longer, of, engine) if longer else []
     return {place: solved_told(entries[place], run) for place, run in zip(places, shown)}

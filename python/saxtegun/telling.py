@@ -5,10 +5,9 @@ import html
 import re
 from typing import Iterable, List, NamedTuple
 
-from saxtegun.commands import plural, printable
+from saxtegun.commands import cut, plural, printable
 
 MOST_FAILURES = 20
-MOST_LETTERS = 200
 
 
 class Failure(NamedTuple):
@@ -22,14 +21,9 @@ class Failure(NamedTuple):
     line: int
 
 
-def cut(text: str) -> str:
-    text = printable(text)
-    return text if len(text) <= MOST_LETTERS else f"{text[:MOST_LETTERS]}.."
-
-
 def in_table(text: str) -> str:
     """A text of a stranger in a cell of a table of Markdown."""
-    return re.sub(r"([\\`*_{}\[\]()#+!|~@:-])", lambda it: f"&#{ord(it[1])};", html.escape(cut(text)))
+    return re.sub(r"([\\`*_{}\[\]()#+!|~@:-])", lambda it: f"&#{ord(it[1])};", html.escape(cut(printable(text))))
 
 
 def fenced(lines: Iterable[str]) -> str:
@@ -59,8 +53,8 @@ def escaped(text: str, is_property: bool = False) -> str:
 def annotation(failure: Failure) -> str:
     """A failure as GitHub shows it beside the code."""
     place = f"file={escaped(failure.file, True)},line={failure.line}," if failure.file else ""
-    below = "\n".join([cut(failure.sentence), *map(printable, failure.below)])
-    return f"::error {place}title={escaped(cut(failure.name), True)}::{escaped(below)}"
+    below = "\n".join([cut(printable(failure.sentence)), *map(printable, failure.below)])
+    return f"::error {place}title={escaped(cut(printable(failure.name)), True)}::{escaped(below)}"
 
 
 def for_a_ci(line: str) -> str:

@@ -10,7 +10,8 @@ ghost use Rattle.pz_game.specs.Pattern.{AreOf, AsksAmong, IsRowOf};
 ghost use Rattle.pz_cells.specs.Cell.{IsOnLayer, still_place};
 ghost use Rattle.pz_sheet.specs.Grid.{IsLawful, cell_at, place_at, with_place};
 ghost use Rattle.pz_sheet.specs.Movement.{stilled};
-ghost use Rattle.pz_sheet.specs.Presence.{is_in, cell_of, holds_both, holds_if, in_row, in_column};
+ghost use Rattle.pz_sheet.specs.Presence.{is_in, cell_of, holds_both, holds_if, in_line};
+ghost use Rattle.pz_sheet.specs.Line.{line_count};
 ghost use Rattle.pz_sheet.specs.Pushing.{pushed};
 ghost use Rattle.pz_sheet.specs.Rewriting.{with_rewritten, changes};
 ghost use Rattle.pz_sheet.specs.Searching.{HoldsSomewhere};
@@ -22,6 +23,7 @@ use pz_game::direction::Dir;
 use pz_game::pattern::{Pattern, Row};
 use pz_sets::set::NumberSet;
 use pz_sheet::Sheet;
+use pz_sheet::line::Line;
 use std::alloc::AllocError;
 use std::marker::Model;
 
@@ -285,27 +287,15 @@ impl BareLevel {
         }
     }
 
-    /// The objects that stand in a row of the map.
-    pub fn row_objects(&self, y: u32) -> NumberSet
-        requires { y < self.now.grid.height }
-        ensures { (object : ℕ) → member result object ≡ in_row self.now.grid y object }
+    /// The objects that stand in a line of the map.
+    pub fn line_objects(&self, line: Line) -> NumberSet
+        requires { line.number < line_count self.now.grid line.axis }
+        ensures { (object : ℕ) → member result object ≡ in_line self.now.grid line object }
     {
         match &self.sheet {
-            Sized::Small(sheet) => sheet.row_objects(y),
-            Sized::Middle(sheet) => sheet.row_objects(y),
-            Sized::Large(sheet) => sheet.row_objects(y),
-        }
-    }
-
-    /// The objects that stand in a column of the map.
-    pub fn column_objects(&self, x: u32) -> NumberSet
-        requires { x < self.now.grid.width }
-        ensures { (object : ℕ) → member result object ≡ in_column self.now.grid x object }
-    {
-        match &self.sheet {
-            Sized::Small(sheet) => sheet.column_objects(x),
-            Sized::Middle(sheet) => sheet.column_objects(x),
-            Sized::Large(sheet) => sheet.column_objects(x),
+            Sized::Small(sheet) => sheet.line_objects(line),
+            Sized::Middle(sheet) => sheet.line_objects(line),
+            Sized::Large(sheet) => sheet.line_objects(line),
         }
     }
 

@@ -1,7 +1,6 @@
 //! What stands in a cell.
 
-ghost use Rattle.std.specs.Prelude.{◌≡◌, ℕ, ◌<◌, ◌≤◌, ◌↔◌, IsTrue, true, false, slice_index, None, MatchOption};
-ghost use Rattle.pz_game.specs.declared.limits.TheConstants.{MAX_LAYERS};
+ghost use Rattle.std.specs.Prelude.{◌≡◌, ℕ, ◌<◌, ◌↔◌, IsTrue, true, false, slice_index, None, MatchOption};
 ghost use Rattle.pz_sets.specs.Sets.{member, AreSame};
 ghost use Rattle.pz_game.specs.Headings.{heading_in};
 ghost use Rattle.pz_cells.specs.Lists.{IsSound};
@@ -22,42 +21,31 @@ impl<const N: usize> Cell<N> {
         words::contains(&self.objects, object)
     }
 
-    /// The objects that stand in the cell.
-    pub fn object_set(&self) -> NumberSet
-        requires short { N ≤ 4 }
-        ensures { (object : ℕ) → member result object ≡ member self.now.objects object }
-    {
-        // (brings the proof how many words there are)
-        let _ = self.word_count();
-        NumberSet::from_words(&self.objects)
-    }
-
     /// Where the objects of each layer head.
-    pub fn heading_set(&self) -> NumberSet
-        requires short { N ≤ 4 }
+    pub fn heading_set(&self, layers: &Layers<N>) -> NumberSet
         ensures { (number : ℕ) → member result number ≡ member self.now.movement number }
     {
         // (brings the proof how many words there are)
-        let _ = self.word_count();
+        let _ = (layers.depth(), self.word_count());
         NumberSet::from_words(&self.movement)
     }
 
     /// Whether nothing in the cell heads anywhere.
-    pub fn is_still(&self) -> bool
-        requires short { N ≤ 4 }
+    pub fn is_still(&self, layers: &Layers<N>) -> bool
         ensures { result ≡ true → (number : ℕ) → member self.now.movement number ≡ false }
     {
+        // (brings the proof how many words there are)
+        let _ = layers.depth();
         words::is_empty(&self.movement)
     }
 
     /// Whether what stands on a layer heads nowhere.
-    pub fn is_layer_still(&self, layer: usize) -> bool
-        requires short { N ≤ 4 }
-        requires low { layer < MAX_LAYERS }
+    pub fn is_layer_still(&self, layers: &Layers<N>, layer: usize) -> bool
+        requires low { layer < layers.now.depth }
         ensures { result ≡ true → heading_in self.now.movement layer ≡ None }
     {
         // (brings the proof how many words there are)
-        let _ = self.word_count();
+        let _ = (layers.depth(), self.word_count());
         let start = headings::flag(layer, Dir::Up);
         match words::next(&self.movement, start) {
             None => true,

@@ -9,7 +9,8 @@ use Rattle.pz_game.specs.declared.pattern.Item.{Item}
 use Rattle.pz_game.specs.Pattern.{RuleRow}
 use Rattle.pz_cells.specs.Pattern.{pattern_holds}
 use Rattle.pz_sheet.specs.Grid.{Grid, cell_at}
-use Rattle.pz_sheet.specs.Searching.{HoldsSomewhere, HoldsInRow, HoldsInColumn}
+use Rattle.pz_sheet.specs.Line.{row_of, column_of}
+use Rattle.pz_sheet.specs.Searching.{HoldsSomewhere, HoldsInLine}
 use Rattle.pz_grid.specs.declared.placing.Place.{Place}
 use Rattle.pz_grid.specs.Places.{on_map, along, distance, holds_at, row_holds, pairs, places}
 use Rattle.pz_grid.specs.Admitted.{line_of, StartsNowhere}
@@ -49,12 +50,18 @@ nowhere_none grid row dir may h e = filter_none (row_holds grid row dir) (pairs 
     by_test true f = (let wrong : false ≡ true = sym e ∙ h (each_somewhere grid row dir place f) in cc)
 
 -- ---- the same line by line
+abbrev pub HoldsInRow : Grid → ℕ → List Item → Type 0
+HoldsInRow grid y = HoldsInLine grid (row_of y)
+
+abbrev pub HoldsInColumn : Grid → ℕ → List Item → Type 0
+HoldsInColumn grid x = HoldsInLine grid (column_of x)
+
 module _ (grid : Grid) (row : RuleRow) (line : ℕ) where
   in_row : (pattern : List Item) (x y : ℕ) → y ≡ line → holds_at grid pattern (on_map grid x y) ≡ true → HoldsInRow grid line pattern
-  in_row pattern x y same h = subst (λ (k : ℕ). HoldsInRow grid k pattern) same (let there = on_map_holds grid pattern x y h in record { x = x; x_in = there.0; holds = there.2 })
+  in_row pattern x y same h = subst (λ (k : ℕ). HoldsInRow grid k pattern) same (let there = on_map_holds grid pattern x y h in record { at = x; at_in = there.0; holds = there.2 })
 
   in_column : (pattern : List Item) (x y : ℕ) → x ≡ line → holds_at grid pattern (on_map grid x y) ≡ true → HoldsInColumn grid line pattern
-  in_column pattern x y same h = subst (λ (k : ℕ). HoldsInColumn grid k pattern) same (let there = on_map_holds grid pattern x y h in record { y = y; y_in = there.1; holds = there.2 })
+  in_column pattern x y same h = subst (λ (k : ℕ). HoldsInColumn grid k pattern) same (let there = on_map_holds grid pattern x y h in record { at = y; at_in = there.1; holds = there.2 })
 
   -- where some cell of a row holds nowhere in a line, no place starts there
   starts_nowhere : (dir : Dir) (may : Bool) (Holds : List Item → Type 0)

@@ -13,7 +13,7 @@ use Rattle.pz_grid.specs.declared.placing.GridFault.TheVariants.{MatchLimit}
 use Rattle.pz_grid.specs.declared.placing.Place.{Place}
 use Rattle.pz_grid.specs.declared.placing.TheConstants.{MATCH_LIMIT}
 use Rattle.pz_sheet.specs.Grid.{Grid}
-use Rattle.pz_sheet.specs.Runs.{runs_in_row, runs_in_column}
+use Rattle.pz_sheet.specs.Runs.{run_holds}
 pub use Rattle.pz_sheet.specs.Runs.{on_map, along, holds_at}
 
 -- how far a row's cell is from its start: the cells after the gap are as much farther as it spans
@@ -59,9 +59,9 @@ head_of row = cells_before row.gap_at row.cells
 
 -- a row's cells before its gap hold one after another from a start in a line on
 abbrev pub starts_with : Grid → Dir → ℕ → List (List Item) → ℕ → Bool
-starts_with grid Up line head start = runs_in_column grid Up line head start
-starts_with grid Down line head start = runs_in_column grid Down line head start
-starts_with grid dir line head start = runs_in_row grid dir line head start
+starts_with grid Up line head start = run_holds grid Up line start head
+starts_with grid Down line head start = run_holds grid Down line start head
+starts_with grid dir line head start = run_holds grid dir start line head
 
 -- the cell of a row that is the first behind its gap holds, where the gap spans that many cells
 abbrev pub holds_behind : Grid → Dir → ℕ → ℕ → List Item → ℕ → ℕ → Bool

@@ -16,6 +16,7 @@ use pz_game::pattern::{Item, Pattern, Row};
 use pz_sets::set::NumberSet;
 use pz_sets::words::has_subset;
 use pz_sheet::Sheet;
+use pz_sheet::line::{Axis, Line};
 
 /// Whether a set has an item's object, if the item names it as present.
 fn marks_item(marks: &NumberSet, item: Item) -> bool
@@ -137,7 +138,19 @@ fn line_may_head<const N: usize>(sheet: &Sheet<N>, row: &Row, dir: Dir, line: u3
     ensures none { result ≡ false → StartsNowhere sheet.now.grid row.now dir line }
 {
     match dir {
-        Dir::Up | Dir::Down => sheet.may_hold_in_column(line, row),
-        Dir::Left | Dir::Right | Dir::Action => sheet.may_hold_in_row(line, row),
+        Dir::Up | Dir::Down => sheet.may_hold_in_line(
+            Line {
+                axis: Axis::Vertical,
+                number: line,
+            },
+            row,
+        ),
+        Dir::Left | Dir::Right | Dir::Action => sheet.may_hold_in_line(
+            Line {
+                axis: Axis::Horizontal,
+                number: line,
+            },
+            row,
+        ),
     }
 }

@@ -17,6 +17,7 @@ use pz_game::game::Game;
 use pz_game::masks::names;
 use pz_game::pattern::{Item, Pattern};
 use pz_sets::set::NumberSet;
+use pz_sheet::line::{Axis, Line};
 use std::alloc::{AllocError, Global};
 
 impl Level {
@@ -146,7 +147,10 @@ fn mark_rows(bare: &BareLevel, marks: &mut Vec<NumberSet>)
     ensures exact { (line object : ℕ) → line < bare.now.grid.height → is_marked marks.new.items line object ≡ in_row bare.now.grid line object }
 {
     for line in 0..bare.height() {
-        marks[line as usize] = bare.row_objects(line);
+        marks[line as usize] = bare.line_objects(Line {
+            axis: Axis::Horizontal,
+            number: line,
+        });
     }
 }
 
@@ -157,7 +161,10 @@ fn mark_columns(bare: &BareLevel, marks: &mut Vec<NumberSet>)
     ensures exact { (line object : ℕ) → line < bare.now.grid.width → is_marked marks.new.items line object ≡ in_column bare.now.grid line object }
 {
     for line in 0..bare.width() {
-        marks[line as usize] = bare.column_objects(line);
+        marks[line as usize] = bare.line_objects(Line {
+            axis: Axis::Vertical,
+            number: line,
+        });
     }
 }
 

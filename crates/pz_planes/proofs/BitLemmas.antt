@@ -6,6 +6,9 @@ use Rattle.std.proofs.lemmas.Nat.Bits.{bit_at_cat_low, bit_at_cat_high, bit_at_o
 use Rattle.std.proofs.Math.Pow.{pow-sub-lt}
 use Rattle.pz_sets.specs.Sets.{in_word, member}
 use Rattle.pz_sets.proofs.WordLemmas.{in_word-from}
+use Rattle.pz_planes.specs.declared.line.Way.{Way}
+use Rattle.pz_planes.specs.declared.line.Way.TheVariants.{Ahead, Back}
+use Rattle.pz_planes.specs.Line.{step_to, room_from}
 
 pub all_bits : (at : ℕ) → at < 128 → in_word (2 ^ 128 - 1) at ≡ true
 all_bits at low = in_word-from _ at 1 (bit_at_ones 128 at low)
@@ -36,3 +39,8 @@ one_word word at low =
     let a : at / 128 ≡ 0 = omega arith in
     let b : at % 128 ≡ at = omega arith in
     rw (a, b) refl
+
+-- a position some steps on is of the line, where there is room
+pub step_within : (long : ℕ) (way : Way) (at k : ℕ) → at < long → k < room_from long way at → step_to way at k < long
+step_within long Ahead at k at_in room = omega (arith, room)
+step_within long Back at k at_in room = omega (arith, at_in)

@@ -1,2 +1,3 @@
+pub mod Line
 pub mod Notes
 pub mod Planes

@@ -1,12 +1,19 @@
 -- Where something may head in a level, by its lines. What is noted holds at least what is there.
 use Rattle.std.specs.Prelude.{◌≡◌, ℕ, ◌<◌, List, [], false, length, nat_eq, ◌&&◌, ◌||◌, slice_index_or}
 use Rattle.pz_sets.specs.Sets.{member, IsWithin}
+use Rattle.pz_planes.specs.declared.line.Axis.{Axis}
+use Rattle.pz_planes.specs.declared.line.Axis.TheVariants.{Horizontal, Vertical}
 
 -- sets of headings: of the whole level, of each row and of each column
 pub record HeadingSets : Type 0 where
   pub whole : List ℕ
   pub rows : List (List ℕ)
   pub columns : List (List ℕ)
+
+-- the sets of the lines that lie so
+abbrev pub headings_of : HeadingSets → Axis → List (List ℕ)
+headings_of sets Horizontal = sets.rows
+headings_of sets Vertical = sets.columns
 
 -- no heading is noted at all
 pub record HaveNone (sets : HeadingSets) : Type 0 where

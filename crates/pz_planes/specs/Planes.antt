@@ -1,9 +1,13 @@
 -- At which positions of each row and each column the objects of a level stand. What is noted is exactly that, of the positions below 128: others are not.
-use Rattle.std.specs.Prelude.{◌≡◌, ◌≢◌, ℕ, ◌+◌, ◌-◌, ◌*◌, ◌<◌, ◌≤◌, List, Bool, true, false, length, slice_index_or, All}
+use Rattle.std.specs.Prelude.{◌≡◌, ◌≢◌, ℕ, ◌+◌, ◌*◌, ◌<◌, ◌≤◌, List, Bool, true, false, length, slice_index_or, All}
 use Rattle.pz_sets.specs.Sets.{member}
 use Rattle.pz_game.specs.declared.limits.TheConstants.{MAX_OBJECTS, MAX_SIDE}
 use Rattle.pz_game.specs.declared.pattern.Item.{Item}
 use Rattle.pz_game.specs.Items.{names}
+use Rattle.pz_planes.specs.declared.line.Axis.{Axis}
+use Rattle.pz_planes.specs.declared.line.Axis.TheVariants.{Horizontal, Vertical}
+use Rattle.pz_planes.specs.declared.line.Way.{Way}
+use Rattle.pz_planes.specs.Line.{step_to, room_from}
 
 -- for each of so many objects and each of so many lines the positions at which it stands, as one set of numbers: 128 for each line
 pub record LineSets : Type 0 where
@@ -15,6 +19,11 @@ pub record LineSets : Type 0 where
 pub record PlaneSets : Type 0 where
   pub rows : LineSets
   pub columns : LineSets
+
+-- the sets of the lines that lie so
+abbrev pub lines_of : PlaneSets → Axis → LineSets
+lines_of planes Horizontal = planes.rows
+lines_of planes Vertical = planes.columns
 
 -- there is a word for each object and each line
 pub record HasLines (objects count : ℕ) (words : List ℕ) : Type 0 where
@@ -89,11 +98,6 @@ abbrev pub MayHold : LineSets → ℕ → ℕ → List Item → Type 0
 MayHold sets line at pattern = All (λ item. stands_in sets item.object line at ≡ names item.word) pattern
 
 -- so it is with rules' cells one after another, from a position of a line on
-pub record MayRunAhead (sets : LineSets) (line : ℕ) (patterns : List (List Item)) (at : ℕ) : Type 0 where
-  pub within : at + length patterns ≤ 128
-  pub each : (index : ℕ) (pattern : List Item) → index < length patterns → MayHold sets line (at + index) (slice_index_or patterns index pattern)
-
--- the same from a position of a line back
-pub record MayRunBack (sets : LineSets) (line : ℕ) (patterns : List (List Item)) (at : ℕ) : Type 0 where
-  pub within : length patterns ≤ at + 1
-  pub each : (index : ℕ) (pattern : List Item) → index < length patterns → MayHold sets line (at - index) (slice_index_or patterns index pattern)
+pub record MayRun (sets : LineSets) (line : ℕ) (way : Way) (patterns : List (List Item)) (at : ℕ) : Type 0 where
+  pub within : length patterns ≤ room_from 128 way at
+  pub each : (index : ℕ) (pattern : List Item) → index < length patterns → MayHold sets line (step_to way at index) (slice_index_or patterns index pattern)

@@ -1,9 +1,11 @@
 //! Positions of a line as the bits of a word: the position n, counted from 0, is in the set if bit n of the word is set.
 
-ghost use Rattle.std.specs.Prelude.{◌≡◌, ℕ, ◌+◌, ◌-◌, ◌<◌, ◌≤◌, ◌&&◌, true, not};
+ghost use Rattle.std.specs.Prelude.{◌≡◌, ℕ, ◌<◌, ◌≤◌, ◌&&◌, true, not};
 ghost use Rattle.pz_sets.specs.Sets.{in_word};
 ghost use Rattle.pz_sets.specs.Next.{IsNext};
+ghost use Rattle.pz_planes.specs.Line.{step_to, room_from};
 
+use crate::line::Way;
 use pz_sets::words;
 
 /// How many positions a word has room for: those below 128.
@@ -30,20 +32,15 @@ pub fn others(set: u128) -> u128
     !set
 }
 
-/// The positions from which one of the set is so many steps ahead.
-pub fn ahead(set: u128, steps: usize) -> u128
+/// The positions from which one of the set is so many steps on, in a line of 128.
+pub fn from_which(set: u128, way: Way, steps: usize) -> u128
     requires { steps < 128 }
-    ensures { (at : ℕ) → at + steps < 128 → in_word result at ≡ in_word set (at + steps) }
+    ensures { (at : ℕ) → at < 128 → steps < room_from 128 way at → in_word result at ≡ in_word set (step_to way at steps) }
 {
-    set >> steps
-}
-
-/// The positions from which one of the set is so many steps back.
-pub fn back(set: u128, steps: usize) -> u128
-    requires { steps < 128 }
-    ensures { (at : ℕ) → at < 128 → steps ≤ at → in_word result at ≡ in_word set (at - steps) }
-{
-    set << steps
+    match way {
+        Way::Ahead => set >> steps,
+        Way::Back => set << steps,
+    }
 }
 
 /// Whether a position is in the set.

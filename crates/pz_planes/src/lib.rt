@@ -4,5 +4,6 @@
 
 pub mod bits;
 pub mod copying;
+pub mod line;
 pub mod notes;
 pub mod planes;

@@ -3,9 +3,10 @@
 
 ghost use Rattle.std.specs.Prelude.{◌≡◌, ◌<◌, ◌*◌, ◌/◌, ◌%◌, ◌||◌, ℕ, [], true, false, length, slice_index_or, IfOk, OnOk, OnErr};
 ghost use Rattle.pz_sets.specs.Sets.{member};
-ghost use Rattle.pz_planes.specs.Notes.{HaveNone, IsMoreIn};
+ghost use Rattle.pz_planes.specs.Notes.{HaveNone, IsMoreIn, headings_of};
 
 use crate::copying::{make_room, refill};
+use crate::line::Axis;
 use pz_sets::set::NumberSet;
 use std::alloc::{AllocError, Global};
 use std::marker::Model;
@@ -61,20 +62,15 @@ impl Notes {
         &self.whole
     }
 
-    /// The headings of a row.
-    pub fn row(&self, y: u32) -> &NumberSet
-        requires { y < length self.now.rows }
-        ensures { result.now ≡ slice_index_or self.now.rows y [] }
+    /// The headings of a line.
+    pub fn line(&self, axis: Axis, number: u32) -> &NumberSet
+        requires { number < length (headings_of self.now axis) }
+        ensures { result.now ≡ slice_index_or (headings_of self.now axis) number [] }
     {
-        &self.rows[y as usize]
-    }
-
-    /// The headings of a column.
-    pub fn column(&self, x: u32) -> &NumberSet
-        requires { x < length self.now.columns }
-        ensures { result.now ≡ slice_index_or self.now.columns x [] }
-    {
-        &self.columns[x as usize]
+        match axis {
+            Axis::Horizontal => &self.rows[number as usize],
+            Axis::Vertical => &self.columns[number as usize],
+        }
     }
 
     /// Notes headings for the cell of a number, counted row by row: they are added to those of the level, of its row and of its column.

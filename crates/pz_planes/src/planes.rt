@@ -5,9 +5,10 @@ ghost use Rattle.std.specs.Prelude.{◌≡◌, ℕ, ◌+◌, ◌*◌, ◌/◌, �
 ghost use Rattle.pz_game.specs.declared.limits.TheConstants.{MAX_OBJECTS, MAX_SIDE};
 ghost use Rattle.pz_game.specs.Items.{names};
 ghost use Rattle.pz_sets.specs.Sets.{in_word, member};
-ghost use Rattle.pz_planes.specs.Planes.{stands_in, IsEmpty, IsChanged, AreChanged, IsInside, IsKnown, AreKnown, AreThere, HaveSameLines, HasRoomOf, IsFor, AreItemsOf, MayHold, MayRunAhead, MayRunBack};
+ghost use Rattle.pz_planes.specs.Planes.{stands_in, IsEmpty, IsChanged, AreChanged, IsInside, IsKnown, AreKnown, AreThere, HaveSameLines, HasRoomOf, IsFor, AreItemsOf, MayHold, MayRun, lines_of};
 
 use crate::bits;
+use crate::line::{Axis, Way};
 use pz_game::masks::names;
 use pz_game::pattern::{Item, Pattern};
 use pz_sets::words;
@@ -153,30 +154,17 @@ impl LinePlanes {
         places
     }
 
-    /// The positions of a line from which rules' cells may hold one after another ahead: to the right in a row, down in a column.
-    pub fn starts_ahead(&self, line: usize, patterns: &[Pattern]) -> u128
+    /// The positions of a line from which rules' cells may hold one after another, as the line is walked.
+    #[inline(always)]
+    pub fn starts(&self, line: usize, way: Way, patterns: &[Pattern]) -> u128
         requires line_in { line < self.now.count }
         requires of_game { All (AreItemsOf self.now) patterns.now }
-        ensures { (at : ℕ) → at < 128 → MayRunAhead self.now line patterns.now at → in_word result at ≡ true }
+        ensures { (at : ℕ) → at < 128 → MayRun self.now line way patterns.now at → in_word result at ≡ true }
     {
         let mut starts = bits::all();
         for index in 0..patterns.len().min(bits::ROOM as usize) {
             let places = self.places(line, &patterns[index]);
-            starts = bits::both(starts, bits::ahead(places, index));
-        }
-        starts
-    }
-
-    /// The positions of a line from which rules' cells may hold one after another back: to the left in a row, up in a column.
-    pub fn starts_back(&self, line: usize, patterns: &[Pattern]) -> u128
-        requires line_in { line < self.now.count }
-        requires of_game { All (AreItemsOf self.now) patterns.now }
-        ensures { (at : ℕ) → at < 128 → MayRunBack self.now line patterns.now at → in_word result at ≡ true }
-    {
-        let mut starts = bits::all();
-        for index in 0..patterns.len().min(bits::ROOM as usize) {
-            let places = self.places(line, &patterns[index]);
-            starts = bits::both(starts, bits::back(places, index));
+            starts = bits::both(starts, bits::from_which(places, way, index));
         }
         starts
     }
@@ -230,18 +218,14 @@ impl Planes {
         Ok(Planes { rows, columns })
     }
 
-    /// The columns of each row at which objects stand.
-    pub fn rows(&self) -> &LinePlanes
-        ensures { result.now ≡ self.now.rows }
+    /// What is noted of the lines that lie so.
+    pub fn lines(&self, axis: Axis) -> &LinePlanes
+        ensures { result.now ≡ lines_of self.now axis }
     {
-        &self.rows
-    }
-
-    /// The rows of each column at which objects stand.
-    pub fn columns(&self) -> &LinePlanes
-        ensures { result.now ≡ self.now.columns }
-    {
-        &self.columns
+        match axis {
+            Axis::Horizontal => &self.rows,
+            Axis::Vertical => &self.columns,
+        }
     }
 
     fn insert(&mut self, object: usize, x: usize, y: usize)

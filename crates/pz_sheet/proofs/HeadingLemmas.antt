@@ -18,8 +18,11 @@ use Rattle.pz_cells.proofs.ListLemmas.{no_cell}
 use Rattle.pz_cells.specs.Pattern.{pattern_holds}
 use Rattle.pz_cells.proofs.HoldLemmas.{met_all}
 use Rattle.pz_sheet.specs.Grid.{Grid}
-use Rattle.pz_sheet.specs.Searching.{HoldsSomewhere, HoldsInRow, HoldsInColumn}
-use Rattle.pz_planes.specs.Notes.{HeadingSets}
+use Rattle.pz_sheet.specs.Searching.{HoldsSomewhere, HoldsInLine}
+use Rattle.pz_planes.specs.declared.line.Axis.{Axis}
+use Rattle.pz_planes.specs.declared.line.Axis.TheVariants.{Horizontal, Vertical}
+use Rattle.pz_planes.specs.Notes.{HeadingSets, headings_of}
+use Rattle.pz_sheet.specs.Line.{line_count}
 use Rattle.pz_sheet.specs.Seen.{HeadsWithin, grid_of, IsStored}
 use Rattle.pz_sheet.proofs.SheetLemmas.{seen_at}
 
@@ -83,18 +86,16 @@ module _ (N width height : ℕ) (layering : Layering) (cells : List (Cell N)) (n
   pub heads_somewhere : (rows : List (List Item)) (layer : ℕ) (dir : Dir) → All (AreOf layering.layers) rows → All (HoldsSomewhere grid) rows → list_any (asks_toward layer dir) rows ≡ true → heads notes.whole layer dir ≡ true
   heads_somewhere = heads_there notes.whole (HoldsSomewhere grid) somewhere
 
-  pub asked_in_row : (y : ℕ) → y < height → (rows : List (List Item)) (required : List ℕ) → AreRequired rows required → All (AreOf layering.layers) rows → All (HoldsInRow grid y) rows → IsWithin required (get_or notes.rows y [])
-  asked_in_row y y_in = asked_is_noted (get_or notes.rows y []) (HoldsInRow grid y) (λ items h. record {
-    at = y * width + h.x;
-    within = in_cells h.x y h.x_in y_in;
+  pub asked_in_line : (axis : Axis) (number : ℕ) → number < line_count grid axis → (rows : List (List Item)) (required : List ℕ) → AreRequired rows required → All (AreOf layering.layers) rows → All (HoldsInLine grid (record { axis = axis; number = number })) rows → IsWithin required (get_or (headings_of notes axis) number [])
+  asked_in_line Horizontal y y_in = asked_is_noted (get_or notes.rows y []) (HoldsInLine grid (record { axis = Horizontal; number = y })) (λ items h. record {
+    at = y * width + h.at;
+    within = in_cells h.at y h.at_in y_in;
     holds = h.holds;
-    noted = subst (λ (line : ℕ). HeadsWithin N (get_or notes.rows line []) (get_or cells (y * width + h.x) (no_cell N))) (div-mul-add y width h.x h.x_in) (s.noted.each (y * width + h.x) (no_cell N) (in_cells h.x y h.x_in y_in)).row;
+    noted = subst (λ (line : ℕ). HeadsWithin N (get_or notes.rows line []) (get_or cells (y * width + h.at) (no_cell N))) (div-mul-add y width h.at h.at_in) (s.noted.each (y * width + h.at) (no_cell N) (in_cells h.at y h.at_in y_in)).row;
   })
-
-  pub asked_in_column : (x : ℕ) → x < width → (rows : List (List Item)) (required : List ℕ) → AreRequired rows required → All (AreOf layering.layers) rows → All (HoldsInColumn grid x) rows → IsWithin required (get_or notes.columns x [])
-  asked_in_column x x_in = asked_is_noted (get_or notes.columns x []) (HoldsInColumn grid x) (λ items h. record {
-    at = h.y * width + x;
-    within = in_cells x h.y x_in h.y_in;
+  asked_in_line Vertical x x_in = asked_is_noted (get_or notes.columns x []) (HoldsInLine grid (record { axis = Vertical; number = x })) (λ items h. record {
+    at = h.at * width + x;
+    within = in_cells x h.at x_in h.at_in;
     holds = h.holds;
-    noted = subst (λ (line : ℕ). HeadsWithin N (get_or notes.columns line []) (get_or cells (h.y * width + x) (no_cell N))) (mod-mul-add h.y width x x_in) (s.noted.each (h.y * width + x) (no_cell N) (in_cells x h.y x_in h.y_in)).column;
+    noted = subst (λ (line : ℕ). HeadsWithin N (get_or notes.columns line []) (get_or cells (h.at * width + x) (no_cell N))) (mod-mul-add h.at width x x_in) (s.noted.each (h.at * width + x) (no_cell N) (in_cells x h.at x_in h.at_in)).column;
   })

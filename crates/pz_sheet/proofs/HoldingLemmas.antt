@@ -1,10 +1,11 @@
 -- The set of some objects, and a cell that holds one of them.
-use Rattle.std.proofs.Common.{◌≡◌, ◌+◌, ◌<◌, ℕ, zero, suc, List, [], ◌∷◌, Bool, true, false, not, ◌&&◌, ◌||◌, inl, inr, nat_eq, take, length, get_or, arith, ap, sym, ◌∙◌, refl, eq-eqb}
+use Rattle.std.proofs.Common.{◌≡◌, ◌+◌, ◌<◌, ◌≤◌, ℕ, zero, suc, List, [], ◌∷◌, Bool, true, false, not, ◌&&◌, ◌||◌, inl, inr, nat_eq, take, length, get_or, arith, ap, sym, ◌∙◌, refl, eq-eqb}
 use Rattle.std.specs.Prelude.{nat_lt, IsTrue, ◌↔◌}
 use Rattle.std.specs.List.{All, list_any}
-use Rattle.std.proofs.lemmas.Bool.{and_parts, eqb-true, false≢true, lt-ltb, or_cases, or_left, or_right}
+use Rattle.std.proofs.lemmas.Bool.{and_parts, cases_lt, eqb-true, false≢true, lt-ltb, or_cases, or_left, or_right}
 use Rattle.std.proofs.lemmas.List.Folds.{list_any_more}
 use Rattle.pz_sets.specs.Sets.{member, AreApart}
+use Rattle.pz_sets.proofs.SetLemmas.{member_past}
 use Rattle.pz_sets.specs.declared.set.TheConstants.{CAPACITY}
 use Rattle.pz_sheet.specs.Holding.{IsSetFor}
 
@@ -45,9 +46,16 @@ any_same test number (x ∷ xs) e h = elim (or_cases (nat_eq number x) (list_any
   | inr rest ↦ or_right _ _ (any_same test number xs rest h)
 ]
 
-none_of : (test : ℕ → Bool) (xs : List ℕ) → All (λ x. test x ≡ false) xs → list_any test xs ≡ false
+pub none_of : (test : ℕ → Bool) (xs : List ℕ) → All (λ x. test x ≡ false) xs → list_any test xs ≡ false
 none_of test [] none = refl
 none_of test (x ∷ xs) none = ap (λ (b : Bool). b || list_any test xs) (none 0 x (omega arith)) ∙ none_of test xs (λ k d within. none (suc k) d (omega (arith, within)))
+
+-- a set of at most four words has no number beyond them
+pub low_number : (words : List ℕ) → length words ≤ 4 → (number : ℕ) → member words number ≡ true → number < CAPACITY
+low_number words short number there = elim (cases_lt number CAPACITY) [
+  | inl low ↦ low
+  | inr past ↦ absurd (false≢true (sym (member_past words number short past) ∙ there))
+]
 
 module _ (objects words set : List ℕ) (is : IsSetFor objects set) (low : (object : ℕ) → member words object ≡ true → object < CAPACITY) where
   -- a cell that is apart from the set has none of the objects

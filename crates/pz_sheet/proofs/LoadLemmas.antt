@@ -1,8 +1,6 @@
 -- Cells that are drawn and filled.
-use Rattle.std.proofs.Common.{◌≡◌, ℕ, ◌*◌, ◌<◌, ◌≤◌, List, true, length, ap, sym, ◌∙◌, subst, arith}
-use Rattle.std.specs.List.{All}
+use Rattle.std.proofs.Common.{◌≡◌, ℕ, ◌*◌, List, length, ap, sym, ◌∙◌, subst}
 use Rattle.std.proofs.lemmas.List.{length-map}
-use Rattle.pz_sets.specs.Sets.{member}
 use Rattle.pz_game.specs.Size.{IsSize}
 use Rattle.pz_game.specs.Drawing.{Drawing, IsDrawing}
 use Rattle.pz_game.specs.declared.game.GameParts.{GameParts}
@@ -10,7 +8,7 @@ use Rattle.pz_cells.specs.declared.cell.Cell.{Cell}
 use Rattle.pz_cells.specs.Drawing.{glyph_cell}
 use Rattle.pz_planes.specs.Notes.{HeadingSets}
 use Rattle.pz_cells.specs.Layering.{Layering, IsLayering}
-use Rattle.pz_cells.specs.Lists.{seen, IsSound}
+use Rattle.pz_cells.specs.Lists.{seen}
 use Rattle.pz_cells.proofs.DrawLemmas.{AreGlyphs}
 use Rattle.pz_sheet.specs.Seen.{AreNoted, IsStored}
 
@@ -28,8 +26,3 @@ stored_drawn N game drawing width height layering cells notes law d is_width is_
   sound = are.sound;
   noted = noted;
 }
-
--- the objects of a level as it is drawn are those of its game
-pub of_game_read : (N count : ℕ) (layering : Layering) (cells cells_read : List (Cell N)) → count ≡ length layering.layers → cells_read ≡ cells → All (IsSound layering) cells → All (λ (cell : Cell N). (object : ℕ) → member cell.objects object ≡ true → object < count) cells_read
-of_game_read N count layering cells cells_read is same sound =
-    subst (All (λ (cell : Cell N). (object : ℕ) → member cell.objects object ≡ true → object < count)) (sym same) (λ k d within object e. omega (arith, (sound k d within).of_game object e, is))

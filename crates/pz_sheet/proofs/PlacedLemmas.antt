@@ -105,9 +105,3 @@ placed_all N objects width height planes next cells fits size there = record {
 
 pub all_known : (N : ℕ) (layering : Layering) (width height : ℕ) (planes : PlaneSets) (cells : List (Cell N)) → IsFor (length layering.layers) width height planes → All (IsSound layering) cells → All (λ cell. AreKnown planes cell.objects) cells
 all_known N layering width height planes cells fits sound k cell within = known_of layering.layers width height planes (get_or cells k cell).objects fits (sound k cell within).of_game
-
--- the objects of all cells
-pub known_all : (N objects width height : ℕ) (planes : PlaneSets) (cells : List (Cell N)) → IsFor objects width height planes → All (λ (cell : Cell N). (object : ℕ) → member cell.objects object ≡ true → object < objects) cells → All (λ (cell : Cell N). AreKnown planes cell.objects) cells
-known_all N objects width height planes cells fits low k cell within object e =
-    let is = low k cell within object e in
-    record { in_rows = omega (arith, is, fits.row_objects); in_columns = omega (arith, is, fits.column_objects) }

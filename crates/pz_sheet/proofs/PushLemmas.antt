@@ -1,5 +1,5 @@
 -- Objects that are given a direction.
-use Rattle.std.proofs.Common.{◌≡◌, ◌≢◌, inl, inr, ℕ, suc, ◌+◌, ◌<◌, ◌≤◌, List, [], ◌∷◌, ◌++◌, Option, Some, None, Bool, true, false, ◌||◌, cond, map, set, take, drop, length, get_or, nat_eq, arith, ap, sym, ◌∙◌, refl, subst, eq-eqb, length-append, length-drop, length-take}
+use Rattle.std.proofs.Common.{◌≡◌, ◌≢◌, inl, inr, ℕ, suc, ◌+◌, ◌<◌, ◌≤◌, List, [], ◌∷◌, ◌++◌, Option, Some, None, Bool, true, false, ◌||◌, cond, is_some, map, set, take, drop, length, get_or, nat_eq, arith, ap, sym, ◌∙◌, refl, subst, eq-eqb, length-append, length-drop, length-take}
 use Rattle.std.specs.Prelude.{IfSome}
 use Rattle.std.specs.List.{All}
 use Rattle.std.proofs.lemmas.Bool.{cases_eq, false≢true, ne_eqb}
@@ -11,7 +11,10 @@ use Rattle.pz_game.specs.Headings.{heads, heading_in}
 use Rattle.pz_cells.specs.declared.piece.Piece.{Piece}
 use Rattle.pz_cells.specs.Shown.{place_of, cell_of, Shows, AreLawful, Changes}
 use Rattle.pz_cells.proofs.PlaceLemmas.{lawful_changed, shows_changed, place_some, object_there}
+use Rattle.pz_cells.specs.Standing.{standing}
 use Rattle.pz_sheet.specs.Grid.{Grid}
+use Rattle.pz_sheet.specs.Presence.{is_in}
+use Rattle.pz_sheet.proofs.HoldingLemmas.{none_of}
 use Rattle.pz_sheet.specs.Pushing.{is_one_of, pushed_place, pushed_at, pushed}
 use Rattle.pz_cells.proofs.ListLemmas.{cell_mapped}
 
@@ -105,19 +108,23 @@ pub cell_turned : (depth : ℕ) (layers objects movement objects_new movement_ne
 cell_turned depth layers objects movement objects_new movement_new object dir t =
     cell_mapped depth layers objects movement objects_new movement_new (pushed_place (object ∷ []) dir) (lawful_turned layers objects movement objects_new movement_new object dir t).of_game (turned_shows layers objects movement objects_new movement_new object dir t)
 
+-- a cell in which an object doesn't stand has another piece first, and doesn't have the object behind it
+apart_by : (same : Bool) (heading : Option Dir) (rest : Option (Option Dir)) → is_some (cond same (Some heading) rest) ≡ false → (same ≡ false) × (is_some rest ≡ false)
+apart_by true heading rest e = cc
+apart_by false heading rest e = (refl, e)
+
+apart_back : (a b : ℕ) → nat_eq a b ≡ false → nat_eq b a ≡ false
+apart_back a b apart = ne_eqb b a (λ same. false≢true (sym apart ∙ eq-eqb a b (sym same)))
+
 -- nobody of some players stands there
-pub absent_pushed : (depth : ℕ) (layers objects movement players : List ℕ) (dir : Dir) → AreLawful layers objects movement → All (λ player. member objects player ≡ false) players → map (pushed_place players dir) (cell_of depth layers objects movement) ≡ cell_of depth layers objects movement
-absent_pushed depth layers objects movement [] dir lawful none = all_pushed_none dir (cell_of depth layers objects movement)
-absent_pushed depth layers objects movement (player ∷ players) dir lawful none =
-    let cell = cell_of depth layers objects movement in
-    let missing : member objects player ≡ false = none 0 player (omega arith) in
-    let one : cell ≡ map (pushed_place (player ∷ []) dir) cell = cell_turned depth layers objects movement objects movement player dir (record {
-      lawful = lawful;
-      turned = λ e. absurd (false≢true (sym missing ∙ e));
-      same_objects = λ e. refl;
-      same_movement = λ e. refl;
-    }) in
-    sym (all_pushed_more player players dir cell) ∙ (ap (map (pushed_place players dir)) (sym one) ∙ absent_pushed depth layers objects movement players dir lawful (λ k d within. none (suc k) d (omega (arith, within))))
+pub absent_pushed : (players : List ℕ) (dir : Dir) (cell : List (Option Piece)) → All (λ player. is_in cell player ≡ false) players → map (pushed_place players dir) cell ≡ cell
+absent_pushed players dir [] none = refl
+absent_pushed players dir (None ∷ places) none = ap (λ (rest : List (Option Piece)). None ∷ rest) (absent_pushed players dir places none)
+absent_pushed players dir (Some piece ∷ places) none =
+    let apart : (player : ℕ) → is_in (Some piece ∷ places) player ≡ false → (nat_eq piece.object player ≡ false) × (is_in places player ≡ false) = λ player. apart_by (nat_eq piece.object player) piece.heading (standing places player) in
+    let none_first : is_one_of players piece.object ≡ false = none_of (λ other. nat_eq other piece.object) players (λ k d within. apart_back piece.object (get_or players k d) (apart (get_or players k d) (none k d within)).0) in
+    ap (λ (b : Bool). cond b (Some (record { object = piece.object; heading = Some dir })) (Some piece) ∷ map (pushed_place players dir) places) none_first
+    ∙ ap (λ (rest : List (Option Piece)). Some piece ∷ rest) (absent_pushed players dir places (λ k d within. (apart (get_or players k d) (none k d within)).1))
 
 -- a cell that a push leaves as it is
 pub unpushed_at : (players : List ℕ) (dir : Dir) (index : ℕ) (grid : Grid) → map (pushed_place players dir) (get_or grid.cells index []) ≡ get_or grid.cells index [] → grid ≡ pushed_at players dir index grid

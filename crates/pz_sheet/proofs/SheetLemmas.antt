@@ -1,15 +1,19 @@
 -- A cell of a level in words, and what is seen of it.
 use Rattle.pz_cells.specs.Layering.{Layering}
-use Rattle.std.proofs.Common.{◌≡◌, ℕ, ◌+◌, ◌*◌, ◌/◌, ◌%◌, ◌<◌, ◌≤◌, List, [], Option, Some, None, Bool, true, false, ◌&&◌, cond, map, set, length, get_or, ap, sym, ◌∙◌, subst, arith, inl, inr, get_or-set_same, get_or-set_other}
+use Rattle.std.proofs.Common.{◌≡◌, ℕ, ◌+◌, ◌*◌, ◌/◌, ◌%◌, ◌<◌, ◌≤◌, List, [], Option, Some, None, Bool, true, false, not, ◌&&◌, cond, map, set, length, get_or, ap, sym, ◌∙◌, refl, subst, arith, inl, inr, get_or-set_same, get_or-set_other}
 use Rattle.std.specs.Prelude.{nat_lt, IfSome, MatchOption}
 use Rattle.std.proofs.lemmas.Bool.{lt-ltb, cases_eq}
-use Rattle.std.proofs.lemmas.List.{length-map, length-set, get_or-map, get_or_default, map-set}
+use Rattle.std.proofs.lemmas.List.{length-map, length-set, get_or-map, get_or_default, map-set, set-get_or}
 use Rattle.std.proofs.lemmas.List.FromFn.{length-map-range_with_len}
 use Rattle.std.proofs.lemmas.List.Elements.{All-map, All-set}
 use Rattle.pz_game.specs.declared.limits.TheConstants.{MAX_OBJECTS}
 use Rattle.pz_game.specs.declared.direction.Dir.{Dir}
 use Rattle.pz_cells.specs.declared.cell.Cell.{Cell}
 use Rattle.pz_cells.specs.declared.piece.Piece.{Piece}
+use Rattle.pz_cells.specs.Rewriting.{rewritten_cell}
+use Rattle.pz_cells.specs.Sameness.{same_cell}
+use Rattle.pz_cells.proofs.SameLemmas.{same_cell_is}
+use Rattle.pz_game.specs.declared.pattern.Item.{Item}
 use Rattle.pz_cells.specs.Cell.{IsCell, IsOnLayer}
 use Rattle.pz_cells.specs.Standing.{standing}
 use Rattle.pz_cells.specs.Shown.{place_of, IsSetOf, Changes}
@@ -17,6 +21,7 @@ use Rattle.pz_cells.proofs.HoldLemmas.{on_its_layer, place_seen, standing_by}
 use Rattle.pz_cells.proofs.PlaceLemmas.{lawful_changed, cell_changed}
 use Rattle.pz_sheet.specs.Grid.{Grid, IsLawful, cell_at, place_at, with_place}
 use Rattle.pz_sheet.specs.Standing.{standing_at}
+use Rattle.pz_sheet.specs.Rewriting.{with_rewritten}
 use Rattle.pz_planes.specs.Notes.{HeadingSets, IsWider}
 use Rattle.pz_cells.specs.Lists.{seen, IsSound}
 use Rattle.pz_sheet.specs.Seen.{grid_of, IsNoted, IsStored}
@@ -122,3 +127,13 @@ pub placed_there : (grid : Grid) (x y layer : ℕ) (place : Option Piece) → y 
 placed_there grid x y layer place within deep =
     ap (λ (c : List (Option Piece)). get_or c layer None) (get_or-set_same grid.cells (y * grid.width + x) (set (cell_at grid x y) layer place) [] within)
     ∙ get_or-set_same (cell_at grid x y) layer place None deep
+
+-- a rewriting that gives the same cell changes nothing
+pub unrewritten : (grid : Grid) (x y : ℕ) (left right : List Item) (here : List (Option Piece)) → here ≡ cell_at grid x y → not (same_cell (rewritten_cell left right here) here) ≡ false → grid ≡ with_rewritten grid x y left right
+unrewritten grid x y left right here is same =
+    let at = y * grid.width + x in
+    let kept : rewritten_cell left right here ≡ here = same_cell_is _ _ (by_test (same_cell (rewritten_cell left right here) here) same) in
+    ap (λ (cells : List (List (Option Piece))). record grid { cells = cells }) (sym (ap (set grid.cells at) (ap (rewritten_cell left right) (sym is) ∙ kept ∙ is) ∙ set-get_or grid.cells at [])) where
+      by_test : (b : Bool) → not b ≡ false → b ≡ true
+      by_test true e = refl
+      by_test false e = sym e

@@ -1,13 +1,12 @@
 -- Where rules' cells hold one after another, the objects that they name as present are noted, and those that they name as absent are not.
 use Rattle.pz_cells.specs.Layering.{Layering}
-use Rattle.std.proofs.Common.{◌≡◌, inl, inr, ℕ, ◌+◌, ◌-◌, ◌*◌, ◌<◌, ◌≤◌, List, Bool, true, false, not, ◌&&◌, nat_eq, eq-eqb, length, get_or, arith, ap, sym, ◌∙◌, refl}
+use Rattle.std.proofs.Common.{◌≡◌, inl, inr, ℕ, ◌+◌, ◌*◌, ◌<◌, ◌≤◌, List, Bool, true, false, not, ◌&&◌, nat_eq, eq-eqb, length, get_or, arith, ap, sym, ◌∙◌, refl}
 use Rattle.std.specs.List.{All, list_all, enumerate_from}
 use Rattle.std.proofs.lemmas.Bool.{cases_lt}
 use Rattle.std.proofs.lemmas.List.{get_or_default}
 use Rattle.std.proofs.lemmas.List.Folds.{list_any_at}
 use Rattle.std.proofs.lemmas.Nat.{mul-add-lt}
 use Rattle.pz_sets.specs.Sets.{member}
-use Rattle.pz_game.specs.declared.direction.Dir.TheVariants.{Up, Down, Left, Right}
 use Rattle.pz_game.specs.declared.pattern.Item.{Item}
 use Rattle.pz_game.specs.Items.{names}
 use Rattle.pz_game.specs.Pattern.{AreOf}
@@ -15,14 +14,23 @@ use Rattle.pz_cells.specs.declared.cell.Cell.{Cell}
 use Rattle.pz_cells.specs.Pattern.{pattern_holds}
 use Rattle.pz_cells.proofs.HoldLemmas.{AreMet, met_all}
 use Rattle.pz_sheet.specs.Grid.{Grid, cell_at}
-use Rattle.pz_planes.specs.Planes.{LineSets, PlaneSets, AreItemsOf, MayHold, MayRunAhead, MayRunBack}
+use Rattle.pz_planes.specs.Planes.{LineSets, PlaneSets, AreItemsOf, MayHold, MayRun, lines_of}
+use Rattle.pz_planes.specs.declared.line.Axis.{Axis}
+use Rattle.pz_planes.specs.declared.line.Axis.TheVariants.{Horizontal, Vertical}
+use Rattle.pz_planes.specs.declared.line.Way.{Way}
+use Rattle.pz_planes.specs.declared.line.Way.TheVariants.{Ahead, Back}
+use Rattle.pz_planes.specs.Line.{step_to, room_from}
+use Rattle.pz_planes.proofs.BitLemmas.{step_within}
+use Rattle.pz_sheet.specs.declared.line.Line.{Line}
+use Rattle.pz_sheet.specs.Line.{line_length, line_count, x_at, y_at, holds_in, dir_of, runs_in}
 use Rattle.pz_sheet.specs.Noting.{ArePlaced}
-use Rattle.pz_sheet.specs.Runs.{holds_along, run_holds}
+use Rattle.pz_sheet.specs.Runs.{holds_along}
 use Rattle.pz_planes.specs.Notes.{HeadingSets}
 use Rattle.pz_sheet.specs.Seen.{grid_of, IsStored}
 use Rattle.pz_sheet.proofs.SheetLemmas.{seen_at}
 use Rattle.pz_cells.proofs.ListLemmas.{no_cell}
-use Rattle.pz_sheet.proofs.RunLemmas.{enumerate_fails, right_in, left_in, down_in, up_in, right_past, left_past, down_past, up_past}
+use Rattle.pz_sheet.proofs.RunLemmas.{enumerate_fails}
+use Rattle.pz_sheet.proofs.AxisLemmas.{along_in, run_past}
 
 -- what is true of some is not false of all
 pub holds_unless : (b d : Bool) → (b ≡ true → d ≡ true) → d ≡ false → b ≡ false
@@ -39,6 +47,20 @@ each_passes p patterns all index other within = by_value (p (index, get_or patte
 -- a run that isn't false is on the map
 not_past : {X : Type 0} (b : Bool) → b ≡ true → b ≡ false → X
 not_past b holds fails = absurd (let f : false ≡ true = sym fails ∙ holds in cc)
+
+-- where a rule's cell holds in a line it may hold by what is noted
+abbrev pub Admits : PlaneSets → Line → List Item → Grid → Type 0
+Admits planes line pattern grid =
+    line.number < line_count grid line.axis → line_length grid line.axis ≤ 128 → AreOf grid.layers pattern → (at : ℕ) → at < line_length grid line.axis → holds_in grid line pattern at ≡ true → MayHold (lines_of planes line.axis) line.number at pattern
+
+-- the same of rules' cells one after another
+abbrev pub AdmitsRun : PlaneSets → Line → Way → List (List Item) → Grid → Type 0
+AdmitsRun planes line way patterns grid =
+    line.number < line_count grid line.axis → line_length grid line.axis ≤ 128 → 0 < length patterns → All (AreOf grid.layers) patterns → (at : ℕ) → at < line_length grid line.axis → runs_in grid line way patterns at ≡ true → MayRun (lines_of planes line.axis) line.number way patterns at
+
+more_room : (long longer : ℕ) (way : Way) (at : ℕ) → long ≤ longer → room_from long way at ≤ room_from longer way at
+more_room long longer Ahead at h = omega (arith, h)
+more_room long longer Back at h = omega arith
 
 module _ (N width height : ℕ) (layering : Layering) (cells : List (Cell N)) (notes : HeadingSets) (planes : PlaneSets) (s : IsStored N width height layering cells notes) (p : ArePlaced N (length layering.layers) width height planes cells) where
   abbrev grid : Grid
@@ -68,62 +90,31 @@ module _ (N width height : ℕ) (layering : Layering) (cells : List (Cell N)) (n
     by_word false named =
         met.absent item.object (list_any_at (λ (it : Item). not (names it.word) && nat_eq it.object item.object) pattern k other within (ap (λ (b : Bool). not b && nat_eq item.object item.object) named ∙ eq-eqb item.object item.object refl)) ∙ sym named
 
-  pub noted_in_row : (x y : ℕ) → x < width → y < height → x < 128 → (pattern : List Item) → AreOf layering.layers pattern → pattern_holds (cell_at grid x y) pattern ≡ true → MayHold planes.rows y x pattern
-  noted_in_row x y x_in y_in small pattern are holds k other within =
-      (p.there x y (no_cell N) x_in y_in).row (get_or pattern k other).object small ∙ stands_here x y x_in y_in pattern are holds k other within
+  pub noted_in_line : (axis : Axis) (number at : ℕ) → number < line_count grid axis → at < line_length grid axis → at < 128 → (pattern : List Item) → AreOf layering.layers pattern → holds_in grid (record { axis = axis; number = number }) pattern at ≡ true → MayHold (lines_of planes axis) number at pattern
+  noted_in_line Horizontal number at line_in at_in small pattern are holds k other within =
+      (p.there at number (no_cell N) at_in line_in).row (get_or pattern k other).object small ∙ stands_here at number at_in line_in pattern are holds k other within
+  noted_in_line Vertical number at line_in at_in small pattern are holds k other within =
+      (p.there number at (no_cell N) line_in at_in).column (get_or pattern k other).object small ∙ stands_here number at line_in at_in pattern are holds k other within
 
-  pub noted_in_column : (x y : ℕ) → x < width → y < height → y < 128 → (pattern : List Item) → AreOf layering.layers pattern → pattern_holds (cell_at grid x y) pattern ≡ true → MayHold planes.columns x y pattern
-  noted_in_column x y x_in y_in small pattern are holds k other within =
-      (p.there x y (no_cell N) x_in y_in).column (get_or pattern k other).object small ∙ stands_here x y x_in y_in pattern are holds k other within
+  pub admits : (line : Line) (pattern : List Item) → Admits planes line pattern grid
+  admits line pattern line_in short are at at_in holds = noted_in_line line.axis line.number at line_in at_in (omega (arith, at_in, short)) pattern are holds
 
-  module _ (x y : ℕ) (x_in : x < width) (y_in : y < height) (patterns : List (List Item)) (some : 0 < length patterns) (are : All (AreOf layering.layers) patterns) where
-    pub ahead_in_row : width ≤ 128 → run_holds grid Right x y patterns ≡ true → MayRunAhead planes.rows y patterns x
-    ahead_in_row narrow holds =
-        let inside : x + length patterns ≤ width = (elim (cases_lt width (x + length patterns)) [
-          | inl past ↦ not_past _ holds (right_past grid x y patterns some past)
-          | inr fits ↦ fits
-        ]) in
-        record {
-          within = omega (arith, inside, narrow);
-          each = λ index other h. noted_in_row (x + index) y (omega (arith, inside, h)) y_in (omega (arith, inside, h, narrow)) (get_or patterns index other) (are index other h)
-              (sym (right_in grid (get_or patterns index other) x y index (omega (arith, inside, h)) y_in) ∙ each_passes (holds_along grid Right x y) patterns holds index other h);
-        }
-
-    pub back_in_row : width ≤ 128 → run_holds grid Left x y patterns ≡ true → MayRunBack planes.rows y patterns x
-    back_in_row narrow holds =
-        let inside : length patterns ≤ x + 1 = (elim (cases_lt (x + 1) (length patterns)) [
-          | inl past ↦ not_past _ holds (left_past grid x y patterns some past)
-          | inr fits ↦ fits
-        ]) in
-        record {
-          within = inside;
-          each = λ index other h. noted_in_row (x - index) y (omega (arith, x_in)) y_in (omega (arith, x_in, narrow)) (get_or patterns index other) (are index other h)
-              (sym (left_in grid (get_or patterns index other) x y index (omega (arith, inside, h)) x_in y_in) ∙ each_passes (holds_along grid Left x y) patterns holds index other h);
-        }
-
-    pub ahead_in_column : height ≤ 128 → run_holds grid Down x y patterns ≡ true → MayRunAhead planes.columns x patterns y
-    ahead_in_column low holds =
-        let inside : y + length patterns ≤ height = (elim (cases_lt height (y + length patterns)) [
-          | inl past ↦ not_past _ holds (down_past grid x y patterns some past)
-          | inr fits ↦ fits
-        ]) in
-        record {
-          within = omega (arith, inside, low);
-          each = λ index other h. noted_in_column x (y + index) x_in (omega (arith, inside, h)) (omega (arith, inside, h, low)) (get_or patterns index other) (are index other h)
-              (sym (down_in grid (get_or patterns index other) x y index x_in (omega (arith, inside, h))) ∙ each_passes (holds_along grid Down x y) patterns holds index other h);
-        }
-
-    pub back_in_column : height ≤ 128 → run_holds grid Up x y patterns ≡ true → MayRunBack planes.columns x patterns y
-    back_in_column low holds =
-        let inside : length patterns ≤ y + 1 = (elim (cases_lt (y + 1) (length patterns)) [
-          | inl past ↦ not_past _ holds (up_past grid x y patterns some past)
-          | inr fits ↦ fits
-        ]) in
-        record {
-          within = inside;
-          each = λ index other h. noted_in_column x (y - index) x_in (omega (arith, y_in)) (omega (arith, y_in, low)) (get_or patterns index other) (are index other h)
-              (sym (up_in grid (get_or patterns index other) x y index (omega (arith, inside, h)) x_in y_in) ∙ each_passes (holds_along grid Up x y) patterns holds index other h);
-        }
+  pub admits_run : (line : Line) (way : Way) (patterns : List (List Item)) → AdmitsRun planes line way patterns grid
+  admits_run line way patterns line_in short some are at at_in holds =
+      let long = line_length grid line.axis in
+      let inside : length patterns ≤ room_from long way at = (elim (cases_lt (room_from long way at) (length patterns)) [
+        | inl past ↦ not_past _ holds (run_past grid line way at patterns some at_in past)
+        | inr fits ↦ fits
+      ]) in
+      record {
+        within = omega (arith, inside, more_room long 128 way at short);
+        each = λ index other h.
+            let room : index < room_from long way at = omega (arith, h, inside) in
+            let there : step_to way at index < long = step_within long way at index at_in room in
+            noted_in_line line.axis line.number (step_to way at index) line_in there (omega (arith, there, short)) (get_or patterns index other) (are index other h)
+            (sym (along_in grid line.axis line.number way (get_or patterns index other) at index line_in at_in room)
+            ∙ each_passes (holds_along grid (dir_of line.axis way) (x_at line.axis line.number at) (y_at line.axis line.number at)) patterns holds index other h);
+      }
 
 -- a rule's cells name objects of the game
 pub items_of : (layers : List ℕ) (sets : LineSets) (patterns : List (List Item)) → sets.objects ≡ length layers → All (AreOf layers) patterns → All (AreItemsOf sets) patterns

@@ -1,18 +1,23 @@
--- The lines of a map: rows and columns, seen as lines that have so many positions each, and as cells of which each is as far from the next.
-use Rattle.std.specs.Prelude.{ℕ, ◌+◌, ◌-◌, ◌*◌, List, Option, Bool}
+-- The lines of a map: rows and columns, each with so many positions.
+use Rattle.std.specs.Prelude.{ℕ, List, Bool}
 use Rattle.pz_game.specs.declared.direction.Dir.{Dir}
 use Rattle.pz_game.specs.declared.direction.Dir.TheVariants.{Up, Down, Left, Right}
 use Rattle.pz_game.specs.declared.pattern.Item.{Item}
-use Rattle.pz_cells.specs.declared.piece.Piece.{Piece}
 use Rattle.pz_cells.specs.Pattern.{pattern_holds}
-use Rattle.pz_sheet.specs.declared.line.Axis.{Axis}
-use Rattle.pz_sheet.specs.declared.line.Axis.TheVariants.{Horizontal, Vertical}
-use Rattle.pz_sheet.specs.declared.line.Way.{Way}
-use Rattle.pz_sheet.specs.declared.line.Way.TheVariants.{Ahead, Back}
+use Rattle.pz_planes.specs.declared.line.Axis.{Axis}
+use Rattle.pz_planes.specs.declared.line.Axis.TheVariants.{Horizontal, Vertical}
+use Rattle.pz_planes.specs.declared.line.Way.{Way}
+use Rattle.pz_planes.specs.declared.line.Way.TheVariants.{Ahead, Back}
 use Rattle.pz_sheet.specs.declared.line.Line.{Line}
-use Rattle.pz_sheet.specs.declared.line.Walk.{Walk}
 use Rattle.pz_sheet.specs.Grid.{Grid, cell_at}
 use Rattle.pz_sheet.specs.Runs.{run_holds}
+
+-- the row and the column of a number
+abbrev pub row_of : ℕ → Line
+row_of number = record { axis = Horizontal; number = number }
+
+abbrev pub column_of : ℕ → Line
+column_of number = record { axis = Vertical; number = number }
 
 -- how many positions a line has
 abbrev pub line_length : Grid → Axis → ℕ
@@ -47,25 +52,3 @@ dir_of Vertical Back = Up
 -- rules' cells hold one after another from a position of a line on
 abbrev pub runs_in : Grid → Line → Way → List (List Item) → ℕ → Bool
 runs_in grid line way patterns at = run_holds grid (dir_of line.axis way) (x_at line.axis line.number at) (y_at line.axis line.number at) patterns
-
--- the position some steps on
-abbrev pub step_to : Way → ℕ → ℕ → ℕ
-step_to Ahead at steps = at + steps
-step_to Back at steps = at - steps
-
--- how many positions there are from one on
-abbrev pub room_from : ℕ → Way → ℕ → ℕ
-room_from length Ahead at = length - at
-room_from length Back at = at + 1
-
--- the number of the first cell of a line, and how far each is from the next
-abbrev pub start_of : Grid → Axis → ℕ → ℕ
-start_of grid Horizontal number = number * grid.width
-start_of grid Vertical number = number
-
-abbrev pub stride_of : Grid → Axis → ℕ
-stride_of grid Horizontal = 1
-stride_of grid Vertical = grid.width
-
-abbrev pub walk_of : Grid → Line → Walk
-walk_of grid line = record { start = start_of grid line.axis line.number; stride = stride_of grid line.axis }

@@ -2,7 +2,9 @@
 use Rattle.std.specs.Prelude.{ℕ, Bool, not, ◌&&◌, ◌||◌, List, [], Option, is_some, slice_index_or}
 use Rattle.std.specs.List.{list_any, list_all, range_with_len}
 use Rattle.pz_cells.specs.declared.piece.Piece.{Piece}
+use Rattle.pz_sheet.specs.declared.line.Line.{Line}
 use Rattle.pz_sheet.specs.Grid.{Grid, cell_at}
+use Rattle.pz_sheet.specs.Line.{row_of, column_of, line_length, x_at, y_at}
 use Rattle.pz_cells.specs.Standing.{standing}
 
 -- an object is in a cell
@@ -21,13 +23,21 @@ holds_each objects cell = list_all (is_in cell) objects
 abbrev pub cell_of : Grid → ℕ → List (Option Piece)
 cell_of grid index = slice_index_or grid.cells index []
 
+-- an object stands at a position of a line
+abbrev pub stands_in_line : Grid → Line → ℕ → ℕ → Bool
+stands_in_line grid line object at = is_in (cell_at grid (x_at line.axis line.number at) (y_at line.axis line.number at)) object
+
+-- an object stands in a line
+abbrev pub in_line : Grid → Line → ℕ → Bool
+in_line grid line object = list_any (stands_in_line grid line object) (range_with_len 0 (line_length grid line.axis))
+
 -- an object stands in a row
 abbrev pub in_row : Grid → ℕ → ℕ → Bool
-in_row grid line object = list_any (λ x. is_in (cell_at grid x line) object) (range_with_len 0 grid.width)
+in_row grid number object = in_line grid (row_of number) object
 
 -- an object stands in a column
 abbrev pub in_column : Grid → ℕ → ℕ → Bool
-in_column grid line object = list_any (λ y. is_in (cell_at grid line y) object) (range_with_len 0 grid.height)
+in_column grid number object = in_line grid (column_of number) object
 
 -- one of some objects is in a cell, and one of others
 abbrev pub holds_both : List ℕ → List ℕ → List (Option Piece) → Bool

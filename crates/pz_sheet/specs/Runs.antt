@@ -31,11 +31,3 @@ holds_along grid dir x y (steps, pattern) = holds_at grid pattern (along grid di
 -- rules' cells hold one after another from a position on
 abbrev pub run_holds : Grid → Dir → ℕ → ℕ → List (List Item) → Bool
 run_holds grid dir x y patterns = list_all (holds_along grid dir x y) (enumerate_from 0 patterns)
-
--- they do so from a column of a row on
-abbrev pub runs_in_row : Grid → Dir → ℕ → List (List Item) → ℕ → Bool
-runs_in_row grid dir y patterns x = run_holds grid dir x y patterns
-
--- they do so from a row of a column on
-abbrev pub runs_in_column : Grid → Dir → ℕ → List (List Item) → ℕ → Bool
-runs_in_column grid dir x patterns y = run_holds grid dir x y patterns

@@ -2,15 +2,9 @@
 use Rattle.std.specs.Prelude.{◌≡◌, ℕ, ◌<◌, List, Bool, true, false, Option, Some, None}
 use Rattle.pz_game.specs.declared.pattern.Item.{Item}
 use Rattle.pz_cells.specs.Pattern.{pattern_holds}
+use Rattle.pz_sheet.specs.declared.line.Line.{Line}
 use Rattle.pz_sheet.specs.Grid.{Grid, cell_at}
-
--- a rule's cell holds in a column of a row
-abbrev pub holds_in_row : Grid → ℕ → List Item → ℕ → Bool
-holds_in_row grid y pattern x = pattern_holds (cell_at grid x y) pattern
-
--- a rule's cell holds in a row of a column
-abbrev pub holds_in_column : Grid → ℕ → List Item → ℕ → Bool
-holds_in_column grid x pattern y = pattern_holds (cell_at grid x y) pattern
+use Rattle.pz_sheet.specs.Line.{line_length, holds_in}
 
 -- the greatest number below another that passes a test, if there is one
 abbrev pub IsLast : (ℕ → Bool) → ℕ → Option ℕ → Type 0
@@ -26,14 +20,8 @@ pub record HoldsSomewhere (grid : Grid) (pattern : List Item) : Type 0 where
   pub y_in : y < grid.height
   pub holds : pattern_holds (cell_at grid x y) pattern ≡ true
 
--- a rule's cell holds somewhere in a row of the map
-pub record HoldsInRow (grid : Grid) (y : ℕ) (pattern : List Item) : Type 0 where
-  pub x : ℕ
-  pub x_in : x < grid.width
-  pub holds : holds_in_row grid y pattern x ≡ true
-
--- a rule's cell holds somewhere in a column of the map
-pub record HoldsInColumn (grid : Grid) (x : ℕ) (pattern : List Item) : Type 0 where
-  pub y : ℕ
-  pub y_in : y < grid.height
-  pub holds : holds_in_column grid x pattern y ≡ true
+-- a rule's cell holds somewhere in a line of the map
+pub record HoldsInLine (grid : Grid) (line : Line) (pattern : List Item) : Type 0 where
+  pub at : ℕ
+  pub at_in : at < line_length grid line.axis
+  pub holds : holds_in grid line pattern at ≡ true

@@ -7,7 +7,6 @@ ghost use Rattle.pz_sets.specs.Next.{IsNext};
 ghost use Rattle.pz_cells.specs.Lists.{seen, IsSound, HeadNowhere};
 
 use crate::Sheet;
-use crate::noting::note_heading;
 use pz_cells::cell::Cell;
 use pz_cells::differing::next_differing;
 use pz_cells::layers::Layers;
@@ -70,21 +69,8 @@ impl<const N: usize> Sheet<N> {
         ensures size { SameSize self.old.grid self.new.grid }
     {
         for change in changes {
-            self.take_change(change);
+            self.set_cell(change.index, change.cell);
         }
-    }
-
-    fn take_change(&mut self, change: &Change<N>)
-        requires { IsChangeOf self.old.grid change.now }
-        ensures { self.new.grid ≡ with_cell self.old.grid (change_seen (layers_in self.old.grid) change.now) }
-    {
-        let before = self.cells[change.index];
-        self.cells[change.index] = change.cell;
-        note_heading(&mut self.notes, change.index, &change.cell);
-        // (brings the proof how many words a cell has)
-        let _ = (before.word_count(), change.cell.word_count());
-        self.planes
-            .note_at(change.index, &before.objects, &change.cell.objects);
     }
 
     /// The number of the first cell from one on in which another level of the same size differs.
@@ -102,10 +88,9 @@ impl<const N: usize> Sheet<N> {
         requires within { index < length self.old.grid.cells }
         ensures { self.new.grid ≡ with_cell self.old.grid (cell_there other.now.grid index) }
     {
-        // (brings the proof what the level is)
-        let _ = &self.cells;
-        let cell = other.cells[index];
-        self.take_change(&Change { index, cell });
+        // (brings the proof the law of both levels)
+        let _ = (self.width(), other.width(), other.layers().depth());
+        self.set_cell(index, *other.cell(index));
     }
 }
 

@@ -4,9 +4,11 @@ ghost use Rattle.std.specs.Prelude.{◌≡◌, ◌<◌, List, All, true};
 ghost use Rattle.pz_game.specs.declared.pattern.Item.{Item};
 ghost use Rattle.pz_game.specs.Pattern.{AreOf, IsRowOf};
 ghost use Rattle.pz_game.specs.Pattern.{AsksAmong};
-ghost use Rattle.pz_sheet.specs.Searching.{HoldsSomewhere, HoldsInRow, HoldsInColumn};
+ghost use Rattle.pz_sheet.specs.Line.{line_count};
+ghost use Rattle.pz_sheet.specs.Searching.{HoldsSomewhere, HoldsInLine};
 
 use crate::Sheet;
+use crate::line::Line;
 use pz_game::pattern::Row;
 use pz_sets::words::{has_subset, is_disjoint};
 
@@ -26,21 +28,15 @@ impl<const N: usize> Sheet<N> {
         !is_disjoint(self.notes.whole().words(), asked)
     }
 
-    /// Whether something may head in a row of the map as the cells of a rule's row ask: true where each of them holds somewhere in it.
-    pub fn may_hold_in_row(&self, y: u32, row: &Row) -> bool
-        requires y_in { y < self.now.grid.height }
+    /// Whether something may head in a line of the map as the cells of a rule's row ask: true where each of them holds somewhere in it.
+    pub fn may_hold_in_line(&self, line: Line, row: &Row) -> bool
+        requires line_in { line.number < line_count self.now.grid line.axis }
         requires of_game { IsRowOf self.now.grid.layers row.now }
-        ensures { All (HoldsInRow self.now.grid y) row.now.cells → result ≡ true }
+        ensures { All (HoldsInLine self.now.grid line) row.now.cells → result ≡ true }
     {
-        has_subset(self.notes.row(y).words(), row.required().words())
-    }
-
-    /// Whether something may head in a column of the map as the cells of a rule's row ask: true where each of them holds somewhere in it.
-    pub fn may_hold_in_column(&self, x: u32, row: &Row) -> bool
-        requires x_in { x < self.now.grid.width }
-        requires of_game { IsRowOf self.now.grid.layers row.now }
-        ensures { All (HoldsInColumn self.now.grid x) row.now.cells → result ≡ true }
-    {
-        has_subset(self.notes.column(x).words(), row.required().words())
+        has_subset(
+            self.notes.line(line.axis, line.number).words(),
+            row.required().words(),
+        )
     }
 }

@@ -48,7 +48,7 @@ impl<const N: usize> Sheet<N> {
     {
         // (the contract alone speaks of the list)
         let _ = objects;
-        !is_disjoint(set.words(), &self.cells[index].objects)
+        !is_disjoint(set.words(), self.objects_in(index))
     }
 }
 

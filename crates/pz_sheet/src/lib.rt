@@ -1,5 +1,5 @@
 //! A level in words of one size: the cells of a rectangle, read, compared, searched, matched, rewritten, pushed and stilled.
-#![tactic(auto)]
+#![tactic(auto, using(pz_cells::proofs::ListLemmas::small_cell))]
 
 ghost use Rattle.std.specs.Prelude.{◌≡◌, ◌+◌, ◌*◌, ◌<◌, length};
 ghost use Rattle.pz_sheet.specs.Grid.{IsLawful};
@@ -10,6 +10,7 @@ use pz_planes::notes::Notes;
 use pz_planes::planes::Planes;
 use std::marker::Model;
 
+mod cells;
 pub mod changes;
 mod copying;
 mod headings;

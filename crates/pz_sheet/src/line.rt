@@ -1,21 +1,16 @@
 //! The lines of the map: rows and columns, each walked ahead or back.
 
-ghost use Rattle.std.specs.Prelude.{◌≡◌, ◌+◌, ◌-◌, ◌*◌, ◌<◌, ◌≤◌, length};
+ghost use Rattle.std.specs.Prelude.{◌≡◌, ◌+◌, ◌*◌, ◌<◌, length};
 ghost use Rattle.pz_game.specs.Pattern.{AreOf};
 ghost use Rattle.pz_cells.specs.Pattern.{pattern_holds};
+ghost use Rattle.pz_planes.specs.Line.{room_from};
 ghost use Rattle.pz_sheet.specs.Grid.{IsLawful};
-ghost use Rattle.pz_sheet.specs.Line.{line_length, line_count, x_at, y_at, holds_in, walk_of, step_to, room_from};
+ghost use Rattle.pz_sheet.specs.Line.{row_of, column_of, line_length, line_count, x_at, y_at, holds_in};
 ghost use Rattle.pz_sheet.specs.Presence.{cell_of};
 
 use crate::Sheet;
 use pz_game::pattern::Pattern;
-
-/// A row lies horizontally, a column vertically.
-#[derive(Clone, Copy)]
-pub enum Axis {
-    Horizontal,
-    Vertical,
-}
+pub use pz_planes::line::{Axis, Way};
 
 /// A line of the map: the row or the column of a number.
 #[derive(Clone, Copy)]
@@ -26,7 +21,7 @@ pub struct Line {
 
 /// The row of a number.
 pub fn row(number: u32) -> Line
-    ensures { result ≡ record { axis = Axis.Horizontal; number = number } }
+    ensures { result ≡ row_of number }
 {
     Line {
         axis: Axis::Horizontal,
@@ -36,36 +31,11 @@ pub fn row(number: u32) -> Line
 
 /// The column of a number.
 pub fn column(number: u32) -> Line
-    ensures { result ≡ record { axis = Axis.Vertical; number = number } }
+    ensures { result ≡ column_of number }
 {
     Line {
         axis: Axis::Vertical,
         number,
-    }
-}
-
-/// Which way a line is walked: ahead to the right or down, back to the left or up.
-#[derive(Clone, Copy)]
-pub enum Way {
-    Ahead,
-    Back,
-}
-
-/// The number of the first cell of a line, and how far each is from the next.
-#[derive(Clone, Copy)]
-pub struct Walk {
-    pub start: usize,
-    pub stride: usize,
-}
-
-/// The position some steps on.
-pub(crate) fn step_to(way: Way, at: u32, steps: usize) -> u32
-    requires near { at + steps < 65536 }
-    ensures { result ≡ step_to way at steps }
-{
-    match way {
-        Way::Ahead => at + steps as u32,
-        Way::Back => at.saturating_sub(steps as u32),
     }
 }
 
@@ -94,36 +64,17 @@ impl<const N: usize> Sheet<N> {
         }
     }
 
-    /// Where a line begins, and how far its cells are apart.
-    pub(crate) fn walk(&self, line: Line) -> Walk
-        requires line_in { line.number < line_count self.now.grid line.axis }
-        ensures { result ≡ walk_of self.now.grid line }
-    {
-        let width = self.width() as usize;
-        let number = line.number as usize;
-        match line.axis {
-            Axis::Horizontal => Walk {
-                start: number * width,
-                stride: 1,
-            },
-            Axis::Vertical => Walk {
-                start: number,
-                stride: width,
-            },
-        }
-    }
-
     /// The number of the cell at a position of a line.
-    fn index_in(&self, line: Line, walk: Walk, at: u32) -> usize
+    pub(crate) fn index_in(&self, line: Line, at: u32) -> usize
         requires line_in { line.number < line_count self.now.grid line.axis }
         requires at_in { at < line_length self.now.grid line.axis }
-        requires walk { walk ≡ walk_of self.now.grid line }
         ensures index { result ≡ y_at line.axis line.number at * self.now.grid.width + x_at line.axis line.number at }
         ensures within { result < length self.now.grid.cells }
     {
-        // (brings the proof the law of the level; the contract alone speaks of the line)
-        let _ = (self.width(), line);
-        walk.start + at as usize * walk.stride
+        match line.axis {
+            Axis::Horizontal => self.index(at, line.number),
+            Axis::Vertical => self.index(line.number, at),
+        }
     }
 
     /// Whether a rule's cell holds in the cell of a number.
@@ -132,17 +83,17 @@ impl<const N: usize> Sheet<N> {
         requires of_game { AreOf self.now.grid.layers pattern.now }
         ensures { result ≡ pattern_holds (cell_of self.now.grid index) pattern.now }
     {
-        self.cells[index].holds(&self.layers, pattern)
+        let layers = self.layers();
+        self.cell(index).holds(layers, pattern)
     }
 
     /// Whether a rule's cell holds at a position of a line.
-    pub(crate) fn holds_in(&self, line: Line, walk: Walk, at: u32, pattern: &Pattern) -> bool
+    pub(crate) fn holds_in(&self, line: Line, at: u32, pattern: &Pattern) -> bool
         requires line_in { line.number < line_count self.now.grid line.axis }
         requires at_in { at < line_length self.now.grid line.axis }
-        requires walk { walk ≡ walk_of self.now.grid line }
         requires of_game { AreOf self.now.grid.layers pattern.now }
         ensures { result ≡ holds_in self.now.grid line pattern.now at }
     {
-        self.holds_there(self.index_in(line, walk, at), pattern)
+        self.holds_there(self.index_in(line, at), pattern)
     }
 }

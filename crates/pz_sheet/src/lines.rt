@@ -1,45 +1,33 @@
-//! Which objects stand in a row or a column.
+//! Which objects stand in a line.
 
 ghost use Rattle.std.specs.Prelude.{◌≡◌, ◌<◌, ℕ};
 ghost use Rattle.pz_sets.specs.Sets.{member};
-ghost use Rattle.pz_sheet.specs.Grid.{cell_at};
-ghost use Rattle.pz_sheet.specs.Presence.{is_in, in_row, in_column};
+ghost use Rattle.pz_sheet.specs.Line.{line_length, line_count};
+ghost use Rattle.pz_sheet.specs.Presence.{stands_in_line, in_line};
 
 use crate::Sheet;
+use crate::line::Line;
 use pz_sets::set::NumberSet;
 
 impl<const N: usize> Sheet<N> {
-    /// The objects that stand in a row of the map.
-    pub fn row_objects(&self, y: u32) -> NumberSet
-        requires { y < self.now.grid.height }
-        ensures { (object : ℕ) → member result object ≡ in_row self.now.grid y object }
+    /// The objects that stand in a line of the map.
+    pub fn line_objects(&self, line: Line) -> NumberSet
+        requires { line.number < line_count self.now.grid line.axis }
+        ensures { (object : ℕ) → member result object ≡ in_line self.now.grid line object }
     {
         let mut set = NumberSet::empty();
-        for x in 0..self.width() {
-            set = set.union(&self.objects_on(x, y));
+        for at in 0..self.line_length(line.axis) {
+            set = set.union(&self.objects_on(line, at));
         }
         set
     }
 
-    /// The objects that stand in a column of the map.
-    pub fn column_objects(&self, x: u32) -> NumberSet
-        requires { x < self.now.grid.width }
-        ensures { (object : ℕ) → member result object ≡ in_column self.now.grid x object }
+    /// The objects that stand at a position of a line.
+    fn objects_on(&self, line: Line, at: u32) -> NumberSet
+        requires line_in { line.number < line_count self.now.grid line.axis }
+        requires at_in { at < line_length self.now.grid line.axis }
+        ensures { (object : ℕ) → member result object ≡ stands_in_line self.now.grid line object at }
     {
-        let mut set = NumberSet::empty();
-        for y in 0..self.height() {
-            set = set.union(&self.objects_on(x, y));
-        }
-        set
-    }
-
-    /// The objects that stand at a position of the map.
-    fn objects_on(&self, x: u32, y: u32) -> NumberSet
-        requires x_in { x < self.now.grid.width }
-        requires y_in { y < self.now.grid.height }
-        ensures { (object : ℕ) → member result object ≡ is_in (cell_at self.now.grid x y) object }
-    {
-        let index = self.index(x, y);
-        self.cells[index].object_set()
+        NumberSet::from_words(self.objects_in(self.index_in(line, at)))
     }
 }

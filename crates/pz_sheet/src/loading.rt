@@ -23,17 +23,13 @@ impl<const N: usize> Sheet<N> {
         ensures { IfOk result (λ sheet. sheet.grid ≡ drawn game.now drawing.now) }
     {
         let layers = Layers::of_game(alloc, game)?;
+        // (brings the proof the law of the layers)
+        let _ = layers.depth();
         let cells = glyph_cells(alloc, game, &layers, drawing.cells())?;
         let width = drawing.width();
         let height = drawing.height();
-        let notes = notes_of(alloc, width as usize, height as usize, &cells)?;
-        let planes = planes_of(
-            alloc,
-            layers.object_count(),
-            width as usize,
-            height as usize,
-            &cells,
-        )?;
+        let notes = notes_of(alloc, &layers, width as usize, height as usize, &cells)?;
+        let planes = planes_of(alloc, &layers, width as usize, height as usize, &cells)?;
         Ok(Sheet {
             width,
             height,
@@ -52,7 +48,7 @@ impl<const N: usize> Sheet<N> {
         ensures lawful { IsLawful self.new.grid }
     {
         fill_cells(&mut self.cells, &self.layers, layer, piece);
-        renew_notes(&mut self.notes, &self.cells);
-        note_all(&mut self.planes, &self.cells);
+        renew_notes(&mut self.notes, &self.layers, &self.cells);
+        note_all(&mut self.planes, &self.layers, &self.cells);
     }
 }

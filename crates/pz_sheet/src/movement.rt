@@ -6,6 +6,7 @@ ghost use Rattle.pz_sheet.specs.Grid.{IsLawful, cell_at, place_at};
 ghost use Rattle.pz_sheet.specs.Movement.{stilled};
 
 use crate::Sheet;
+use crate::line::Axis;
 use pz_cells::stilling::still_cells;
 use pz_planes::notes::is_empty;
 
@@ -16,8 +17,8 @@ impl<const N: usize> Sheet<N> {
         requires y_in { y < self.now.grid.height }
         ensures { result ≡ true → cell_at self.now.grid x y ≡ map still_place (cell_at self.now.grid x y) }
     {
-        let index = self.index(x, y);
-        self.cells[index].is_still()
+        let layers = self.layers();
+        self.cell(self.index(x, y)).is_still(layers)
     }
 
     /// Whether what stands on a layer of a position of the map heads nowhere.
@@ -27,8 +28,8 @@ impl<const N: usize> Sheet<N> {
         requires layer_in { layer < self.now.grid.depth }
         ensures { result ≡ true → place_at self.now.grid x y layer ≡ still_place (place_at self.now.grid x y layer) }
     {
-        let index = self.index(x, y);
-        self.cells[index].is_layer_still(layer)
+        let layers = self.layers();
+        self.cell(self.index(x, y)).is_layer_still(layers, layer)
     }
 
     /// Whether no heading is noted for a column of the map: where that is true, nothing in it heads anywhere.
@@ -36,7 +37,7 @@ impl<const N: usize> Sheet<N> {
         requires { x < self.now.grid.width }
         ensures { result ≡ true → (y : ℕ) → y < self.now.grid.height → cell_at self.now.grid x y ≡ map still_place (cell_at self.now.grid x y) }
     {
-        is_empty(self.notes.column(x))
+        is_empty(self.notes.line(Axis::Vertical, x))
     }
 
     /// Stills every piece.

@@ -9,7 +9,6 @@ ghost use Rattle.pz_sheet.specs.Grid.{cell_at, place_at, with_place};
 ghost use Rattle.pz_sheet.specs.Rewriting.{with_rewritten, changes};
 
 use crate::Sheet;
-use crate::noting::note_heading;
 use pz_cells::piece::Piece;
 use pz_game::pattern::Pattern;
 
@@ -23,8 +22,8 @@ impl<const N: usize> Sheet<N> {
         ensures on_layer { IsOnLayer self.now.grid.layers layer result }
         ensures low { IfSome result (λ piece. piece.object < CAPACITY) }
     {
-        let index = self.index(x, y);
-        self.cells[index].place(&self.layers, layer)
+        let layers = self.layers();
+        self.cell(self.index(x, y)).place(layers, layer)
     }
 
     /// Puts a piece, or nothing, on a layer of a position of the map.
@@ -37,14 +36,10 @@ impl<const N: usize> Sheet<N> {
         ensures there { place_at self.new.grid x y layer ≡ place }
     {
         let index = self.index(x, y);
-        let cell = &mut self.cells[index];
-        let before = *cell;
-        cell.put(&self.layers, layer, place);
-        note_heading(&mut self.notes, index, cell);
-        // (brings the proof how many words a cell has)
-        let _ = (before.word_count(), cell.word_count());
-        self.planes
-            .note(x as usize, y as usize, &before.objects, &cell.objects);
+        let layers = self.layers();
+        let mut cell = *self.cell(index);
+        cell.put(layers, layer, place);
+        self.set_cell(index, cell);
     }
 
     /// Whether a rule's cell holds at a position of the map.
@@ -67,14 +62,12 @@ impl<const N: usize> Sheet<N> {
         ensures changed { result ≡ changes self.old.grid x y left.now right.now }
     {
         let index = self.index(x, y);
-        let cell = &mut self.cells[index];
-        let before = *cell;
-        let changed = cell.rewrite(&self.layers, left, right);
-        note_heading(&mut self.notes, index, cell);
-        // (brings the proof how many words a cell has)
-        let _ = (before.word_count(), cell.word_count());
-        self.planes
-            .note(x as usize, y as usize, &before.objects, &cell.objects);
+        let layers = self.layers();
+        let mut cell = *self.cell(index);
+        let changed = cell.rewrite(layers, left, right);
+        if changed {
+            self.set_cell(index, cell);
+        }
         changed
     }
 }

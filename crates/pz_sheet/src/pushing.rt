@@ -8,7 +8,6 @@ ghost use Rattle.pz_sheet.specs.Pushing.{pushed_place, pushed_at, pushed};
 
 use crate::Sheet;
 use crate::holding::set_of;
-use crate::noting::note_heading;
 use pz_cells::cell::Cell;
 use pz_cells::layers::Layers;
 use pz_game::direction::Dir;
@@ -35,7 +34,7 @@ impl<const N: usize> Sheet<N> {
         requires set { IsSetFor players.now set.now }
         ensures { self.new.grid ≡ pushed_at players.now dir index self.old.grid }
     {
-        if is_disjoint(set.words(), &self.cells[index].objects) {
+        if is_disjoint(set.words(), self.objects_in(index)) {
             return;
         }
         self.push_in(index, players, dir);
@@ -47,13 +46,10 @@ impl<const N: usize> Sheet<N> {
         requires { index < length self.old.grid.cells }
         ensures { self.new.grid ≡ pushed_at players.now dir index self.old.grid }
     {
-        let cell = &mut self.cells[index];
-        let before = *cell;
-        push_cell(cell, &self.layers, players, dir);
-        note_heading(&mut self.notes, index, cell);
-        // (brings the proof how many words a cell has)
-        let _ = (before.word_count(), cell.word_count());
-        self.planes.note_at(index, &before.objects, &cell.objects);
+        let layers = self.layers();
+        let mut cell = *self.cell(index);
+        push_cell(&mut cell, layers, players, dir);
+        self.set_cell(index, cell);
     }
 }
 

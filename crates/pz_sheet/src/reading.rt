@@ -8,14 +8,15 @@ ghost use Rattle.pz_sheet.specs.Standing.{standing_at, stands};
 use crate::Sheet;
 use pz_cells::piece::Piece;
 use pz_sets::set::NumberSet;
+use pz_sets::words::contains;
 
 impl<const N: usize> Sheet<N> {
     /// The objects that stand at the position: off the map, none.
     pub fn objects_at(&self, x: u32, y: u32) -> NumberSet
         ensures { (object : ℕ) → member result object ≡ stands self.now.grid x y object }
     {
-        if x < self.width && y < self.height {
-            self.cells[self.index(x, y)].object_set()
+        if x < self.width() && y < self.height() {
+            NumberSet::from_words(self.objects_in(self.index(x, y)))
         } else {
             NumberSet::empty()
         }
@@ -25,8 +26,9 @@ impl<const N: usize> Sheet<N> {
     pub fn piece(&self, x: u32, y: u32, object: usize) -> Option<Piece>
         ensures { MatchOption result (standing_at self.now.grid x y object ≡ None) (λ piece. standing_at self.now.grid x y object ≡ Some piece.heading) }
     {
-        if x < self.width && y < self.height {
-            self.cells[self.index(x, y)].piece(&self.layers, object)
+        if x < self.width() && y < self.height() {
+            let layers = self.layers();
+            self.cell(self.index(x, y)).piece(layers, object)
         } else {
             None
         }
@@ -44,6 +46,6 @@ impl<const N: usize> Sheet<N> {
         requires { index < length self.now.grid.cells }
         ensures { result ≡ is_in (cell_of self.now.grid index) object }
     {
-        self.cells[index].has(object)
+        contains(self.objects_in(index), object)
     }
 }

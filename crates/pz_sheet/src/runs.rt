@@ -3,15 +3,16 @@
 ghost use Rattle.std.specs.Prelude.{◌≡◌, ℕ, ◌<◌, ◌≤◌, ◌^◌, All, true, length, slice_index_or, []};
 ghost use Rattle.pz_sets.specs.Sets.{in_word};
 ghost use Rattle.pz_game.specs.Pattern.{AreOf};
-ghost use Rattle.pz_sheet.specs.Line.{line_length, line_count, holds_in, walk_of, runs_in};
+ghost use Rattle.pz_sheet.specs.Line.{line_length, line_count, holds_in, runs_in};
 ghost use Rattle.pz_sheet.specs.Runs.{on_map, along, holds_at, run_holds};
 ghost use Rattle.pz_sets.specs.Next.{IsNext};
 
 use crate::Sheet;
-use crate::line::{Axis, Line, Walk, Way, column, row, step_to};
+use crate::line::{Line, Way, column, row};
 use pz_game::direction::Dir;
 use pz_game::pattern::Pattern;
 use pz_planes::bits;
+use pz_planes::line::step_to;
 
 impl<const N: usize> Sheet<N> {
     /// Whether a rule's cell holds at a position, on the map or not.
@@ -45,11 +46,10 @@ impl<const N: usize> Sheet<N> {
 
     /// Whether rules' cells hold from a position of a line on, where the first does. It stays a call, which few positions of a search come to.
     #[inline(never)]
-    fn rest_holds(&self, line: Line, walk: Walk, way: Way, at: u32, patterns: &[Pattern]) -> bool
+    fn rest_holds(&self, line: Line, way: Way, at: u32, patterns: &[Pattern]) -> bool
         requires some { 0 < length patterns.now }
         requires line_in { line.number < line_count self.now.grid line.axis }
         requires at_in { at < line_length self.now.grid line.axis }
-        requires walk { walk ≡ walk_of self.now.grid line }
         requires of_game { All (AreOf self.now.grid.layers) patterns.now }
         requires first { holds_in self.now.grid line (slice_index_or patterns.now 0 []) at ≡ true }
         ensures { result ≡ runs_in self.now.grid line way patterns.now at }
@@ -60,7 +60,7 @@ impl<const N: usize> Sheet<N> {
         }
         for index in 1..patterns.len() {
             let there = step_to(way, at, index);
-            if !self.holds_in(line, walk, there, &patterns[index]) {
+            if !self.holds_in(line, there, &patterns[index]) {
                 return false;
             }
         }
@@ -69,28 +69,14 @@ impl<const N: usize> Sheet<N> {
 
     /// Whether rules' cells hold from a position of a line on. Its test of the first cell is the body of each search.
     #[inline(always)]
-    fn runs_from(&self, line: Line, walk: Walk, way: Way, at: u32, patterns: &[Pattern]) -> bool
-        requires some { 0 < length patterns.now }
-        requires line_in { line.number < line_count self.now.grid line.axis }
-        requires at_in { at < line_length self.now.grid line.axis }
-        requires walk { walk ≡ walk_of self.now.grid line }
-        requires of_game { All (AreOf self.now.grid.layers) patterns.now }
-        ensures { result ≡ runs_in self.now.grid line way patterns.now at }
-    {
-        self.holds_in(line, walk, at, &patterns[0])
-            && self.rest_holds(line, walk, way, at, patterns)
-    }
-
-    /// Whether rules' cells hold from a position of the map on, along a line.
-    fn runs_along(&self, line: Line, way: Way, at: u32, patterns: &[Pattern]) -> bool
+    fn runs_from(&self, line: Line, way: Way, at: u32, patterns: &[Pattern]) -> bool
         requires some { 0 < length patterns.now }
         requires line_in { line.number < line_count self.now.grid line.axis }
         requires at_in { at < line_length self.now.grid line.axis }
         requires of_game { All (AreOf self.now.grid.layers) patterns.now }
         ensures { result ≡ runs_in self.now.grid line way patterns.now at }
     {
-        let walk = self.walk(line);
-        self.runs_from(line, walk, way, at, patterns)
+        self.holds_in(line, at, &patterns[0]) && self.rest_holds(line, way, at, patterns)
     }
 
     /// Whether rules' cells hold from a position of the map on: the action leads nowhere.
@@ -102,10 +88,10 @@ impl<const N: usize> Sheet<N> {
         ensures { result ≡ run_holds self.now.grid dir x y patterns.now }
     {
         match dir {
-            Dir::Right => self.runs_along(row(y), Way::Ahead, x, patterns),
-            Dir::Left => self.runs_along(row(y), Way::Back, x, patterns),
-            Dir::Down => self.runs_along(column(x), Way::Ahead, y, patterns),
-            Dir::Up => self.runs_along(column(x), Way::Back, y, patterns),
+            Dir::Right => self.runs_from(row(y), Way::Ahead, x, patterns),
+            Dir::Left => self.runs_from(row(y), Way::Back, x, patterns),
+            Dir::Down => self.runs_from(column(x), Way::Ahead, y, patterns),
+            Dir::Up => self.runs_from(column(x), Way::Back, y, patterns),
             Dir::Action => false,
         }
     }
@@ -131,31 +117,27 @@ impl<const N: usize> Sheet<N> {
         requires of_game { All (AreOf self.now.grid.layers) patterns.now }
         ensures { (at : ℕ) → at < line_length self.now.grid line.axis → runs_in self.now.grid line way patterns.now at ≡ true → in_word result at ≡ true }
     {
-        let number = line.number as usize;
-        match (line.axis, way) {
-            (Axis::Horizontal, Way::Ahead) => self.planes.rows().starts_ahead(number, patterns),
-            (Axis::Horizontal, Way::Back) => self.planes.rows().starts_back(number, patterns),
-            (Axis::Vertical, Way::Ahead) => self.planes.columns().starts_ahead(number, patterns),
-            (Axis::Vertical, Way::Back) => self.planes.columns().starts_back(number, patterns),
-        }
+        self.planes
+            .lines(line.axis)
+            .starts(line.number as usize, way, patterns)
     }
 
     /// The first position of a line from one on from which rules' cells hold.
+    #[inline(always)]
     pub fn next_run(&self, line: Line, way: Way, from: u32, patterns: &[Pattern]) -> Option<u32>
         requires some { 0 < length patterns.now }
         requires line_in { line.number < line_count self.now.grid line.axis }
         requires of_game { All (AreOf self.now.grid.layers) patterns.now }
         ensures { IsNext (runs_in self.now.grid line way patterns.now) from (line_length self.now.grid line.axis) result }
     {
-        let walk = self.walk(line);
         let end = self.line_length(line.axis);
         if end > bits::ROOM {
-            return self.next_run_in_long_line(line, walk, way, from, patterns);
+            return self.next_run_in_long_line(line, way, from, patterns);
         }
         let starts = self.starts_in(line, way, patterns);
         let mut at = from;
         'starts: while let Some(start) = bits::next(starts, at, end) {
-            if self.runs_from(line, walk, way, start, patterns) {
+            if self.runs_from(line, way, start, patterns) {
                 return Some(start);
             }
             at = start + 1;
@@ -167,19 +149,17 @@ impl<const N: usize> Sheet<N> {
     fn next_run_in_long_line(
         &self,
         line: Line,
-        walk: Walk,
         way: Way,
         from: u32,
         patterns: &[Pattern],
     ) -> Option<u32>
         requires some { 0 < length patterns.now }
         requires line_in { line.number < line_count self.now.grid line.axis }
-        requires walk { walk ≡ walk_of self.now.grid line }
         requires of_game { All (AreOf self.now.grid.layers) patterns.now }
         ensures { IsNext (runs_in self.now.grid line way patterns.now) from (line_length self.now.grid line.axis) result }
     {
         for at in from..self.line_length(line.axis) {
-            if self.runs_from(line, walk, way, at, patterns) {
+            if self.runs_from(line, way, at, patterns) {
                 return Some(at);
             }
         }

@@ -4,11 +4,11 @@ ghost use Rattle.std.specs.Prelude.{◌≡◌, ℕ, ◌<◌, ◌≤◌, true};
 ghost use Rattle.pz_sets.specs.Sets.{in_word};
 ghost use Rattle.pz_game.specs.Pattern.{AreOf};
 ghost use Rattle.pz_sets.specs.Next.{IsNext};
-ghost use Rattle.pz_sheet.specs.Line.{line_length, line_count, holds_in, walk_of};
+ghost use Rattle.pz_sheet.specs.Line.{line_length, line_count, holds_in};
 ghost use Rattle.pz_sheet.specs.Searching.{IsLast};
 
 use crate::Sheet;
-use crate::line::{Axis, Line, Walk};
+use crate::line::Line;
 use pz_game::pattern::Pattern;
 use pz_planes::bits;
 
@@ -20,27 +20,26 @@ impl<const N: usize> Sheet<N> {
         requires of_game { AreOf self.now.grid.layers pattern.now }
         ensures { (at : ℕ) → at < line_length self.now.grid line.axis → holds_in self.now.grid line pattern.now at ≡ true → in_word result at ≡ true }
     {
-        match line.axis {
-            Axis::Horizontal => self.planes.rows().places(line.number as usize, pattern),
-            Axis::Vertical => self.planes.columns().places(line.number as usize, pattern),
-        }
+        self.planes
+            .lines(line.axis)
+            .places(line.number as usize, pattern)
     }
 
     /// The first position of a line from one on at which a rule's cell holds.
+    #[inline(always)]
     pub fn next_in_line(&self, line: Line, from: u32, pattern: &Pattern) -> Option<u32>
         requires line_in { line.number < line_count self.now.grid line.axis }
         requires of_game { AreOf self.now.grid.layers pattern.now }
         ensures { IsNext (holds_in self.now.grid line pattern.now) from (line_length self.now.grid line.axis) result }
     {
-        let walk = self.walk(line);
         let end = self.line_length(line.axis);
         if end > bits::ROOM {
-            return self.next_in_long_line(line, walk, from, pattern);
+            return self.next_in_long_line(line, from, pattern);
         }
         let places = self.places_in(line, pattern);
         let mut at = from;
         'places: while let Some(place) = bits::next(places, at, end) {
-            if self.holds_in(line, walk, place, pattern) {
+            if self.holds_in(line, place, pattern) {
                 return Some(place);
             }
             at = place + 1;
@@ -49,14 +48,13 @@ impl<const N: usize> Sheet<N> {
     }
 
     /// The same, cell by cell.
-    fn next_in_long_line(&self, line: Line, walk: Walk, from: u32, pattern: &Pattern) -> Option<u32>
+    fn next_in_long_line(&self, line: Line, from: u32, pattern: &Pattern) -> Option<u32>
         requires line_in { line.number < line_count self.now.grid line.axis }
-        requires walk { walk ≡ walk_of self.now.grid line }
         requires of_game { AreOf self.now.grid.layers pattern.now }
         ensures { IsNext (holds_in self.now.grid line pattern.now) from (line_length self.now.grid line.axis) result }
     {
         for at in from..self.line_length(line.axis) {
-            if self.holds_in(line, walk, at, pattern) {
+            if self.holds_in(line, at, pattern) {
                 return Some(at);
             }
         }
@@ -64,21 +62,21 @@ impl<const N: usize> Sheet<N> {
     }
 
     /// The last position of a line before an end at which a rule's cell holds.
+    #[inline(always)]
     pub fn last_in_line(&self, line: Line, end: u32, pattern: &Pattern) -> Option<u32>
         requires line_in { line.number < line_count self.now.grid line.axis }
         requires end_in { end ≤ line_length self.now.grid line.axis }
         requires of_game { AreOf self.now.grid.layers pattern.now }
         ensures { IsLast (holds_in self.now.grid line pattern.now) end result }
     {
-        let walk = self.walk(line);
         if self.line_length(line.axis) > bits::ROOM {
-            return self.last_in_long_line(line, walk, end, pattern);
+            return self.last_in_long_line(line, end, pattern);
         }
         let places = self.places_in(line, pattern);
         let mut at = end;
         'places: while at > 0 {
             at -= 1;
-            if bits::has(places, at) && self.holds_in(line, walk, at, pattern) {
+            if bits::has(places, at) && self.holds_in(line, at, pattern) {
                 return Some(at);
             }
         }
@@ -86,9 +84,8 @@ impl<const N: usize> Sheet<N> {
     }
 
     /// The same, cell by cell.
-    fn last_in_long_line(&self, line: Line, walk: Walk, end: u32, pattern: &Pattern) -> Option<u32>
+    fn last_in_long_line(&self, line: Line, end: u32, pattern: &Pattern) -> Option<u32>
         requires line_in { line.number < line_count self.now.grid line.axis }
-        requires walk { walk ≡ walk_of self.now.grid line }
         requires end_in { end ≤ line_length self.now.grid line.axis }
         requires of_game { AreOf self.now.grid.layers pattern.now }
         ensures { IsLast (holds_in self.now.grid line pattern.now) end result }
@@ -96,7 +93,7 @@ impl<const N: usize> Sheet<N> {
         let mut at = end;
         'cells: while at > 0 {
             at -= 1;
-            if self.holds_in(line, walk, at, pattern) {
+            if self.holds_in(line, at, pattern) {
                 return Some(at);
             }
         }

@@ -4,20 +4,22 @@ SESSIONS is the file that was played, LINES what the program wrote for it; witho
 differs gets the level of its last frame as its recorded level, with --only those whose names fit (`level 2*`); all else stays letter by
 letter. The new file goes to standard output, or with --in-place into the place of SESSIONS, renamed there once it is whole. Look at what
 you accept first, by `saxtegun report` or `saxtegun explain`, or by --review, which shows one after the other with both levels and asks.
-Says on standard error which sessions it changed, and which it could not: one that was stopped or refused was not played to its end, and
-one whose recorded level is the reached one in the other order was not played in the order that it was recorded in. Exit status 0; 1
-where a session that --only names could not be changed; 2 where a file is refused."""
+Says on standard error which sessions it changed, and which it could not: one that was stopped or refused was not played to its end. All is
+refused, and nothing changed, where a session was played in the other order than it was recorded in, as far as that can be told: where LINES
+don't begin with the level that the source draws, in this order (they may be over another source too), and where the recorded level is the
+reached one in the other order. Where these levels are the same in both orders nothing tells it. Exit status 0; 1 where a session that --only
+names could not be changed; 2 where a file is refused."""
 from __future__ import annotations
 
 import sys
 from argparse import ArgumentParser, Namespace
 from typing import Dict, List, Optional, Tuple
 
-from saxtegun.commands import Refused, add_order, plural, printable, say
+from saxtegun.commands import Refused, add_playing, plural, printable, say
 from saxtegun.explaining import UNREADABLE, Ending, cause_told, heading, told
 from saxtegun.files import MARK, guard_output, read_text, write_whole
 from saxtegun.lines import Run
-from saxtegun.playing import lines_or_played
+from saxtegun.playing import engine_of, lines_or_played
 from saxtegun.sessions import Entry, changed, chosen, read_sessions, with_source
 
 USAGE = "accept SESSIONS [LINES] [--only PATTERN..] [--review] [--in-place] [--game GAME.txt] [--order rows|columns] [>NEW]"
@@ -31,7 +33,7 @@ def add_words(words: ArgumentParser) -> None:
     words.add_argument("--game", metavar="GAME.txt", help="the text of recordings whose source is the empty text")
     words.add_argument("--review", action="store_true")
     words.add_argument("--in-place", action="store_true")
-    add_order(words)
+    add_playing(words)
 
 
 def obstacle(entry: Entry, run: Run, order: str) -> Optional[str]:
@@ -42,7 +44,8 @@ def obstacle(entry: Entry, run: Run, order: str) -> Optional[str]:
     if ending.reached is None:
         return UNREADABLE
     if ending.is_turned_in(order):
-        return f"the recorded level is the reached one in the other order than {order}: play it in the order that it was recorded in"
+        why = f"the recorded level is the reached one in the other order than {order}: play it in the order that it was recorded in"
+        raise Refused(f"{heading(run)}: {why}; nothing is accepted")
     return None
 
 
@@ -84,7 +87,7 @@ def main(given: Namespace) -> int:
     changes: Dict[int, Tuple[str, str]] = {}
     said: List[str] = []
     failed = False
-    with lines_or_played(sessions, given.lines, given.order) as runs:
+    with lines_or_played(sessions, given.lines, engine_of(given), is_drawn=True) as runs:
         for run in runs:
             if run.number not in wanted or run.close == "passed":
                 continue

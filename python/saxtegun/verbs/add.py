@@ -13,11 +13,11 @@ import os
 from argparse import ArgumentParser, Namespace
 from typing import List
 
-from saxtegun.commands import Refused, add_order, plural, say
+from saxtegun.commands import Refused, add_playing, cut, plural, say
 from saxtegun.explaining import told
 from saxtegun.files import MARK, read_text, write_whole
 from saxtegun.javascript import entries_of
-from saxtegun.playing import runs_of
+from saxtegun.playing import engine_of, runs_of
 from saxtegun.sessions import Entry, Sessions, read_sessions, sessions_in
 
 USAGE = "add SESSIONS.json [CONSOLE.txt|-] [--game GAME.txt] [--anyway] [--order rows|columns]"
@@ -28,9 +28,7 @@ def add_words(words: ArgumentParser) -> None:
     words.add_argument("console", metavar="CONSOLE.txt", nargs="?", default="-")
     words.add_argument("--game", metavar="GAME.txt", help="the text that stands for sources that are the same, or empty")
     words.add_argument("--anyway", action="store_true", help="also what differs from what was recorded")
-    words.add_argument("--workers", metavar="N", type=int)
-    words.add_argument("--program", metavar="PROGRAM", help="play with this program")
-    add_order(words)
+    add_playing(words)
 
 
 def same_text(one: str, other: str) -> bool:
@@ -67,13 +65,13 @@ def main(given: Namespace) -> int:
     game = read_text(given.game).lstrip(MARK) if given.game else ""
     entries = [it._replace(source=game) if game and not it.source else it for it in new.entries]
     failed = 0
-    for entry, run in zip(entries, runs_of(entries, new, given.order, given.workers, given.program) if entries else []):
+    for entry, run in zip(entries, runs_of(entries, new, engine_of(given)) if entries else []):
         if run.close == "passed":
             continue
         sentence, below = told(run, entry, given.order, given.game or "")
         is_let = given.anyway and run.close == "differs"
         failed += not is_let
-        say(f"add: {entry.name}: {run.close}{'' if is_let else ', not added'}: {sentence}")
+        say(f"add: {cut(entry.name)}: {run.close}{'' if is_let else ', not added'}: {sentence}")
         for line in below:
             say(f"    {line}")
     if failed:

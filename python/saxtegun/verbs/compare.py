@@ -14,12 +14,13 @@ from contextlib import ExitStack
 from itertools import zip_longest
 from typing import Iterator, List, Optional, Sequence, Tuple
 
-from saxtegun.commands import Refused, add_order, plural, printable
-from saxtegun.files import MARK, guard_output, read_text, write_whole
-from saxtegun.lines import Run, read_runs
+from saxtegun.belonging import NAMES_ALONE, read_runs
+from saxtegun.commands import Refused, add_playing, cut, plural, printable
+from saxtegun.files import MARK, guard_files, guard_output, read_text, write_whole
+from saxtegun.lines import Run
 from saxtegun.pages import Report
 from saxtegun.parting import Parting, below_of, parting_of, sentence_of
-from saxtegun.playing import playing
+from saxtegun.playing import engine_of, playing
 from saxtegun.sessions import Entry, Sessions, read_sessions
 
 USAGE = "compare (ONE.lines OTHER.lines [SESSIONS] | --engines P Q SESSIONS | --sources OLD.txt NEW.txt SESSIONS) [options]"
@@ -30,9 +31,7 @@ def add_words(words: ArgumentParser) -> None:
     words.add_argument("--engines", metavar=("P", "Q"), nargs=2)
     words.add_argument("--sources", metavar=("OLD.txt", "NEW.txt"), nargs=2)
     words.add_argument("--report", metavar="F")
-    words.add_argument("--workers", metavar="N", type=int)
-    words.add_argument("--program", metavar="PROGRAM", help="play --sources with this program")
-    add_order(words)
+    add_playing(words)
 
 
 def over(sessions: Sessions, path: str) -> List[Entry]:
@@ -60,13 +59,13 @@ def runs_to_compare(given: Namespace, stack: ExitStack) -> Tuple[Optional[Sessio
             raise Refused("two files of lines are wanted, and then the sessions or nothing")
         sessions = read_sessions(files[2]) if len(files) == 3 else None
         # the close of either may be that of another recording, so names and inputs alone are held against the sessions
-        return sessions, pairs_of(*(read_runs(it, sessions, False) for it in files[:2]), files)
+        return sessions, pairs_of(read_runs(files[0], sessions, NAMES_ALONE), read_runs(files[1], sessions, NAMES_ALONE), files)
     if len(files) != 1:
         raise Refused("one file of sessions is wanted")
     sessions = read_sessions(files[0])
     entries = [over(sessions, it) for it in given.sources] if given.sources else [sessions.entries, sessions.entries]
     programs = given.engines or [given.program, given.program]
-    played = [stack.enter_context(playing(it, sessions, given.order, given.workers, program)) for it, program in zip(entries, programs)]
+    played = [stack.enter_context(playing(it, sessions, engine_of(given)._replace(program=program))) for it, program in zip(entries, programs)]
     return sessions._replace(entries=entries[1]), pairs_of(read_runs(played[0].lines), read_runs(played[1].lines), given.engines or given.sources)
 
 
@@ -92,6 +91,7 @@ def write_report(path: str, sessions: Sessions, parted: List[Tuple[Parting, Run,
 
 def main(given: Namespace) -> int:
     guard_output(*given.files, *(given.sources or []))
+    guard_files([given.report], [*given.files, *(given.sources or [])])
     parted: List[Tuple[Parting, Run, Run]] = []
     count = 0
     with ExitStack() as stack:
@@ -104,7 +104,7 @@ def main(given: Namespace) -> int:
             if parting is None:
                 continue
             entry = sessions.entries[one.number] if sessions else None
-            print(printable(f"session {one.number}, {one.name}: {sentence_of(parting, one, other, entry)}"))
+            print(printable(f"session {one.number}, {cut(one.name)}: {sentence_of(parting, one, other, entry)}"))
             for line in below_of(parting, entry, given.order):
                 print(printable(f"    {line}"))
             if given.report:

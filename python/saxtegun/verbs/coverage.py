@@ -12,13 +12,13 @@ import sys
 from argparse import ArgumentParser, Namespace
 from typing import Dict, Iterator, List, NamedTuple, Set, Tuple
 
-from saxtegun.commands import Refused, add_order, plural, printable
+from saxtegun.commands import Refused, add_playing, cut, plural, printable
 from saxtegun.files import MARK, guard_output, read_text
 from saxtegun.games import game_of
 from saxtegun.leaving import Part, parts_of
 from saxtegun.lines import Run
 from saxtegun.levelsets import wins_of
-from saxtegun.playing import runs_of
+from saxtegun.playing import engine_of, runs_of
 from saxtegun.sessions import Entry, Sessions, read_sessions, with_source
 from saxtegun.solving import MOST_INPUTS, ONE_MORE
 
@@ -31,9 +31,7 @@ Signature = Tuple[object, ...]
 
 def add_words(words: ArgumentParser) -> None:
     words.add_argument("files", metavar="[GAME.txt] SESSIONS.json", nargs="+")
-    words.add_argument("--workers", metavar="N", type=int)
-    words.add_argument("--program", metavar="PROGRAM", help="play with this program")
-    add_order(words)
+    add_playing(words)
 
 
 class Trial(NamedTuple):
@@ -78,7 +76,7 @@ class Coverage:
         self.tried, self.alone = 0, 0
 
     def play(self, entries: List[Entry]) -> List[Run]:
-        return runs_of(entries, self.sessions, self.given.order, self.given.workers, self.given.program) if entries else []
+        return runs_of(entries, self.sessions, engine_of(self.given)) if entries else []
 
     def signatures(self, entries: List[Entry]) -> List[Tuple[Signature, Signature]]:
         """For each session how it closes, and how it wins."""
@@ -128,7 +126,7 @@ def main(given: Namespace) -> int:
     for trial in coverage.unnoticed:
         place = game or f"{game_of(trial.source).title}, line "
         number = f":{trial.part.number}" if game else str(trial.part.number)
-        print(printable(f"{place}{number}: no session notices it: {trial.part.text}"))
+        print(printable(f"{place}{number}: no session notices it: {cut(trial.part.text)}"))
     alone = f", {plural(coverage.alone, 'line')} can't be left out alone" if coverage.alone else ""
     games = f" in {plural(len(sources), 'source')}" if len(sources) > 1 else ""
     print(f"{plural(coverage.tried, 'line')} left out in turn: {len(coverage.unnoticed)} that no session notices{games}{alone}")

@@ -11,10 +11,10 @@ import sys
 from argparse import ArgumentParser, Namespace
 from typing import List
 
-from saxtegun.commands import add_order, printable
+from saxtegun.commands import add_playing, printable
 from saxtegun.explaining import heading, summary, told
 from saxtegun.files import guard_output
-from saxtegun.playing import lines_or_played
+from saxtegun.playing import engine_of, lines_or_played
 from saxtegun.sessions import read_sessions
 
 USAGE = "explain SESSIONS [LINES] [--order rows|columns]"
@@ -23,7 +23,7 @@ USAGE = "explain SESSIONS [LINES] [--order rows|columns]"
 def add_words(words: ArgumentParser) -> None:
     words.add_argument("sessions", metavar="SESSIONS")
     words.add_argument("lines", metavar="LINES", nargs="?")
-    add_order(words)
+    add_playing(words)
 
 
 def main(given: Namespace) -> int:
@@ -31,7 +31,7 @@ def main(given: Namespace) -> int:
     sessions = read_sessions(given.sessions)
     closes: List[str] = []
     lines: List[str] = []
-    with lines_or_played(sessions, given.lines, given.order) as runs:
+    with lines_or_played(sessions, given.lines, engine_of(given)) as runs:
         for run in runs:
             closes.append(run.close)
             if run.close != "passed":

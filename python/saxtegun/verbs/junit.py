@@ -8,10 +8,10 @@ import sys
 from argparse import ArgumentParser, Namespace
 from pathlib import Path
 
+from saxtegun.belonging import Tests, read_runs
 from saxtegun.commands import Refused, add_order
 from saxtegun.files import guard_output
 from saxtegun.junit import junit_of
-from saxtegun.lines import read_runs
 from saxtegun.sessions import read_sessions
 
 USAGE = "junit [SESSIONS] LINES [--order rows|columns] [--refused error|skipped] >junit.xml"
@@ -28,5 +28,5 @@ def main(given: Namespace) -> int:
         raise Refused("one or two files are wanted: the sessions, and the lines")
     guard_output(*given.files)
     sessions = read_sessions(given.files[0]) if len(given.files) == 2 else None
-    sys.stdout.write(junit_of(read_runs(given.files[-1], sessions), Path(given.files[0]).name, sessions, given.order, given.refused))
+    sys.stdout.write(junit_of(read_runs(given.files[-1], sessions, Tests(order=given.order)), Path(given.files[0]).name, sessions, given.order, given.refused))
     return 0

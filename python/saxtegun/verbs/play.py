@@ -21,7 +21,7 @@ from saxtegun.games import game_of
 from saxtegun.levels import Labels, in_rows, read_cells, width_of
 from saxtegun.levelsets import count_of_levels, entries_of_levels
 from saxtegun.lines import Frame
-from saxtegun.playing import lines_beyond, runs_of
+from saxtegun.playing import Engine, runs_of, shown_beyond
 from saxtegun.sessions import Entry, Input, Sessions, read_sessions
 from saxtegun.terminal import CLEAR, KEYS, lettered, painted
 from saxtegun.verbs.add import with_more
@@ -75,7 +75,7 @@ class Play:
         self.index = places[given.level - 1] if places else 0
         self.inputs: List[Input] = []
         self.frames: List[Frame] = []
-        run = runs_of([self.entry()], Sessions(given.game, "", []), program=given.program)[0]
+        run = runs_of([self.entry()], Sessions(given.game, "", []), Engine(program=given.program))[0]
         if run.cause is not None:
             sentence, below = told(run, self.entry(), game=given.game)
             raise Refused(f"{given.game} is not played: {sentence}" + (f": {below[0]}" if below else ""))
@@ -87,13 +87,12 @@ class Play:
     def press(self, key: Input) -> str:
         """Plays one more input; what there is to say of it."""
         self.inputs.append(key)
-        lines = [json.loads(it) for it in lines_beyond(self.entry(), len(self.frames), self.given.program)]
-        if lines[-1].get("cause"):
+        run = shown_beyond(self.entry(), len(self.frames), Engine(workers=1, program=self.given.program))
+        if run.cause:
             self.inputs.pop()
-            return f"{cause_told(lines[-1]['cause'])}: the key is left out"
-        new = [Frame(it["at"], it["kind"], it["level"]) for it in lines[:-1]]
-        self.frames += new
-        kinds = [it.kind for it in new]
+            return f"{cause_told(run.cause)}: the key is left out"
+        self.frames += run.frames
+        kinds = [it.kind for it in run.frames]
         return "solved: all levels" if "over" in kinds else "the next level" if "load" in kinds else ""
 
     def draw(self, word: str, is_terminal: bool) -> None:

@@ -8,10 +8,10 @@ from __future__ import annotations
 import sys
 from argparse import ArgumentParser, Namespace
 
-from saxtegun.commands import add_order
+from saxtegun.commands import add_playing
 from saxtegun.files import guard_output
 from saxtegun.pages import Report
-from saxtegun.playing import lines_or_played
+from saxtegun.playing import engine_of, lines_or_played
 from saxtegun.sessions import read_sessions
 
 USAGE = "report SESSIONS [LINES] [--order rows|columns] >report.html"
@@ -20,14 +20,14 @@ USAGE = "report SESSIONS [LINES] [--order rows|columns] >report.html"
 def add_words(words: ArgumentParser) -> None:
     words.add_argument("sessions", metavar="SESSIONS")
     words.add_argument("lines", metavar="LINES", nargs="?")
-    add_order(words)
+    add_playing(words)
 
 
 def main(given: Namespace) -> int:
     guard_output(given.sessions, *([given.lines] if given.lines else []))
     sessions = read_sessions(given.sessions)
     report = Report(sessions, given.order)
-    with lines_or_played(sessions, given.lines, given.order) as runs:
+    with lines_or_played(sessions, given.lines, engine_of(given)) as runs:
         for run in runs:
             report.add(run)
     sys.stdout.write(report.page())

@@ -18,19 +18,22 @@ from collections import Counter
 from pathlib import Path
 from typing import Dict, List, NamedTuple, Optional, Tuple
 
-from saxtegun.commands import Refused, add_order, fail, plural, printable, say
+from saxtegun import hanging
+from saxtegun.commands import Refused, add_playing, cut, fail, plural, printable, say
 from saxtegun.explaining import fault_in, summary, told
-from saxtegun.files import MARK, guard_output, read_text, write_whole
+from saxtegun.files import MARK, guard_files, guard_output, read_text, write_whole
 from saxtegun.junit import junit_of
 from saxtegun.lines import Run
 from saxtegun.pages import Report
-from saxtegun.playing import runs_of
+from saxtegun.playing import engine_of, runs_of
 from saxtegun.sessions import Entry, Sessions, fits, read_sessions, with_source
 from saxtegun.solving import SOLVED, solved_of
 from saxtegun.telling import Failure, annotation, for_a_ci, markdown
 
 USAGE = "test [GAME.txt] SESSIONS.json.. [options]"
 PAUSE = 0.2
+# Of so many failures it is found out by playing in what a session hung.
+MOST_HUNG = 20
 
 
 def add_words(words: ArgumentParser) -> None:
@@ -44,9 +47,7 @@ def add_words(words: ArgumentParser) -> None:
     words.add_argument("--report", metavar="F", help="write a page that shows each session frame by frame")
     words.add_argument("--markdown", metavar="F", help="write a summary in Markdown")
     words.add_argument("--github", action="store_true", help="write annotations for GitHub")
-    words.add_argument("--workers", metavar="N", type=int)
-    words.add_argument("--program", metavar="PROGRAM", help="play with this program")
-    add_order(words)
+    add_playing(words)
 
 
 class Suite(NamedTuple):
@@ -74,6 +75,7 @@ def picked(sessions: Sessions, patterns: Optional[List[str]]) -> List[Entry]:
 
 def played(given: Namespace) -> Suite:
     game, paths = split_files(given.files)
+    engine = engine_of(given)
     entries: List[Entry] = []
     runs: List[Run] = []
     solved: Dict[int, str] = {}
@@ -83,8 +85,8 @@ def played(given: Namespace) -> Suite:
         sessions = read_sessions(path)
         sessions = with_source(sessions, game, source) if game else sessions
         chosen, first = picked(sessions, given.filter), len(entries)
-        shown = runs_of(chosen, sessions, given.order, given.workers, given.program) if chosen else []
-        ended = solved_of(chosen, shown, sessions, given.order, given.workers, given.program)
+        shown = runs_of(chosen, sessions, engine) if chosen else []
+        ended = solved_of(chosen, shown, sessions, engine)
         files += [(path, it.number) for it in chosen]
         entries += [it._replace(number=first + place) for place, it in enumerate(chosen)]
         runs += [it._replace(number=first + it.number) for it in shown]
@@ -104,17 +106,19 @@ def unsolved_in(suite: Suite, patterns: List[str]) -> Dict[int, str]:
 def failures_of(suite: Suite, unsolved: Dict[int, str], given: Namespace) -> List[Failure]:
     game, paths = split_files(given.files)
     found: List[Failure] = []
+    player = hanging.Player(suite.sessions, engine_of(given))
     for entry, run in zip(suite.sessions.entries, suite.runs):
         path, number = suite.files[entry.number]
         place = f"{path}: session {number}" if len(paths) > 1 else f"session {number}"
         if run.close == "passed" and entry.number not in unsolved:
             continue
-        sentence, below = told(run, entry, given.order, game)
+        is_told_hung = run.cause == hanging.HUNG and len(found) < MOST_HUNG
+        sentence, below = told(run, entry, given.order, game, hanging.hung_told(entry, run, player) if is_told_hung else "")
         fault = fault_in(run.cause or "")
         if run.close == "passed":
             sentence, below = unsolved[entry.number], []
         is_of_game = bool(game and fault)
-        found.append(Failure(f"{place}, {entry.name}", run.close, sentence, below, game if is_of_game else path, fault[1] if is_of_game and fault else 1))
+        found.append(Failure(f"{place}, {cut(entry.name)}", run.close, sentence, below, game if is_of_game else path, fault[1] if is_of_game and fault else 1))
     return found
 
 
@@ -129,7 +133,7 @@ def tell(suite: Suite, failures: List[Failure], given: Namespace) -> str:
     if not given.quiet:
         for run in suite.runs:
             if run.close == "passed":
-                show(f"passed, {suite.solved.get(run.number, 'not played')}: {run.name}", is_for_ci)
+                show(f"passed, {suite.solved.get(run.number, 'not played')}: {cut(run.name)}", is_for_ci)
     most = given.max_fail if given.max_fail is not None else len(failures)
     for failure in failures[:most]:
         show(f"{failure.name}: {failure.close}: {failure.sentence}", is_for_ci)
@@ -206,9 +210,6 @@ def main(given: Namespace) -> int:
         raise Refused("--max-fail wants a number that is not below 0")
     if "-" in given.files and (given.watch or given.files.count("-") > 1):
         raise Refused("standard input is read once: it can be one sessions file, and not be watched")
-    read = [os.path.realpath(it) for it in given.files if it != "-"]
-    for path in (given.junit, given.report, given.markdown):
-        if path and os.path.realpath(path) in read:
-            raise Refused(f"{path} is read: write to another file")
+    guard_files((given.junit, given.report, given.markdown), given.files)
     guard_output(*given.files)
     return watch(given) if given.watch else test(given)

@@ -10,10 +10,10 @@ returns-in-Up g c = record {
       let grid = c.args.sheet.now.grid in
       let row = c.args.row.now in
       let line = c.args.line in
-      let h = c.may_hold_in_column.ensures in
+      let h = c.may_hold_in_line.ensures in
       elim c.in-Up.is [
-        | inl up ↦ subst (λ (dir : Dir). StartsNowhere grid row dir line) (sym up) (up_nowhere grid row line c.may_hold_in_column.result h no)
-        | inr down ↦ subst (λ (dir : Dir). StartsNowhere grid row dir line) (sym down) (down_nowhere grid row line c.may_hold_in_column.result h no)
+        | inl up ↦ subst (λ (dir : Dir). StartsNowhere grid row dir line) (sym up) (up_nowhere grid row line c.may_hold_in_line.result h no)
+        | inr down ↦ subst (λ (dir : Dir). StartsNowhere grid row dir line) (sym down) (down_nowhere grid row line c.may_hold_in_line.result h no)
       ];
 }
 
@@ -23,12 +23,12 @@ returns-in-Left g c = record {
       let grid = c.args.sheet.now.grid in
       let row = c.args.row.now in
       let line = c.args.line in
-      let h = c.may_hold_in_row.ensures in
+      let h = c.may_hold_in_line-in-Left.ensures in
       elim c.in-Left.is [
-        | inl left ↦ subst (λ (dir : Dir). StartsNowhere grid row dir line) (sym left) (left_nowhere grid row line c.may_hold_in_row.result h no)
+        | inl left ↦ subst (λ (dir : Dir). StartsNowhere grid row dir line) (sym left) (left_nowhere grid row line c.may_hold_in_line-in-Left.result h no)
         | inr other ↦ elim other [
-          | inl right ↦ subst (λ (dir : Dir). StartsNowhere grid row dir line) (sym right) (right_nowhere grid row line c.may_hold_in_row.result h no)
-          | inr action ↦ subst (λ (dir : Dir). StartsNowhere grid row dir line) (sym action) (action_nowhere grid row line c.may_hold_in_row.result h no)
+          | inl right ↦ subst (λ (dir : Dir). StartsNowhere grid row dir line) (sym right) (right_nowhere grid row line c.may_hold_in_line-in-Left.result h no)
+          | inr action ↦ subst (λ (dir : Dir). StartsNowhere grid row dir line) (sym action) (action_nowhere grid row line c.may_hold_in_line-in-Left.result h no)
         ]
       ];
 }

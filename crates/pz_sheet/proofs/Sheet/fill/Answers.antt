@@ -39,9 +39,9 @@ note_all-requires g c =
     (noted_read _ a.width a.height _ _ c.renew_notes.new.notes cells c.deref.result.now c.self.invariant.stored.noted.column_count c.self.invariant.stored.noted.row_count c.deref.ensures.value c.renew_notes.ensures) in
     let fits = c.self.invariant.placed.fits in
     let is = c.deref-2.ensures.value in (
-      small_cell _ c.self.invariant.stored.law.short,
+      omega arith,
       (
-        c.self.invariant.stored.law.short,
+        small_cell _ c.self.invariant.stored.law.short,
         (
           covers_all _ a.width a.height _ a.planes fits (ap (λ (all : List (Cell g.row.N)). length all) is ∙ stored.covers),
           subst (λ (all : List (Cell g.row.N)). All (λ cell. AreKnown a.planes cell.objects) all) (sym is) (all_known _ a.layers a.width a.height a.planes cells fits stored.sound),
@@ -71,7 +71,7 @@ renew_notes-requires g c =
     let cells = c.fill_cells.new.cells.items in
     let mapped = c.fill_cells.ensures in
     let long = all_mapped_long g.row.N a.layers (filled_cell c.args.layer c.args.piece) a.cells.items cells mapped in
-    (small_cell _ stored.law.short, (stored.law.short, noted_covers _ a.width a.height _ a.notes a.cells.items stored.noted (ap (λ (all : List (Cell g.row.N)). length all) c.deref.ensures.value ∙ (long ∙ stored.covers))))
+    (omega arith, (small_cell _ stored.law.short, noted_covers _ a.width a.height _ a.notes a.cells.items stored.noted (ap (λ (all : List (Cell g.row.N)). length all) c.deref.ensures.value ∙ (long ∙ stored.covers))))
 
 pub returns-clause-filled : goal.returns-clause-filled
 returns-clause-filled g c =

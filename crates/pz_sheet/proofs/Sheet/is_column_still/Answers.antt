@@ -13,4 +13,4 @@ returns g c = λ still y y_in.
     let high : y < a.height = omega (arith, y_in, ap (λ (grid : Grid). grid.height) e) in
     subst (λ (grid : Grid). cell_at grid c.args.x y ≡ map still_place (cell_at grid c.args.x y)) e
     (column_is_still g.row.N a.width a.height a.layers a.cells.items a.notes c.self.invariant.stored c.args.x y wide high
-    (λ number. ap (λ words. member words number) (sym c.column.ensures) ∙ c.is_empty.ensures still number))
+    (λ number. ap (λ words. member words number) (sym c.line.ensures) ∙ c.is_empty.ensures still number))

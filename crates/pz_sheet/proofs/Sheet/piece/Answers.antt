@@ -1,38 +1,24 @@
-use Rattle.std.proofs.Common.{◌<◌, ℕ, List, [], Option, length, get_or, arith, ap, sym, ◌∙◌, subst}
+use Rattle.std.proofs.Common.{◌<◌, ℕ, List, [], Option, get_or, arith, ap, sym, ◌∙◌}
 use Rattle.pz_sets.specs.Sets.{member}
 use Rattle.pz_game.specs.Headings.{heading_in}
 use Rattle.pz_cells.specs.declared.piece.Piece.{Piece}
+use Rattle.pz_cells.specs.Layering.{Layering}
 use Rattle.pz_cells.specs.Standing.{standing}
-use Rattle.pz_cells.proofs.HoldLemmas.{standing_seen}
-use Rattle.pz_sheet.specs.Grid.{Grid, BareState}
-use Rattle.pz_cells.proofs.ListLemmas.{sound_at, small_cell}
-use Rattle.pz_sheet.proofs.SheetLemmas.{seen_within, seen_at, standing_on_map, piece_seen}
+use Rattle.pz_cells.proofs.HoldLemmas.{standing_seen, standing_by}
+use Rattle.pz_sheet.proofs.SheetLemmas.{standing_on_map, piece_seen}
 use Rattle.pz_sheet.proofs.Sheet.piece.Goals as goal
 
-pub piece-requires : goal.piece-requires
-piece-requires g c =
-    let a = c.self.inside in
-    let e = ap (λ (s : BareState). s.grid) c.self.view_is in
-    let cell = c.index-then-y-self.result.now in
-    let at = c.index.result in
-    let within = seen_within _ _ _ a.layers a.cells.items _ at e c.index.ensures.within in
-    let sound = sound_at a.layers a.cells.items at cell c.self.invariant.stored.sound within c.index-then-y-self.ensures in
-    (small_cell _ c.self.invariant.stored.law.short, (omega arith, sound))
-
-pub returns-then-y-self : goal.returns-then-y-self
-returns-then-y-self g c =
-    let a = c.self.inside in
+pub returns-then-y-height : goal.returns-then-y-height
+returns-then-y-height g c =
     let grid = c.args.self.now.grid in
     let object = c.args.object in
-    let e = ap (λ (s : BareState). s.grid) c.self.view_is in
-    let cell = c.index-then-y-self.result.now in
-    let at = c.index.result in
-    let within = seen_within _ _ _ a.layers a.cells.items _ at e c.index.ensures.within in
-    let sound = sound_at a.layers a.cells.items at cell c.self.invariant.stored.sound within c.index-then-y-self.ensures in
-    let wide : c.args.x < grid.width = omega (arith, c.if-x-self.true, ap (λ (g : Grid). g.width) e) in
-    let high : c.args.y < grid.height = omega (arith, c.if-y-self.true, ap (λ (g : Grid). g.height) e) in
-    let here = seen_at _ _ _ a.layers a.cells.items grid at cell e within c.index-then-y-self.ensures ∙ ap (λ (i : ℕ). get_or grid.cells i []) c.index.ensures.index in
-    piece_seen (member cell.objects object) (heading_in cell.movement (get_or a.layers.layers object 0)) object _ c.piece.result
-    (standing_on_map grid c.args.x c.args.y object wide high ∙ (ap (λ (places : List (Option Piece)). standing places object) (sym here)
-    ∙ standing_seen a.layers.depth a.layers.layers cell.objects cell.movement object c.self.invariant.stored.law.layered sound))
-    c.piece.ensures
+    let cell = c.cell.result.now in
+    let law = c.layers-layers.ensures.law in
+    let heading = λ (layering : Layering). heading_in cell.movement (get_or layering.layers object 0) in
+    let wide : c.args.x < grid.width = omega (arith, c.if-x-width.true, c.width.ensures.width) in
+    let high : c.args.y < grid.height = omega (arith, c.if-y-height.true, c.height.ensures.height) in
+    let here = c.cell.ensures.cell ∙ ap (λ (i : ℕ). get_or grid.cells i []) c.index.ensures.index in
+    let stand = standing_on_map grid c.args.x c.args.y object wide high ∙ ap (λ (places : List (Option Piece)). standing places object) (sym here)
+    ∙ standing_seen grid.depth grid.layers cell.objects cell.movement object law.layered c.cell.ensures.sound
+    ∙ ap (λ (layering : Layering). standing_by (member cell.objects object) (heading layering)) (sym c.layers-layers.ensures.layers) in
+    piece_seen (member cell.objects object) (heading c.layers-layers.result.now) object _ c.piece.result stand c.piece.ensures

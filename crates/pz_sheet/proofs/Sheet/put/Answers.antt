@@ -1,95 +1,16 @@
-use Rattle.std.proofs.Common.{◌≡◌, ◌+◌, ◌*◌, ◌<◌, ℕ, List, [], Option, length, set, arith, ap, sym, ◌∙◌, subst}
-use Rattle.pz_cells.specs.declared.piece.Piece.{Piece}
-use Rattle.pz_cells.specs.Cell.{IsOnLayer}
-use Rattle.pz_sheet.specs.Grid.{Grid, BareState, IsLawful, place_at, with_place}
-use Rattle.pz_planes.proofs.PlaneLemmas.{inside_of, known_of}
-use Rattle.pz_sheet.proofs.PlacedLemmas.{there_of, placed_set}
-use Rattle.pz_cells.proofs.ListLemmas.{sound_at, small_cell}
-use Rattle.pz_sheet.proofs.SheetLemmas.{seen_within, lawful_seen, stored_set, grid_set, placed_there}
-use Rattle.pz_sheet.proofs.MapLemmas.{noted_within}
+use Rattle.std.proofs.Common.{◌+◌, ◌*◌, ◌<◌, ℕ, List, [], length, get_or, arith, rules, ap, ◌∙◌}
+use Rattle.pz_sheet.specs.Grid.{Grid, layers_in, place_at, cell_at}
+use Rattle.pz_sheet.proofs.SheetLemmas.{cell_seen, placed_there}
 use Rattle.pz_sheet.proofs.Sheet.put.Goals as goal
 
-pub put-requires : goal.put-requires
-put-requires g c =
-    let a = c.self.inside in
-    let e = ap (λ (s : BareState). s.grid) c.self.view_is in
-    let at = c.index-index.result in
-    let within = seen_within _ _ _ a.layers a.cells.items _ at e c.index-index.ensures.within in (
-      small_cell _ c.self.invariant.stored.law.short,
-      (
-        omega arith,
-        (
-          omega (arith, c.requires.layer_in, ap (λ (grid : Grid). grid.depth) e),
-          (
-            sound_at a.layers a.cells.items at c.index_mut-cell.result.now c.self.invariant.stored.sound within c.index_mut-cell.ensures.value,
-            subst (λ (layers : List ℕ). IsOnLayer layers c.args.layer c.args.place) (sym (ap (λ (grid : Grid). grid.layers) e)) c.requires.on_layer,
-          ),
-        ),
-      ),
-    )
-
-pub note-requires : goal.note-requires
-note-requires g c =
-    let a = c.self.inside in
-    let e = ap (λ (s : BareState). s.grid) c.self.view_is in
-    let old = c.index_mut-cell.result.now in
-    let new = c.put.new.self in
-    let at = c.index-index.result in
-    let placed = c.self.invariant.placed in
-    let within = seen_within _ _ _ a.layers a.cells.items _ at e c.index-index.ensures.within in
-    let x_in : c.args.x < a.width = omega (arith, c.requires.x_in, ap (λ (grid : Grid). grid.width) e) in
-    let y_in : c.args.y < a.height = omega (arith, c.requires.y_in, ap (λ (grid : Grid). grid.height) e) in
-    let number : at ≡ c.args.y * a.width + c.args.x = c.index-index.ensures.index ∙ sym (ap (λ (grid : Grid). c.args.y * grid.width + c.args.x) e) in
-    let sound = sound_at a.layers a.cells.items at old c.self.invariant.stored.sound within c.index_mut-cell.ensures.value in
-    let sound_new = c.put.ensures.sound in
-    record {
-      short_before = omega (arith, c.word_count.ensures.objects, c.self.invariant.stored.law.short);
-      short = omega (arith, c.word_count-2.ensures.objects, c.self.invariant.stored.law.short);
-      inside = inside_of _ a.width a.height c.args.x c.args.y a.planes placed.fits x_in y_in;
-      known_before = known_of a.layers.layers a.width a.height a.planes old.objects placed.fits sound.of_game;
-      known = known_of a.layers.layers a.width a.height a.planes new.objects placed.fits sound_new.of_game;
-      there = there_of _ _ a.width a.height a.planes a.cells.items at c.args.x c.args.y old placed number x_in y_in c.index_mut-cell.ensures.value;
-    }
-
-pub invariant_of-self : goal.invariant_of-self
-invariant_of-self g c =
-    let a = c.self.inside in
-    let e = ap (λ (s : BareState). s.grid) c.self.view_is in
-    let new = c.put.new.self in
-    let at = c.index-index.result in
-    let within = seen_within _ _ _ a.layers a.cells.items _ at e c.index-index.ensures.within in
-    let x_in : c.args.x < a.width = omega (arith, c.requires.x_in, ap (λ (grid : Grid). grid.width) e) in
-    let y_in : c.args.y < a.height = omega (arith, c.requires.y_in, ap (λ (grid : Grid). grid.height) e) in
-    let number : at ≡ c.args.y * a.width + c.args.x = c.index-index.ensures.index ∙ sym (ap (λ (grid : Grid). c.args.y * grid.width + c.args.x) e) in
-    record {
-      stored = stored_set _ a.width a.height a.layers a.cells.items at new a.notes c.note_heading.new.notes c.self.invariant.stored c.put.ensures.sound c.note_heading.ensures.noted c.note_heading.ensures.wider;
-      placed = placed_set _ (length a.layers.layers) a.width a.height a.planes c.note.new.self a.cells.items at c.args.x c.args.y new c.self.invariant.placed number x_in y_in within c.note.ensures;
-    }
-
 pub returns-clause-put : goal.returns-clause-put
-returns-clause-put g c =
-    let a = c.self.inside in
-    let e = ap (λ (s : BareState). s.grid) c.self.view_is in
-    let at = c.index-index.result in
-    let within = seen_within _ _ _ a.layers a.cells.items _ at e c.index-index.ensures.within in
-    let number : at ≡ c.args.y * a.width + c.args.x = c.index-index.ensures.index ∙ sym (ap (λ (grid : Grid). c.args.y * grid.width + c.args.x) e) in
-    grid_set _ a.width a.height a.layers a.cells.items at (c.args.y * a.width + c.args.x) c.index_mut-cell.result.now c.put.new.self (λ (cell : List (Option Piece)). set cell c.args.layer c.args.place) within number c.index_mut-cell.ensures.value
-    c.put.ensures.cell
-    ∙ ap (λ (grid : Grid). with_place grid c.args.x c.args.y c.args.layer c.args.place) e
+returns-clause-put g c = search rules
 
 pub returns-clause-there : goal.returns-clause-there
 returns-clause-there g c =
     let grid = c.args.self.now.grid in
-    let at = c.args.y * grid.width + c.args.x in
-    let lawful = subst IsLawful (ap (λ (s : BareState). s.grid) c.self.view_is) (lawful_seen _ _ _ _ _ _ c.self.invariant.stored) in
-    let within : at < length grid.cells = omega (arith, c.index-index.ensures.within, c.index-index.ensures.index) in
-    ap (λ (next : Grid). place_at next c.args.x c.args.y c.args.layer) (returns-clause-put g c)
-    ∙ placed_there grid c.args.x c.args.y c.args.layer c.args.place within (omega (arith, (lawful.stacked at [] within).deep, c.requires.layer_in))
-
-pub note_heading-requires : goal.note_heading-requires
-note_heading-requires g c =
-    let a = c.self.inside in
-    let e = ap (λ (s : BareState). s.grid) c.self.view_is in
-    let stored = c.self.invariant.stored in
-    let within = seen_within _ _ _ a.layers a.cells.items _ c.index-index.result e c.index-index.ensures.within in
-    (small_cell _ stored.law.short, (stored.law.short, noted_within _ a.width a.height c.index-index.result a.notes a.cells.items stored.noted stored.covers within))
+    let cell = c.cell.result.now in
+    let within : c.args.y * grid.width + c.args.x < length grid.cells = omega (arith, c.index-index.ensures.within, c.index-index.ensures.index) in
+    let here = c.cell.ensures.cell ∙ ap (λ (i : ℕ). get_or grid.cells i []) c.index-index.ensures.index in
+    let deep : c.args.layer < length (cell_at grid c.args.x c.args.y) = omega (arith, (cell_seen g.row.N (layers_in grid) cell c.cell.ensures.sound).deep, ap length here, c.requires.layer_in) in
+    ap (λ (next : Grid). place_at next c.args.x c.args.y c.args.layer) (returns-clause-put g c) ∙ placed_there grid c.args.x c.args.y c.args.layer c.args.place within deep

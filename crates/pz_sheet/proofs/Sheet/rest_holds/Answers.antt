@@ -1,9 +1,11 @@
 use Rattle.std.proofs.Common.{◌≡◌, ◌<◌, ◌≤◌, arith, ap, sym, ◌∙◌}
 use Rattle.pz_game.specs.declared.limits.TheConstants.{MAX_SIDE}
-use Rattle.pz_sheet.specs.Line.{line_length, x_at, y_at, dir_of, holds_in, room_from, step_to}
+use Rattle.pz_planes.specs.Line.{room_from, step_to}
+use Rattle.pz_planes.proofs.BitLemmas.{step_within}
+use Rattle.pz_sheet.specs.Line.{line_length, x_at, y_at, dir_of, holds_in}
 use Rattle.pz_sheet.specs.Runs.{holds_along}
 use Rattle.pz_sheet.proofs.RunLemmas.{enumerate_more, enumerate_fails, enumerate_all}
-use Rattle.pz_sheet.proofs.AxisLemmas.{along_in, run_past, step_in, short_line, short_room}
+use Rattle.pz_sheet.proofs.AxisLemmas.{along_in, run_past, short_line, short_room}
 use Rattle.pz_sheet.proofs.Sheet.rest_holds.Goals as goal
 
 pub returns-then-patterns-room : goal.returns-then-patterns-room

@@ -15,7 +15,7 @@ arrive_at-requires g c =
     let product : old.columns.count * old.rows.count ≡ start.columns.count * start.rows.count = ap (λ (w : ℕ). w * old.rows.count) size.column_count ∙ ap (λ (h : ℕ). start.columns.count * h) size.row_count in
     let known : AreKnown start cell.objects = subst (λ (it : Cell g.row.N). AreKnown start it.objects) (sym c.index-cells-index.is) (c.requires.known c.loop-index.index cell c.loop-index-test.true) in
     record {
-      short = omega (arith, c.word_count.ensures.objects, c.requires.short);
+      short = omega (arith, c.word_count.ensures.objects, c.depth.ensures.law.short);
       within = omega (arith, c.loop-index-test.true, c.requires.covers, product);
       known = known_still start old cell.objects size known;
     }

@@ -1,4 +1,4 @@
-use Rattle.std.proofs.Common.{ℕ, ◌*◌, ◌∙◌, ap, sym, subst}
+use Rattle.std.proofs.Common.{ℕ, ◌*◌, ◌∙◌, arith, ap, sym, subst}
 use Rattle.pz_sheet.specs.Noting.{AreAllThere}
 use Rattle.pz_planes.proofs.PlaneLemmas.{known_still}
 use Rattle.pz_cells.proofs.ListLemmas.{small_cell}
@@ -8,9 +8,9 @@ pub arrive_all-requires : goal.arrive_all-requires
 arrive_all-requires g c =
     let start = c.args.planes.now in
     let empty = c.clear.ensures in (
-      small_cell _ c.requires.short,
+      omega arith,
       (
-        c.requires.short,
+        small_cell _ c.depth.ensures.law.short,
         (
           c.requires.covers ∙ sym (ap (λ (w : ℕ). w * c.clear.new.self.rows.count) empty.size.column_count ∙ ap (λ (h : ℕ). start.columns.count * h) empty.size.row_count),
           (

@@ -1,0 +1,64 @@
+#!/usr/bin/env node
+"use strict";
+// How an engine is plugged in: a player who pushes crates, in the game of examples/block-pushing.json and in no other.
+
+const { serve } = require("./program.js");
+
+const STEPS = [[0, -1], [-1, 0], [0, 1], [1, 0]];
+const GLYPHS = {
+  ".": [], "#": ["wall"], p: ["player"], "*": ["crate"], "@": ["crate", "target"], o: ["target"],
+};
+
+// The levels of a source, each as columns of cells, which are sets of names.
+function levelsOf(source) {
+  const blocks = source.split("LEVELS\n=======\n")[1].trim().split("\n\n");
+  return blocks.map((block) => {
+    const rows = block.split("\n");
+    return Array.from(rows[0], (_, column) => rows.map((row) => new Set(["background", ...GLYPHS[row[column].toLowerCase()]])));
+  });
+}
+
+const shown = (level) => ({ width: level.length, height: level[0].length, at: (column, row) => level[column][row] });
+
+const isSolved = (level) => level.flat().every((cell) => !cell.has("target") || cell.has("crate"));
+
+// The level after a step; a crate pushes none.
+function pushed(before, [across, down]) {
+  const level = before.map((column) => column.map((cell) => new Set(cell)));
+  const move = (name, column, row) => {
+    const aim = level[column + across][row + down];
+    if (["wall", "crate", "player"].some((it) => aim.has(it))) return;
+    level[column][row].delete(name);
+    aim.add(name);
+  };
+  const column = level.findIndex((cells) => cells.some((cell) => cell.has("player")));
+  const row = level[column].findIndex((cell) => cell.has("player"));
+  if (level[column + across][row + down].has("crate")) move("crate", column + across, row + down);
+  move("player", column, row);
+  return level;
+}
+
+const isSame = (one, other) => one.every((column, x) => column.every((cell, y) => cell.size === other[x][y].size && [...cell].every((it) => other[x][y].has(it))));
+
+serve((entry, frame) => {
+  const levels = levelsOf(entry.source).slice(entry.index);
+  let level = levels.shift();
+  let past = [];
+  frame(0, "start", shown(level));
+  entry.inputs.forEach((input, taken) => {
+    if (input === "undo") {
+      level = past.pop() || level;
+      frame(taken + 1, "undo", shown(level));
+      return;
+    }
+    const before = level;
+    level = pushed(before, STEPS[input]);
+    if (!isSame(before, level)) past.push(before);
+    frame(taken + 1, "move", shown(level));
+    if (levels.length > 0 && isSolved(level)) {
+      level = levels.shift();
+      past = [];
+      frame(taken + 1, "load", shown(level));
+    }
+  });
+});

@@ -1,0 +1,95 @@
+"use strict";
+// Gives an engine the command line of the program, [--workers N] [--order rows|columns] [FILE], so that `conformance/run`,
+// `saxtegun compare --engines` and `saxtegun shrink` can play it:
+//
+//     serve((entry, frame) => { .. frame(at, kind, level) .. });
+//
+// `entry` has source, inputs and index. What is answered closes the session: nothing, or ["stopped", "loop-limit"], or ["refused", "BadRule:3"].
+// Where the engine throws, the status is 2. A file is tested as far as JavaScript can: it doesn't tell 1.0 from 1, and nests as deep as it will.
+
+const fs = require("fs");
+const { Lines, readLevelText } = require("./lines.js");
+
+const INPUTS = [0, 1, 2, 3, 4, "undo", "restart", "tick"];
+const MOST = 65536; // entries, and inputs of one
+
+class Refusal extends Error {}
+
+// The words of a command line as { order, file }.
+function readWords(words) {
+  const given = { order: "columns", file: null };
+  const said = new Set();
+  let areOptionsOver = false;
+  for (let place = 0; place < words.length; place += 1) {
+    const [, option, value] = (!areOptionsOver && /^(--workers|--order)(?:=(.*))?$/s.exec(words[place])) || [];
+    if (words[place] === "--" && !areOptionsOver) {
+      areOptionsOver = true;
+    } else if (option !== undefined) {
+      const word = value === undefined ? words[(place += 1)] : value;
+      const isGood = option === "--workers" ? /^\+?0*([1-9]|[1-5]\d|6[0-4])$/.test(word) : word === "rows" || word === "columns";
+      if (!isGood || said.has(option)) throw new Refusal("bad command line");
+      said.add(option);
+      if (option === "--order") given.order = word;
+    } else if (given.file === null && (areOptionsOver || !/^-./s.test(words[place]))) {
+      given.file = words[place];
+    } else {
+      throw new Refusal("bad command line");
+    }
+  }
+  return given;
+}
+
+function readInput(file) {
+  try {
+    return new TextDecoder("utf-8", { fatal: true, ignoreBOM: true }).decode(fs.readFileSync(file === null ? 0 : file));
+  } catch (why) {
+    throw new Refusal(why instanceof TypeError ? "not-json" : why.code === "EISDIR" || file === null ? "read-fault" : "open-fault");
+  }
+}
+
+// An entry as { name, source, inputs, level, index }, or null where it is none.
+function readEntry(value) {
+  if (!Array.isArray(value) || typeof value[0] !== "string" || !Array.isArray(value[1])) return null;
+  const [source, inputs, level] = value[1];
+  const index = value[1][3] === undefined || value[1][3] === null ? 0 : value[1][3];
+  const isGood = typeof source === "string" && typeof level === "string" && Array.isArray(inputs) && inputs.length <= MOST
+    && inputs.every((it) => INPUTS.includes(it)) && Number.isInteger(index) && index >= 0 && index <= 2 ** 64;
+  return isGood ? { name: value[0], source, inputs, level, index } : null;
+}
+
+function readEntries(text) {
+  let values = null;
+  try {
+    values = JSON.parse(text);
+  } catch (why) {
+    throw new Refusal("not-json");
+  }
+  if (!Array.isArray(values)) throw new Refusal("not-json");
+  if (values.length > MOST) throw new Refusal("too-many");
+  return values.map((value, number) => {
+    const entry = readEntry(value);
+    if (entry === null) throw new Refusal(`bad-entry ${number}`);
+    if (readLevelText(entry.level) === null) throw new Refusal(`bad-level ${number}`);
+    return entry;
+  });
+}
+
+// Plays what the command line names, and sets the exit status.
+function serve(play, words = process.argv.slice(2)) {
+  process.stdout.on("error", () => process.exit(2));
+  try {
+    const { order, file } = readWords(words);
+    const lines = new Lines((text) => process.stdout.write(text), order);
+    for (const entry of readEntries(readInput(file))) {
+      lines.start(entry.name, entry.level);
+      lines.close(...(play(entry, (at, kind, level) => lines.frame(at, kind, level)) || []));
+    }
+    process.exitCode = lines.allPassed ? 0 : 1;
+  } catch (why) {
+    if (!(why instanceof Refusal)) process.stderr.write(`${why.stack}\nthe engine failed: `);
+    process.stderr.write(`${why.message}\n`);
+    process.exitCode = 2;
+  }
+}
+
+module.exports = { serve };

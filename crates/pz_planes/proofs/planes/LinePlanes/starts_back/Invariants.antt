@@ -1,7 +1,0 @@
-use Rattle.std.proofs.Common.{ℕ, ◌≡◌, ◌<◌, true}
-use Rattle.pz_sets.specs.Sets.{in_word}
-use Rattle.pz_planes.specs.Planes.{MayRunBack}
-use Rattle.pz_planes.proofs.planes.LinePlanes.starts_back.Given as goal
-
-abbrev pub invariant-loop-index : goal.invariant-loop-index
-invariant-loop-index l = (at : ℕ) → at < 128 → MayRunBack l.self l.line l.patterns at → in_word l.starts at ≡ true

@@ -1,0 +1,59 @@
+//! One cell of a level: lent, or put in the place of that which stands there.
+
+ghost use Rattle.std.specs.Prelude.{◌≡◌, ◌<◌, ◌≤◌, ℕ, length};
+ghost use Rattle.pz_sets.specs.Sets.{member};
+ghost use Rattle.pz_cells.specs.Layering.{IsLayering};
+ghost use Rattle.pz_cells.specs.Lists.{seen, IsSound};
+ghost use Rattle.pz_sheet.specs.Changes.{with_cell};
+ghost use Rattle.pz_sheet.specs.Grid.{layers_in};
+ghost use Rattle.pz_sheet.specs.Presence.{cell_of, is_in};
+
+use crate::Sheet;
+use crate::noting::note_heading;
+use pz_cells::cell::Cell;
+use pz_cells::layers::Layers;
+
+impl<const N: usize> Sheet<N> {
+    /// The layers of the game.
+    pub(crate) fn layers(&self) -> &Layers<N>
+        ensures layers { result.now ≡ layers_in self.now.grid }
+        ensures law { IsLayering N (layers_in self.now.grid) }
+    {
+        &self.layers
+    }
+
+    /// The cell of a number, counted row by row.
+    pub(crate) fn cell(&self, index: usize) -> &Cell<N>
+        requires { index < length self.now.grid.cells }
+        ensures sound { IsSound (layers_in self.now.grid) result.now }
+        ensures cell { seen (layers_in self.now.grid) result.now ≡ cell_of self.now.grid index }
+    {
+        &self.cells[index]
+    }
+
+    /// The objects that stand in the cell of a number, counted row by row.
+    pub(crate) fn objects_in(&self, index: usize) -> &[u128]
+        requires { index < length self.now.grid.cells }
+        ensures objects { (object : ℕ) → member result.now object ≡ is_in (cell_of self.now.grid index) object }
+        ensures short { length result.now ≤ 4 }
+    {
+        let cell = &self.cells[index];
+        // (brings the proof how many words a cell has)
+        let _ = cell.word_count();
+        &cell.objects
+    }
+
+    /// Puts a cell in the place of that of a number, and notes where it heads and what stands there.
+    pub(crate) fn set_cell(&mut self, index: usize, cell: Cell<N>)
+        requires within { index < length self.old.grid.cells }
+        requires sound { IsSound (layers_in self.old.grid) cell }
+        ensures { self.new.grid ≡ with_cell self.old.grid (record { number = index; cell = seen (layers_in self.old.grid) cell.entry }) }
+    {
+        let before = self.cells[index];
+        self.cells[index] = cell;
+        note_heading(&mut self.notes, &self.layers, index, &cell);
+        // (brings the proof how many words a cell has)
+        let _ = (before.word_count(), cell.word_count());
+        self.planes.note_at(index, &before.objects, &cell.objects);
+    }
+}

@@ -1,0 +1,183 @@
+"""Proves crates with the kit of this machine, side by side, for the tools that build something of them.
+
+Each crate is proved from nothing by the kit's compiler, `rattle build`, which builds what is proved and nothing else. It is called as `rt ci` calls it: first
+those on which most of the rest waits, and idle processors are shared among those that begin. Neither tests nor wrong bodies are tried, nor what else the
+gate alone wants. Where a kit has kept what its `rt ci` proved on this machine, `rt ci` proves them, since it finds that again."""
+import re
+import shutil
+import subprocess
+import sys
+from concurrent.futures import FIRST_COMPLETED, ThreadPoolExecutor, wait
+from pathlib import Path
+
+from crates import lanes_for_checks, read_uses
+
+TOP = Path(__file__).resolve().parent.parent
+PROGRAM, LIBRARY = "src/main.rt", "src/lib.rt"
+# A row of the table of docs/proving.md: how many seconds the proof of a crate takes. One that has no row is taken for a middling one.
+SECONDS = re.compile(r"^\| `(\w+)` \| (\d+) \|", re.M)
+MIDDLING = 60
+# What a check takes at most, as docs/proving.md tells, with some room.
+MEMORY_OF_A_CHECK = 4_000_000_000
+PROVED = re.compile(r"rt: (\w+) (?:proved$|is kept)")
+NOT_PROVED = re.compile(r"^rt: (\w+) NOT PROVED$", re.M)
+
+
+def say_what_is_proved(crates, left):
+    """Says which crates may be proved now, since all below them are, and how many are left."""
+    ready = [it for it in left if not left & set(crates[it])]
+    print(f"proving {', '.join(sorted(ready))}; {len(left)} left", file=sys.stderr, flush=True)
+
+
+class Kit:
+    """The kit whose `rt` is on the path."""
+
+    def __init__(self):
+        rt = shutil.which("rt")
+        if rt is None:
+            sys.exit(f"{sys.argv[0]}: there is no rt on the path")
+        self.home = Path(rt).resolve().parent.parent
+
+    def has_kept(self):
+        """Whether its `rt ci` has kept what it proved, as that of some kits does; what `rt check` keeps beside that is of no use here."""
+        kept = self.home.with_name(f"{self.home.name}-kept")
+        return kept.is_dir() and any(it.name != "work" for it in kept.iterdir())
+
+    def words_for(self, name, uses, built):
+        """What its compiler is told of a crate: its root, what it uses, and where that and the logic lie."""
+        words = ["--crate-name", name, root_of(name)]
+        for it in ["std", *uses]:
+            is_built = (built / f"{it}.rlib").is_dir()
+            words += ["--extern", f"{it}={built if is_built else self.home / 'rlibs'}/{it}.rlib"]
+        words += ["-L", f"dependency={self.home}/rlibs", "-L", f"dependency={built}"]
+        return [*words, "--antt-project", f"{self.home}/rattle/logic/antt-project.json", "--logic-built", f"{self.home}/logic_built"]
+
+    def does(self, log, *words):
+        """Whether a command of its own goes well, in the folder of the crate whose log this is."""
+        with log.open("a", encoding="utf-8") as written:
+            ran = subprocess.run([self.home / "bin" / words[0], *words[1:]], cwd=log.parent.parent, stdin=subprocess.DEVNULL, stdout=written, stderr=subprocess.STDOUT, check=False)
+        return ran.returncode == 0
+
+    def link(self, log, compiled, program):
+        """Whether what was compiled is linked to a program."""
+        words = ["--target", "x86_64-unknown-linux-gnu", "--toolchain", self.home / "toolchain", "-o", program, compiled]
+        return self.does(log, "rattle-link", *words, self.home / "c/libos_c.a", self.home / "c/liblibc_c.a")
+
+
+def root_of(name):
+    """The root file of a crate: a program's, or a library's."""
+    return PROGRAM if (TOP / "crates" / name / PROGRAM).is_file() else LIBRARY
+
+
+def seconds_of_proofs():
+    """How many seconds the proof of each crate takes, as docs/proving.md tells: only which crate comes first depends on it."""
+    table = TOP / "docs/proving.md"
+    return {name: int(seconds) for name, seconds in SECONDS.findall(table.read_text(encoding="utf-8"))} if table.is_file() else {}
+
+
+def weights(crates, names):
+    """The seconds of each of these crates, lowest first, with those of the longest chain of them that stands on it."""
+    seconds, found = seconds_of_proofs(), {}
+    for name in reversed(names):
+        found[name] = seconds.get(name, MIDDLING) + max((found[it] for it in names if name in crates[it]), default=0)
+    return found
+
+
+def in_lanes(crates, names, prove):
+    """Proves these crates, each once those below it are proved: `prove` gets a name and by how many processes, and says whether it is. The first that is
+    not, or None."""
+    lanes, heavy, left, running = lanes_for_checks(MEMORY_OF_A_CHECK), weights(crates, names), set(names), {}
+    with ThreadPoolExecutor(len(names)) as pool:
+        while left:
+            say_what_is_proved(crates, left)
+            busy = {name: jobs for name, jobs in running.values()}
+            ready = sorted((it for it in left if it not in busy and not left & set(crates[it])), key=lambda it: -heavy[it])
+            for place, name in enumerate(ready):
+                idle = lanes - sum(jobs for _, jobs in running.values())
+                if idle > 0:
+                    jobs = max(1, idle // (len(ready) - place))
+                    running[pool.submit(prove, name, jobs)] = name, jobs
+            for it in wait(running, return_when=FIRST_COMPLETED).done:
+                name, _ = running.pop(it)
+                if not it.result():
+                    return name
+                left.remove(name)
+    return None
+
+
+def new_log(name):
+    """Where it is written what was said of a crate; nothing yet."""
+    log = TOP / "crates" / name / "out" / "build.log"
+    log.parent.mkdir(exist_ok=True)
+    log.write_text("", encoding="utf-8")
+    return log
+
+
+def prove_in_lanes(kit, crates, names, room):
+    """Proves these crates by the compiler of the kit."""
+    uses, logs = read_uses(TOP), {it: new_log(it) for it in names}
+
+    def prove_one(name, jobs):
+        words = [*kit.words_for(name, uses[name], room), "--jobs", str(jobs)]
+        if root_of(name) == LIBRARY:
+            return kit.does(logs[name], "rattle", "build", *words, "--links", f"{name}=", "--statements", "-o", f"{room}/{name}.rlib")
+        return (kit.does(logs[name], "rattle", "build", *words, "--toolchain", kit.home / "toolchain", "--backend", "llvm", "-o", f"{room}/{name}.o")
+                and kit.link(logs[name], f"{room}/{name}.o", f"{room}/{name}"))
+
+    return in_lanes(crates, names, prove_one)
+
+
+def furnish(room, names):
+    """Puts these crates into a room, without their wrong bodies and what earlier checks left."""
+    wanted = {f"{it}:" for it in names}
+    lines = (TOP / "crates.txt").read_text(encoding="utf-8").splitlines(keepends=True)
+    (room / "crates.txt").write_text("".join(it for it in lines if it.split()[:1] and it.split()[0] in wanted), encoding="utf-8")
+    shutil.copy2(TOP / "HANDLES", room)
+    for it in names:
+        shutil.copytree(TOP / "crates" / it, room / "crates" / it, ignore=shutil.ignore_patterns("must-fail", "out"))
+
+
+def log_of_failed(log, last):
+    """Gives what `rt ci` said to the log of the first crate that it says isn't proved, and names that: the last, where it names none."""
+    said = log.read_text(encoding="utf-8")
+    failed = NOT_PROVED.search(said)
+    name = failed[1] if failed else last
+    new_log(name).write_text(said, encoding="utf-8")
+    return name
+
+
+def made_of(name, room):
+    """What `rt ci` made of a crate in a room."""
+    return room / "crates" / name / "out" / (f"rlib/{name}.rlib" if root_of(name) == LIBRARY else name)
+
+
+def prove_by_ci(crates, names, room):
+    """Proves these crates by `rt ci` in the room. What it says stands in the log of the last, or of the first crate that isn't proved."""
+    left, last = set(names), names[-1]
+    log = new_log(last)
+    furnish(room, names)
+    say_what_is_proved(crates, left)
+    with log.open("w", encoding="utf-8") as written:
+        with subprocess.Popen(["rt", "ci"], cwd=room, stdin=subprocess.DEVNULL, stdout=subprocess.PIPE, stderr=subprocess.STDOUT, text=True, errors="replace") as ran:
+            for line in ran.stdout:
+                written.write(line)
+                proved = PROVED.match(line)
+                if proved and proved[1] in left:
+                    left.remove(proved[1])
+                    if left:
+                        say_what_is_proved(crates, left)
+    if ran.returncode != 0 or not all(made_of(it, room).exists() for it in names):
+        return log_of_failed(log, last)
+    for it in names:
+        made = made_of(it, room)
+        (room / made.name).symlink_to(made)
+    return None
+
+
+def prove(kit, crates, names, room):
+    """Proves these crates of crates.txt, lowest first, in an empty folder, which then has NAME.rlib for each library and NAME for each program. Answers which
+    is not proved, having said where its log is, or None."""
+    failed = prove_by_ci(crates, names, room) if kit.has_kept() else prove_in_lanes(kit, crates, names, room)
+    if failed:
+        print(f"{failed} is not proved; the log is {TOP / 'crates' / failed / 'out' / 'build.log'}", file=sys.stderr)
+    return failed

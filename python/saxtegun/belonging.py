@@ -1,0 +1,87 @@
+"""The program's lines held against the sessions that they must be of: by name and inputs, by the close, and by the order of cells."""
+from __future__ import annotations
+
+from typing import Iterator, NamedTuple, Optional
+
+from saxtegun.commands import ORDERS, Refused, cut, plural
+from saxtegun.levels import Labels, read_cells
+from saxtegun.levelsets import drawn_start
+from saxtegun.lines import Run, runs_in
+from saxtegun.sessions import Entry, Sessions
+
+
+class Tests(NamedTuple):
+    """What is tested of each run beside its name and its inputs: that it is closed as its last level says, and that its first frame is not the
+    level that the source draws in the other order than this one. `is_drawn`: that it is that level in this order."""
+
+    is_closed: bool = True
+    order: Optional[str] = None
+    is_drawn: bool = False
+
+
+ALL_BUT_ORDER = Tests()
+NAMES_ALONE = Tests(False)
+
+
+def read_runs(path: str, sessions: Optional[Sessions] = None, tests: Tests = ALL_BUT_ORDER) -> Iterator[Run]:
+    """What the program's lines say, session by session. With the sessions that they must be of, each is tested to be of its entry."""
+    count = 0
+    for number, run in runs_in(path):
+        if sessions:
+            fault = mismatch(sessions, run, tests)
+            if fault:
+                raise Refused(f"{path}, line {number}: {fault}; the lines are of another file than {sessions.path}")
+            fault = start_fault(sessions.entries[run.number], run, tests)
+            if fault:
+                raise Refused(f"{path}, line {number}: {fault}")
+        yield run
+        count += 1
+    if sessions and count != len(sessions.entries):
+        raise Refused(f"{path} closes {plural(count, 'session')}, and {sessions.path} has {len(sessions.entries)}")
+
+
+def mismatch(sessions: Sessions, run: Run, tests: Tests) -> Optional[str]:
+    """What shows that a run is not of its entry, or None."""
+    if run.number >= len(sessions.entries):
+        return f"there is no session {run.number}"
+    entry = sessions.entries[run.number]
+    if entry.name != run.name:
+        return f"session {run.number} is named {cut(run.name)!r}, and in the file {cut(entry.name)!r}"
+    if run.frames and run.frames[-1].at > len(entry.inputs):
+        return f"session {run.number} takes more inputs than its {len(entry.inputs)}"
+    if run.close in ("passed", "differs"):
+        if not run.frames:
+            return f"session {run.number} was played and has no frame"
+        if not tests.is_closed:
+            return None
+        is_recorded = is_same_level(run.frames[-1].level, entry.level)
+        if is_recorded is not None and is_recorded != (run.close == "passed"):
+            return f"session {run.number} is closed as {run.close}, and its last level says otherwise"
+    return None
+
+
+def start_fault(entry: Entry, run: Run, tests: Tests) -> Optional[str]:
+    """What the first frame shows against the order, or where that is wanted against the source, or None. A frame that can't be read back, or
+    a level that is the same in both orders, shows nothing."""
+    if tests.order is None or not run.frames:
+        return None
+    labels = Labels()
+    cells = read_cells(run.frames[0].level, labels)
+    if cells is None:
+        return None
+    shown = tuple(frozenset(labels.names[it]) for it in cells)
+    if shown == drawn_start(entry, tests.order):
+        return None
+    other = ORDERS[1 - ORDERS.index(tests.order)]
+    if shown == drawn_start(entry, other):
+        return f"session {run.number} was played in the order {other}, as its first frame shows, and not in the order {tests.order}"
+    return f"session {run.number} doesn't begin with the level that its source draws: it was played over another source" if tests.is_drawn else None
+
+
+def is_same_level(one: str, other: str) -> Optional[bool]:
+    """Whether two level texts are of one level, or None where the first can't be read back."""
+    if one.replace("\n", "").replace("\r", "") == other.replace("\n", "").replace("\r", ""):
+        return True
+    labels = Labels()
+    cells = read_cells(one, labels)
+    return None if cells is None else cells == read_cells(other, labels)

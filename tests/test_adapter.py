@@ -1,0 +1,105 @@
+"""adapters/javascript: an engine in JavaScript that is plugged in writes our lines, and takes our command line. Left out where node is not there."""
+import json
+import shutil
+import subprocess
+import unittest
+
+from day import EXAMPLE, OnSessions
+from tool import CASES, PROGRAM, TOP, plays, run
+
+NODE = shutil.which("node")
+ADAPTER = TOP / "adapters/javascript"
+ENGINE = ADAPTER / "example.js"
+# What hangs on how deep JSON nests and on how its numbers and texts are read, which JavaScript does otherwise.
+OTHERWISE = {
+    "brackets-nested-one-deeper", "brackets-nested-too-deep", "file-with-a-fraction", "file-with-a-lone-surrogate", "file-with-a-seed-that-no-float-holds",
+    "file-with-an-exponent", "file-with-an-index-beyond-the-largest", "file-with-an-index-of-four-hundred-digits", "file-with-an-index-that-no-float-holds",
+    "file-with-an-input-that-no-float-holds", "file-with-minus-nought",
+}
+# A script writes lines by the module; what it prints was worked out by hand.
+SCRIPT = r"""
+const { Lines, readLevelText } = require(process.argv[1]);
+const level = (width, height, cells) => ({ width, height, at: (column, row) => cells[row * width + column] });
+const cells = [["Wall", "B"], [], ["b", "wall", "WALL"], ["\u{1F600}", "\uFF01", "Ä"]];
+for (const order of ["columns", "rows"]) {
+  const lines = new Lines((text) => process.stdout.write(text), order);
+  lines.start("a\u0001\"\\/\u2028\n", "wall b:0,b  wall:1,\n:2,Ä \u{1F600} \uFF01:3,");
+  lines.frame(0, "start", level(2, 2, cells));
+  lines.close();
+  lines.start("b", "b wall:0,:1,0,Ä \u{1F600} \uFF01:2,");
+  lines.frame(0, "start", level(2, 2, cells));
+  lines.close();
+  lines.start("c", "");
+  lines.close("refused", "BadRule:3");
+  lines.start("d", "");
+  lines.close();
+}
+"""
+TEXTS = {"columns": "b wall:0,0,\n:1,Ä \uff01 \U0001f600:2,\n", "rows": "b wall:0,:1,\n0,Ä \uff01 \U0001f600:2,\n"}
+CLOSES = {"columns": ["passed", "differs"], "rows": ["differs", "passed"]}
+# What a session must not do, and what is said of it.
+WRONG = {
+    'lines.frame(0, "start", level)': "no session is started",
+    "lines.close()": "no session is started",
+    'lines.start("a", ""); lines.start("b", "")': "the session a is not closed",
+    'lines.start("a", ""); lines.frame(0, "walk", level)': "there is no kind walk",
+    'lines.start("a", ""); lines.close("stopped")': "a cause belongs to stopped and refused",
+    'new Lines(() => {}, "diagonal")': "an order is rows or columns",
+}
+
+
+def node(*words, stdin=b""):
+    return subprocess.run([NODE, *map(str, words)], input=stdin, stdout=subprocess.PIPE, stderr=subprocess.PIPE)
+
+
+@unittest.skipUnless(NODE, "node is not there")
+class Adapter(OnSessions):
+    def test_the_example_is_played_as_by_hand(self):
+        for words, stdin in (((EXAMPLE,), b""), (("--workers", "2", "--order=columns", "--", EXAMPLE), b""), ((), EXAMPLE.read_bytes())):
+            ran = node(ENGINE, *words, stdin=stdin)
+            self.assertEqual((ran.stdout, ran.stderr, ran.returncode), (self.lines.read_bytes(), b"", 1))
+
+    def test_lines_are_spelt_as_the_program_spells_them(self):
+        ran = node("-e", SCRIPT, ADAPTER / "lines.js")
+        self.assertEqual(ran.stderr, b"")
+        lines = iter(ran.stdout.decode().split("\n"))
+        for order, text in TEXTS.items():
+            for number, name in enumerate(('a\\u0001\\"\\\\/\u2028\\n', "b")):
+                spelt = text.replace("\n", "\\n")
+                self.assertEqual(next(lines), f'{{"at":0,"frame":0,"kind":"start","level":"{spelt}","session":{number}}}')
+                self.assertEqual(next(lines), f'{{"close":"{CLOSES[order][number]}","frames":1,"name":"{name}","session":{number}}}')
+            self.assertEqual(next(lines), '{"cause":"BadRule:3","close":"refused","frames":0,"name":"c","session":2}')
+            self.assertEqual(next(lines), '{"close":"differs","frames":0,"name":"d","session":3}')
+
+    def test_a_wrong_use_is_told(self):
+        for words, wanted in WRONG.items():
+            script = 'const { Lines } = require(process.argv[1]); const level = { width: 1, height: 1, at: () => [] }; const lines = new Lines(() => {});\n'
+            self.assertIn(wanted, node("-e", script + words, ADAPTER / "lines.js").stderr.decode())
+
+    def test_a_file_is_refused_as_by_the_program(self):
+        for case in sorted((*CASES.iterdir(), *(TOP / "conformance/files").iterdir())):
+            if (case / "status").read_text().strip() != "2" or case.name in OTHERWISE:
+                continue
+            with self.subTest(case.name), open(case / "input.json", "rb") as file:
+                room = case / "room" if (case / "room").exists() else self.room
+                words = (case / "args").read_text(encoding="utf-8").split("\n")[:-1]
+                ran = subprocess.run([NODE, ENGINE, *words], stdin=file, cwd=room, stdout=subprocess.PIPE, stderr=subprocess.PIPE)
+                self.assertEqual((ran.stdout, ran.stderr, ran.returncode), (b"", (case / "stderr").read_bytes(), 2))
+
+    def test_an_engine_that_throws_has_no_answer(self):
+        sessions = self.write("sessions.json", json.dumps([["no source", ["", [], ""]]]))
+        answer = run("test", sessions, "--program", ENGINE)
+        self.assertEqual((answer.status, answer.out), (2, ""))
+        self.assertIn("sessions.json was not played: the engine failed: Cannot read", answer.errors.splitlines()[-1])
+
+
+@plays
+@unittest.skipUnless(NODE, "node is not there")
+class DayOfTheAdapter(OnSessions):
+    def test_the_example_is_played_as_by_the_program(self):
+        answer = run("compare", "--engines", PROGRAM, ENGINE, EXAMPLE)
+        self.assertEqual((answer.status, answer.out, answer.errors), (0, "5 sessions: 5 the same, 0 part\n", ""))
+
+
+if __name__ == "__main__":
+    unittest.main()

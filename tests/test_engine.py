@@ -1,0 +1,115 @@
+"""engine/: the C of the module, the rewriting to 32 bits, and the glue over the module where that is built."""
+import os
+import shutil
+import subprocess
+import sys
+import unittest
+from pathlib import Path
+
+from tool import InARoom, TOP
+
+sys.path.insert(0, str(TOP / "engine"))
+import to32
+
+ENGINE, OWN = TOP / "engine", Path(__file__).resolve().parent / "engine"
+NODE, COMPILER, VALGRIND = (shutil.which(it) for it in ("node", "cc", "valgrind"))
+# Beside the proofs, when ./check has SAXTEGUN_PROGRAM=none, a module that is there is that of an earlier run.
+IS_BUILT = os.environ.get("SAXTEGUN_PROGRAM") != "none" and (ENGINE / "out" / "saxtegun.wasm").is_file()
+
+
+@unittest.skipUnless(COMPILER, "there is no C compiler")
+class TheC(InARoom):
+    """The heap against a list of blocks, the arithmetic against the compiler's own."""
+
+    def hold(self, name, *words):
+        program = self.room / name
+        subprocess.run([COMPILER, "-std=gnu11", "-O1", "-g", "-Wall", "-Wextra", "-Werror", *words, OWN / f"{name}.c", "-o", program], check=True)
+        under = [] if words or not VALGRIND else [VALGRIND, "-q", "--error-exitcode=1"]
+        ran = subprocess.run([*under, program], stderr=subprocess.PIPE, check=False)
+        self.assertEqual((ran.returncode, ran.stderr.decode()), (0, ""))
+
+    def test_the_heap_under_valgrind(self):
+        self.hold("heap")
+
+    def test_the_heap_under_sanitizers(self):
+        self.hold("heap", "-fsanitize=address,undefined", "-fno-sanitize-recover=all")
+
+    def test_arithmetic_on_128_bits(self):
+        self.hold("helpers", "-fsanitize=undefined", "-fno-sanitize-recover=all")
+
+
+class To32(InARoom):
+    """What is rewritten, and what is refused."""
+
+    def test_the_target_is_changed(self):
+        lines = ['target datalayout = "e-m:e"', 'target triple = "x86_64-unknown-linux-gnu"']
+        self.assertEqual(to32.rewritten(lines), [f'target datalayout = "{to32.LAYOUT}"', f'target triple = "{to32.TRIPLE}"'])
+
+    def test_a_slot_for_a_pointer_keeps_its_eight_bytes(self):
+        self.assertEqual(to32.rewritten(["  %a = alloca ptr, align 8"]), ["  %a = alloca i64, align 8"])
+
+    def test_an_address_becomes_a_number(self):
+        self.assertEqual(to32.rewritten(["  %n = ptrtoaddr ptr %p to i64"]), ["  %n = ptrtoint ptr %p to i64"])
+
+    def test_a_pair_is_read_at_the_places_that_it_had(self):
+        self.assertEqual(to32.rewritten(["  %r = load { i8, ptr }, ptr %p, align 8"]), [
+            "  %part.1 = getelementptr i8, ptr %p, i32 0",
+            "  %value.1 = load i8, ptr %part.1, align 1",
+            "  %pair.1 = insertvalue { i8, ptr } poison, i8 %value.1, 0",
+            "  %part.2 = getelementptr i8, ptr %p, i32 8",
+            "  %value.2 = load ptr, ptr %part.2, align 8",
+            "  %r = insertvalue { i8, ptr } %pair.1, ptr %value.2, 1"])
+
+    def test_a_pair_is_written_at_the_places_that_it_had(self):
+        self.assertEqual(to32.rewritten(["  store { ptr, i32 } %v, ptr %p, align 8"]), [
+            "  %value.1 = extractvalue { ptr, i32 } %v, 0",
+            "  %part.1 = getelementptr i8, ptr %p, i32 0",
+            "  store ptr %value.1, ptr %part.1, align 8",
+            "  %value.2 = extractvalue { ptr, i32 } %v, 1",
+            "  %part.2 = getelementptr i8, ptr %p, i32 8",
+            "  store i32 %value.2, ptr %part.2, align 4"])
+
+    def test_attributes_of_the_processor_go(self):
+        line = 'attributes #0 = { nounwind "frame-pointer"="all" "probe-stack"="inline-asm" "stack-probe-size"="3072" "target-cpu"="x86-64" }'
+        self.assertEqual(to32.rewritten([line]), ['attributes #0 = { nounwind "frame-pointer"="all" }'])
+
+    def test_what_says_the_same_stays(self):
+        lines = ["; a comment", "", '@s = private unnamed_addr constant [2 x i8] c"\\00a", align 1', 'define internal noundef { ptr, i64 } @"a::b"(ptr noundef %a0, i1 noundef zeroext %a1) #0 {',
+                 "start:", "  %p = getelementptr inbounds nuw i8, ptr %a0, i64 -8", "  %v = load ptr, ptr %p, align 8, !noundef !0", "  store ptr %v, ptr @s, align 8",
+                 "  %c = icmp eq ptr %v, null", '  %r = call { ptr, i64 } @"a::b"(ptr %v, i1 true)', to32.BARRIER,
+                 "  call void @llvm.memmove.p0.p0.i64(ptr %p, ptr %v, i64 24, i1 false)", "  switch i8 %t, label %other [", "    i8 1, label %one", "  ]",
+                 "one:                                              ; preds = %start", "  ret { ptr, i64 } %r", "  unreachable", "}", "!0 = !{}"]
+        self.assertEqual(to32.rewritten(lines), lines)
+
+    def test_every_other_form_is_refused(self):
+        for line in ("  %p = inttoptr i64 %n to ptr", "  %n = ptrtoint ptr %p to i64", "  %n = ptrtoaddr ptr %p to i32", "  %p = addrspacecast ptr %q to ptr addrspace(1)",
+                     "  %a = alloca { i8, ptr }, align 8", "  %a = alloca [2 x ptr], align 8", "  %p = getelementptr ptr, ptr %q, i64 1", "  %p = getelementptr { i8, ptr }, ptr %q, i64 0, i32 1",
+                     "  %v = load { i8, ptr, i8 }, ptr %p, align 8", "  %v = load [2 x ptr], ptr %p, align 8", "  store { ptr, { i8, ptr } } %v, ptr %p, align 8", "  %v = load <2 x ptr>, ptr %p, align 16",
+                     "  %c = icmp ult ptr %p, %q", "  %v = load atomic i64, ptr %p seq_cst, align 8", "  %v = atomicrmw add ptr %p, i64 1 seq_cst, align 8", "  fence seq_cst",
+                     '  call void asm sideeffect "nop", ""()', "  call void %f()", "  call void @llvm.x86.sse2.pause()", "  %r = call i32 (ptr, ...) @open(ptr %p)", "declare i32 @open(ptr, ...)",
+                     "@v = private constant <{ ptr, [8 x i8] }> <{ ptr @s, [8 x i8] zeroinitializer }>, align 8", "@p = private global ptr null, align 8", "@s = external global i8",
+                     'module asm "nop"', 'target features = "+sse2"', "  %x = va_arg ptr %p, i64", "  invoke void @f() to label %a unwind label %b", "what: is this"):
+            with self.subTest(line), self.assertRaises(to32.UnknownForm):
+                to32.rewritten([line])
+
+    def test_a_refusal_names_the_line_and_writes_nothing(self):
+        (self.room / "from.ll").write_text("; fine\n  fence seq_cst\n", encoding="utf-8")
+        ran = subprocess.run([sys.executable, "-B", ENGINE / "to32.py", "from.ll", "to.ll"], cwd=self.room, stdout=subprocess.PIPE, stderr=subprocess.PIPE, check=False)
+        self.assertEqual((ran.returncode, ran.stderr.decode()), (1, "to32: a form that isn't known:   fence seq_cst\n"))
+        self.assertFalse((self.room / "to.ll").exists())
+
+
+@unittest.skipUnless(NODE and IS_BUILT, "there is no node, or the module is not built")
+class EngineGlue(unittest.TestCase):
+    """The functions of the glue and their refusals; the name begins with Engine, by which ./check finds it."""
+
+    def test_the_glue(self):
+        ran = subprocess.run([NODE, "--test", "--test-reporter=tap", OWN / "glue.test.mjs"], stdout=subprocess.PIPE, stderr=subprocess.STDOUT, check=False)
+        self.assertEqual(ran.returncode, 0, ran.stdout.decode(errors="replace"))
+
+    def test_the_module_is_small(self):
+        module = (ENGINE / "out" / "saxtegun.wasm").read_bytes()
+        self.assertLessEqual(len(module), 600_000)
+
+if __name__ == "__main__":
+    unittest.main()

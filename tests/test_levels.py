@@ -1,0 +1,71 @@
+"""Level texts: read at once where they are spelt as the program spells them, and otherwise piece by piece, with one answer."""
+import random
+import unittest
+
+import tool  # puts the package on the path
+from saxtegun.levels import Labels, differing, read_cells, read_pieces, read_written
+
+# A text, and the names in its cells; None where it is no level text.
+TEXTS = {
+    "": [],
+    "background wall:0,background:1,\n1,0,\n": [("background", "wall"), ("background",), ("background",), ("background", "wall")],
+    ":0,0,": [(), ()],
+    "B a:0,a b:1,": [("a", "b"), ("a", "b")],
+    "a\r:0,\r\n0,": [("a",), ("a",)],
+    "a:0,00,": [("a",), ("a",)],
+    "a:0:0,": [("a:0",)],
+    "a:0": None,
+    "a,b:0,": None,
+    "a:0,1,b:1,": None,
+    "a:1,": None,
+    "a:0,a:1:2,": None,
+    "a:0,b:0,": None,
+    "a:0,,": None,
+}
+WORDS = ("a", "b c", "", "A", "a:1", "x ", " y", "\r", "a\n", "\u00e9")
+
+
+def text_by(chance):
+    """A text of a few pieces, of which most but not all are right."""
+    pieces, count = [], 0
+    for _ in range(chance.randrange(7)):
+        if chance.random() < 0.5:
+            pieces.append(f"{chance.choice(WORDS)}:{count if chance.random() < 0.9 else chance.randrange(3)}")
+            count += 1
+        else:
+            pieces.append(chance.choice((str(chance.randrange(max(count, 1))), "0", "00", " 0", "\n0")))
+    return ",".join(pieces) + ("," if chance.random() < 0.95 else "")
+
+
+def names_in(read, text):
+    labels = Labels()
+    cells = read(text, labels)
+    return None if cells is None else [labels.names[it] for it in cells]
+
+
+class Levels(unittest.TestCase):
+    def test_a_text_is_read_as_its_names(self):
+        for text, wanted in TEXTS.items():
+            with self.subTest(text):
+                self.assertEqual(names_in(read_cells, text), wanted)
+
+    def test_both_ways_of_reading_give_one_answer(self):
+        chance, at_once = random.Random(3), 0
+        for _ in range(20_000):
+            text = text_by(chance)
+            found = names_in(read_written, text)
+            if found is not None:
+                at_once += 1
+                self.assertEqual(names_in(read_pieces, text), found, text)
+        self.assertGreater(at_once, 1_000)
+
+    def test_cells_that_differ_are_found_in_each_stretch(self):
+        chance = random.Random(4)
+        for count in (0, 1, 31, 32, 33, 200):
+            one = [chance.randrange(3) for _ in range(count)]
+            other = [it if chance.random() < 0.9 else 5 for it in one]
+            self.assertEqual(differing(one, other), [number for number in range(count) if one[number] != other[number]])
+
+
+if __name__ == "__main__":
+    unittest.main()

@@ -1,0 +1,198 @@
+"""`saxtegun shrink`: of a long session on which two small engines part the smallest is left, which was worked out by hand."""
+import json
+import unittest
+from pathlib import Path
+
+from day import OnSessions
+import tool  # puts the package on the path
+from tool import PROGRAM, plays, run
+from saxtegun.smaller import STAGES, of_columns, of_inputs, of_levels, of_lines, of_loops, of_objects
+from saxtegun.sessions import Entry
+
+SOURCE = """title A yard (with a comment
+of two lines)
+author nobody
+
+========
+OBJECTS
+========
+
+Background .
+green
+00000
+01010
+00000
+01010
+00000
+
+Wall #
+brown
+
+Gem g
+pink
+
+Player p
+white
+
+Crate c
+orange
+
+=======
+LEGEND
+=======
+Thing = Wall or Gem
+
+===============
+COLLISIONLAYERS
+===============
+Background
+Gem
+Wall, Player, Crate
+
+======
+RULES
+======
+[ > Player | Crate ] -> [ > Player | > Crate ]
+[ > Player | Wall ] -> cancel
+
+==============
+WINCONDITIONS
+==============
+No Gem
+
+=======
+LEVELS
+=======
+
+#####
+#pg.#
+#####
+
+######
+#p.c.#
+#g..g#
+######
+"""
+# The player steps, pushes the crate, and takes the push back; all else is left out. The crate can't be pushed where it has no room, and an
+# undo of a step alone is right in both.
+SMALLEST = """OBJECTS
+Background .
+green
+Player p
+white
+Crate c
+orange
+LEGEND
+COLLISIONLAYERS
+Background
+Player, Crate
+RULES
+[ > Player | Crate ] -> [ > Player | > Crate ]
+LEVELS
+pc.
+"""
+INPUTS = [2, 2, 1, 0, 3, 2, 0, 3, 3, 1, "undo", "undo", 3, 1, "undo", 0, 4]
+ENTRY = Entry(0, "a", "", [], "", 0, {}, False)
+
+
+def lines_left(source):
+    """The lines of a source that aren't empty, with names of one layer in the order of the alphabet."""
+    return [" ".join(sorted(it.replace(",", " ").split())) if "," in it else it for it in source.split("\n") if it]
+
+
+class OnAYard(OnSessions):
+    """Tests on a long session of a yard, with two engines of which the second has a bug."""
+
+    def setUp(self):
+        super().setUp()
+        self.one, self.other = (self.engine(name, has_bug) for name, has_bug in (("one", False), ("other", True)))
+        self.sessions = self.write("sessions.json", json.dumps([["a long day in the yard", [SOURCE, INPUTS, "", 1]], ["idle", [SOURCE, [], "", 0]]]))
+
+    def engine(self, name, has_bug):
+        tests = Path(__file__).resolve().parent
+        path = self.write(name, f"#!/usr/bin/env python3\nimport sys\nsys.dont_write_bytecode = True\nsys.path.insert(0, {str(tests)!r})\nfrom stand_in import main\nmain({has_bug})\n")
+        path.chmod(0o755)
+        return path
+
+    def shrink(self, *words):
+        return run("shrink", self.one, self.other, self.sessions, *words)
+
+
+class Shrink(OnAYard):
+    def test_the_smallest_session_on_which_they_part_is_written_as_a_case(self):
+        answer = self.shrink("a long day*", self.room / "case")
+        self.assertEqual((answer.status, answer.errors), (0, ""))
+        files = {it.name: it.read_text(encoding="utf-8") for it in (self.room / "case").iterdir()}
+        self.assertEqual(sorted(files), ["args", "input.json", "status", "stderr", "stdout"])
+        [[name, [source, inputs, level, index]]] = json.loads(files["input.json"])
+        self.assertEqual(lines_left(source), lines_left(SMALLEST))
+        self.assertEqual((name, inputs, index, level), ("a long day in the yard", [3, "undo"], 0, "background player:0,background crate:1,background:2,\n"))
+        self.assertEqual([json.loads(it).get("kind") for it in files["stdout"].splitlines()], ["start", "move", "undo", None])
+        self.assertEqual((files["args"], files["stderr"], files["status"]), ("", "", "0\n"))
+        self.assertIn("frame 2, after input 1 (undo)\n", answer.out)
+        self.assertIn("from 17 inputs and", answer.out)
+
+    def test_programs_that_show_the_same_have_nothing_to_shrink(self):
+        answer = self.shrink("idle")
+        self.assertEqual((answer.status, answer.errors), (1, ""))
+        self.assertIn("show the same", answer.out)
+
+    def test_what_can_not_be_shrunk_is_refused(self):
+        (self.room / "there").mkdir()
+        self.assert_refused(self.shrink("a long day*", self.room / "there"), "is there already")
+        self.assert_refused(self.shrink("nobody", self.room / "case"), "has no session named 'nobody'")
+        self.assert_refused(run("shrink", self.one, self.room / "none", self.sessions, "idle"), "there is no program at")
+        self.assertFalse((self.room / "case").exists())
+
+
+class Smaller(unittest.TestCase):
+    """What each stage leaves out."""
+
+    def without(self, stage, source, *left, **words):
+        count, without = stage(ENTRY._replace(source=source, **words))
+        return count, without(set(left))
+
+    def test_inputs_and_levels_go_one_by_one(self):
+        self.assertEqual(self.without(of_inputs, "", 0, 2, inputs=[1, 2, 3])[1].inputs, [2])
+        count, entry = self.without(of_levels, "LEVELS\np\n\nmessage (x\nq\nq\n", 0, 1, index=2)
+        self.assertEqual((count, entry.source, entry.index), (3, "LEVELS\n\nq\nq\n", 0))
+
+    def test_the_next_rule_begins_a_group_whose_first_is_gone(self):
+        rules = "RULES\nlate [ a ] -> [ ]\n + [ b ] -> [ ]\n+ [ c ] -> [ ]\n[ d ] -> [ ]\n"
+        self.assertEqual(self.without(of_lines("rules"), rules, 0)[1].source, "RULES\n   [ b ] -> [ ]\n+ [ c ] -> [ ]\n[ d ] -> [ ]\n")
+        self.assertEqual(self.without(of_lines("rules"), rules, 0, 1)[1].source, "RULES\n  [ c ] -> [ ]\n[ d ] -> [ ]\n")
+        self.assertEqual(self.without(of_lines("rules"), rules, 1)[1].source, "RULES\nlate [ a ] -> [ ]\n+ [ c ] -> [ ]\n[ d ] -> [ ]\n")
+
+    def test_a_loop_goes_with_both_its_words(self):
+        self.assertEqual(self.without(of_loops, "RULES\nstartLoop\na\nendloop\n", 0), (1, ENTRY._replace(source="RULES\na\n")))
+
+    def test_a_column_goes_from_each_row(self):
+        self.assertEqual(self.without(of_columns, "LEVELS\nabc\nde\n\nf\n", 1), (4, ENTRY._replace(source="LEVELS\nac\nd\n\nf\n")))
+
+    def test_an_object_goes_from_all_sections(self):
+        source = "OBJECTS\nBackground .\nred\nWall W #\nred\n0\nGem\nred\nLEGEND\n= = Wall\nT = Gem or Wall\n@ = Wall and Gem\nCOLLISIONLAYERS\nBackground\nWall, Gem\nWall\nLEVELS\n.#=\n"
+        left = "OBJECTS\nBackground .\nred\nGem\nred\nLEGEND\nT = Gem\n@ = Gem\nCOLLISIONLAYERS\nBackground\nGem\nLEVELS\n...\n"
+        self.assertEqual(self.without(of_objects, source, 1)[1].source, left)
+
+    def test_no_stage_fails_on_what_is_no_game(self):
+        for source in ("", "LEVELS", "OBJECTS\nx", "LEGEND\n=\n= =\na = a\nCOLLISIONLAYERS\n,\nLEVELS\nmessage\n(", SOURCE[:500]):
+            for stage in STAGES:
+                count, without = stage(ENTRY._replace(source=source, inputs=[1]))
+                without(set(range(count)))
+                self.assertEqual(count > 0 and without(set()).source, count > 0 and source)
+
+
+@plays
+class DayOfShrinking(OnAYard):
+    def test_a_wrapper_that_spoils_undo_is_told_by_two_inputs(self):
+        other = self.write("spoilt", f"#!/bin/sh\n{PROGRAM} \"$@\" | sed 's/\"kind\":\"undo\"/\"kind\":\"restart\"/'\nexit 1\n")
+        other.chmod(0o755)
+        answer = run("shrink", PROGRAM, other, self.sessions, "a long day*", self.room / "case")
+        self.assertEqual((answer.status, answer.errors), (0, ""))
+        [[_, [source, inputs, _, _]]] = json.loads((self.room / "case/input.json").read_text(encoding="utf-8"))
+        self.assertEqual(inputs, ["undo"])
+        self.assertEqual(lines_left(source), ["OBJECTS", "Background .", "green", "Player p", "white", "LEGEND", "COLLISIONLAYERS", "Background", "Player", "LEVELS", "."])
+
+
+if __name__ == "__main__":
+    unittest.main()

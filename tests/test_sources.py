@@ -1,0 +1,98 @@
+"""How sources are read for pictures, held against the program's answers that were worked out by hand: on all sources of conformance/."""
+import json
+import unittest
+
+import tool  # puts the package on the path
+from tool import CASES
+from saxtegun.games import Game, game_of
+from saxtegun.levels import Labels, in_rows, read_cells, width_of
+from saxtegun.levelsets import drawn_start, entries_of_levels, first_level
+from saxtegun.lines import runs_in
+from saxtegun.sessions import read_sessions
+from saxtegun.sources import lines_of
+
+# The faults of a source that name a line, by the sections in which they may.
+SECTIONS = {
+    "OutsideProfile": {"prelude", "rules"}, "BadObject": {"objects"}, "BadLegend": {"legend"}, "Mixed": {"legend", "collisionlayers", "rules", "winconditions"}, "NoLayer": {"objects"},
+    "BadWin": {"winconditions"}, "BadGlyph": {"levels"}, "BadRule": {"rules"}, "Shape": {"rules"}, "LateMovement": {"rules"},
+    "AmbiguousRight": {"rules"}, "TooManyRules": {"rules"}, "RightClash": {"rules"}, "Duplicate": {"objects", "legend"},
+    "Unknown": {"legend", "collisionlayers", "rules", "winconditions"},
+}
+
+
+def sessions_of_cases():
+    """Each session of the cases that are played, with its run and the order: the name of the case, the entry, the run, the order."""
+    for case in sorted(CASES.iterdir()):
+        if (case / "status").read_text().strip() == "2":
+            continue
+        order = "rows" if "rows" in (case / "args").read_text() else "columns"
+        sessions = read_sessions(str(case / "input.json"))
+        for _, run in runs_in(str(case / "stdout")):
+            yield case.name, sessions.entries[run.number], run, order
+
+
+def cells_of(text):
+    labels = Labels()
+    cells = read_cells(text, labels)
+    return None if cells is None else [frozenset(labels.names[it]) for it in cells]
+
+
+class Sources(unittest.TestCase):
+    def test_the_first_frame_is_the_level_that_the_letters_draw(self):
+        seen = 0
+        for name, entry, run, order in sessions_of_cases():
+            cells = cells_of(run.frames[0].level) if run.frames else None
+            if cells is not None:
+                with self.subTest(name):
+                    seen += 1
+                    self.assertEqual(drawn_start(entry, order), tuple(cells))
+        self.assertGreater(seen, 150)
+
+    def test_every_object_of_a_frame_is_one_that_is_drawn_on_its_layer(self):
+        for name, entry, run, _ in sessions_of_cases():
+            layers = {it.name: it.layer for it in game_of(entry.source).objects}
+            for cell in {cell for frame in run.frames for cell in cells_of(frame.level) or []}:
+                with self.subTest(name):
+                    self.assertEqual(cell - set(layers), set())
+                    self.assertEqual(len({layers[it] for it in cell}), len(cell), "no two of a cell share a layer")
+
+    def test_a_level_drawn_by_its_letters_is_the_level_again(self):
+        for name, entry, run, order in sessions_of_cases():
+            game = game_of(entry.source)
+            for frame in run.frames:
+                labels = Labels()
+                cells = read_cells(frame.level, labels)
+                rows = in_rows(order, width_of(frame.level, len(cells)), cells) if cells else []
+                drawn = game.drawing([[labels.names[it] for it in row] for row in rows])
+                for row, letters in zip(rows, drawn or []):
+                    for label, letter in zip(row, letters):
+                        with self.subTest(name):
+                            self.assertEqual(set(labels.names[label]) - game.grounds, set(game.members(letter.lower())) - game.grounds)
+
+    def test_a_level_is_loaded_for_each_win_and_no_more_than_there_are(self):
+        for name, entry, run, _ in sessions_of_cases():
+            if run.frames:
+                with self.subTest(name):
+                    loads = sum(it.kind == "load" for it in run.frames)
+                    self.assertLessEqual(first_level(entry) + loads, sum(1 for it in entries_of_levels(entry.source) if it.rows))
+
+    def test_the_line_of_a_fault_stands_in_a_section_that_can_have_it(self):
+        seen = set()
+        for name, entry, run, _ in sessions_of_cases():
+            code, _, number = (run.cause or "").partition(":")
+            if code in SECTIONS and number != "0":
+                seen.add(code)
+                with self.subTest(name):
+                    found = [it.section for it in lines_of(entry.source) if it.number == int(number)]
+                    self.assertTrue(found and found[0] in SECTIONS[code], found)
+        self.assertGreater(len(seen), 12)
+
+    def test_a_source_that_is_refused_is_read_as_far_as_it_goes(self):
+        for name, entry, run, _ in sessions_of_cases():
+            for cut in range(0, len(entry.source), max(1, len(entry.source) // 7)):
+                with self.subTest(name):
+                    self.assertIsInstance(Game(entry.source[:cut]).title, str)
+
+
+if __name__ == "__main__":
+    unittest.main()

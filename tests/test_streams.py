@@ -1,0 +1,158 @@
+"""Streams that are full, closed or read no further: status 2, one sentence or none, and no traceback. And names and sources of strangers: nothing of
+them ends a line, or moves a terminal's cursor."""
+import json
+import os
+import re
+import subprocess
+import sys
+import unittest
+from xml.etree import ElementTree
+
+from day import EXAMPLE, OnSessions
+from strangers import NAMES
+from tool import TOP, environment, run
+
+LONG = "long " * 1000
+STRANGE = [*NAMES, "a\rb\x1b[2J\x1b]0;title\x07", "\u0085\u2028\u2029\x0b\x0c", "::error::no ##[error]no", "| a | `b` | <b>", "\u202eright to left", LONG]
+SOURCE = "OBJECTS\nBackground .\nred\nPlayer p\nred\nLEGEND\nCOLLISIONLAYERS\nBackground\nPlayer\nRULES\n%s\nLEVELS\np.\n"
+# An engine that refuses the sessions that begin at entry 0, and shows one frame of the others.
+ENGINE = """#!%s
+import json, sys
+for number, (name, (source, inputs, level, index)) in enumerate(json.load(open(sys.argv[-1], encoding="utf-8"))):
+    lines = [{"cause": "BadRule:11", "close": "refused", "frames": 0, "name": name}]
+    if index:
+        frame = {"at": 0, "frame": 0, "kind": "start", "level": "background player:0,background:1,\\n"}
+        lines = [frame, {"close": "differs", "frames": 1, "name": name}]
+    for line in lines:
+        print(json.dumps({**line, "session": number}))
+sys.exit(1)
+"""
+# What may stand in a line of a terminal.
+LINE = re.compile(r"[^\x00-\x1f\x7f-\x9f\u2028\u2029\u202e]*")
+
+
+class OnStreams(OnSessions):
+    def setUp(self):
+        super().setUp()
+        self.program = self.write("program", f"#!/bin/sh\ncat {self.lines} || exit 2\nexit 1\n")
+        self.program.chmod(0o755)
+        parts = self.room / "parts"
+        parts.mkdir()
+        (parts / "parts.txt").write_text(json.dumps({"first": 0, "names": [it[0] for it in json.loads(EXAMPLE.read_text(encoding="utf-8"))]}) + "\n")
+        (parts / "00000000.lines").write_bytes(self.lines.read_bytes())
+        played = ["--program", self.program]
+        self.calls = [
+            ["explain", EXAMPLE, self.lines], ["report", EXAMPLE, self.lines], ["junit", EXAMPLE, self.lines], ["accept", EXAMPLE, self.lines],
+            ["testdata", EXAMPLE], ["source", self.lines, EXAMPLE], ["compare", self.lines, self.lines], ["join", parts], ["test", EXAMPLE, *played],
+            ["lines", EXAMPLE, *played], ["--help"], ["test", "--help"],
+        ]
+
+    def ends(self, words, **streams):
+        """The status and what is told of a call with these streams."""
+        streams = {"stdin": subprocess.DEVNULL, "stdout": subprocess.PIPE, "stderr": subprocess.PIPE, **streams}
+        with subprocess.Popen([sys.executable, TOP / "saxtegun", *map(str, words)], env=environment(), **streams) as ran:
+            errors = ran.stderr.read().decode() if ran.stderr else ""
+            return ran.wait(), errors
+
+    def test_a_full_device_is_told(self):
+        for words in self.calls:
+            with self.subTest(words[0]), open("/dev/full", "wb") as full:
+                status, errors = self.ends(words, stdout=full)
+                self.assertEqual((status, "Traceback" in errors), (2, False), errors)
+                self.assertTrue(errors.count("\n") >= 1 or "--help" in words)
+
+    def test_files_that_cannot_be_written_are_told(self):
+        for option in ("--junit", "--report", "--markdown"):
+            status, errors = self.ends(["test", EXAMPLE, "--program", self.program, option, "/dev/full"])
+            self.assertEqual((status, errors), (2, "saxtegun test: /dev/full can't be written: No space left on device\n"))
+        status, errors = self.ends(["compare", self.lines, self.write("other", ""), EXAMPLE, "--report", self.room / "no/page"])
+        self.assertEqual((status, errors.count("\n")), (2, 1))
+
+    def test_no_file_is_written_that_is_read_or_written_already(self):
+        same = self.room / "same"
+        for words, what in (
+            (["test", EXAMPLE, "--program", self.program, "--report", EXAMPLE], "block-pushing.json is read: write to another file"),
+            (["test", EXAMPLE, "--program", self.program, "--report", same, "--junit", self.room / "x/../same"], "same is written already: write to another file"),
+            (["compare", self.lines, self.lines, EXAMPLE, "--report", self.lines], "example.lines is read: write to another file"),
+        ):
+            self.assert_refused(run(*words), what)
+        self.assertFalse(same.exists())
+
+    def test_numbers_of_workers_are_those_of_the_program(self):
+        for number in ("0", "65", "-1", "two", "\u0662", "9" * 5000):
+            answer = run("test", EXAMPLE, "--program", self.program, f"--workers={number}")
+            self.assert_refused(answer, "argument --workers: a number from 1 to 64 is wanted")
+
+    def test_a_pipe_that_nobody_reads_ends_quietly(self):
+        for words in self.calls:
+            with self.subTest(words[0]):
+                reader, writer = os.pipe()
+                os.close(reader)
+                status, errors = self.ends(words, stdout=writer)
+                os.close(writer)
+                self.assertEqual((status, "Traceback" in errors), (2, False), errors)
+
+    def test_closed_streams_are_told(self):
+        for words in self.calls:
+            for closed, wanted in ((">&-", (2, ": standard output is closed\n")), ("2>&-", (None, ""))):
+                with self.subTest(words=words[0], closed=closed):
+                    command = f'exec "$0" "$@" {closed}'
+                    ran = subprocess.run(["sh", "-c", command, sys.executable, TOP / "saxtegun", *map(str, words)], env=environment(), stdout=subprocess.PIPE, stderr=subprocess.PIPE)
+                    self.assertIn(ran.returncode, (0, 1, 2) if wanted[0] is None else (2,))
+                    self.assertTrue(ran.stderr.decode().endswith(wanted[1]) and b"Traceback" not in ran.stderr + ran.stdout, ran.stderr)
+        ran = subprocess.run(["sh", "-c", 'exec "$0" "$@" <&-', sys.executable, TOP / "saxtegun", "testdata", "-"], stdout=subprocess.PIPE, stderr=subprocess.PIPE)
+        self.assertEqual((ran.returncode, ran.stderr), (2, b"saxtegun testdata: standard input is closed\n"))
+
+
+class OfStrangers(OnSessions):
+    def setUp(self):
+        super().setUp()
+        entries = []
+        for name in STRANGE:
+            source = SOURCE % name.replace("\n", " ")
+            entries += [[name, [source, [], "background:0,0,", 0]], [name, [source.replace("\np.\n", "\nmessage\np.\n"), [], "background:0,0,", 1]]]
+        self.sessions = self.write("s.json", json.dumps(entries))
+        self.program = self.write("program", ENGINE % sys.executable)
+        self.program.chmod(0o755)
+        self.shown = self.write("l", subprocess.run([self.program, self.sessions], stdout=subprocess.PIPE).stdout.decode())
+        self.other = self.write("o", self.shown.read_text(encoding="utf-8").replace("background player:0,background:1,", "background:0,0,"))
+
+    def assert_lines(self, text, most=700):
+        for line in text.split("\n"):
+            self.assertTrue(LINE.fullmatch(line), repr(line[:200]))
+            self.assertLess(len(line), most)
+
+    def test_what_is_told_is_lines_of_a_terminal(self):
+        program = ["--program", self.program]
+        for words in (["explain", self.sessions, self.shown], ["compare", self.shown, self.other, self.sessions], ["test", self.sessions, *program], ["accept", self.sessions, self.shown, "--in-place"]):
+            with self.subTest(words[0]):
+                answer = run(*words)
+                self.assertIn(answer.status, (0, 1), answer.errors)
+                self.assert_lines(answer.out)
+                self.assert_lines(answer.errors)
+                self.assertGreater(answer.out.count("\n") + answer.errors.count("\n"), 2 * len(STRANGE))
+
+    def test_no_line_for_a_ci_is_a_command_of_a_stranger(self):
+        answer = run("test", self.sessions, "--program", self.program, "--github", "--markdown", self.room / "md", "--junit", self.room / "xml", "--report", self.room / "page")
+        self.assertEqual(answer.status, 1, answer.errors)
+        self.assert_lines(answer.out, 6000)
+        commands = [it for it in answer.out.splitlines() if it.lstrip().startswith("::") or "##[" in it]
+        self.assertEqual(len(commands), 2 * len(STRANGE))
+        self.assertTrue(all(it.startswith("::error ") for it in commands))
+        cases = list(ElementTree.parse(self.room / "xml").iter("testcase"))
+        self.assertEqual(len(cases), 2 * len(STRANGE))
+        markdown = (self.room / "md").read_text(encoding="utf-8")
+        self.assert_lines(markdown, 6000)
+        self.assertIsNone(re.search("<(script|img|b)", re.sub("(?s)````*text\n.*?\n````*\n", "", markdown)))
+
+    def test_what_is_refused_names_a_stranger_in_one_line(self):
+        renamed = json.loads(self.sessions.read_text(encoding="utf-8"))
+        for number, name in enumerate(STRANGE):
+            renamed[0][0] = name + "x"
+            answer = run("explain", self.write("r.json", json.dumps(renamed)), self.shown)
+            self.assertEqual((answer.status, answer.errors.count("\n")), (2, 1))
+            self.assert_lines(answer.errors, 1500)
+
+
+if __name__ == "__main__":
+    unittest.main()
