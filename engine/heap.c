@@ -1,8 +1,8 @@
 // The heap of a module that has no C library: what the crates' allocator calls, and room for what the host hands over.
 //
-// A block is a header of 16 bytes, which holds its class, and behind it what was asked for. From 64 bytes on four classes lie between a power of two and
-// the next. A block that is given back goes on the list of its class, and is handed out for that class alone. Where the list is empty, a block is cut off
-// the end of what is in use, and the memory grows as need be. It never shrinks.
+// A block is a header of 16 bytes, which holds its class, and behind it what was asked for. From 64 bytes on four classes lie between a power
+// of two and the next. A block that is given back goes on the list of its class, and is handed out for that class alone. Where the list is
+// empty, a block is cut off the end of what is in use, and the memory grows as need be. It never shrinks.
 
 typedef unsigned long long u64;
 typedef __UINTPTR_TYPE__ word;
@@ -12,6 +12,9 @@ typedef struct Free { struct Free *next; } Free;
 #define HEADER 16
 #define PAGE 65536
 #define CLASSES 128
+#ifndef LARGE
+#define LARGE 0x100000u // from this size on a block that grows is given room to grow further, so that no smaller copies of it are left behind
+#endif
 #define MOST 0xa0000000u // bytes of a block with its header: no sum below exceeds a word of 32 bits, since the memory has at most 3 GiB
 
 #ifdef __wasm__
@@ -44,7 +47,7 @@ static unsigned class_of(word size) {
 
 static unsigned *class_at(void *block) { return (unsigned *)((word)block - HEADER); }
 
-// Whether the memory has so many bytes behind what is in use, if need be after it has grown: by a quarter, so that it seldom grows, or else by what lacks.
+// Whether the memory has so many bytes behind what is in use, if need be after it has grown: by a quarter, so that it seldom grows, or by what lacks.
 static int has_room_for(word size) {
     word end = end_of_memory();
     if (size <= end - used) return 1;
@@ -85,6 +88,12 @@ static int may_stay(void *block, u64 size) {
     return size <= has && size >= has / 4;
 }
 
+// A block for what was in a smaller one. What isn't written of its memory costs addresses alone.
+static void *take_grown(u64 size) {
+    void *block = size >= LARGE && size <= MOST / 16 ? take(4 * size - HEADER) : 0;
+    return block ? block : take(size);
+}
+
 static Tried tried(void *block) { return (Tried){block != 0, (word)block}; }
 
 // What the crates' allocator calls. Every block is aligned to 16 bytes, which is more than any of their types asks.
@@ -97,7 +106,7 @@ void rattle_dealloc(void *block) {
 Tried rattle_realloc(void *block, u64 kept, u64 size, u64 align) {
     if (!block || align > HEADER) return block ? tried(0) : rattle_alloc(size, align);
     if (may_stay(block, size)) return tried(block);
-    void *other = take(size);
+    void *other = size > kept ? take_grown(size) : take(size);
     if (!other) return tried(0);
     __builtin_memcpy(other, block, kept < size ? kept : size);
     give_back(block);

@@ -27,6 +27,7 @@ PLAIN = rf"(?:{NUMBER}|{VECTOR})"
 LITERAL = rf"(?:-?\d+|-?\d\.\d+e[+-]\d+|0x[0-9A-F]+|true|false|null|poison|zeroinitializer|splat \(i\d+ -?\d+\)|<i\d+ \d+(?:, i\d+ \d+)*>)"
 VALUE = rf"(?:{LOCAL}|{GLOBAL}|{LITERAL})"
 ALIGN = r", align \d+"
+ORDER = "(?:monotonic|acquire|release|acq_rel|seq_cst)"
 NOTES = r"(?:, !\w+ !\d+)*"
 MARK = r"(?:noundef|zeroext|signext|immarg|writeonly|readonly|captures\(none\))"
 TAKEN = rf"(?:{SCALAR}(?: {MARK})*(?: {LOCAL})?)"
@@ -65,6 +66,12 @@ SAME = re.compile("|".join((
     rf"{SET}load (?:volatile )?(?:{PLAIN}|ptr), ptr {VALUE}{ALIGN}{NOTES}",
     rf"{SET}load \{{ (?:{NUMBER}), (?:{NUMBER}) \}}, ptr {VALUE}{ALIGN}",
     rf"  store (?:{PLAIN}|ptr) {VALUE}, ptr {VALUE}{ALIGN}",
+    # clang makes plain ones of these, since no two threads share the memory
+    rf"{SET}load atomic i\d+, ptr {VALUE} {ORDER}{ALIGN}",
+    rf"  store atomic i\d+ {VALUE}, ptr {VALUE} {ORDER}{ALIGN}",
+    rf"{SET}atomicrmw \w+ ptr {VALUE}, i\d+ {VALUE} {ORDER}{ALIGN}",
+    rf"{SET}cmpxchg ptr {VALUE}, i\d+ {VALUE}, i\d+ {VALUE} {ORDER} {ORDER}{ALIGN}",
+    rf"  fence {ORDER}",
     rf"  store \{{ (?:{NUMBER}), (?:{NUMBER}) \}} {VALUE}, ptr {VALUE}{ALIGN}",
     rf"(?:{SET}|  )call {RESULT} {FUNCTION}\({listed(GIVEN)}\)(?: #\d+)?",
     re.escape(BARRIER),

@@ -1,5 +1,7 @@
 """engine/: the C of the module, the rewriting to 32 bits, and the glue over the module where that is built."""
+import gzip
 import os
+import re
 import shutil
 import subprocess
 import sys
@@ -77,7 +79,8 @@ class To32(InARoom):
         lines = ["; a comment", "", '@s = private unnamed_addr constant [2 x i8] c"\\00a", align 1', 'define internal noundef { ptr, i64 } @"a::b"(ptr noundef %a0, i1 noundef zeroext %a1) #0 {',
                  "start:", "  %p = getelementptr inbounds nuw i8, ptr %a0, i64 -8", "  %v = load ptr, ptr %p, align 8, !noundef !0", "  store ptr %v, ptr @s, align 8",
                  "  %c = icmp eq ptr %v, null", '  %r = call { ptr, i64 } @"a::b"(ptr %v, i1 true)', to32.BARRIER,
-                 "  call void @llvm.memmove.p0.p0.i64(ptr %p, ptr %v, i64 24, i1 false)", "  switch i8 %t, label %other [", "    i8 1, label %one", "  ]",
+                 "  call void @llvm.memmove.p0.p0.i64(ptr %p, ptr %v, i64 24, i1 false)", "  %v = load atomic i64, ptr %p seq_cst, align 8",
+                 "  %v = atomicrmw add ptr %p, i64 1 seq_cst, align 8", "  %v = cmpxchg ptr %p, i64 0, i64 %n acq_rel acquire, align 8", "  switch i8 %t, label %other [", "    i8 1, label %one", "  ]",
                  "one:                                              ; preds = %start", "  ret { ptr, i64 } %r", "  unreachable", "}", "!0 = !{}"]
         self.assertEqual(to32.rewritten(lines), lines)
 
@@ -85,7 +88,7 @@ class To32(InARoom):
         for line in ("  %p = inttoptr i64 %n to ptr", "  %n = ptrtoint ptr %p to i64", "  %n = ptrtoaddr ptr %p to i32", "  %p = addrspacecast ptr %q to ptr addrspace(1)",
                      "  %a = alloca { i8, ptr }, align 8", "  %a = alloca [2 x ptr], align 8", "  %p = getelementptr ptr, ptr %q, i64 1", "  %p = getelementptr { i8, ptr }, ptr %q, i64 0, i32 1",
                      "  %v = load { i8, ptr, i8 }, ptr %p, align 8", "  %v = load [2 x ptr], ptr %p, align 8", "  store { ptr, { i8, ptr } } %v, ptr %p, align 8", "  %v = load <2 x ptr>, ptr %p, align 16",
-                     "  %c = icmp ult ptr %p, %q", "  %v = load atomic i64, ptr %p seq_cst, align 8", "  %v = atomicrmw add ptr %p, i64 1 seq_cst, align 8", "  fence seq_cst",
+                     "  %c = icmp ult ptr %p, %q", "  %v = load atomic ptr, ptr %p seq_cst, align 8", "  %v = atomicrmw xchg ptr %p, ptr %q seq_cst, align 8",
                      '  call void asm sideeffect "nop", ""()', "  call void %f()", "  call void @llvm.x86.sse2.pause()", "  %r = call i32 (ptr, ...) @open(ptr %p)", "declare i32 @open(ptr, ...)",
                      "@v = private constant <{ ptr, [8 x i8] }> <{ ptr @s, [8 x i8] zeroinitializer }>, align 8", "@p = private global ptr null, align 8", "@s = external global i8",
                      'module asm "nop"', 'target features = "+sse2"', "  %x = va_arg ptr %p, i64", "  invoke void @f() to label %a unwind label %b", "what: is this"):
@@ -93,23 +96,32 @@ class To32(InARoom):
                 to32.rewritten([line])
 
     def test_a_refusal_names_the_line_and_writes_nothing(self):
-        (self.room / "from.ll").write_text("; fine\n  fence seq_cst\n", encoding="utf-8")
+        (self.room / "from.ll").write_text("; fine\n  what is this\n", encoding="utf-8")
         ran = subprocess.run([sys.executable, "-B", ENGINE / "to32.py", "from.ll", "to.ll"], cwd=self.room, stdout=subprocess.PIPE, stderr=subprocess.PIPE, check=False)
-        self.assertEqual((ran.returncode, ran.stderr.decode()), (1, "to32: a form that isn't known:   fence seq_cst\n"))
+        self.assertEqual((ran.returncode, ran.stderr.decode()), (1, "to32: a form that isn't known:   what is this\n"))
         self.assertFalse((self.room / "to.ll").exists())
 
 
 @unittest.skipUnless(NODE and IS_BUILT, "there is no node, or the module is not built")
-class EngineGlue(unittest.TestCase):
+class EngineGlue(InARoom):
     """The functions of the glue and their refusals; the name begins with Engine, by which ./check finds it."""
 
     def test_the_glue(self):
         ran = subprocess.run([NODE, "--test", "--test-reporter=tap", OWN / "glue.test.mjs"], stdout=subprocess.PIPE, stderr=subprocess.STDOUT, check=False)
         self.assertEqual(ran.returncode, 0, ran.stdout.decode(errors="replace"))
 
+    def test_the_script_of_the_page_about_it(self):
+        script = re.search(r"```js\n(.*?)```", (TOP / "docs/engine.md").read_text(encoding="utf-8"), re.S)[1]
+        (self.room / "script.mjs").write_text(script, encoding="utf-8")
+        (self.room / "engine").symlink_to(ENGINE)
+        ran = subprocess.run([NODE, "script.mjs", TOP / "examples/block-pushing.json"], cwd=self.room, stdout=subprocess.PIPE, check=False)
+        self.assertEqual((ran.returncode, ran.stdout.decode()), (1, "differs: a recording that has gone stale\n"))
+
     def test_the_module_is_small(self):
         module = (ENGINE / "out" / "saxtegun.wasm").read_bytes()
         self.assertLessEqual(len(module), 600_000)
+        self.assertLessEqual(len(gzip.compress(module)), 200_000)
+
 
 if __name__ == "__main__":
     unittest.main()

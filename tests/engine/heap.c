@@ -6,6 +6,7 @@
 #include <string.h>
 #include <sys/mman.h>
 
+#define LARGE 0x4000u // which is met often here
 #include "../../engine/heap.c"
 
 #define REQUESTS 1000000

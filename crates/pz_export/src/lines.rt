@@ -1,0 +1,57 @@
+//! The lines of a file of sessions, for a host.
+
+ghost use Rattle.std.specs.Prelude.{◌≡◌, ◌≢◌, length};
+ghost use Rattle.pz_export.specs.Lines.{IsAnswered, IsRefused, begun_with, order_of};
+
+use crate::outcome::{Outcome, REFUSED, played, refused};
+use pz_engine::engine::lines;
+use pz_record::order::Order;
+use std::alloc::Global;
+
+/// The order that a host asks for.
+fn order_of(number: u32) -> Order
+    ensures { result ≡ order_of number }
+{
+    if number == 0 {
+        Order::Rows
+    } else {
+        Order::Columns
+    }
+}
+
+/// Puts bytes at the beginning of a room, where they fit.
+fn begin_with(room: &mut [u8], bytes: &[u8])
+    ensures { room.new ≡ begun_with bytes.now room.old }
+{
+    let count = bytes.len();
+    if count <= room.len() {
+        room[..count].copy_from_slice(bytes);
+    }
+}
+
+/// Plays the sessions of a file, the cells of each level by rows where the order is 0, and else by columns. The answer is the number of bytes of
+/// their lines: where the room has so many, it begins with them, and else the host asks again with a larger one, and all is played again.
+#[unsafe(no_mangle)]
+pub extern "C" fn saxtegun_lines(
+    alloc: Global,
+    file: &[u8],
+    order: u32,
+    room: &mut [u8],
+    outcome: &mut Outcome,
+) -> usize
+    ensures size { length room.new ≡ length room.old }
+    ensures answered { outcome.new.status ≢ REFUSED → IsAnswered (order_of order) file.now room.old room.new outcome.new result }
+    ensures refused { outcome.new.status ≡ REFUSED → IsRefused file.now room.old room.new outcome.new result }
+{
+    match lines(alloc, file, order_of(order)) {
+        Ok(answer) => {
+            *outcome = played(answer.passed);
+            begin_with(room, &answer.lines);
+            answer.lines.len()
+        }
+        Err(cause) => {
+            *outcome = refused(cause);
+            0
+        }
+    }
+}

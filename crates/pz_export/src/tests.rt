@@ -1,0 +1,92 @@
+//! What a host sees.
+
+use crate::lines::saxtegun_lines;
+use crate::outcome::{Outcome, played};
+use std::test::Fail;
+
+/// A walk of two steps against a wall, which passes by rows alone.
+const WALK: &str =
+    r#"[["walk",["OBJECTS\nBackground .\nblack\nPlayer p\nwhite\nWall #\ngrey\nLEGEND\nCOLLISIONLAYERS\nBackground\nPlayer, Wall\nLEVELS\n#p.\n###\n",[3,3],"background wall:0,background:1,background player:2,0,0,0,\n"]]]"#;
+
+const LINES: &str = concat!(
+    "{\"at\":0,\"frame\":0,\"kind\":\"start\",\"level\":\"background wall:0,background player:1,background:2,\\n0,0,0,\\n\",\"session\":0}\n",
+    "{\"at\":1,\"frame\":1,\"kind\":\"move\",\"level\":\"background wall:0,background:1,background player:2,\\n0,0,0,\\n\",\"session\":0}\n",
+    "{\"at\":2,\"frame\":2,\"kind\":\"move\",\"level\":\"background wall:0,background:1,background player:2,\\n0,0,0,\\n\",\"session\":0}\n",
+    "{\"close\":\"passed\",\"frames\":3,\"name\":\"walk\",\"session\":0}\n",
+);
+
+/// What a host is answered in a room of this size, whose bytes were all 7.
+#[derive(Drop)]
+struct Answer {
+    count: usize,
+    room: Vec<u8>,
+    outcome: Outcome,
+}
+
+fn ask(rt: &HostRuntime, file: &[u8], order: u32, size: usize) -> Result<Answer, Fail> {
+    let mut room = Vec::new(rt.alloc());
+    for _ in 0..size {
+        room.push(7)?;
+    }
+    let mut outcome = played(false);
+    let count = saxtegun_lines(rt.alloc(), file, order, room.as_mut_slice(), &mut outcome);
+    Ok(Answer {
+        count,
+        room,
+        outcome,
+    })
+}
+
+#[test]
+fn begins_the_room_with_the_lines(rt: HostRuntime) -> Result<(), Fail> {
+    let answer = ask(&rt, WALK.as_bytes(), 0, 1000)?;
+    assert!(rt; answer.count == LINES.len());
+    assert!(rt; answer.room.as_slice().starts_with(LINES.as_bytes()));
+    assert!(rt; answer.room.iter().skip(answer.count).all(|byte| *byte == 7));
+    assert!(rt;
+        answer.outcome.status == 0 && answer.outcome.fault == 0 && answer.outcome.entry == 0
+    );
+    Ok(())
+}
+
+#[test]
+fn tells_the_length_where_the_room_is_too_small(rt: HostRuntime) -> Result<(), Fail> {
+    let answer = ask(&rt, WALK.as_bytes(), 0, LINES.len() - 1)?;
+    assert!(rt; answer.count == LINES.len());
+    assert!(rt; answer.room.iter().all(|byte| *byte == 7));
+    let answer = ask(&rt, WALK.as_bytes(), 0, LINES.len())?;
+    assert!(rt; answer.room.as_slice() == LINES.as_bytes());
+    Ok(())
+}
+
+/// By columns the recorded level is another one.
+#[test]
+fn says_that_a_session_did_not_pass(rt: HostRuntime) -> Result<(), Fail> {
+    for order in [1, 2, u32::MAX] {
+        let answer = ask(&rt, WALK.as_bytes(), order, 1000)?;
+        assert!(rt; answer.count > 0);
+        assert!(rt;
+            answer.outcome.status == 1 && answer.outcome.fault == 0 && answer.outcome.entry == 0
+        );
+    }
+    Ok(())
+}
+
+#[test]
+fn says_why_a_file_is_refused(rt: HostRuntime) -> Result<(), Fail> {
+    for (file, fault, entry) in [
+        ("", 2, 0),
+        ("[[\"\",[\"\",[],\"\"]],3]", 3, 1),
+        ("[[\"\",[\"\",[],\"x\"]]]", 4, 0),
+    ] {
+        let answer = ask(&rt, file.as_bytes(), 0, 10)?;
+        assert!(rt; answer.count == 0);
+        assert!(rt;
+            answer.outcome.status == 2
+                && answer.outcome.fault == fault
+                && answer.outcome.entry == entry
+        );
+        assert!(rt; answer.room.iter().all(|byte| *byte == 7));
+    }
+    Ok(())
+}

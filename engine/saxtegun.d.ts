@@ -1,0 +1,74 @@
+/** How a sessions file was answered. */
+export interface Answer {
+  /** The exit status of the program: 0, every session passed; 1, some did not; 2, refused, and there are no lines. */
+  status: 0 | 1 | 2;
+  /** Whether every session passed. */
+  passed: boolean;
+  /** The lines of the recording in UTF-8, byte for byte those of the program; see docs/sessions.md. */
+  lines: Uint8Array;
+  /**
+   * Why the file was refused, and else null: `not-json`, `bad-entry N`, `bad-level N`, `too-many` as docs/sessions.md has them; `memory`, where memory was
+   * refused; `broken`, where the module stopped at a fault, its own or that of what it was built by, or a worker could not be started.
+   */
+  fault: string | null;
+}
+
+export interface Options {
+  /** The order of the cells of a level; `columns` where it is left out. */
+  order?: 'rows' | 'columns';
+}
+
+/** One session, as the elements of an entry of docs/sessions.md. */
+export interface Session {
+  source: string;
+  inputs: (0 | 1 | 2 | 3 | 4 | 'undo' | 'restart' | 'tick')[];
+  /** The level text where the session ended when it was recorded; empty where it is left out, which no level equals. */
+  level?: string;
+  /** The entry of LEVELS at which play starts; 0 where it is left out. */
+  index?: number;
+}
+
+/** A frame, as its line has it: after how many inputs it was shown, its number, why it was shown, and its level. */
+export interface Frame {
+  at: number;
+  frame: number;
+  kind: 'start' | 'move' | 'tick' | 'undo' | 'restart' | 'load' | 'over';
+  level: string;
+  session: 0;
+}
+
+/** How a session closed, as its line has it. */
+export interface Close {
+  close: 'passed' | 'differs' | 'stopped' | 'refused';
+  cause?: string;
+  frames: number;
+  name: string;
+  session: 0;
+}
+
+export interface WorkerOptions extends Options {
+  /** How many workers play at once, 1 to 64; where it is left out, one fewer than there are processors. */
+  workers?: number;
+  /** Is told now and then how many sessions of how many were played; in a file that isn't cut, that is one of one. */
+  progress?: (done: number, total: number) => void;
+  /** Ends the workers, whatever they do; the promise is then rejected with the signal's reason. */
+  signal?: AbortSignal;
+}
+
+export interface Engine {
+  /** Plays a file in the calling thread. Each call is answered; one that can't be is `memory` or `broken`. */
+  replay(text: string | ArrayBuffer | ArrayBufferView, options?: Options): Answer;
+  /**
+   * Plays one session from its start, for a player that presses one key after another: its close, and of its frames those that were shown after `from` inputs or
+   * more; all, where that is left out. Where there is a fault, there are neither.
+   */
+  frames(session: Session, options?: Options & { from?: number }): { frames: Frame[]; close: Close | null; fault: string | null };
+  /** Plays a file in workers of its own, cut into files of consecutive sessions. The answer is that of `replay`. */
+  replayInWorkers(text: string | ArrayBuffer | ArrayBufferView, options?: WorkerOptions): Promise<Answer>;
+}
+
+/** Loads the module: of this address, of these bytes, or compiled already. Without a source it is `out/saxtegun.wasm` beside this file. */
+export function load(source?: string | URL | ArrayBuffer | ArrayBufferView | WebAssembly.Module): Promise<Engine>;
+
+/** The objects of lines. */
+export function parse(lines: Uint8Array): object[];

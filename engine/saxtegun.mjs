@@ -1,0 +1,413 @@
+// The engine of Saxtegun for Node 20 and later and for browsers: from the text of a sessions file to the lines of its recording. docs/engine.md tells how
+// it is used, and saxtegun.d.ts what each function takes and gives.
+
+/** The kinds of faults by their numbers, and the orders of the cells of a level. */
+const FAULTS = ['', 'memory', 'not-json', 'bad-entry', 'bad-level', 'too-many'];
+const ORDERS = { rows: 0, columns: 1 };
+
+const MOST_BYTES = 16_777_216;
+const MOST_SESSIONS = 65_536;
+const MIB = 1_048_576;
+/** The room for lines. What isn't written of it takes no memory but addresses; where lines are longer, the file is played again. */
+const ROOM = 256 * MIB - 16;
+const LEAST_ROOM = MIB;
+/** The bytes from which on the memory of an instance, which never shrinks, is given back after a call. */
+const LARGE = 1024 * MIB;
+const OUTCOME_BYTES = 24;
+const MOST_WORKERS = 64;
+const PARTS_OF_A_WORKER = 8;
+const WORKER = 'saxtegun-worker';
+
+const isNode = typeof process === 'object' && typeof process.versions?.node === 'string';
+
+function refused(fault) {
+  return { status: 2, passed: false, lines: new Uint8Array(0), fault };
+}
+
+/** As many workers as leave the page a processor. */
+function idleProcessors() {
+  return Math.min(MOST_WORKERS, Math.max(1, (globalThis.navigator?.hardwareConcurrency ?? 4) - 1));
+}
+
+/** What is said of a call that did not come back. */
+function faultOf(error) {
+  return error instanceof RangeError || error?.name === 'InternalError' ? 'memory' : 'broken';
+}
+
+/** The bytes of a text, no more than tell that they are too many; null where it is no text, since it has half of a surrogate pair. */
+function bytesOf(text) {
+  if (typeof text === 'string') {
+    return /\p{Surrogate}/u.test(text) ? null : new TextEncoder().encode(text).subarray(0, MOST_BYTES + 1);
+  }
+  // also one of another frame
+  if (Object.prototype.toString.call(text) === '[object ArrayBuffer]') return new Uint8Array(text).subarray(0, MOST_BYTES + 1);
+  if (ArrayBuffer.isView(text)) return new Uint8Array(text.buffer, text.byteOffset, Math.min(text.byteLength, MOST_BYTES + 1));
+  throw new TypeError('a sessions file is a string or bytes');
+}
+
+function numberOf(order) {
+  if (!Object.hasOwn(ORDERS, order)) throw new TypeError('the order is "rows" or "columns"');
+  return ORDERS[order];
+}
+
+/** An instance of the module, with the room into which it writes lines. */
+class Instance {
+  #exports;
+  #room = { at: 0, size: 0 };
+
+  constructor(module) {
+    this.#exports = new WebAssembly.Instance(module).exports;
+    for (let size = ROOM; size >= LEAST_ROOM && !this.#room.at; size = size / 2 - 8) this.#room = this.#take(size);
+  }
+
+  isLarge() {
+    return this.#exports.memory.buffer.byteLength >= LARGE;
+  }
+
+  /** Room of this many bytes; at 0, where there is none. */
+  #take(size) {
+    return { at: this.#exports.take_room(size) >>> 0, size };
+  }
+
+  /** Asks a function of the module about a file, once again where the room was too small for the lines. */
+  ask(file, call) {
+    const input = this.#take(file.length);
+    const outcome = this.#take(OUTCOME_BYTES);
+    if (!input.at || !outcome.at || !this.#room.at) return refused('memory');
+    new Uint8Array(this.#exports.memory.buffer, input.at, input.size).set(file);
+    let count = call(this.#exports, input, this.#room, outcome.at);
+    if (count > this.#room.size) {
+      this.#exports.give_back_room(this.#room.at);
+      this.#room = this.#take(count);
+      if (!this.#room.at) return refused('memory');
+      count = call(this.#exports, input, this.#room, outcome.at);
+    }
+    const answer = this.#answer(outcome.at, count);
+    this.#exports.give_back_room(input.at);
+    this.#exports.give_back_room(outcome.at);
+    return answer;
+  }
+
+  /** What a call has left in the memory. */
+  #answer(outcome, count) {
+    const words = new DataView(this.#exports.memory.buffer, outcome, OUTCOME_BYTES);
+    const [status, kind, entry] = [0, 8, 16].map(at => Number(words.getBigUint64(at, true)));
+    if (status === 2) {
+      const fault = FAULTS[kind];
+      return refused(fault.startsWith('bad-') ? `${fault} ${entry}` : fault);
+    }
+    if (status > 2 || count > this.#room.size) throw new Error('the module breaks its word');
+    const lines = new Uint8Array(this.#exports.memory.buffer, this.#room.at, count).slice();
+    return { status, passed: status === 0, lines, fault: null };
+  }
+}
+
+/** The engine in the thread that calls it. An instance whose call did not come back is never called again. */
+class Engine {
+  #module;
+  #instance = null;
+
+  constructor(module) {
+    this.#module = module;
+  }
+
+  replay(text, { order = 'columns' } = {}) {
+    const number = numberOf(order);
+    return this.#ask(text, (exports, input, room, outcome) =>
+      Number(exports.saxtegun_lines(input.at, BigInt(input.size), number, room.at, BigInt(room.size), outcome)));
+  }
+
+  frames({ source, inputs, level = '', index = 0 }, { order = 'columns', from = 0 } = {}) {
+    const { lines, fault } = this.replay(JSON.stringify([['', [source, inputs, level, index]]]), { order });
+    if (fault !== null) return { frames: [], close: null, fault };
+    const [close, ...frames] = lastObjects(lines, object => object.at === undefined || object.at >= from);
+    return { frames: frames.reverse(), close, fault };
+  }
+
+  async replayInWorkers(text, { order = 'columns', workers = idleProcessors(), progress = () => {}, signal } = {}) {
+    numberOf(order);
+    if (!Number.isInteger(workers) || workers < 1 || workers > MOST_WORKERS) throw new TypeError(`there are 1 to ${MOST_WORKERS} workers`);
+    const file = bytesOf(text);
+    if (file === null) return refused('not-json');
+    signal?.throwIfAborted();
+    const crew = new Crew(this.#module);
+    const end = () => crew.end();
+    signal?.addEventListener('abort', end);
+    try {
+      const answer = await playWhole(crew, file, order, workers, progress);
+      signal?.throwIfAborted();
+      return answer;
+    } finally {
+      signal?.removeEventListener('abort', end);
+      crew.end();
+    }
+  }
+
+  #ask(text, call) {
+    const file = bytesOf(text);
+    if (file === null) return refused('not-json');
+    const instance = this.#instance;
+    this.#instance = null;
+    try {
+      const asked = instance ?? new Instance(this.#module);
+      const answer = asked.ask(file, call);
+      if (answer.fault !== 'memory' && !asked.isLarge()) this.#instance = asked;
+      return answer;
+    } catch (error) {
+      return refused(faultOf(error));
+    }
+  }
+}
+
+async function bytesAt(url) {
+  if (isNode && url.protocol === 'file:') return (await import('node:fs/promises')).readFile(url);
+  const answer = await fetch(url);
+  if (!answer.ok) throw new Error(`${url}: ${answer.status} ${answer.statusText}`);
+  return answer.arrayBuffer();
+}
+
+async function moduleOf(source) {
+  if (source instanceof WebAssembly.Module) return source;
+  if (typeof source === 'string' || source instanceof URL) source = await bytesAt(new URL(source, isNode ? import.meta.url : globalThis.location?.href));
+  return WebAssembly.compile(source);
+}
+
+const OWN_MODULE = new URL('out/saxtegun.wasm', import.meta.url);
+
+export async function load(source = OWN_MODULE) {
+  return new Engine(await moduleOf(source));
+}
+
+export function parse(lines) {
+  return new TextDecoder().decode(lines).split('\n').slice(0, -1).map(line => JSON.parse(line));
+}
+
+/** The objects of the last lines that are wanted, the last one first. */
+function lastObjects(lines, isWanted) {
+  const found = [], decoder = new TextDecoder();
+  for (let end = lines.length; end > 0;) {
+    const begin = end < 2 ? 0 : lines.lastIndexOf(0x0a, end - 2) + 1;
+    const object = JSON.parse(decoder.decode(lines.subarray(begin, end)));
+    if (!isWanted(object)) break;
+    found.push(object);
+    end = begin;
+  }
+  return found;
+}
+
+// A file in parts.
+
+const isBlank = byte => byte === 0x20 || byte === 0x0a || byte === 0x0d || byte === 0x09;
+
+/** Where the elements of the list that a text is begin and end; null where it isn't one, as far as can be seen without reading its elements. */
+export function elementsOf(bytes) {
+  const found = [];
+  let at = 0, depth = 0, begin = 0, isEmpty = true, end = -1;
+  for (; at < bytes.length; at++) {
+    const byte = bytes[at];
+    if (isBlank(byte)) continue;
+    if (end >= 0 || (depth === 0 && byte !== 0x5b)) return null;
+    const closes = byte === 0x5d || byte === 0x7d;
+    if (depth === 1 && (byte === 0x2c || closes)) {
+      if (isEmpty && !(closes && found.length === 0)) return null;
+      if (!isEmpty) found.push([begin, at]);
+      begin = at + 1;
+      isEmpty = true;
+    } else if (depth > 0) {
+      isEmpty = false;
+    }
+    if (byte === 0x22) for (at++; at < bytes.length && bytes[at] !== 0x22; at++) at += bytes[at] === 0x5c;
+    if (byte === 0x5b || byte === 0x7b) begin = depth++ === 0 ? at + 1 : begin;
+    if (closes && --depth === 0) end = at;
+  }
+  return end < 0 || bytes[end] !== 0x5d ? null : found;
+}
+
+/** The file as files of consecutive sessions, each with the number of its first; null where it is played whole. */
+export function partsOf(bytes, most) {
+  const elements = bytes.length > MOST_BYTES ? null : elementsOf(bytes);
+  if (!elements || elements.length < 2 || elements.length > MOST_SESSIONS || most < 2) return null;
+  const count = Math.min(most, elements.length);
+  return Array.from({ length: count }, (_, k) => {
+    const [first, next] = [k, k + 1].map(it => Math.floor((it * elements.length) / count));
+    const inside = bytes.subarray(elements[first][0], elements[next - 1][1]);
+    const file = new Uint8Array(inside.length + 2);
+    file[0] = 0x5b;
+    file.set(inside, 1);
+    file[file.length - 1] = 0x5d;
+    return { file, first, sessions: next - first };
+  });
+}
+
+const END_OF_LINE = [...'"session":'].map(letter => letter.charCodeAt(0));
+
+/** Where the number of the session begins in the line that ends before this place. */
+function placeOfNumber(lines, end) {
+  let at = end - 1;
+  while (lines[at - 1] >= 0x30 && lines[at - 1] <= 0x39) at--;
+  const isThere = lines[end - 1] === 0x7d && at < end - 1 && END_OF_LINE.every((letter, k) => lines[at - END_OF_LINE.length + k] === letter);
+  if (!isThere) throw new Error('a line without the number of its session');
+  return at;
+}
+
+/** The lines of a part, its sessions numbered from this number on. */
+export function numbered(lines, first) {
+  if (first === 0) return lines;
+  const pieces = [], encoder = new TextEncoder();
+  let size = 0;
+  const add = piece => {
+    pieces.push(piece);
+    size += piece.length;
+  };
+  let begin = 0;
+  for (let end = lines.indexOf(0x0a); end >= 0; end = lines.indexOf(0x0a, end + 1)) {
+    const at = placeOfNumber(lines, end);
+    let number = 0;
+    for (let k = at; k < end - 1; k++) number = number * 10 + lines[k] - 0x30;
+    add(lines.subarray(begin, at));
+    add(encoder.encode(String(number + first)));
+    begin = end - 1;
+  }
+  add(lines.subarray(begin));
+  return joined(pieces, size);
+}
+
+function joined(pieces, size = pieces.reduce((sum, piece) => sum + piece.length, 0)) {
+  const whole = new Uint8Array(size);
+  let at = 0;
+  for (const piece of pieces) {
+    whole.set(piece, at);
+    at += piece.length;
+  }
+  return whole;
+}
+
+/** The answer for a file whose parts were answered so. */
+function joinedAnswer(parts, answers) {
+  const passed = answers.every(answer => answer.passed);
+  try {
+    const lines = joined(answers.map((answer, k) => numbered(answer.lines, parts[k].first)));
+    return { status: passed ? 0 : 1, passed, lines, fault: null };
+  } catch (error) {
+    return refused(faultOf(error));
+  }
+}
+
+// Workers.
+
+/** A worker of Node or of a browser: one file at a time that it is asked about, it answers. */
+class Thread {
+  #worker;
+  #settle = null;
+  #isGone = false;
+
+  constructor(worker) {
+    this.#worker = worker;
+    const listen = (name, act) => (worker.on ? worker.on(name, act) : worker.addEventListener(name, act));
+    listen('message', message => this.#answer(message.data ?? message));
+    listen('error', error => this.#leave(error?.code === 'ERR_WORKER_OUT_OF_MEMORY' ? 'memory' : 'broken'));
+    listen('exit', () => this.#leave('broken'));
+  }
+
+  static async start(module) {
+    if (!isNode) {
+      const worker = new Worker(import.meta.url, { type: 'module', name: WORKER });
+      worker.postMessage({ module });
+      return new Thread(worker);
+    }
+    const { Worker: NodeWorker } = await import('node:worker_threads');
+    return new Thread(new NodeWorker(new URL(import.meta.url), { workerData: { [WORKER]: module } }));
+  }
+
+  #answer(answer) {
+    this.#settle?.(answer);
+    this.#settle = null;
+  }
+
+  #leave(fault) {
+    this.#isGone = true;
+    this.#answer(refused(fault));
+  }
+
+  async ask(file, order) {
+    if (this.#isGone) return refused('broken');
+    return new Promise(settle => {
+      this.#settle = settle;
+      this.#worker.postMessage({ file, order });
+    });
+  }
+
+  /** Ends the worker, whatever it does. */
+  end() {
+    this.#leave('broken');
+    this.#worker.terminate();
+  }
+}
+
+/** The workers that play one file. Each has an instance of its own; all end together. */
+class Crew {
+  #module;
+  #workers = [];
+  #isEnded = false;
+
+  constructor(module) {
+    this.#module = module;
+  }
+
+  /** Plays parts, each by the first of so many workers that is idle. Once one is refused, no other is begun. */
+  async play(parts, order, count, progress) {
+    const total = parts.reduce((sum, part) => sum + part.sessions, 0);
+    const answers = [];
+    let next = 0, done = 0, isRefused = false;
+    const work = async () => {
+      const worker = await Thread.start(this.#module);
+      this.#workers.push(worker);
+      while (next < parts.length && !isRefused && !this.#isEnded) {
+        const at = next++;
+        answers[at] = await worker.ask(parts[at].file, order);
+        isRefused ||= answers[at].fault !== null;
+        done += parts[at].sessions;
+        if (!isRefused) progress(done, total);
+      }
+    };
+    await Promise.all(Array.from({ length: Math.min(count, parts.length) }, work));
+    return answers.filter(Boolean);
+  }
+
+  end() {
+    this.#isEnded = true;
+    for (const worker of this.#workers) worker.end();
+  }
+}
+
+/** Plays a file in parts, where it has any. */
+async function playWhole(crew, file, order, workers, progress) {
+  const whole = [{ file, first: 0, sessions: 1 }];
+  const parts = partsOf(file, workers * PARTS_OF_A_WORKER) ?? whole;
+  const answers = await crew.play(parts, order, workers, progress);
+  const fault = answers.find(answer => answer.fault !== null)?.fault;
+  if (fault === undefined) return joinedAnswer(parts, answers);
+  if (parts.length === 1 || fault === 'memory' || fault === 'broken') return refused(fault);
+  // the first fault of a part need not be that of the file
+  return (await crew.play(whole, order, 1, () => {}))[0];
+}
+
+/** What a worker does: it answers each file that it is handed. */
+function serve(engine, { file, order }, post) {
+  const answer = engine.replay(file, { order });
+  post(answer, [answer.lines.buffer]);
+}
+
+if (isNode) {
+  const { parentPort, workerData } = await import('node:worker_threads');
+  if (workerData?.[WORKER]) {
+    const engine = new Engine(workerData[WORKER]);
+    parentPort.on('message', asked => serve(engine, asked, (answer, moved) => parentPort.postMessage(answer, moved)));
+  }
+} else if (typeof WorkerGlobalScope !== 'undefined' && globalThis.name === WORKER) {
+  let engine = null;
+  globalThis.addEventListener('message', ({ data }) => {
+    if (data.module) engine = new Engine(data.module);
+    else serve(engine, data, (answer, moved) => globalThis.postMessage(answer, moved));
+  });
+}
