@@ -30,7 +30,7 @@ class Player(NamedTuple):
 
 
 class Hung(NamedTuple):
-    """The input in which a session hung, None at the start, and what is run then from the last level that it shows: that input, or a tick behind it."""
+    """The input in which a session hung, None at the start; and what is run then from the last level that it shows, that input or a tick behind it."""
 
     number: Optional[int]
     step: Input
@@ -90,7 +90,8 @@ def source_from(source: str, rows: Sequence[Sequence[Tuple[str, ...]]], kept: Ab
             parts.setdefault(line.section, []).append(line.text)
     parts["legend"] = [*parts.get("legend", []), *(f"{letter} = {' and '.join(names)}" for names, letter in letters.items())]
     parts["levels"] = ["".join(letters[names] for names in row) for row in rows]
-    sections = [text for section in ("objects", "legend", "collisionlayers", "rules", "winconditions", "levels") for text in (section.upper(), *parts.get(section, []))]
+    wanted = ("objects", "legend", "collisionlayers", "rules", "winconditions", "levels")
+    sections = [text for section in wanted for text in (section.upper(), *parts.get(section, []))]
     return "\n".join([*parts.get("prelude", []), *sections]) + "\n"
 
 
@@ -116,7 +117,8 @@ class Step(NamedTuple):
     def first_that_hangs(self, before: FrozenSet[int], things: Sequence[Thing]) -> Optional[int]:
         """The first of these things with which the step hangs, each behind those before it; None where there is none, or it isn't sure."""
         kept = [before.union(*(it.lines for it in things[: place + 1])) for place in range(len(things))]
-        runs = self.player.runs([self.entry._replace(source=source_from(self.entry.source, self.rows, it), inputs=[self.step], level="", index=0) for it in kept])
+        sources = [source_from(self.entry.source, self.rows, it) for it in kept]
+        runs = self.player.runs([self.entry._replace(source=it, inputs=[self.step], level="", index=0) for it in sources])
         # in the step itself, which shows nothing then, and not in what would follow it
         hung = [it.cause == HUNG and len(it.frames) == 1 for it in runs]
         if True not in hung or any(not it.frames for it in runs):
