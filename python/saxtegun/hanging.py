@@ -3,7 +3,7 @@ from __future__ import annotations
 
 from typing import AbstractSet, Dict, FrozenSet, List, NamedTuple, Optional, Sequence, Tuple
 
-from saxtegun.commands import fold
+from saxtegun.commands import Refused, fold
 from saxtegun.culprits import Repeated, repeated_in
 from saxtegun.explaining import input_told
 from saxtegun.games import game_of
@@ -16,6 +16,8 @@ from saxtegun.sources import lines_of, words_of
 HUNG = "loop-limit"
 # The first of the letters that draw cells: none that anybody writes.
 FIRST_LETTER = 0xE000
+# So much is tried at most: a sessions file has a limit.
+MOST_LETTERS = 8_000_000
 START_OPTION = "run_rules_on_level_start"
 
 
@@ -132,7 +134,7 @@ def hung_in(entry: Entry, run: Run, step: Input, player: Player) -> str:
     In a loop it is a group where that hangs in the first pass; else the loop, or a group in a later pass."""
     rows = rows_before(run, entry.source, player.engine.order)
     things = things_of(entry.source)
-    if rows is None or not things:
+    if rows is None or not things or len(things) * (len(entry.source) + len(run.frames[-1].level)) > MOST_LETTERS:
         return ""
     of = Step(entry, rows, step, player)
     first = of.first_that_hangs(frozenset(), things)
@@ -148,8 +150,12 @@ def hung_told(entry: Entry, run: Run, player: Player) -> str:
     """Where and in what a session hung, in words that go on behind its sentence, or nothing."""
     if run.cause != HUNG or not run.frames:
         return ""
-    hung = hung_at(entry, run, player)
+    try:
+        hung = hung_at(entry, run, player)
+        name = hung_in(entry, run, hung.step, player)
+    except Refused:
+        # the session was played, and what is tried beside it must not take its answer away
+        return ""
     where = " at the start" if hung.number is None else f" at input {hung.number} ({input_told(entry.inputs[hung.number])})"
     tick = ", in a tick behind it" if hung.step == "tick" and hung.number is not None and entry.inputs[hung.number] != "tick" else ""
-    name = hung_in(entry, run, hung.step, player)
     return f"{where}{tick}" + (f"; {name}" if name else "")
