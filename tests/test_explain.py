@@ -34,12 +34,30 @@ TOLD = {
     "a-column-text-differs-with-order-rows": ("2 of 6 cells (2 wide, 3 high) differ", "in the other order than rows", "    | .p         ..\n    | ..         .p\n"),
     "a-name-with-marks-that-json-escapes": ("session 0, \\u{1}\"\\/\\u{7f}\u00e9\\u{a}: refused",),
 }
+# For a case the culprit that is named behind the fault of its source.
+CULPRITS = {
+    "a-level-row-with-an-unknown-glyph": "draws nothing: `x` (BadGlyph:28)",
+    "a-property-of-one-member-isn-t-a-glyph": "draws nothing: `t` (BadGlyph:29)",
+    "a-synonym-of-a-property-as-a-glyph": "draws nothing: `t` (BadGlyph:29)",
+    "white-space-inside-a-level-row": "draws nothing: ` ` (BadGlyph:28)",
+    "a-name-that-is-already-there": "is there already: `Crate` (Duplicate:15)",
+    "a-repeated-name-on-one-name-line": "is there already: `M` (Duplicate:15)",
+    "an-object-that-is-in-no-layer": "is in no collision layer: `Spike` (NoLayer:13)",
+    "no-player-among-the-objects": "is joined by `and`: `player` (Missing:0)",
+    "no-player-among-objects-and-layers": "is joined by `and`: `player` (Missing:0)",
+    "player-as-an-aggregate": "is joined by `and`: `player` (Missing:0)",
+}
 
 
 class Explain(OnSessions):
     def test_the_example_is_told_with_its_cells_and_drawn(self):
         answer = run("explain", EXAMPLE, self.lines)
         self.assertEqual((answer.status, answer.out, answer.errors), (0, STALE, ""))
+
+    def test_a_fault_is_told_with_its_culprit(self):
+        for name, words in CULPRITS.items():
+            with self.subTest(name):
+                self.assertIn(words, run("explain", *case(name), "--order", "rows").out)
 
     def test_a_case_is_told_with_its_cause(self):
         for name, wanted in TOLD.items():

@@ -4,7 +4,10 @@ import unittest
 
 from day import OnSessions
 from tool import plays, run
-from saxtegun.hanging import source_from, things_of
+from saxtegun.hanging import Player, hung_told, source_from, things_of
+from saxtegun.lines import Frame, Run
+from saxtegun.playing import Engine
+from saxtegun.sessions import sessions_in
 
 SOURCE = """title B
 run_rules_on_level_start
@@ -65,7 +68,14 @@ class DayOfHanging(OnSessions):
                 self.assertIn(f"in its 200th pass {wanted}", run("test", sessions).out)
 
 
-class Hanging(unittest.TestCase):
+class Hanging(OnSessions):
+    def test_a_program_that_has_no_answer_takes_none_away(self):
+        program = self.write("program", "#!/bin/sh\nexit 2\n")
+        program.chmod(0o755)
+        sessions = sessions_in("s.json", json.dumps([["a", [SOURCE % "[ Crate ] -> [ ]", [3], ""]]]))
+        hung = Run(0, "a", "stopped", "loop-limit", [Frame(0, "start", "background player:0,background:1,background crate:2,\n")])
+        self.assertEqual(hung_told(sessions.entries[0], hung, Player(sessions, Engine(program=str(program)))), "")
+
     def test_things_are_in_the_order_in_which_they_run(self):
         source = "RULES\nLATE [ a ] -> [ ]\n+ [ b ] -> [ ]\nstartloop\nlate up [ c ] -> [ ]\n[ late ] -> [ ]\nendloop\ndown [ d ] -> [ ]\n"
         found = [(it.name, sorted(it.lines), [sorted(inner.lines) for inner in it.inner]) for it in things_of(source)]

@@ -28,12 +28,14 @@ WORDS = ("a", "b c", "", "A", "a:1", "x ", " y", "\r", "a\n", "\u00e9")
 def text_by(chance):
     """A text of a few pieces, of which most but not all are right."""
     pieces, count = [], 0
-    for _ in range(chance.randrange(7)):
+    # some have more than ten sets, whose numbers have two digits
+    most, wrong = chance.choice(((7, 0.1), (40, 0.005)))
+    for _ in range(chance.randrange(most)):
         if chance.random() < 0.5:
-            pieces.append(f"{chance.choice(WORDS)}:{count if chance.random() < 0.9 else chance.randrange(3)}")
+            pieces.append(f"{chance.choice(WORDS)}:{count if chance.random() > wrong else chance.randrange(3)}")
             count += 1
         else:
-            pieces.append(chance.choice((str(chance.randrange(max(count, 1))), "0", "00", " 0", "\n0")))
+            pieces.append(chance.choice((str(chance.randrange(max(count, 1))), "0", "\n0")) if chance.random() > wrong else chance.choice(("00", " 0", "")))
     return ",".join(pieces) + ("," if chance.random() < 0.95 else "")
 
 

@@ -4,6 +4,7 @@ import io
 import json
 import os
 import random
+import shutil
 import unittest
 from unittest import mock
 
@@ -86,7 +87,7 @@ class Mutated(OnSessions):
                     refused += status == 2
                 (self.room / name).write_bytes(self.good[name])
                 for made in ("new", "more.json"):
-                    tool.shutil.rmtree(made, ignore_errors=True)
+                    shutil.rmtree(made, ignore_errors=True)
         finally:
             os.chdir(before)
         return refused

@@ -100,8 +100,10 @@ class OnStreams(OnSessions):
                     ran = subprocess.run(["sh", "-c", command, sys.executable, TOP / "saxtegun", *map(str, words)], env=environment(), stdout=subprocess.PIPE, stderr=subprocess.PIPE)
                     self.assertIn(ran.returncode, (0, 1, 2) if wanted[0] is None else (2,))
                     self.assertTrue(ran.stderr.decode().endswith(wanted[1]) and b"Traceback" not in ran.stderr + ran.stdout, ran.stderr)
-        ran = subprocess.run(["sh", "-c", 'exec "$0" "$@" <&-', sys.executable, TOP / "saxtegun", "testdata", "-"], stdout=subprocess.PIPE, stderr=subprocess.PIPE)
-        self.assertEqual((ran.returncode, ran.stderr), (2, b"saxtegun testdata: standard input is closed\n"))
+        for words in (["testdata", "-"], ["accept", EXAMPLE, self.lines, "--review"], ["play", EXAMPLE]):
+            ran = subprocess.run(["sh", "-c", 'exec "$0" "$@" <&-', sys.executable, TOP / "saxtegun", *words], stdout=subprocess.PIPE, stderr=subprocess.PIPE)
+            self.assertEqual((ran.returncode, ran.stderr.count(b"\n")), (2, 1))
+            self.assertIn(b": standard input is closed", ran.stderr)
 
 
 class OfStrangers(OnSessions):

@@ -118,7 +118,7 @@ def serve(name: str, main: Callable[[], int]) -> NoReturn:
         status = 2
         silence(sys.stdout, 1)
     except OSError as why:
-        fail(name, f"writing failed: {why.strerror}")
+        fail(name, f"{why.filename} can't be read or written: {why.strerror}" if why.filename else f"writing failed: {why.strerror}")
         status = 2
         silence(sys.stdout, 1)
     except MemoryError:

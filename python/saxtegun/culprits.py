@@ -3,10 +3,11 @@ from __future__ import annotations
 
 import re
 from difflib import get_close_matches
-from typing import List, NamedTuple, Optional, Set
+from typing import Iterable, List, NamedTuple, Optional, Set
 
 from saxtegun.commands import cut, fold
 from saxtegun.games import Game
+from saxtegun.smaller import things_of
 from saxtegun.sources import Line, lines_of, words_of
 
 OUTSIDE = ("random", "randomdir", "rigid", "realtime_interval")
@@ -45,6 +46,66 @@ def unknown_told(source: str, game: Game, number: int) -> str:
         near = get_close_matches(fold(word), sorted(names_in(game)), 1, 0.6)
         told.append(f"`{cut(word)}`" + (f" (near: `{cut(near[0])}`)" if near else ""))
     return f": {', '.join(told)}" if told else ""
+
+
+def listed(words: Iterable[str]) -> str:
+    """Words of a stranger behind the words of a fault, or nothing."""
+    told = [f"`{cut(it)}`" for it in dict.fromkeys(words)]
+    return f": {', '.join(told)}" if told else ""
+
+
+def glyphs_told(source: str, game: Game, number: int) -> str:
+    """The letters of a row of a level that draw nothing, as far as the row is read."""
+    width = 0
+    for line in (it for it in lines_of(source) if it.section == "levels" and it.number <= number):
+        # a level is as wide as its first row, behind an empty line or a message
+        is_row = bool(line.text) and fold(line.text.split(" ", 1)[0]) != "message"
+        width = (width or len(line.text)) if is_row else 0
+        if line.number == number:
+            return listed(it for it in line.text[:width] if not game.draws(fold(it)))
+    return ""
+
+
+def again_told(source: str, number: int) -> str:
+    """The names of a line that are there already, in it or above it."""
+    names: Set[str] = set()
+    of_objects = {it.numbers[0] for it in things_of(source)}
+    for line in (it for it in lines_of(source) if it.number in of_objects or it.section == "legend"):
+        words = words_of(line.text if line.section == "objects" else line.text[: line.text.find("=", 1)])
+        if line.number == number:
+            seen = [fold(it) for it in words]
+            return listed(word for place, word in enumerate(words) if seen[place] in names or seen[place] in seen[:place])
+        names |= {fold(it) for it in words}
+    return ""
+
+
+def layerless_told(source: str, number: int) -> str:
+    """The object whose name line this is."""
+    return listed(next((words_of(it.text)[:1] for it in lines_of(source) if it.number == number), []))
+
+
+def missing_told(game: Game) -> str:
+    """Which of the two names that must be there is no object and no property."""
+    def is_there(name: str) -> bool:
+        return bool(game.members(name)) and not (game.draws(name) and name not in game.first_names)
+
+    return listed(it for it in ("background", "player") if not is_there(it))
+
+
+def fault_told(code: str, source: str, game: Game, number: int) -> str:
+    """What of a line is the culprit of a fault, in words that go on behind its sentence, or nothing."""
+    if code == "Unknown":
+        return unknown_told(source, game, number)
+    if code == "OutsideProfile":
+        found = outside_told(source, number)
+        return f"; here it is {found}" if found else ""
+    if code == "BadGlyph":
+        return glyphs_told(source, game, number)
+    if code == "Duplicate":
+        return again_told(source, number)
+    if code == "NoLayer":
+        return layerless_told(source, number)
+    return missing_told(game) if code == "Missing" else ""
 
 
 def outside_told(source: str, number: int) -> str:

@@ -145,11 +145,8 @@ def drawings(ending: Ending, game: Game, order: str) -> List[str]:
 def culprit_told(entry: Entry, run: Run) -> str:
     """What the cause of a session comes from, in words that go on behind its sentence, or nothing."""
     fault = fault_in(run.cause or "")
-    if fault and fault[0] == "Unknown":
-        return culprits.unknown_told(entry.source, game_of(entry.source), fault[1])
-    if fault and fault[0] == "OutsideProfile":
-        found = culprits.outside_told(entry.source, fault[1])
-        return f"; here it is {found}" if found else ""
+    if fault:
+        return culprits.fault_told(fault[0], entry.source, game_of(entry.source), fault[1])
     if run.cause in ("loop-limit", "again-limit", "match-limit"):
         # ticks of an input are shown with it taken; another stop comes before anything of its input is shown
         at = (run.frames[-1].at if run.frames else -1) - (run.cause == "again-limit")

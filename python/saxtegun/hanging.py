@@ -3,7 +3,7 @@ from __future__ import annotations
 
 from typing import AbstractSet, Dict, FrozenSet, List, NamedTuple, Optional, Sequence, Tuple
 
-from saxtegun.commands import fold
+from saxtegun.commands import Refused, fold
 from saxtegun.culprits import Repeated, repeated_in
 from saxtegun.explaining import input_told
 from saxtegun.games import game_of
@@ -16,6 +16,8 @@ from saxtegun.sources import lines_of, words_of
 HUNG = "loop-limit"
 # The first of the letters that draw cells: none that anybody writes.
 FIRST_LETTER = 0xE000
+# So much is tried at most: a sessions file has a limit.
+MOST_LETTERS = 8_000_000
 START_OPTION = "run_rules_on_level_start"
 
 
@@ -30,7 +32,7 @@ class Player(NamedTuple):
 
 
 class Hung(NamedTuple):
-    """The input in which a session hung, None at the start, and what is run then from the last level that it shows: that input, or a tick behind it."""
+    """The input in which a session hung, None at the start; and what is run then from the last level that it shows, that input or a tick behind it."""
 
     number: Optional[int]
     step: Input
@@ -90,7 +92,8 @@ def source_from(source: str, rows: Sequence[Sequence[Tuple[str, ...]]], kept: Ab
             parts.setdefault(line.section, []).append(line.text)
     parts["legend"] = [*parts.get("legend", []), *(f"{letter} = {' and '.join(names)}" for names, letter in letters.items())]
     parts["levels"] = ["".join(letters[names] for names in row) for row in rows]
-    sections = [text for section in ("objects", "legend", "collisionlayers", "rules", "winconditions", "levels") for text in (section.upper(), *parts.get(section, []))]
+    wanted = ("objects", "legend", "collisionlayers", "rules", "winconditions", "levels")
+    sections = [text for section in wanted for text in (section.upper(), *parts.get(section, []))]
     return "\n".join([*parts.get("prelude", []), *sections]) + "\n"
 
 
@@ -116,7 +119,8 @@ class Step(NamedTuple):
     def first_that_hangs(self, before: FrozenSet[int], things: Sequence[Thing]) -> Optional[int]:
         """The first of these things with which the step hangs, each behind those before it; None where there is none, or it isn't sure."""
         kept = [before.union(*(it.lines for it in things[: place + 1])) for place in range(len(things))]
-        runs = self.player.runs([self.entry._replace(source=source_from(self.entry.source, self.rows, it), inputs=[self.step], level="", index=0) for it in kept])
+        sources = [source_from(self.entry.source, self.rows, it) for it in kept]
+        runs = self.player.runs([self.entry._replace(source=it, inputs=[self.step], level="", index=0) for it in sources])
         # in the step itself, which shows nothing then, and not in what would follow it
         hung = [it.cause == HUNG and len(it.frames) == 1 for it in runs]
         if True not in hung or any(not it.frames for it in runs):
@@ -130,7 +134,7 @@ def hung_in(entry: Entry, run: Run, step: Input, player: Player) -> str:
     In a loop it is a group where that hangs in the first pass; else the loop, or a group in a later pass."""
     rows = rows_before(run, entry.source, player.engine.order)
     things = things_of(entry.source)
-    if rows is None or not things:
+    if rows is None or not things or len(things) * (len(entry.source) + len(run.frames[-1].level)) > MOST_LETTERS:
         return ""
     of = Step(entry, rows, step, player)
     first = of.first_that_hangs(frozenset(), things)
@@ -146,8 +150,12 @@ def hung_told(entry: Entry, run: Run, player: Player) -> str:
     """Where and in what a session hung, in words that go on behind its sentence, or nothing."""
     if run.cause != HUNG or not run.frames:
         return ""
-    hung = hung_at(entry, run, player)
+    try:
+        hung = hung_at(entry, run, player)
+        name = hung_in(entry, run, hung.step, player)
+    except Refused:
+        # the session was played, and what is tried beside it must not take its answer away
+        return ""
     where = " at the start" if hung.number is None else f" at input {hung.number} ({input_told(entry.inputs[hung.number])})"
     tick = ", in a tick behind it" if hung.step == "tick" and hung.number is not None and entry.inputs[hung.number] != "tick" else ""
-    name = hung_in(entry, run, hung.step, player)
     return f"{where}{tick}" + (f"; {name}" if name else "")

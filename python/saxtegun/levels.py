@@ -2,7 +2,7 @@
 from __future__ import annotations
 
 import re
-from typing import Dict, List, Optional, Sequence, Tuple
+from typing import Dict, Iterable, List, Optional, Sequence, Tuple
 
 from saxtegun.commands import fold
 
@@ -52,24 +52,51 @@ def read_piece(piece: str, numbered: List[int], labels: Labels) -> Optional[int]
     return numbered[number]
 
 
+class Known:
+    """The sets of names that a level text has numbered so far, by their labels."""
+
+    def __init__(self) -> None:
+        self.labels: Dict[str, int] = {}
+        self.of_digits = bytearray(256)
+        self.digits = ""
+
+    def add(self, label: int) -> None:
+        digits = str(len(self.labels))
+        if len(digits) == 1 and label < len(self.of_digits):
+            self.of_digits[ord(digits)] = label
+            self.digits += digits
+        self.labels[digits] = label
+
+    def cells(self, numbers: str) -> Optional[Iterable[int]]:
+        """The labels of numbers with commas between; None where one isn't known, as it is spelt here."""
+        digits = numbers[::2]
+        if len(numbers) % 2 and numbers[1::2] == "," * (len(digits) - 1) and not digits.lstrip(self.digits):
+            # each number is one digit, so all are looked up at once
+            return digits.encode().translate(self.of_digits)
+        try:
+            return [self.labels[it] for it in numbers.split(",")]
+        except KeyError:
+            return None
+
+
 def read_written(text: str, labels: Labels) -> Optional[List[int]]:
     """The cells of a level text, each by its label, where it is spelt as the program spells it; else None. Cut at its colons it falls into
     parts, which begin with the number that the colon gives; up to the next colon no others are known than those given so far."""
     if "\r" in text:
         return None
     names, *parts = text.replace("\n", "").split(":")
-    known: Dict[str, int] = {}
+    known = Known()
     cells: List[int] = []
     for number, part in enumerate(parts):
-        pieces = part.split(",")
-        if pieces[0] != str(number) or len(pieces) == 1 or "," in names:
+        numbers, comma, behind = part.rpartition(",")
+        if not comma or "," in names or numbers.partition(",")[0] != str(number):
             return None
-        known[pieces[0]] = labels.of(names)
-        names = pieces.pop()
-        try:
-            cells += map(known.__getitem__, pieces)
-        except KeyError:
+        known.add(labels.of(names))
+        found = known.cells(numbers)
+        if found is None:
             return None
+        cells += found
+        names = behind
     return None if names else cells
 
 

@@ -75,6 +75,8 @@ class Review:
 def main(given: Namespace) -> int:
     if given.review and (given.lines == "-" or given.sessions == "-"):
         raise Refused("--review asks on standard input, which can't be a file that is read too")
+    if given.review and sys.stdin is None:
+        raise Refused("standard input is closed, so --review can't ask")
     if given.in_place and given.sessions == "-":
         raise Refused("--in-place wants a file, and standard input is none")
     if not given.in_place:

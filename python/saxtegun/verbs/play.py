@@ -116,6 +116,8 @@ class Play:
 
 
 def main(given: Namespace) -> int:
+    if sys.stdin is None:
+        raise Refused("standard input is closed, so there are no keys")
     if given.save and os.path.exists(given.save[1]):
         read_sessions(given.save[1])  # refused before anything is played, and not behind it
     play = Play(given)
