@@ -53,6 +53,34 @@ impl Write for Full {
     }
 }
 
+/// Takes one byte a call, up to the call of a number, counted from 0, which fails or takes nothing. It counts its calls, those after it too.
+#[derive(Drop)]
+struct Cut {
+    bytes: Vec<u8>,
+    calls: usize,
+    ends_at: usize,
+    fails: bool,
+}
+
+impl Write for Cut {
+    fn write(&mut self, buf: &[u8]) -> io::Result<usize> {
+        let at = self.calls;
+        self.calls = at.saturating_add(1);
+        if at == self.ends_at && self.fails {
+            return Err(io::Error::from(io::ErrorKind::BrokenPipe));
+        }
+        if at == self.ends_at || buf.is_empty() {
+            return Ok(0);
+        }
+        self.bytes.push(buf[0])?;
+        Ok(1)
+    }
+
+    fn flush(&mut self) -> io::Result<()> {
+        Ok(())
+    }
+}
+
 fn frame(alloc: Global, number: u64, kind: FrameKind, level: &str) -> Result<Item, AllocError> {
     let level_text = QuotedText::of_str(alloc, level)?;
     Ok(Item::Frame {
@@ -123,5 +151,50 @@ fn ends_where_nothing_is_taken(rt: HostRuntime) -> Result<(), Fail> {
     };
     assert!(rt; write_recording(rt.alloc(), &recording, &mut output) == Err(fault));
     assert_eq!(rt; output.into_writer().calls, 1);
+    Ok(())
+}
+
+/// How the writing of the walk ends at a call, counted from 0: with which fault, after how many calls, and with which bytes.
+fn cut_at(
+    alloc: Global,
+    recording: &Recording,
+    ends_at: usize,
+    fails: bool,
+) -> (Result<(), WriteFault>, usize, Vec<u8>) {
+    let mut output = Output::new(Cut {
+        bytes: Vec::new(alloc),
+        calls: 0,
+        ends_at,
+        fails,
+    });
+    let end = write_recording(alloc, recording, &mut output);
+    let Cut { bytes, calls, .. } = output.into_writer();
+    (end, calls, bytes)
+}
+
+/// Whether the writing ended at this byte, for this cause, and the writer was not called again.
+fn ends_there(found: (Result<(), WriteFault>, usize, Vec<u8>), at: usize, cause: Cause) -> bool {
+    let (end, calls, bytes) = found;
+    let fault = WriteFault {
+        written: at as u64,
+        cause,
+    };
+    end == Err(fault)
+        && calls == at.saturating_add(1)
+        && WALK.as_bytes().starts_with(bytes.as_slice())
+        && bytes.len() == at
+}
+
+#[test]
+fn ends_at_each_byte_that_is_not_written(rt: HostRuntime) -> Result<(), Fail> {
+    let recording = walk(rt.alloc())?;
+    for at in 0..WALK.len() {
+        let failed = cut_at(rt.alloc(), &recording, at, true);
+        assert!(rt; ends_there(failed, at, Cause::Device));
+        let stopped = cut_at(rt.alloc(), &recording, at, false);
+        assert!(rt; ends_there(stopped, at, Cause::Zero));
+    }
+    let (end, calls, bytes) = cut_at(rt.alloc(), &recording, WALK.len(), true);
+    assert!(rt; end == Ok(()) && calls == WALK.len() && bytes.as_slice() == WALK.as_bytes());
     Ok(())
 }
