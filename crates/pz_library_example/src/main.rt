@@ -16,6 +16,16 @@ use std::process::ExitCode;
 const SOURCE: &str =
     "title push\nOBJECTS\nBackground .\nblack\nTarget o\nblue\nPlayer p\nwhite\nWall #\ngrey\nCrate c\nbrown\nLEGEND\nCOLLISIONLAYERS\nBackground\nTarget\nPlayer, Wall, Crate\nRULES\n[ > Player | Crate ] -> [ > Player | > Crate ]\nWINCONDITIONS\nAll Target on Crate\nLEVELS\n######\n#pc.o#\n######\n";
 
+/// The program of the game's rules.
+fn program_of(alloc: Global, game: &Game) -> Result<Program, &'static str>
+    ensures { IfOk result (λ program. IsProgramOf game.now.layers program) }
+{
+    match expand(alloc, game) {
+        Ok(program) => Ok(program),
+        Err(_) => Err("a refused rule"),
+    }
+}
+
 /// The first level of the game.
 fn first_level(alloc: Global, game: &Game) -> Result<Level, &'static str>
     ensures { IfOk result (λ level. IsOfGame game.now level.grid) }
@@ -47,7 +57,7 @@ fn pressed(
 /// The text of the level after three presses, and whether it is won then.
 fn played(alloc: Global) -> Result<(Text, bool), &'static str> {
     let game = read_game(alloc, SOURCE).map_err(|_| "a refused source")?;
-    let program = expand(alloc, &game).map_err(|_| "a refused rule")?;
+    let program = program_of(alloc, &game)?;
     let level = first_level(alloc, &game)?;
     let level = pressed(alloc, &game, &program, &level, Dir::Right)?;
     let level = pressed(alloc, &game, &program, &level, Dir::Right)?;
