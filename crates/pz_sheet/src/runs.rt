@@ -123,7 +123,6 @@ impl<const N: usize> Sheet<N> {
     }
 
     /// The first position of a line from one on from which rules' cells hold.
-    #[inline(always)]
     pub fn next_run(&self, line: Line, way: Way, from: u32, patterns: &[Pattern]) -> Option<u32>
         requires some { 0 < length patterns.now }
         requires line_in { line.number < line_count self.now.grid line.axis }

@@ -26,7 +26,6 @@ impl<const N: usize> Sheet<N> {
     }
 
     /// The first position of a line from one on at which a rule's cell holds.
-    #[inline(always)]
     pub fn next_in_line(&self, line: Line, from: u32, pattern: &Pattern) -> Option<u32>
         requires line_in { line.number < line_count self.now.grid line.axis }
         requires of_game { AreOf self.now.grid.layers pattern.now }
@@ -62,7 +61,6 @@ impl<const N: usize> Sheet<N> {
     }
 
     /// The last position of a line before an end at which a rule's cell holds.
-    #[inline(always)]
     pub fn last_in_line(&self, line: Line, end: u32, pattern: &Pattern) -> Option<u32>
         requires line_in { line.number < line_count self.now.grid line.axis }
         requires end_in { end ≤ line_length self.now.grid line.axis }
