@@ -2,6 +2,8 @@
 from __future__ import annotations
 
 import re
+from itertools import compress
+from operator import ne
 from typing import Dict, Iterable, List, Optional, Sequence, Tuple
 
 from saxtegun.commands import fold
@@ -10,7 +12,7 @@ DIGITS = re.compile("[0-9]+")
 # more cells than any level has, by digits
 MOST_DIGITS = 9
 # so many cells are compared at once
-STRETCH = 32
+STRETCH = 64
 
 
 class Labels:
@@ -61,9 +63,10 @@ class Known:
         self.digits = ""
 
     def add(self, label: int) -> None:
-        digits = str(len(self.labels))
-        if len(digits) == 1 and label < len(self.of_digits):
-            self.of_digits[ord(digits)] = label
+        number = len(self.labels)
+        digits = str(number)
+        if number < 10 and label < 256:
+            self.of_digits[48 + number] = label
             self.digits += digits
         self.labels[digits] = label
 
@@ -86,12 +89,13 @@ def read_written(text: str, labels: Labels) -> Optional[List[int]]:
         return None
     names, *parts = text.replace("\n", "").split(":")
     known = Known()
+    spelt = labels.by_text
     cells: List[int] = []
     for number, part in enumerate(parts):
         numbers, comma, behind = part.rpartition(",")
-        if not comma or "," in names or numbers.partition(",")[0] != str(number):
+        if not comma or "," in names or not part.startswith(f"{number},"):
             return None
-        known.add(labels.of(names))
+        known.add(spelt[names] if names in spelt else labels.of(names))
         found = known.cells(numbers)
         if found is None:
             return None
@@ -154,5 +158,5 @@ def differing(cells: Sequence[int], others: Sequence[int]) -> List[int]:
     for begin in range(0, len(cells), STRETCH):
         one, other = cells[begin : begin + STRETCH], others[begin : begin + STRETCH]
         if one != other:
-            found += [number for number, pair in enumerate(zip(one, other), begin) if pair[0] != pair[1]]
+            found += compress(range(begin, begin + STRETCH), map(ne, one, other))
     return found
