@@ -15,7 +15,7 @@ use crate::cell::Cell;
 use crate::layers::Layers;
 use pz_game::headings;
 use pz_game::pattern::Pattern;
-use pz_sets::set::{CAPACITY, NumberSet};
+use pz_sets::set::NumberSet;
 use pz_sets::words::{next_common, replace};
 
 fn either(first: bool, second: bool) -> bool
@@ -53,14 +53,9 @@ fn end_leaving<const N: usize>(
     ensures proper { IsProper movement.old → IsProper movement.new }
 {
     let mut start = 0;
-    while start < CAPACITY {
-        match next_common(objects, removed.words(), start) {
-            None => return,
-            Some(object) => {
-                end_unless(movement, cleared, layers.layer_of(object));
-                start = object + 1;
-            }
-        }
+    'leaving: while let Some(object) = next_common(objects, removed.words(), start) {
+        end_unless(movement, cleared, layers.layer_of(object));
+        start = object + 1;
     }
 }
 

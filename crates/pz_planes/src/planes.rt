@@ -163,6 +163,9 @@ impl LinePlanes {
     {
         let mut starts = bits::all();
         for index in 0..patterns.len().min(bits::ROOM as usize) {
+            if starts == 0 {
+                return starts;
+            }
             let places = self.places(line, &patterns[index]);
             starts = bits::both(starts, bits::from_which(places, way, index));
         }
@@ -288,7 +291,7 @@ impl Planes {
     /// Notes the objects of the cell of a column and a row of the map, and none of those that were noted there before and are gone. Both sets
     /// are in at most four words. (Inlined, since the number of words is known where it is called.)
     #[inline(always)]
-    pub fn note(&mut self, x: usize, y: usize, before: &[u128], after: &[u128])
+    fn note(&mut self, x: usize, y: usize, before: &[u128], after: &[u128])
         requires short_before { length before.now ≤ 4 }
         requires short { length after.now ≤ 4 }
         requires inside { IsInside self.old x y }

@@ -1,4 +1,4 @@
--- The cells in which an older level differs from another of its size, and the level with these cells put back.
+-- The cells in which an older level differs from another of its size, and the level with other cells in their places.
 use Rattle.std.specs.Prelude.{ℕ, ◌+◌, ◌<◌, List, [], ◌∷◌, Option, Bool, not, length, map, fold, slice_set, if◌then◌else◌}
 use Rattle.pz_cells.specs.declared.piece.Piece.{Piece}
 use Rattle.pz_cells.specs.Sameness.{same_cell}
@@ -36,7 +36,7 @@ pub record IsChangeOf {N : ℕ} (grid : Grid) (change : Change N) : Type 0 where
   pub within : change.index < length grid.cells
   pub sound : IsSound (layers_in grid) change.cell
 
--- the level with a cell put back
+-- the level with another cell in the place of one
 abbrev pub with_cell : Grid → CellChange → Grid
 with_cell grid change = record grid { cells = slice_set grid.cells change.number change.cell }
 

@@ -1,3 +1,4 @@
+use Rattle.std.proofs.Common.{arith}
 use Rattle.pz_cells.specs.Drawing.{glyph_cell}
 use Rattle.pz_cells.proofs.DrawLemmas.{glyphs_more}
 use Rattle.pz_cells.proofs.ListLemmas.{small_cell}
@@ -11,7 +12,7 @@ loop-number-preserved g c =
     record { sound = more.sound; cells = more.cells_are }
 
 pub glyph_cell-requires : goal.glyph_cell-requires
-glyph_cell-requires g c = (search, (small_cell _ c.depth.ensures.law.short, (c.requires.of_game, c.requires.numbers c.loop-number.number-index 0 c.loop-number-test.true)))
+glyph_cell-requires g c = (omega arith, (small_cell _ c.depth.ensures.law.short, (c.requires.of_game, c.requires.numbers c.loop-number.number-index 0 c.loop-number-test.true)))
 
 pub returns-clause-sound : goal.returns-clause-sound
 returns-clause-sound g c = c.loop-number.invariant.sound

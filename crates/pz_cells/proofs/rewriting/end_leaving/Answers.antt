@@ -5,18 +5,18 @@ use Rattle.pz_game.specs.Headings.{heads}
 use Rattle.pz_cells.proofs.RewriteLemmas.{ended_more}
 use Rattle.pz_cells.proofs.rewriting.end_leaving.Goals as goal
 
-pub loop-start-preserved : goal.loop-start-preserved
-loop-start-preserved g c =
+pub leaving-preserved : goal.leaving-preserved
+leaving-preserved g c =
     let objects = c.args.objects.now in
     let removed = c.args.removed.now in
-    let i = c.loop-start.invariant in
+    let i = c.leaving.invariant in
     let cleared = c.args.cleared.now in
-    let now = c.loop-start.movement in
+    let now = c.leaving.movement in
     let after = c.end_unless.new.movement in
     let on = c.layer_of.ensures.layer in
     let f = c.in-Some.ensures in
     let same = λ (k : ℕ). sym (ap (λ (ws : List ℕ). member objects k && member ws k) c.words.ensures.words) in
-    let e = ended_more c.args.layers.now.layers objects c.args.cleared.now (member removed) c.args.movement.now c.loop-start.movement c.end_unless.new.movement c.loop-start.start c.in-Some.object
+    let e = ended_more c.args.layers.now.layers objects c.args.cleared.now (member removed) c.args.movement.now c.leaving.movement c.end_unless.new.movement c.leaving.start c.in-Some.object
     (record { ended = i.ended; others = i.others }) f.0 (same c.in-Some.object ∙ f.2) (λ k from below. same k ∙ f.3 k from below)
     (subst (λ (k : ℕ). member cleared k ≡ false → (dir : Dir) → heads after k dir ≡ false) on c.end_unless.ensures.ended)
     (subst (λ (k : ℕ). member cleared k ≡ true → (other : ℕ) (dir : Dir) → heads after other dir ≡ heads now other dir) on c.end_unless.ensures.spared)

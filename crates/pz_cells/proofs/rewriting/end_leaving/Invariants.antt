@@ -6,13 +6,13 @@ use Rattle.pz_game.specs.Headings.{heads, IsProper}
 use Rattle.pz_cells.specs.Rewrites.{Leaves}
 use Rattle.pz_cells.proofs.rewriting.end_leaving.Given as goal
 
-abbrev pub invariant-loop-start : goal.invariant-loop-start
-invariant-loop-start g l = record {
+abbrev pub invariant-leaving : goal.invariant-leaving
+invariant-leaving g l = record {
   low : l.start ≤ CAPACITY;
   ended : (object : ℕ) (dir : Dir) → object < l.start → Leaves l.layers.layers l.objects l.cleared (member l.removed) object → heads l.movement (get_or l.layers.layers object 0) dir ≡ false;
   others : (layer : ℕ) (dir : Dir) → ((object : ℕ) → Leaves l.layers.layers l.objects l.cleared (member l.removed) object → get_or l.layers.layers object 0 ≢ layer) → heads l.movement layer dir ≡ heads l.initial.movement layer dir;
   proper : IsProper l.initial.movement → IsProper l.movement;
 }
 
-abbrev pub decreases-loop-start : goal.decreases-loop-start
-decreases-loop-start g l = CAPACITY - l.start
+abbrev pub decreases-leaving : goal.decreases-leaving
+decreases-leaving g l = CAPACITY - l.start

@@ -1,6 +1,4 @@
 use Rattle.pz_cells.proofs.DrawLemmas.{lawful_empty, cell_empty, none_drawn}
-use Rattle.std.proofs.Common.{ℕ}
-use Rattle.std.specs.Prelude.{replicate}
 use Rattle.pz_cells.proofs.cell.Cell.empty.Goals as goal
 
 pub returns-clause-sound : goal.returns-clause-sound

@@ -1,5 +1,4 @@
-use Rattle.std.proofs.Common.{◌≡◌, None, Some, set, ap, sym, ◌∙◌, subst}
-use Rattle.pz_cells.specs.declared.piece.Piece.{Piece}
+use Rattle.std.proofs.Common.{None, Some, set, ap, sym, ◌∙◌, subst}
 use Rattle.pz_cells.specs.Cell.{IsOnLayer}
 use Rattle.pz_cells.specs.Lists.{seen, Becomes}
 use Rattle.pz_cells.proofs.PlaceLemmas.{lawful_changed, cell_changed, place_changed, changes_again}

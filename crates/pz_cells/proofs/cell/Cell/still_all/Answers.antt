@@ -1,6 +1,5 @@
 use Rattle.pz_cells.proofs.DrawLemmas.{no_number}
 use Rattle.pz_cells.proofs.ListLemmas.{lawful_stilled, cell_stilled}
-use Rattle.std.proofs.Common.{ℕ, replicate}
 use Rattle.pz_cells.proofs.cell.Cell.still_all.Goals as goal
 
 pub returns-clause-sound : goal.returns-clause-sound
