@@ -16,3 +16,4 @@ pub mod NoteLemmas
 pub mod AxisLemmas
 pub mod NewerLemmas
 pub mod NextLemmas
+pub mod CountLemmas

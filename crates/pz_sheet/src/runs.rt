@@ -1,6 +1,7 @@
 //! Rules' cells one after another in a direction: whether they hold from a position on, and where in a line they do so next.
 
 ghost use Rattle.std.specs.Prelude.{◌≡◌, ℕ, ◌<◌, ◌≤◌, ◌^◌, All, true, length, slice_index_or, []};
+ghost use Rattle.std.specs.List.{count_by, range_with_len};
 ghost use Rattle.pz_sets.specs.Sets.{in_word};
 ghost use Rattle.pz_game.specs.Pattern.{AreOf};
 ghost use Rattle.pz_sheet.specs.Line.{line_length, line_count, holds_in, runs_in};
@@ -164,4 +165,34 @@ impl<const N: usize> Sheet<N> {
         }
         None
     }
+
+    /// At how many positions of a line a search tests whether rules' cells hold from there on: those that are left by what is noted of the
+    /// line; in a line longer than a word, all.
+    pub fn tested_in(&self, line: Line, way: Way, patterns: &[Pattern]) -> u32
+        requires some { 0 < length patterns.now }
+        requires line_in { line.number < line_count self.now.grid line.axis }
+        requires of_game { All (AreOf self.now.grid.layers) patterns.now }
+        ensures low { count_by (runs_in self.now.grid line way patterns.now) (range_with_len 0 (line_length self.now.grid line.axis)) ≤ result }
+        ensures high { result ≤ line_length self.now.grid line.axis }
+    {
+        let end = self.line_length(line.axis);
+        if end > bits::ROOM {
+            return end;
+        }
+        count_below(self.starts_in(line, way, patterns), end)
+    }
+}
+
+/// How many positions of a set are below an end.
+fn count_below(set: u128, end: u32) -> u32
+    requires { end ≤ 128 }
+    ensures { result ≡ count_by (in_word set) (range_with_len 0 end) }
+{
+    let mut count = 0;
+    for at in 0..end {
+        if bits::has(set, at) {
+            count += 1;
+        }
+    }
+    count
 }
