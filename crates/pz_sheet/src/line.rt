@@ -20,7 +20,7 @@ pub struct Line {
 }
 
 /// The row of a number.
-pub(crate) fn row(number: u32) -> Line
+pub fn row(number: u32) -> Line
     ensures { result ≡ row_of number }
 {
     Line {
@@ -30,7 +30,7 @@ pub(crate) fn row(number: u32) -> Line
 }
 
 /// The column of a number.
-pub(crate) fn column(number: u32) -> Line
+pub fn column(number: u32) -> Line
     ensures { result ≡ column_of number }
 {
     Line {
