@@ -1,4 +1,4 @@
-"""`saxtegun report`: the page is read back, and its levels are those of the lines. dev/tests-browser looks at it in a browser."""
+"""`saxtegun report`: the page is read back, and its levels are those of the lines. web/tests/report looks at it in a browser."""
 import base64
 import hashlib
 import json
@@ -10,8 +10,9 @@ from html.parser import HTMLParser
 from day import EXAMPLE, OnSessions, case, cases_in_rows
 from strangers import LETTERS, NAMES, sessions_and_lines
 from tool import TOP, run
+from saxtegun.webpages import script_of
 
-PAGE = (TOP / "python/saxtegun/page/page.html").read_text(encoding="utf-8")
+PAGE = (TOP / "web/report.html").read_text(encoding="utf-8")
 
 
 class Reader(HTMLParser):
@@ -141,7 +142,7 @@ class Report(OnSessions):
         self.assertTrue(page.policy.startswith("default-src 'none'; "))
 
     def test_the_script_makes_no_elements_of_texts(self):
-        script = (TOP / "python/saxtegun/page/page.js").read_text(encoding="utf-8")
+        script = script_of("report.mjs")
         self.assertIsNone(re.search(r"innerHTML|outerHTML|insertAdjacent|document\.write|eval|Function\(|setAttribute\(.on|fetch|XMLHttp|import", script))
 
     def test_without_lines_the_sessions_are_played(self):

@@ -1,12 +1,9 @@
-"""The page of a report: what a run showed as JSON, put into the page of python/saxtegun/page/.
+"""The page of a report: what a run showed as JSON, put into web/report.html.
 
 A session's levels are kept as differences to the one before. All that comes from games is JSON text in which no letter ends a script."""
 from __future__ import annotations
 
-import base64
-import hashlib
 import json
-import re
 from pathlib import Path
 from typing import Any, Dict, List, Optional, Union
 
@@ -16,8 +13,8 @@ from saxtegun.games import Game, game_of
 from saxtegun.levels import Labels, differing, read_cells, width_of
 from saxtegun.lines import KINDS, Run
 from saxtegun.sessions import Entry, Sessions
+from saxtegun.webpages import page_of, script_of, style_of
 
-PAGE = Path(__file__).resolve().parent / "page"
 # What could end a script or a line of one.
 UNSAFE = {ord(letter): f"\\u{ord(letter):04x}" for letter in "<>&\u2028\u2029"}
 NEIGHBOURS = 3
@@ -105,19 +102,6 @@ def look_of(game: Game) -> Dict[str, Any]:
     return {"ground": game.ground, "objects": [[it.name, above if it.layer is None else it.layer, it.colours, it.sprite] for it in game.objects]}
 
 
-def digest(text: str) -> str:
-    return "sha256-" + base64.b64encode(hashlib.sha256(text.encode()).digest()).decode()
-
-
-def page_of(index: Dict[str, Any], blocks: List[str]) -> str:
-    """The whole page."""
-    style, script = ((PAGE / name).read_text(encoding="utf-8") for name in ("page.css", "page.js"))
-    policy = f"default-src 'none'; script-src '{digest(script)}'; style-src '{digest(style)}'; base-uri 'none'; form-action 'none'"
-    parts = {"policy": policy, "style": style, "script": script, "data": "".join([block("index", index), *blocks])}
-    template = (PAGE / "page.html").read_text(encoding="utf-8")
-    return re.sub("@(policy|style|script|data)@", lambda mark: parts[mark[1]], template)
-
-
 class Report:
     """A report while it is made, session by session."""
 
@@ -147,4 +131,4 @@ class Report:
         more = len(self.notes) - MOST_NOTES
         notes = [GENERAL, *list(self.notes)[:MOST_NOTES], *([f"And {plural(more, 'more note')}."] if more > 0 else [])]
         index = {"file": Path(self.sessions.path).name, "order": self.order, "letters": LETTERS, "sessions": self.rows, "notes": notes}
-        return page_of(index, self.blocks)
+        return page_of("report.html", {"data": "".join([block("index", index), *self.blocks])}, script_of("report.mjs"), style_of("common.css", "report.css"))
