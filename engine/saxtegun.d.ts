@@ -68,10 +68,10 @@ export interface Engine {
 }
 
 /**
- * Loads the module: of this address, of these bytes, or compiled already. Without a source it is `out/saxtegun.wasm` beside this file. `worker` is the
- * address of a module script from which a browser starts workers, where that isn't this file: one that runs what this file does.
+ * Loads the module: of this address, of these bytes, or compiled already. Without a source it is `out/saxtegun.wasm` beside this file. `worker` starts a
+ * worker of this name in a browser, from a script that runs what this file does; where it is left out, from this file.
  */
-export function load(source?: string | URL | ArrayBuffer | ArrayBufferView | WebAssembly.Module, options?: { worker?: string | URL }): Promise<Engine>;
+export function load(source?: string | URL | ArrayBuffer | ArrayBufferView | WebAssembly.Module, options?: { worker?: (name: string) => Worker }): Promise<Engine>;
 
 /** The objects of lines. */
 export function parse(lines: Uint8Array): object[];

@@ -174,7 +174,9 @@ async function moduleOf(source) {
   return WebAssembly.compile(source);
 }
 
-export async function load(source = new URL('out/saxtegun.wasm', import.meta.url), { worker = import.meta.url } = {}) {
+const ownWorker = name => new Worker(import.meta.url, { type: 'module', name });
+
+export async function load(source = new URL('out/saxtegun.wasm', import.meta.url), { worker = ownWorker } = {}) {
   return new Engine(await moduleOf(source), worker);
 }
 
@@ -309,10 +311,10 @@ class Thread {
     listen('exit', () => this.#leave('broken'));
   }
 
-  /** Starts a worker, in a browser from the address of a script that has this file in it. */
-  static async start(module, address) {
+  /** Starts a worker, in a browser as it is handed in. */
+  static async start(module, begin) {
     if (!isNode) {
-      const worker = new Worker(address, { type: 'module', name: WORKER });
+      const worker = begin(WORKER);
       worker.postMessage({ module });
       return new Thread(worker);
     }
@@ -348,13 +350,13 @@ class Thread {
 /** The workers that play one file. Each has an instance of its own; all end together. */
 class Crew {
   #module;
-  #address;
+  #begin;
   #workers = [];
   #isEnded = false;
 
-  constructor(module, address) {
+  constructor(module, begin) {
     this.#module = module;
-    this.#address = address;
+    this.#begin = begin;
   }
 
   /** Plays parts, each by the first of so many workers that is idle. Once one is refused, no other is begun. */
@@ -363,7 +365,7 @@ class Crew {
     const answers = [];
     let next = 0, done = 0, isRefused = false;
     const work = async () => {
-      const worker = await Thread.start(this.#module, this.#address);
+      const worker = await Thread.start(this.#module, this.#begin);
       this.#workers.push(worker);
       while (next < parts.length && !isRefused && !this.#isEnded) {
         const at = next++;

@@ -9,8 +9,8 @@ const ONE_MORE = "undo";
 // Loads the module. Workers are started from the page's own script, which does nothing but play in them.
 export async function startEngine() {
   const bytes = Uint8Array.from(atob(at("module").textContent), (letter) => letter.charCodeAt(0));
-  const script = new Blob([at("script").textContent], { type: "text/javascript" });
-  return load(bytes, { worker: URL.createObjectURL(script) });
+  const address = URL.createObjectURL(new Blob([at("script").textContent], { type: "text/javascript" }));
+  return load(bytes, { worker: (name) => new Worker(address, { name }) });
 }
 
 // Plays recordings of a game: a function as recording.mjs wants it. A fault of the engine is a cause that begins with `engine:`.
