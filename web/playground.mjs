@@ -24,6 +24,8 @@ const RECORDED_ORDER = "columns"; // the one of the published level texts, in wh
 
 const isSameList = (one, other) => one.length === other.length && one.every((item, place) => item === other[place]);
 
+const sentence = (text) => `${text[0].toUpperCase()}${text.slice(1)}.`;
+
 class Playground {
   constructor(engine) {
     this.engine = engine;
@@ -95,7 +97,7 @@ class Playground {
     if (this.recording.inputs.length >= MOST_INPUTS) return this.tell(`A session has ${MOST_INPUTS} inputs at most.`);
     const count = this.recording.frames.length;
     const cause = this.recording.press(input);
-    if (cause !== null) return this.tell(`${this.causeTold(cause)}. The input is left out.`);
+    if (cause !== null) return this.tell(`${sentence(this.causeTold(cause))} The input is left out.`);
     this.show();
     const kinds = this.recording.frames.slice(count).map((frame) => frame.kind);
     if (this.recording.isSolved) this.tell("Solved: all levels are won.");
@@ -215,7 +217,8 @@ class Playground {
   differenceTold(ending) {
     const parting = this.partings?.[this.opened] ?? null;
     if (parting !== null) return ending.cells === null ? "The two levels can't be compared cell by cell." : `${plural(ending.cells.length, "cell")} of this frame ${ending.cells.length === 1 ? "differs" : "differ"} (framed).`;
-    return ending.cells?.length === 0 ? "This is the recorded level." : `${endingTold(ending)}${ending.cells ? " (framed)" : ""}.`;
+    if (this.session.level === "") return "No level was recorded.";
+    return ending.cells?.length === 0 ? "This is the recorded level." : sentence(`${endingTold(ending)}${ending.cells ? " (framed)" : ""}`);
   }
 
   showFault(cause) {
@@ -343,7 +346,7 @@ class Playground {
     this.list.show(rows, this.opened);
     at("accept").disabled = this.opened === null || rows[this.opened].close !== "differs";
     at("accept-all").disabled = acceptable === 0;
-    at("accept-all").textContent = `Accept all looked at (${acceptable})`;
+    at("accept-all").textContent = `Accept all seen (${acceptable})`;
     at("save-lines").disabled = this.lines === null;
     at("remove").disabled = this.opened === null;
   }
@@ -406,7 +409,7 @@ class Playground {
   showReplace() {
     const number = this.namesake();
     at("replace").hidden = number < 0;
-    at("save").textContent = number < 0 ? "Save" : "Save one more";
+    at("save").textContent = number < 0 ? "Save" : "Add another";
     at("replace").disabled = at("save").disabled;
   }
 

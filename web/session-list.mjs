@@ -70,7 +70,7 @@ export class SessionList {
   row(number) {
     const { name, close, frames, parting, isLookedAt } = this.rows[number];
     const button = makeButton(close ?? "unplayed", "", () => this.open(number));
-    const told = [close ?? "not played", ...(parting === null ? [] : [`parts at frame ${parting.frame}`]), ...(isLookedAt ? ["looked at"] : [])].join(", ");
+    const told = [close ?? "not played", ...(parting === null ? [] : [`parts at frame ${parting.frame}`]), ...(isLookedAt ? ["seen"] : [])].join(", ");
     button.title = `${cut(name, LETTERS)}: ${told}`;
     button.dataset.number = number;
     const shape = close === null ? make("span", "shape", "") : shapeOf(close);
