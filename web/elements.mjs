@@ -21,3 +21,10 @@ export function makeButton(className, text, act) {
 export const cut = (text, most) => (text.length > most ? `${text.slice(0, most)}\u2026` : text);
 
 export const plural = (count, word) => (count === 1 ? `1 ${word}` : `${count} ${word}s`);
+
+// Scrolls a box, and nothing around it, until an element in it is seen.
+export function reveal(box, element) {
+  const [outer, inner] = [box.getBoundingClientRect(), element.getBoundingClientRect()];
+  if (inner.top < outer.top) box.scrollTop -= outer.top - inner.top;
+  else if (inner.bottom > outer.bottom) box.scrollTop += inner.bottom - outer.bottom;
+}

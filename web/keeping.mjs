@@ -9,16 +9,22 @@ function settled(request) {
   });
 }
 
-async function store(mode) {
+// What `act` asks of the store.
+async function asked(mode, act) {
   const opening = indexedDB.open(DATABASE, 1);
   opening.onupgradeneeded = () => opening.result.createObjectStore(STORE);
-  return (await settled(opening)).transaction(STORE, mode).objectStore(STORE);
+  const database = await settled(opening);
+  try {
+    return await settled(act(database.transaction(STORE, mode).objectStore(STORE)));
+  } finally {
+    database.close();
+  }
 }
 
 // What was kept under a name, or null, also where the browser keeps nothing.
 export async function kept(name) {
   try {
-    return (await settled((await store("readonly")).get(name))) ?? null;
+    return (await asked("readonly", (store) => store.get(name))) ?? null;
   } catch {
     return null;
   }
@@ -27,7 +33,7 @@ export async function kept(name) {
 // Keeps a value. The answer is whether the browser took it.
 export async function keep(name, value) {
   try {
-    await settled((await store("readwrite")).put(value, name));
+    await asked("readwrite", (store) => store.put(value, name));
     return true;
   } catch {
     return false;

@@ -552,6 +552,8 @@ function listenToButtons(page, moves, example) {
     const word = button.dataset.input, input = /^\d$/.test(word) ? Number(word) : word;
     button.addEventListener("click", () => page.press(input));
   }
+  // whoever taps here keeps playing by keys too
+  at("pad").addEventListener("mousedown", (event) => event.preventDefault());
   for (const id of ["first", "back", "on", "last", "play", "cut"]) click(id, moves[id]);
   click("put-back", () => page.putBack());
   click("new", () => page.beginAnew({ source: page.source, index: page.index }));
@@ -574,6 +576,7 @@ function listenToButtons(page, moves, example) {
   at("levels").addEventListener("change", () => page.beginAnew({ source: page.source, index: Number(at("levels").value) }));
   at("order").addEventListener("change", async () => {
     page.order = at("order").value;
+    if (page.file === null) return;
     await page.playAll();
     if (page.opened !== null) page.openSession(page.opened);
   });

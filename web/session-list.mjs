@@ -1,6 +1,6 @@
 // The sessions of a file as a list, with how each closed.
 import { CLOSES, countOf, shapeOf } from "./closes.mjs";
-import { at, cut, make, makeButton, plural } from "./elements.mjs";
+import { at, cut, make, makeButton, plural, reveal } from "./elements.mjs";
 import { windowAround } from "./recording.mjs";
 
 const MOST_ROWS = 1000; // rows that stand in the list at once
@@ -87,6 +87,7 @@ export class SessionList {
     at("list").replaceChildren(...numbers.slice(first, behind).map((number) => this.row(number)));
     const more = numbers.length - (behind - first);
     at("more").textContent = more > 0 ? `${more} more: filter by name or by close` : `${numbers.length} listed`;
-    at("list").querySelector('[aria-current="true"]')?.scrollIntoView({ block: "nearest" });
+    const current = at("list").querySelector('[aria-current="true"]');
+    if (current) reveal(at("list"), current);
   }
 }

@@ -6,8 +6,9 @@ import { heightOf, isDrawn, numberAt } from "./levels.mjs";
 const MARK = "#ff2a6d";
 const MOST_SCALE = 14;
 const HEIGHTS = [220, 520]; // of a level, as the window has room
-const BESIDE = 330; // what stands above and below a level
+const BESIDE = { wide: 330, narrow: 450 }; // what stands above and below a level
 const GAP = 18;
+const NARROW = 640; // as playground.css has it: one level stands below the other
 
 // What stands in a cell, by the names of its objects; null where there is no such cell.
 function namesAt(level, labels, column, row) {
@@ -37,9 +38,9 @@ export class Stage {
     at("other-figure").hidden = !isDrawn(other);
     at("level-caption").textContent = caption;
     at("other-caption").textContent = otherCaption;
-    const count = isDrawn(other) ? 2 : 1, isNarrow = at("stage").clientWidth < 560;
+    const count = isDrawn(other) ? 2 : 1, isNarrow = window.innerWidth <= NARROW;
     const width = (at("stage").clientWidth - GAP * (count - 1)) / (isNarrow ? 1 : count);
-    const height = Math.max(HEIGHTS[0], Math.min(HEIGHTS[1], window.innerHeight - BESIDE));
+    const height = Math.max(HEIGHTS[0], Math.min(HEIGHTS[1], window.innerHeight - (isNarrow ? BESIDE.narrow : BESIDE.wide)));
     const largest = isDrawn(other) && isDrawn(level) && other.width * heightOf(other) > level.width * heightOf(level) ? other : level;
     const scale = isDrawn(largest) ? scaleFor(largest, width, isNarrow ? height / count : height, MOST_SCALE) : 1;
     this.draw("level", level, scale, framed, told);

@@ -1,5 +1,5 @@
 // The inputs of a recording as a strip of marks, and its frames as a slider.
-import { at, makeButton, plural } from "./elements.mjs";
+import { at, makeButton, plural, reveal } from "./elements.mjs";
 import { inputTold } from "./faults.mjs";
 import { markOf, windowAround } from "./recording.mjs";
 
@@ -32,8 +32,8 @@ export class Strip {
     at("strip-before").textContent = first > 0 ? `${plural(first, "input")} before these` : "";
     at("strip-behind").textContent = behind < inputs.length ? `${plural(inputs.length - behind, "input")} behind these` : "";
     const current = marks[taken - first - 1];
-    current?.scrollIntoView({ block: "nearest", inline: "nearest" });
-    if (hadFocus) (current ?? at("stage")).focus();
+    if (current) reveal(at("strip"), current);
+    if (hadFocus) (current ?? at("stage")).focus({ preventScroll: true });
     const last = Math.max(0, frames.length - 1);
     at("slider").max = last;
     at("slider").value = shown;
