@@ -553,7 +553,10 @@ function listenToButtons(page, moves, example) {
     button.addEventListener("click", () => page.press(input));
   }
   // whoever taps here keeps playing by keys too
-  at("pad").addEventListener("mousedown", (event) => event.preventDefault());
+  at("pad").addEventListener("mousedown", (event) => {
+    event.preventDefault();
+    at("stage").focus({ preventScroll: true });
+  });
   for (const id of ["first", "back", "on", "last", "play", "cut"]) click(id, moves[id]);
   click("put-back", () => page.putBack());
   click("new", () => page.beginAnew({ source: page.source, index: page.index }));
