@@ -2,6 +2,7 @@
 from __future__ import annotations
 
 import json
+import re
 from typing import Any, Dict, Iterator, List, NamedTuple, Optional, Tuple
 
 from saxtegun.commands import Refused
@@ -11,6 +12,12 @@ from saxtegun.sessions import LONE_SURROGATE, is_number
 KINDS = ("start", "move", "undo", "restart", "load", "tick", "over")
 READER = json.JSONDecoder()
 CLOSES = ("passed", "differs", "stopped", "refused")
+NUMBER = "(0|[1-9][0-9]{0,18})"
+LETTERS = r'[^"\\\x00-\x1f]*'
+# The line of a frame as the program writes it, where its level holds no escape but those of line breaks.
+WRITTEN = re.compile(
+    rf'\{{"at":{NUMBER},"frame":{NUMBER},"kind":"({"|".join(KINDS)})","level":"({LETTERS}(?:\\n{LETTERS})*)","session":{NUMBER}\}}\n?'
+)
 
 
 class Frame(NamedTuple):
@@ -54,6 +61,14 @@ def frame_of(line: Dict[str, Any]) -> Optional[Frame]:
     return Frame(line["at"], line["kind"], line["level"])
 
 
+def written_frame(text: str, session: int, number: int) -> Optional[Frame]:
+    """The frame of this number of a session that a line is, or None where it is to be read as JSON."""
+    found = WRITTEN.fullmatch(text)
+    if found is None or int(found[2]) != number or int(found[5]) != session:
+        return None
+    return Frame(int(found[1]), found[3], found[4].replace("\\n", "\n"))
+
+
 def close_of(line: Dict[str, Any], frames: List[Frame]) -> Optional[Run]:
     """The run that a close ends, or None where it is no close of so many frames."""
     cause, name = line.get("cause"), line.get("name")
@@ -69,6 +84,10 @@ def runs_in(path: str) -> Iterator[Tuple[int, Run]]:
     count = 0
     frames: List[Frame] = []
     for number, text in read_lines(path):
+        written = written_frame(text, count, len(frames))
+        if written:
+            frames.append(written)
+            continue
         line = line_of(path, number, text)
         if line["session"] != count:
             raise Refused(f"{path}, line {number}: session {line['session']} where session {count} is wanted")

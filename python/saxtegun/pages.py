@@ -5,12 +5,12 @@ from __future__ import annotations
 
 import json
 from pathlib import Path
-from typing import Any, Dict, List, Optional, Union
+from typing import Any, Dict, List, Optional, Sequence, Union
 
 from saxtegun.commands import plural
 from saxtegun.explaining import Ending, cause_told, ending_told, fault_in
 from saxtegun.games import Game, game_of
-from saxtegun.levels import Labels, differing, read_cells, width_of
+from saxtegun.levels import Follower, Labels, differing, width_of
 from saxtegun.lines import KINDS, Run
 from saxtegun.sessions import Entry, Sessions
 from saxtegun.webpages import page_of, script_of, style_of
@@ -35,37 +35,34 @@ def block(name: str, value: Any) -> str:
     return f'<script type="application/json" id="{name}">{safe(value)}</script>\n'
 
 
-def packed(cells: List[int]) -> Union[str, List[int]]:
+def packed(cells: Sequence[int]) -> Union[str, List[int]]:
     """The labels of cells, as letters where there are enough of these."""
-    return "".join(map(LETTERS.__getitem__, cells)) if max(cells, default=0) < len(LETTERS) else cells
+    return "".join(map(LETTERS.__getitem__, cells)) if max(cells, default=0) < len(LETTERS) else list(cells)
 
 
 class Levels:
     """The levels of a session, one after the other."""
 
     def __init__(self, labels: Labels) -> None:
-        self.labels, self.width = labels, 0
+        self.follower = Follower(labels)
         self.text: Optional[str] = None
-        self.cells: Optional[List[int]] = None
-
-    def whole(self, text: str, cells: List[int]) -> Dict[str, Any]:
-        return {"width": width_of(text, len(cells)), "cells": packed(cells)}
+        self.cells: Optional[Sequence[int]] = None
+        self.width = 0
 
     def change(self, text: str) -> Any:
         """What makes the next level of the one before: 0 nothing, a list of cells with their new labels, or a whole level."""
         if text == self.text:
             return 0
-        cells, before, width = read_cells(text, self.labels), self.cells, self.width
+        cells, before, width = self.follower.read(text), self.cells, self.width
         self.text, self.cells = text, cells
         if cells is None:
             return {"text": text}
         self.width = width_of(text, len(cells))
-        if before is None or len(before) != len(cells) or width != self.width:
-            return self.whole(text, cells)
-        numbers = differing(cells, before)
-        if DEAR * len(numbers) > len(cells):
-            return self.whole(text, cells)
-        return [it for number in numbers for it in (number, cells[number])]
+        if before is not None and len(before) == len(cells) and width == self.width:
+            numbers = differing(cells, before)
+            if DEAR * len(numbers) <= len(cells):
+                return [it for number in numbers for it in (number, cells[number])]
+        return {"width": self.width, "cells": packed(cells)}
 
 
 def source_lines(source: str, cause: Optional[str]) -> List[List[Any]]:
