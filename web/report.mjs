@@ -36,8 +36,8 @@ function notice(text) {
   at("notice").hidden = text === "";
 }
 
-function showAddress() {
-  const { session, frame, close, name, text } = readAddress(location.hash);
+function showAddress(hash) {
+  const { session, frame, close, name, text } = readAddress(hash);
   const isThere = session !== null && session < index.sessions.length;
   list.setFilters(close, name);
   notice(text === null || isThere ? "" : `There is no session ${text.slice(0, 20)} here. The first one of the list is shown.`);
@@ -122,8 +122,9 @@ makeCopy(at("copy-link"), () => { writeAddress(); return location.href; });
 makeCopy(at("copy-level"), () => player.levelText);
 makeCopy(at("copy-inputs"), () => JSON.stringify(player.session.inputs));
 document.addEventListener("keydown", press, true);
-window.addEventListener("hashchange", showAddress);
+// what the address was changed to: meanwhile it may have followed what was shown before
+window.addEventListener("hashchange", (event) => showAddress(new URL(event.newURL).hash));
 showResult();
 showFoot();
-showAddress();
+showAddress(location.hash);
 document.documentElement.dataset.opened = String(Math.round(performance.now()));
