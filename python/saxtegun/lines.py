@@ -13,11 +13,8 @@ KINDS = ("start", "move", "undo", "restart", "load", "tick", "over")
 READER = json.JSONDecoder()
 CLOSES = ("passed", "differs", "stopped", "refused")
 NUMBER = "(0|[1-9][0-9]{0,18})"
-LETTERS = r'[^"\\\x00-\x1f]*'
-# The line of a frame as the program writes it, where its level holds no escape but those of line breaks.
-WRITTEN = re.compile(
-    rf'\{{"at":{NUMBER},"frame":{NUMBER},"kind":"({"|".join(KINDS)})","level":"({LETTERS}(?:\\n{LETTERS})*)","session":{NUMBER}\}}\n?'
-)
+# The line of a frame as the program writes it. Where its level holds an escape but those of line breaks, it is read as JSON.
+WRITTEN = re.compile(rf'\{{"at":{NUMBER},"frame":{NUMBER},"kind":"({"|".join(KINDS)})","level":"([^"\x00-\x1f]*)","session":{NUMBER}\}}\n?')
 
 
 class Frame(NamedTuple):
@@ -64,9 +61,13 @@ def frame_of(line: Dict[str, Any]) -> Optional[Frame]:
 def written_frame(text: str, session: int, number: int) -> Optional[Frame]:
     """The frame of this number of a session that a line is, or None where it is to be read as JSON."""
     found = WRITTEN.fullmatch(text)
-    if found is None or int(found[2]) != number or int(found[5]) != session:
+    if found is None:
         return None
-    return Frame(int(found[1]), found[3], found[4].replace("\\n", "\n"))
+    at, frame, kind, text, of = found.groups()
+    level = text.replace("\\n", "\n")
+    if "\\" in level or int(frame) != number or int(of) != session:
+        return None
+    return Frame(int(at), kind, level)
 
 
 def close_of(line: Dict[str, Any], frames: List[Frame]) -> Optional[Run]:
