@@ -82,5 +82,12 @@ class Joined(unittest.TestCase):
             self.assertEqual(ran.returncode, 0, ran.stdout.decode())
 
 
+class Modules(unittest.TestCase):
+    @unittest.skipUnless(shutil.which("node"), "Node is not there")
+    def test_what_needs_no_browser_passes_in_node(self):
+        ran = subprocess.run(["node", "--test", *sorted(WEB.glob("tests/*.test.mjs"))], stdout=subprocess.PIPE, stderr=subprocess.STDOUT)
+        self.assertEqual(ran.returncode, 0, ran.stdout.decode())
+
+
 if __name__ == "__main__":
     unittest.main()

@@ -48,13 +48,25 @@ export function scaleFor(level, width, height, most) {
   return Math.max(1, Math.min(most, Math.floor(fitting)));
 }
 
-function frame(context, level, number, size, thickness) {
-  const [column, row] = placeOf(level, number);
-  const inset = thickness / 2;
-  context.strokeRect(column * size + inset, row * size + inset, size - thickness, size - thickness);
+// The lines of a frame within a cell, whole or its corners alone: each from one point to another.
+function frameLines(left, top, side, isWhole) {
+  const [right, bottom, part] = [left + side, top + side, isWhole ? side / 2 : side / 4];
+  const corners = [[left, top, 1, 1], [right, top, -1, 1], [right, bottom, -1, -1], [left, bottom, 1, -1]];
+  return corners.map(([x, y, across, down]) => [[x + across * part, y], [x, y], [x, y + down * part]]);
 }
 
-// Draws a level so many pixels for each of a sprite's. `framed` are the cells that get a frame: [{ cells, colour }].
+function strokeFrame(context, level, number, size, thickness, isWhole) {
+  const [column, row] = placeOf(level, number);
+  const inset = thickness / 2;
+  context.beginPath();
+  for (const [begin, ...more] of frameLines(column * size + inset, row * size + inset, size - thickness, isWhole)) {
+    context.moveTo(...begin);
+    for (const point of more) context.lineTo(...point);
+  }
+  context.stroke();
+}
+
+// Draws a level so many pixels for each of a sprite's. `framed` are cells that get a frame, whole or its corners alone: [{ cells, colour, isWhole }].
 export function drawLevel(canvas, level, pictures, scale, framed = []) {
   canvas.hidden = !isDrawn(level);
   if (canvas.hidden) return;
@@ -67,11 +79,11 @@ export function drawLevel(canvas, level, pictures, scale, framed = []) {
     const [column, row] = placeOf(level, number);
     context.drawImage(pictures.of(label), column * size, row * size, size, size);
   });
-  const thickness = Math.max(1, size / 12);
+  const thickness = Math.max(1, Math.round(size / 12));
   context.lineWidth = thickness;
-  for (const { cells, colour } of framed) {
+  for (const { cells, colour, isWhole = true } of framed) {
     context.strokeStyle = colour;
-    for (const number of cells) frame(context, level, number, size, thickness);
+    for (const number of cells) strokeFrame(context, level, number, size, thickness, isWhole);
   }
 }
 
