@@ -14,7 +14,7 @@ from typing import Dict, List, NamedTuple
 
 PROGRAM = "crates/pz_replayer/out/pz_replayer"
 # What stands in a release as it stands here: the command with its package, the examples, and the documents for users.
-TAKEN = ["saxtegun", "VERSION", "README.md", "CHANGELOG.md", "python", "examples", "docs", "adapters", "HANDLES"]
+TAKEN = ["saxtegun", "VERSION", "README.md", "CHANGELOG.md", "python", "web", "examples", "docs", "adapters", "HANDLES"]
 
 
 class Broken(Exception):

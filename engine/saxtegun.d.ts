@@ -67,8 +67,11 @@ export interface Engine {
   replayInWorkers(text: string | ArrayBuffer | ArrayBufferView, options?: WorkerOptions): Promise<Answer>;
 }
 
-/** Loads the module: of this address, of these bytes, or compiled already. Without a source it is `out/saxtegun.wasm` beside this file. */
-export function load(source?: string | URL | ArrayBuffer | ArrayBufferView | WebAssembly.Module): Promise<Engine>;
+/**
+ * Loads the module: of this address, of these bytes, or compiled already. Without a source it is `out/saxtegun.wasm` beside this file. `worker` starts a
+ * worker of this name in a browser, from a script that runs what this file does; where it is left out, from this file.
+ */
+export function load(source?: string | URL | ArrayBuffer | ArrayBufferView | WebAssembly.Module, options?: { worker?: (name: string) => Worker }): Promise<Engine>;
 
 /** The objects of lines. */
 export function parse(lines: Uint8Array): object[];

@@ -105,10 +105,12 @@ class Instance {
 /** The engine in the thread that calls it. An instance whose call did not come back is never called again. */
 class Engine {
   #module;
+  #worker;
   #instance = null;
 
-  constructor(module) {
+  constructor(module, worker) {
     this.#module = module;
+    this.#worker = worker;
   }
 
   replay(text, { order = 'columns' } = {}) {
@@ -130,7 +132,7 @@ class Engine {
     const file = bytesOf(text);
     if (file === null) return refused('not-json');
     signal?.throwIfAborted();
-    const crew = new Crew(this.#module);
+    const crew = new Crew(this.#module, this.#worker);
     const end = () => crew.end();
     signal?.addEventListener('abort', end);
     try {
@@ -172,10 +174,10 @@ async function moduleOf(source) {
   return WebAssembly.compile(source);
 }
 
-const OWN_MODULE = new URL('out/saxtegun.wasm', import.meta.url);
+const ownWorker = name => new Worker(import.meta.url, { type: 'module', name });
 
-export async function load(source = OWN_MODULE) {
-  return new Engine(await moduleOf(source));
+export async function load(source = new URL('out/saxtegun.wasm', import.meta.url), { worker = ownWorker } = {}) {
+  return new Engine(await moduleOf(source), worker);
 }
 
 export function parse(lines) {
@@ -309,9 +311,10 @@ class Thread {
     listen('exit', () => this.#leave('broken'));
   }
 
-  static async start(module) {
+  /** Starts a worker, in a browser as it is handed in. */
+  static async start(module, begin) {
     if (!isNode) {
-      const worker = new Worker(import.meta.url, { type: 'module', name: WORKER });
+      const worker = begin(WORKER);
       worker.postMessage({ module });
       return new Thread(worker);
     }
@@ -347,11 +350,13 @@ class Thread {
 /** The workers that play one file. Each has an instance of its own; all end together. */
 class Crew {
   #module;
+  #begin;
   #workers = [];
   #isEnded = false;
 
-  constructor(module) {
+  constructor(module, begin) {
     this.#module = module;
+    this.#begin = begin;
   }
 
   /** Plays parts, each by the first of so many workers that is idle. Once one is refused, no other is begun. */
@@ -360,7 +365,7 @@ class Crew {
     const answers = [];
     let next = 0, done = 0, isRefused = false;
     const work = async () => {
-      const worker = await Thread.start(this.#module);
+      const worker = await Thread.start(this.#module, this.#begin);
       this.#workers.push(worker);
       while (next < parts.length && !isRefused && !this.#isEnded) {
         const at = next++;

@@ -3,7 +3,7 @@ import random
 import unittest
 
 import tool  # puts the package on the path
-from saxtegun.levels import Labels, differing, read_cells, read_pieces, read_written
+from saxtegun.levels import Follower, Labels, differing, read_cells, read_pieces, read_written
 
 # A text, and the names in its cells; None where it is no level text.
 TEXTS = {
@@ -61,12 +61,42 @@ class Levels(unittest.TestCase):
                 self.assertEqual(names_in(read_pieces, text), found, text)
         self.assertGreater(at_once, 1_000)
 
+    def test_a_text_means_the_same_behind_others(self):
+        chance = random.Random(5)
+        for _ in range(400):
+            labels = Labels()
+            follower = Follower(labels)
+            # texts with line breaks, some of them within a cell, and most lines of them in several texts
+            texts = [text_by(chance).replace(",", ",\n" if chance.random() < 0.5 else ",") for _ in range(5)]
+            for text in (chance.choice(texts) for _ in range(20)):
+                found, wanted = follower.read(text), read_cells(text, Labels())
+                self.assertEqual(found is None, wanted is None, text)
+                if found is not None:
+                    self.assertEqual([labels.names[it] for it in found], names_in(read_pieces, text), text)
+
+    def test_a_line_behind_other_sets_means_another_thing(self):
+        labels = Labels()
+        follower = Follower(labels)
+        for text, wanted in (("a:0,b:1,\n1,0,\n", "abba"), ("b:0,a:1,\n1,0,\n", "baab"), ("a:0,0,\n1,0,\n", None), ("a:0,b:1,\n1,0,\n", "abba")):
+            found = follower.read(text)
+            self.assertEqual(None if found is None else "".join(labels.names[it][0] for it in found), wanted)
+
+    def test_more_sets_than_a_byte_has_numbers(self):
+        labels = Labels()
+        names = [f"n{number}" for number in range(300)]
+        texts = ["".join(f"{name}:{number},\n" for number, name in enumerate(order)) for order in (names, names[::-1])]
+        follower = Follower(labels)
+        for text, order in zip(texts * 2, (names, names[::-1]) * 2):
+            self.assertEqual([labels.names[it] for it in follower.read(text)], [(name,) for name in order])
+        self.assertEqual(len(differing(*map(follower.read, texts))), 300)
+
     def test_cells_that_differ_are_found_in_each_stretch(self):
         chance = random.Random(4)
         for count in (0, 1, 31, 32, 33, 200):
             one = [chance.randrange(3) for _ in range(count)]
             other = [it if chance.random() < 0.9 else 5 for it in one]
-            self.assertEqual(differing(one, other), [number for number in range(count) if one[number] != other[number]])
+            wanted = [number for number in range(count) if one[number] != other[number]]
+            self.assertEqual((differing(one, other), differing(bytes(one), bytes(other)), differing(one, bytes(other))), (wanted, wanted, wanted))
 
 
 if __name__ == "__main__":

@@ -1,9 +1,12 @@
-"""`saxtegun lines` is the program itself, and conformance/run says what is wrong with its words."""
+"""`saxtegun lines` is the program itself, conformance/run says what is wrong with its words, and frames are read in two ways with one answer."""
+import json
+import random
 import subprocess
 import unittest
 
 from day import EXAMPLE, OnSessions
 from tool import PROGRAM, TOP, plays, run
+from saxtegun.lines import READER, frame_of, written_frame
 
 RUN = TOP / "conformance/run"
 
@@ -36,6 +39,28 @@ class Lines(OnSessions):
         answer = run("lines", EXAMPLE, "--program", self.program('echo "proving a; 1 left" >&2\necho "memory" >&2\nexit 2'))
         self.assertEqual(answer.errors.splitlines()[0], "proving a; 1 left")
         self.assertIn("there is not enough memory", answer.errors)
+
+
+class Frames(unittest.TestCase):
+    LINE = '{"at":12,"frame":3,"kind":"move","level":"a \u00e9:0,0,\\n0,b:1,\\n","session":7}\n'
+
+    def test_a_frame_as_the_program_writes_it_is_read_at_once(self):
+        self.assertEqual(tuple(written_frame(self.LINE, 7, 3)), (12, "move", "a \u00e9:0,0,\n0,b:1,\n"))
+        self.assertIsNone(written_frame(self.LINE, 6, 3))
+        self.assertIsNone(written_frame(self.LINE, 7, 4))
+
+    def test_what_is_read_at_once_is_what_json_says(self):
+        chance, at_once = random.Random(6), 0
+        letters = '{}":,\\n0123456789aet\u00e9\u2028\t\r\n \x00\x7f'
+        for _ in range(20_000):
+            at = chance.randrange(len(self.LINE) + 1)
+            text = self.LINE[:at] + chance.choice(letters) * chance.randrange(3) + self.LINE[at + chance.randrange(3) :]
+            frame = written_frame(text, 7, 3)
+            if frame is not None:
+                at_once += 1
+                line = json.loads(text)
+                self.assertEqual((frame, line["session"], line["frame"]), (frame_of(READER.decode(text)), 7, 3), text)
+        self.assertGreater(at_once, 1_000)
 
 
 class WordsOfTheRunner(OnSessions):

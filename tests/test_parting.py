@@ -1,5 +1,6 @@
 """`saxtegun compare`: where two runs part, on the example's lines, each changed in one place."""
 import json
+import re
 import unittest
 
 from day import EXAMPLE
@@ -59,12 +60,30 @@ class Compare(OfAGame):
             answer = run("compare", *words)
             self.assertEqual((answer.status, answer.errors.count("\n")), (2, 1))
 
-    def test_a_report_shows_both_runs_up_to_where_they_part(self):
+    def test_a_report_shows_both_runs_from_where_they_part(self):
         page = self.room / "compare.html"
         text = json.loads(self.lines.read_text(encoding="utf-8").splitlines()[2])["level"]
-        answer = self.compare(self.changed(2, level=text.replace("player", "wall")), EXAMPLE, "--report", page)
+        answer = self.compare(self.changed(2, level=text.replace("player", "wall")), EXAMPLE, "--report", page, "--date", "today")
         self.assertEqual(answer.status, 1)
-        self.assertIn("both levels solved: the other, up to frame 2", page.read_text(encoding="utf-8"))
+        index, session = (json.loads(re.search(f'id="{name}">(.*?)</script>', page.read_text(encoding="utf-8"))[1]) for name in ("index", "session-0"))
+        self.assertEqual((index["sessions"], index["closes"]), ([["session 0: both levels solved", "parts", 51]], ["parts"]))
+        self.assertEqual((index["result"], index["origin"][0]), ("5 sessions: 4 the same, 1 part", "Date: today."))
+        self.assertEqual((session["opens"], session["beside"]), (2, "other.lines"))
+        (one, frames), (other, others) = session["sides"]
+        self.assertEqual((one, other, len(frames), len(others)), ("example.lines", "other.lines", 23, 23))
+        # the frames are the same but for the third, by whose cell alone the two differ
+        self.assertEqual([number for number in range(23) if frames[number] != others[number]], [2])
+        self.assertEqual([[session["labels"][label] for label in it[2][2][1::2]] for it in (frames, others)], [[["background", "player"], ["background"]], [["background", "wall"], ["background"]]])
+
+    def test_a_report_names_a_run_that_ended_before_the_other(self):
+        page = self.room / "compare.html"
+        lines = self.lines.read_text(encoding="utf-8").splitlines()
+        closed = json.loads(next(it for it in lines if '"close"' in it))
+        short = [*lines[:3], json.dumps({**closed, "close": "differs", "frames": 3}), *lines[closed["frames"] + 1 :]]
+        answer = run("compare", self.lines, self.write("other.lines", "\n".join([*short, ""])), EXAMPLE, "--report", page)
+        session = json.loads(re.search('id="session-0">(.*?)</script>', page.read_text(encoding="utf-8"))[1])
+        self.assertEqual((answer.status, session["opens"], [len(it[1]) for it in session["sides"]]), (1, 3, [24, 3]))
+        self.assertIn("frame 3, after input 2 (up): the other has no more frames, and is differs", session["told"])
 
 
 @plays

@@ -1,4 +1,4 @@
-"""`saxtegun report`: the page is read back, and its levels are those of the lines. dev/tests-browser looks at it in a browser."""
+"""`saxtegun report`: the page is read back, and its levels are those of the lines. web/tests/report looks at it in a browser."""
 import base64
 import hashlib
 import json
@@ -10,8 +10,9 @@ from html.parser import HTMLParser
 from day import EXAMPLE, OnSessions, case, cases_in_rows
 from strangers import LETTERS, NAMES, sessions_and_lines
 from tool import TOP, run
+from saxtegun.webpages import script_of
 
-PAGE = (TOP / "python/saxtegun/page/page.html").read_text(encoding="utf-8")
+PAGE = (TOP / "web/report.html").read_text(encoding="utf-8")
 
 
 class Reader(HTMLParser):
@@ -51,7 +52,7 @@ def levels_shown(session, letters):
         return [letters.index(it) if isinstance(it, str) else it for it in level["cells"]]
 
     cells = []
-    for _, _, change in session["frames"]:
+    for _, _, change in session["sides"][0][1] if session["sides"] else []:
         if isinstance(change, dict):
             cells = unpacked(change)
         elif change:
@@ -93,7 +94,10 @@ class Report(OnSessions):
         self.assertEqual([row[1] for row in index["sessions"]], ["passed"] * 4 + ["differs"])
         self.assert_shows(page, self.lines.read_text(encoding="utf-8"))
         self.assertEqual(stale["told"], "5 of 42 cells (6 wide, 7 high) differ from the recorded level")
-        self.assertEqual((stale["recorded"]["width"], stale["frames"][16][:2], stale["game"]), (6, [16, 1], 0))
+        (played, frames), (recorded, level) = stale["sides"]
+        self.assertEqual((played, recorded, len(frames), frames[16][:2], stale["opens"], stale["game"]), ("played", "recorded", 17, [16, 1], 16, 0))
+        self.assertEqual((len(level), level[0][2]["width"]), (1, 6))
+        self.assertEqual((page.json("session-0")["opens"], len(page.json("session-0")["sides"])), (0, 1))
         crate = [it for it in page.json("game-0")["objects"] if it[0] == "crate"]
         self.assertEqual(crate, [["crate", 2, ["#eb8931"], "000000...00...00...000000"]])
 
@@ -103,10 +107,37 @@ class Report(OnSessions):
         self.assertEqual(len(page.json("index")["sessions"]), len(json.loads(sessions)))
         self.assert_shows(page, lines)
         for session in (page.json(f"session-{number}") for number in range(len(json.loads(sessions)))):
-            if session["frames"]:
+            if session["sides"]:
                 drawn = {it[0] for it in page.json(f"game-{session['game']}")["objects"] if it[1] is not None}
                 reached = {name for level in levels_shown(session, page.json("index")["letters"]) for names in level for name in names}
                 self.assertEqual(reached - drawn, set())
+
+    def test_a_page_says_where_it_comes_from_and_is_the_same_for_the_same_files(self):
+        page = self.page(EXAMPLE, self.lines, "--date", "26 November <b>")
+        content = hashlib.sha256(EXAMPLE.read_bytes()).hexdigest()[:16]
+        version = (TOP / "VERSION").read_text().strip()
+        wanted = ["Date: 26 November <b>.", f"Sessions: block-pushing.json (5 sessions; SHA-256 {content}).", f"Lines: {self.lines.name}, order columns.", f"Written by saxtegun {version}."]
+        self.assertEqual(page.json("index")["origin"], wanted)
+        self.assertEqual(run("report", EXAMPLE, self.lines).out, run("report", EXAMPLE, self.lines).out)
+
+    def test_a_session_that_hung_shows_its_input_and_its_group(self):
+        source = "OBJECTS\nBackground\nblack\nPlayer\nwhite\nLEGEND\n. = Background\np = Player\nCOLLISIONLAYERS\nBackground\nPlayer\nRULES\n[ Player ] -> [ > Player ]\n+ [ Player ] -> [ < Player ]\nWINCONDITIONS\nLEVELS\np.\n"
+        sessions = self.write("sessions.json", json.dumps([["hung", [source, [3, 1, 1], "background:0,"]]]))
+        frames = [{"at": at, "frame": at, "kind": "move" if at else "start", "level": f"background player:0,background:1,{chr(10)}", "session": 0} for at in (0, 1)]
+        close = {"cause": "loop-limit", "close": "stopped", "frames": 2, "name": "hung", "session": 0}
+        session = self.page(sessions, self.write("lines", "".join(json.dumps(it) + "\n" for it in [*frames, close]))).json("session-0")
+        self.assertEqual((session["stop"], session["opens"]), (1, 1))
+        self.assertIn(" at input 1 (left); it is the group of lines 13 to 14 (loop-limit)", session["told"])
+        self.assertEqual([(number, is_here) for number, _, is_here in session["source"]], [(number, number in (13, 14)) for number in range(10, 18)])
+
+    def test_a_session_in_another_level_is_told_so(self):
+        lines = self.lines.read_text(encoding="utf-8").split("\n")
+        entries = json.loads(EXAMPLE.read_text(encoding="utf-8"))
+        # the first session is cut behind its first input, and is still in the first level
+        entries = [[entries[0][0], [entries[0][1][0], entries[0][1][1][:1], entries[0][1][2]]]]
+        close = {"close": "differs", "frames": 2, "name": entries[0][0], "session": 0}
+        page = self.page(self.write("sessions.json", json.dumps(entries)), self.write("lines", "\n".join([*lines[:2], json.dumps(close), ""])))
+        self.assertEqual(page.json("session-0")["told"], "still in level 1, and the recorded level looks like level 2")
 
     def test_a_refused_source_is_shown_by_its_line_and_its_neighbours(self):
         session = self.page(*case("the-word-random-in-a-rule")).json("session-0")
@@ -141,7 +172,7 @@ class Report(OnSessions):
         self.assertTrue(page.policy.startswith("default-src 'none'; "))
 
     def test_the_script_makes_no_elements_of_texts(self):
-        script = (TOP / "python/saxtegun/page/page.js").read_text(encoding="utf-8")
+        script = script_of("report.mjs")
         self.assertIsNone(re.search(r"innerHTML|outerHTML|insertAdjacent|document\.write|eval|Function\(|setAttribute\(.on|fetch|XMLHttp|import", script))
 
     def test_without_lines_the_sessions_are_played(self):
@@ -154,7 +185,12 @@ class Report(OnSessions):
             os.environ.pop("SAXTEGUN_PROGRAM")
             if before is not None:
                 os.environ["SAXTEGUN_PROGRAM"] = before
-        self.assertEqual((answer.status, answer.out), (0, run("report", EXAMPLE, self.lines).out))
+        self.assertEqual((answer.status, answer.errors), (0, ""))
+        shown, of_lines = Reader(answer.out), self.page(EXAMPLE, self.lines)
+        origin = shown.json("index")["origin"]
+        content = hashlib.sha256(played.read_bytes()).hexdigest()[:16]
+        self.assertEqual(origin[1], f"Played by program (SHA-256 {content}), order columns.")
+        self.assertEqual({name: text for name, text in shown.blocks.items() if name != "index"}, {name: text for name, text in of_lines.blocks.items() if name != "index"})
         self.assert_refused(refused, "block-pushing.json was not played: it can't be opened (open-fault)")
 
 

@@ -142,15 +142,23 @@ def drawings(ending: Ending, game: Game, order: str) -> List[str]:
     return [f"| {it}" for it in ["reached".ljust(room) + "recorded", *(one.ljust(room) + other for one, other in zip(*drawn))]]
 
 
+def stop_of(entry: Entry, run: Run) -> Optional[int]:
+    """The number of the input at which a session stopped, as its frames tell; None at the start, or where it did not stop at an input."""
+    if run.cause not in ("loop-limit", "again-limit", "match-limit") or not run.frames:
+        return None
+    # ticks of an input are shown with it taken; another stop comes before anything of its input is shown
+    at = run.frames[-1].at - (run.cause == "again-limit")
+    return at if 0 <= at < len(entry.inputs) else None
+
+
 def culprit_told(entry: Entry, run: Run) -> str:
     """What the cause of a session comes from, in words that go on behind its sentence, or nothing."""
     fault = fault_in(run.cause or "")
     if fault:
         return culprits.fault_told(fault[0], entry.source, game_of(entry.source), fault[1])
     if run.cause in ("loop-limit", "again-limit", "match-limit"):
-        # ticks of an input are shown with it taken; another stop comes before anything of its input is shown
-        at = (run.frames[-1].at if run.frames else -1) - (run.cause == "again-limit")
-        where = f" at input {at} ({input_told(entry.inputs[at])})" if 0 <= at < len(entry.inputs) else " at the start"
+        at = stop_of(entry, run)
+        where = " at the start" if at is None else f" at input {at} ({input_told(entry.inputs[at])})"
         return where + (culprits.loops_told(entry.source) if run.cause == "loop-limit" else "")
     return ""
 

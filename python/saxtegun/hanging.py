@@ -1,7 +1,7 @@
 """In which input, and in which loop, group or rule a session hung: found by playing it again from the level before, with ever more of its rules."""
 from __future__ import annotations
 
-from typing import AbstractSet, Dict, FrozenSet, List, NamedTuple, Optional, Sequence, Tuple
+from typing import AbstractSet, Callable, Dict, FrozenSet, List, NamedTuple, Optional, Sequence, Tuple
 
 from saxtegun.commands import Refused, fold
 from saxtegun.culprits import Repeated, repeated_in
@@ -14,6 +14,8 @@ from saxtegun.sessions import Entry, Input, Sessions
 from saxtegun.sources import lines_of, words_of
 
 HUNG = "loop-limit"
+# Of so many sessions it is found out by playing in what they hung.
+MOST_HUNG = 20
 # The first of the letters that draw cells: none that anybody writes.
 FIRST_LETTER = 0xE000
 # So much is tried at most: a sessions file has a limit.
@@ -146,16 +148,42 @@ def hung_in(entry: Entry, run: Run, step: Input, player: Player) -> str:
     return thing.name if inner is None else thing.inner[inner].name
 
 
-def hung_told(entry: Entry, run: Run, player: Player) -> str:
-    """Where and in what a session hung, in words that go on behind its sentence, or nothing."""
+class Found(NamedTuple):
+    """The input in which a session hung, None at the start, and where and in what it hung, in words that go on behind its sentence."""
+
+    number: Optional[int]
+    told: str
+
+
+def hung_of(entry: Entry, run: Run, player: Player) -> Optional[Found]:
+    """Where and in what a session hung, or None where it did not, or that isn't found out."""
     if run.cause != HUNG or not run.frames:
-        return ""
+        return None
     try:
         hung = hung_at(entry, run, player)
         name = hung_in(entry, run, hung.step, player)
     except Refused:
         # the session was played, and what is tried beside it must not take its answer away
-        return ""
+        return None
     where = " at the start" if hung.number is None else f" at input {hung.number} ({input_told(entry.inputs[hung.number])})"
     tick = ", in a tick behind it" if hung.step == "tick" and hung.number is not None and entry.inputs[hung.number] != "tick" else ""
-    return f"{where}{tick}" + (f"; {name}" if name else "")
+    return Found(hung.number, f"{where}{tick}" + (f"; {name}" if name else ""))
+
+
+def hung_told(entry: Entry, run: Run, player: Player) -> str:
+    """Where and in what a session hung, in words that go on behind its sentence, or nothing."""
+    found = hung_of(entry, run, player)
+    return found.told if found else ""
+
+
+def finder(sessions: Sessions, engine: Engine) -> Callable[[Entry, Run], Optional[Found]]:
+    """Finds out in what sessions hung, for the first of them."""
+    player = Player(sessions, engine)
+    left = MOST_HUNG
+
+    def found(entry: Entry, run: Run) -> Optional[Found]:
+        nonlocal left
+        left -= run.cause == HUNG
+        return hung_of(entry, run, player) if run.cause == HUNG and left >= 0 else None
+
+    return found

@@ -2,6 +2,7 @@
 from __future__ import annotations
 
 import json
+import re
 from typing import Any, Dict, Iterator, List, NamedTuple, Optional, Tuple
 
 from saxtegun.commands import Refused
@@ -11,6 +12,9 @@ from saxtegun.sessions import LONE_SURROGATE, is_number
 KINDS = ("start", "move", "undo", "restart", "load", "tick", "over")
 READER = json.JSONDecoder()
 CLOSES = ("passed", "differs", "stopped", "refused")
+NUMBER = "(0|[1-9][0-9]{0,18})"
+# The line of a frame as the program writes it. Where its level holds an escape but those of line breaks, it is read as JSON.
+WRITTEN = re.compile(rf'\{{"at":{NUMBER},"frame":{NUMBER},"kind":"({"|".join(KINDS)})","level":"([^"\x00-\x1f]*)","session":{NUMBER}\}}\n?')
 
 
 class Frame(NamedTuple):
@@ -54,6 +58,18 @@ def frame_of(line: Dict[str, Any]) -> Optional[Frame]:
     return Frame(line["at"], line["kind"], line["level"])
 
 
+def written_frame(text: str, session: int, number: int) -> Optional[Frame]:
+    """The frame of this number of a session that a line is, or None where it is to be read as JSON."""
+    found = WRITTEN.fullmatch(text)
+    if found is None:
+        return None
+    at, frame, kind, text, of = found.groups()
+    level = text.replace("\\n", "\n")
+    if "\\" in level or int(frame) != number or int(of) != session:
+        return None
+    return Frame(int(at), kind, level)
+
+
 def close_of(line: Dict[str, Any], frames: List[Frame]) -> Optional[Run]:
     """The run that a close ends, or None where it is no close of so many frames."""
     cause, name = line.get("cause"), line.get("name")
@@ -69,6 +85,10 @@ def runs_in(path: str) -> Iterator[Tuple[int, Run]]:
     count = 0
     frames: List[Frame] = []
     for number, text in read_lines(path):
+        written = written_frame(text, count, len(frames))
+        if written:
+            frames.append(written)
+            continue
         line = line_of(path, number, text)
         if line["session"] != count:
             raise Refused(f"{path}, line {number}: session {line['session']} where session {count} is wanted")

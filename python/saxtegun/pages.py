@@ -1,26 +1,30 @@
-"""The page of a report: what a run showed as JSON, put into the page of python/saxtegun/page/.
+"""The page of a report: what a run showed as JSON, put into web/report.html.
 
 A session's levels are kept as differences to the one before. All that comes from games is JSON text in which no letter ends a script."""
 from __future__ import annotations
 
-import base64
-import hashlib
 import json
-import re
 from pathlib import Path
-from typing import Any, Dict, List, Optional, Union
+from typing import Any, Callable, Dict, List, Optional, Sequence, Tuple, Union
 
-from saxtegun.commands import plural
-from saxtegun.explaining import Ending, cause_told, ending_told, fault_in
+from saxtegun.commands import cut, plural
+from saxtegun.culprits import repeated_in
+from saxtegun.explaining import Ending, cause_told, culprit_told, ending_told, fault_in, stop_of
 from saxtegun.games import Game, game_of
-from saxtegun.levels import Labels, differing, read_cells, width_of
-from saxtegun.lines import KINDS, Run
+from saxtegun.hanging import HUNG, Found
+from saxtegun.levels import Follower, Labels, differing, width_of
+from saxtegun.levelsets import still_in
+from saxtegun.lines import CLOSES, KINDS, Run
+from saxtegun.parting import Parting, close_told, sentence_of
 from saxtegun.sessions import Entry, Sessions
+from saxtegun.webpages import page_of, script_of, style_of
 
-PAGE = Path(__file__).resolve().parent / "page"
-# What could end a script or a line of one.
-UNSAFE = {ord(letter): f"\\u{ord(letter):04x}" for letter in "<>&\u2028\u2029"}
+# What could end a script or begin one. No letter beyond ASCII is left as it is.
+UNSAFE = {letter: f"\\u{ord(letter):04x}" for letter in "<>&"}
 NEIGHBOURS = 3
+MOST_LINES = 40
+# So many frames are shown behind the one at which two runs part.
+MORE_FRAMES = 20
 GENERAL = "Colours by name are those of arnecolors. The whole level is drawn, also where the game shows a part of it."
 MOST_NOTES = 50
 # One letter stands for a label where there are few of them; these need no escape.
@@ -31,72 +35,124 @@ DEAR = 5
 
 def safe(value: Any) -> str:
     """A value as JSON that can stand in a page."""
-    return json.dumps(value, ensure_ascii=True, separators=(",", ":")).translate(UNSAFE)
+    text = json.dumps(value, ensure_ascii=True, separators=(",", ":"))
+    for letter, number in UNSAFE.items():
+        text = text.replace(letter, number)
+    return text
 
 
 def block(name: str, value: Any) -> str:
     return f'<script type="application/json" id="{name}">{safe(value)}</script>\n'
 
 
-def packed(cells: List[int]) -> Union[str, List[int]]:
+def packed(cells: Sequence[int]) -> Union[str, List[int]]:
     """The labels of cells, as letters where there are enough of these."""
-    return "".join(map(LETTERS.__getitem__, cells)) if max(cells, default=0) < len(LETTERS) else cells
+    return "".join(map(LETTERS.__getitem__, cells)) if max(cells, default=0) < len(LETTERS) else list(cells)
 
 
 class Levels:
     """The levels of a session, one after the other."""
 
     def __init__(self, labels: Labels) -> None:
-        self.labels, self.width = labels, 0
+        self.follower = Follower(labels)
         self.text: Optional[str] = None
-        self.cells: Optional[List[int]] = None
-
-    def whole(self, text: str, cells: List[int]) -> Dict[str, Any]:
-        return {"width": width_of(text, len(cells)), "cells": packed(cells)}
+        self.cells: Optional[Sequence[int]] = None
+        self.width = 0
 
     def change(self, text: str) -> Any:
         """What makes the next level of the one before: 0 nothing, a list of cells with their new labels, or a whole level."""
         if text == self.text:
             return 0
-        cells, before, width = read_cells(text, self.labels), self.cells, self.width
+        cells, before, width = self.follower.read(text), self.cells, self.width
         self.text, self.cells = text, cells
         if cells is None:
             return {"text": text}
         self.width = width_of(text, len(cells))
-        if before is None or len(before) != len(cells) or width != self.width:
-            return self.whole(text, cells)
-        numbers = differing(cells, before)
-        if DEAR * len(numbers) > len(cells):
-            return self.whole(text, cells)
-        return [it for number in numbers for it in (number, cells[number])]
+        if before is not None and len(before) == len(cells) and width == self.width:
+            numbers = differing(cells, before)
+            if DEAR * len(numbers) <= len(cells):
+                return [it for number in numbers for it in (number, cells[number])]
+        return {"width": self.width, "cells": packed(cells)}
 
 
-def source_lines(source: str, cause: Optional[str]) -> List[List[Any]]:
-    """The line that a cause names, with its neighbours."""
-    fault = fault_in(cause or "")
-    lines = source.split("\n")
-    if fault is None or not 1 <= fault[1] <= len(lines):
+def lines_meant(source: str, cause: str) -> Optional[Tuple[int, int]]:
+    """The first and the last line of a source that a cause is about, where that is known."""
+    fault = fault_in(cause)
+    if fault is not None:
+        return fault[1], fault[1]
+    repeated = repeated_in(source) if cause == HUNG else []
+    return (repeated[0].first, repeated[0].last) if len(repeated) == 1 else None
+
+
+def source_lines(source: str, cause: str) -> List[List[Any]]:
+    """The lines that a cause is about, with their neighbours."""
+    meant, lines = lines_meant(source, cause), source.split("\n")
+    if meant is None or not 1 <= meant[0] <= meant[1] <= len(lines):
         return []
-    first = max(1, fault[1] - NEIGHBOURS)
-    return [[number, lines[number - 1].rstrip("\r"), number == fault[1]] for number in range(first, min(len(lines), fault[1] + NEIGHBOURS) + 1)]
+    first, last = max(1, meant[0] - NEIGHBOURS), min(len(lines), meant[1] + NEIGHBOURS, meant[0] + MOST_LINES)
+    return [[number, cut(lines[number - 1].rstrip("\r")), meant[0] <= number <= meant[1]] for number in range(first, last + 1)]
 
 
-def session_of(entry: Entry, run: Run, game: Optional[int], order: str) -> Dict[str, Any]:
-    """A session as the page's player reads it."""
-    labels = Labels()
+def frames_of(run: Run, labels: Labels) -> List[List[Any]]:
+    """The frames of a run: the inputs taken, the number of the kind, and what makes the level of the one before."""
     levels = Levels(labels)
-    frames = [[frame.at, KINDS.index(frame.kind), levels.change(frame.level)] for frame in run.frames]
-    told, recorded = f"{plural(len(entry.inputs), 'input')} played, and the last level is the recorded one", None
+    return [[frame.at, KINDS.index(frame.kind), levels.change(frame.level)] for frame in run.frames]
+
+
+def recorded_side(entry: Entry, ending: Ending) -> List[Any]:
+    """The recorded level of a session that differs, as a run of one frame; nothing where it is no level text."""
+    if ending.recorded is None:
+        return []
+    width = ending.width if ending.is_comparable else width_of(entry.level, len(ending.recorded))
+    return [["recorded", [[0, 0, {"width": width, "cells": packed(ending.recorded)}]]]]
+
+
+def told_of(entry: Entry, run: Run, ending: Optional[Ending], order: str, found: Optional[Found]) -> str:
+    """How a session ended, in a sentence."""
     if run.cause is not None:
-        told = f"{cause_told(run.cause)} ({run.cause})"
-    elif run.close == "differs":
-        ending = Ending(entry, run, labels)
-        told = ending_told(ending, order)
-        if ending.recorded is not None:
-            width = ending.width if ending.is_comparable else width_of(entry.level, len(ending.recorded))
-            recorded = {"width": width, "cells": packed(ending.recorded)}
-    source = source_lines(entry.source, run.cause)
-    return {"told": told, "source": source, "game": game, "inputs": entry.inputs, "frames": frames, "recorded": recorded, "labels": labels.names}
+        return f"{cause_told(run.cause)}{found.told if found else culprit_told(entry, run)} ({run.cause})"
+    if ending is None:
+        return f"{plural(len(entry.inputs), 'input')} played, and the last level is the recorded one"
+    elsewhere = still_in(entry, run, order) if ending.recorded is not None and not ending.is_turned_in(order) else None
+    return elsewhere or ending_told(ending, order)
+
+
+def session_of(entry: Entry, run: Run, game: Optional[int], order: str, found: Optional[Found] = None) -> Dict[str, Any]:
+    """A session as the page's player reads it: `sides` are the runs that are shown beside one another, `opens` the frame that is shown first, `stop`
+    the input at which it stopped."""
+    labels = Labels()
+    sides = [["played", frames_of(run, labels)]] if run.frames else []
+    ending = Ending(entry, run, labels) if run.close == "differs" and run.cause is None else None
+    return {
+        "told": told_of(entry, run, ending, order, found),
+        "source": source_lines(entry.source, run.cause or ""),
+        "game": game,
+        "inputs": entry.inputs,
+        "sides": [*sides, *(recorded_side(entry, ending) if ending else [])],
+        "beside": "the recorded level",
+        "opens": 0 if run.close == "passed" else max(0, len(run.frames) - 1),
+        "stop": found.number if found else stop_of(entry, run),
+        "labels": labels.names,
+    }
+
+
+def pair_of(entry: Entry, parting: Parting, one: Run, other: Run, game: Optional[int], names: Sequence[str]) -> Dict[str, Any]:
+    """A session of which two runs part, as the page's player reads it."""
+    labels = Labels()
+    kept = parting.frame + MORE_FRAMES + 1
+    runs = [it._replace(frames=it.frames[:kept]) for it in (one, other)]
+    told = f"{sentence_of(parting, one, other, entry)} ({names[0]}: {close_told(one)}; {names[1]}: {close_told(other)})"
+    return {
+        "told": told,
+        "source": [],
+        "game": game,
+        "inputs": entry.inputs,
+        "sides": [[name, frames_of(it, labels)] for name, it in zip(names, runs)] if all(it.frames for it in runs) else [],
+        "beside": names[1],
+        "opens": max(0, min(parting.frame, max(len(it.frames) for it in runs) - 1)),
+        "stop": None,
+        "labels": labels.names,
+    }
 
 
 def look_of(game: Game) -> Dict[str, Any]:
@@ -105,28 +161,16 @@ def look_of(game: Game) -> Dict[str, Any]:
     return {"ground": game.ground, "objects": [[it.name, above if it.layer is None else it.layer, it.colours, it.sprite] for it in game.objects]}
 
 
-def digest(text: str) -> str:
-    return "sha256-" + base64.b64encode(hashlib.sha256(text.encode()).digest()).decode()
-
-
-def page_of(index: Dict[str, Any], blocks: List[str]) -> str:
-    """The whole page."""
-    style, script = ((PAGE / name).read_text(encoding="utf-8") for name in ("page.css", "page.js"))
-    policy = f"default-src 'none'; script-src '{digest(script)}'; style-src '{digest(style)}'; base-uri 'none'; form-action 'none'"
-    parts = {"policy": policy, "style": style, "script": script, "data": "".join([block("index", index), *blocks])}
-    template = (PAGE / "page.html").read_text(encoding="utf-8")
-    return re.sub("@(policy|style|script|data)@", lambda mark: parts[mark[1]], template)
-
-
 class Report:
-    """A report while it is made, session by session."""
+    """A report while it is made, session by session. `origin` says where it comes from, and `hung` finds out in what a session hung."""
 
-    def __init__(self, sessions: Sessions, order: str) -> None:
-        self.sessions, self.order = sessions, order
+    def __init__(self, sessions: Sessions, order: str, origin: Sequence[str] = (), hung: Callable[[Entry, Run], Optional[Found]] = lambda entry, run: None) -> None:
+        self.sessions, self.order, self.origin, self.hung = sessions, order, origin, hung
         self.rows: List[List[Any]] = []
         self.blocks: List[str] = []
         self.games: Dict[str, int] = {}
         self.notes: Dict[str, None] = {}
+        self.title, self.closes, self.result = "replay report", list(CLOSES), ""
 
     def game(self, source: str) -> int:
         """The number of a source's game, whose look is in the page once."""
@@ -137,14 +181,33 @@ class Report:
             self.notes.update(dict.fromkeys(f"{game.title}: {note}." for note in game.notes))
         return self.games[source]
 
+    def put(self, name: str, close: str, frames: int, session: Dict[str, Any]) -> None:
+        self.blocks.append(block(f"session-{len(self.rows)}", session))
+        self.rows.append([name, close, frames])
+
     def add(self, run: Run) -> None:
         entry = self.sessions.entries[run.number]
-        self.rows.append([run.name, run.close, len(run.frames)])
         game = self.game(entry.source) if run.frames else None
-        self.blocks.append(block(f"session-{run.number}", session_of(entry, run, game, self.order)))
+        self.put(run.name, run.close, len(run.frames), session_of(entry, run, game, self.order, self.hung(entry, run)))
+
+    def add_pair(self, parting: Parting, one: Run, other: Run, names: Sequence[str]) -> None:
+        """Adds a session of which two runs part, with the names of the two."""
+        entry = self.sessions.entries[one.number]
+        game = self.game(entry.source) if one.frames and other.frames else None
+        self.put(f"session {one.number}: {one.name}", "parts", max(len(one.frames), len(other.frames)), pair_of(entry, parting, one, other, game, names))
 
     def page(self) -> str:
         more = len(self.notes) - MOST_NOTES
         notes = [GENERAL, *list(self.notes)[:MOST_NOTES], *([f"And {plural(more, 'more note')}."] if more > 0 else [])]
-        index = {"file": Path(self.sessions.path).name, "order": self.order, "letters": LETTERS, "sessions": self.rows, "notes": notes}
-        return page_of(index, self.blocks)
+        index = {
+            "file": Path(self.sessions.path).name, "title": self.title, "order": self.order, "letters": LETTERS, "closes": self.closes,
+            "result": self.result, "origin": list(self.origin), "sessions": self.rows, "notes": notes,
+        }  # fmt: skip
+        return page_of("report.html", {"data": "".join([block("index", index), *self.blocks])}, script_of("report.mjs"), style_of("common.css", "report.css"))
+
+
+def comparison(sessions: Sessions, order: str, origin: Sequence[str] = ()) -> Report:
+    """A report of sessions of which two runs part."""
+    report = Report(sessions, order, origin)
+    report.title, report.closes = "two runs compared", ["parts"]
+    return report

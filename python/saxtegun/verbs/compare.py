@@ -4,22 +4,23 @@
     saxtegun compare --engines P Q SESSIONS                   plays two programs with the command line of ours
     saxtegun compare --sources OLD.txt NEW.txt SESSIONS       plays one program over two texts of a game
 
-With --report F a page is written that shows the sessions that part, each run in turn, one behind the other, up to the frame at which they
-part. Frames and inputs are counted from 0. Exit status 0 where all are the same, 1 where some part, 2 where something is refused."""
+With --report F a page is written that shows both runs of each session that parts side by side, from the frame at which they part. Frames and inputs are counted from 0. Exit status 0 where all are the same, 1 where some part, 2 where something is refused."""
 from __future__ import annotations
 
 import sys
 from argparse import ArgumentParser, Namespace
 from contextlib import ExitStack
 from itertools import zip_longest
+from pathlib import Path
 from typing import Iterator, List, Optional, Sequence, Tuple
 
 from saxtegun.belonging import NAMES_ALONE, read_runs
 from saxtegun.commands import Refused, add_playing, cut, plural, printable
 from saxtegun.files import MARK, guard_files, guard_output, read_text, write_whole
 from saxtegun.lines import Run
-from saxtegun.pages import Report
-from saxtegun.parting import Parting, below_of, parting_of, sentence_of
+from saxtegun.origins import add_date, origin_of
+from saxtegun.pages import Report, comparison
+from saxtegun.parting import below_of, parting_of, sentence_of
 from saxtegun.playing import engine_of, playing
 from saxtegun.sessions import Entry, Sessions, read_sessions
 
@@ -31,6 +32,7 @@ def add_words(words: ArgumentParser) -> None:
     words.add_argument("--engines", metavar=("P", "Q"), nargs=2)
     words.add_argument("--sources", metavar=("OLD.txt", "NEW.txt"), nargs=2)
     words.add_argument("--report", metavar="F")
+    add_date(words)
     add_playing(words)
 
 
@@ -69,35 +71,25 @@ def runs_to_compare(given: Namespace, stack: ExitStack) -> Tuple[Optional[Sessio
     return sessions._replace(entries=entries[1]), pairs_of(read_runs(played[0].lines), read_runs(played[1].lines), given.engines or given.sources)
 
 
-def write_report(path: str, sessions: Sessions, parted: List[Tuple[Parting, Run, Run]], order: str) -> None:
-    """A page of the sessions that part, each as one run and as the other, up to where they part."""
-    entries: List[Entry] = []
-    runs: List[Run] = []
-    for parting, one, other in parted:
-        entry = sessions.entries[one.number]
-        for run, told in ((one, "one"), (other, "the other")):
-            frames = run.frames[: parting.frame + 1]
-            name = f"{run.name}: {told}, up to frame {parting.frame}"
-            opposite = other if run is one else one
-            level = opposite.frames[min(parting.frame, len(opposite.frames) - 1)].level if opposite.frames else entry.level
-            entries.append(entry._replace(number=len(entries), name=name, level=level))
-            is_played = bool(frames) and run.cause is None
-            runs.append(run._replace(number=len(runs), name=name, frames=frames, close="differs" if is_played else run.close))
-    report = Report(Sessions(sessions.path, "", entries), order)
-    for run in runs:
-        report.add(run)
-    write_whole(path, report.page())
+def names_of(given: Namespace) -> List[str]:
+    """What the two runs are called, by what was given: their files, programs or texts, and in full where their last parts are the same."""
+    paths = given.engines or given.sources or given.files[:2]
+    names = [Path(it).name for it in paths]
+    return names if names[0] != names[1] else list(paths) if paths[0] != paths[1] else ["one", "the other"]
 
 
 def main(given: Namespace) -> int:
     guard_output(*given.files, *(given.sources or []))
     guard_files([given.report], [*given.files, *(given.sources or [])])
-    parted: List[Tuple[Parting, Run, Run]] = []
-    count = 0
+    count, parted = 0, 0
+    report: Optional[Report] = None
     with ExitStack() as stack:
         sessions, pairs = runs_to_compare(given, stack)
         if given.report and sessions is None:
             raise Refused("--report wants the sessions beside the lines")
+        names = names_of(given)
+        if given.report and sessions:
+            report = comparison(sessions, given.order, origin_of(sessions, given, f"Compared: {names[0]} with {names[1]}"))
         for one, other in pairs:
             count += 1
             parting = parting_of(one, other)
@@ -107,12 +99,13 @@ def main(given: Namespace) -> int:
             print(printable(f"session {one.number}, {cut(one.name)}: {sentence_of(parting, one, other, entry)}"))
             for line in below_of(parting, entry, given.order):
                 print(printable(f"    {line}"))
-            if given.report:
-                parted.append((parting, one, other))
-            else:
-                parted.append((parting, one._replace(frames=[]), other._replace(frames=[])))
-    print(f"{plural(count, 'session')}: {count - len(parted)} the same, {len(parted)} part")
+            parted += 1
+            if report:
+                report.add_pair(parting, one, other, names)
+    result = f"{plural(count, 'session')}: {count - parted} the same, {parted} part"
+    print(result)
     sys.stdout.flush()
-    if given.report and sessions:
-        write_report(given.report, sessions, parted, given.order)
+    if report:
+        report.result = result
+        write_whole(given.report, report.page())
     return 1 if parted else 0

@@ -1,15 +1,18 @@
 """Writes a page that shows each session frame by frame, and where it differs from what was recorded.
 
 SESSIONS is the file that was played, LINES what the program wrote for it (`-`: standard input); without LINES the sessions are played
-now. The page opens from the disk in any browser, and needs no network. The order is the one that the lines were written in. Exit
-status 0, or 2 where a file is refused."""
+now, and where one hangs it is played further, to find out in what. The page opens from the disk in any browser, and needs no network. The order
+is the one that the lines were written in. The same files give the same page: a date is there where --date gives one. Exit status 0, or 2 where a file is refused."""
 from __future__ import annotations
 
 import sys
 from argparse import ArgumentParser, Namespace
+from pathlib import Path
 
 from saxtegun.commands import add_playing
 from saxtegun.files import guard_output
+from saxtegun.hanging import finder
+from saxtegun.origins import add_date, origin_of, program_told
 from saxtegun.pages import Report
 from saxtegun.playing import engine_of, lines_or_played
 from saxtegun.sessions import read_sessions
@@ -20,14 +23,17 @@ USAGE = "report SESSIONS [LINES] [--order rows|columns] >report.html"
 def add_words(words: ArgumentParser) -> None:
     words.add_argument("sessions", metavar="SESSIONS")
     words.add_argument("lines", metavar="LINES", nargs="?")
+    add_date(words)
     add_playing(words)
 
 
 def main(given: Namespace) -> int:
     guard_output(given.sessions, *([given.lines] if given.lines else []))
     sessions = read_sessions(given.sessions)
-    report = Report(sessions, given.order)
-    with lines_or_played(sessions, given.lines, engine_of(given)) as runs:
+    engine = engine_of(given)
+    with lines_or_played(sessions, given.lines, engine) as runs:
+        played = f"Lines: {Path(given.lines).name}" if given.lines else program_told(engine.words())
+        report = Report(sessions, given.order, origin_of(sessions, given, played), *([] if given.lines else [finder(sessions, engine)]))
         for run in runs:
             report.add(run)
     sys.stdout.write(report.page())

@@ -24,6 +24,7 @@ from saxtegun.explaining import fault_in, summary, told
 from saxtegun.files import MARK, guard_files, guard_output, read_text, write_whole
 from saxtegun.junit import junit_of
 from saxtegun.lines import Run
+from saxtegun.origins import add_date, origin_of, program_told
 from saxtegun.pages import Report
 from saxtegun.playing import engine_of, runs_of
 from saxtegun.sessions import Entry, Sessions, fits, read_sessions, with_source
@@ -32,8 +33,6 @@ from saxtegun.telling import Failure, annotation, for_a_ci, markdown
 
 USAGE = "test [GAME.txt] SESSIONS.json.. [options]"
 PAUSE = 0.2
-# Of so many failures it is found out by playing in what a session hung.
-MOST_HUNG = 20
 
 
 def add_words(words: ArgumentParser) -> None:
@@ -45,6 +44,7 @@ def add_words(words: ArgumentParser) -> None:
     words.add_argument("--watch", action="store_true", help="play again at each save of a file")
     words.add_argument("--junit", metavar="F", help="write a JUnit file")
     words.add_argument("--report", metavar="F", help="write a page that shows each session frame by frame")
+    add_date(words)
     words.add_argument("--markdown", metavar="F", help="write a summary in Markdown")
     words.add_argument("--github", action="store_true", help="write annotations for GitHub")
     add_playing(words)
@@ -112,7 +112,7 @@ def failures_of(suite: Suite, unsolved: Dict[int, str], given: Namespace) -> Lis
         place = f"{path}: session {number}" if len(paths) > 1 else f"session {number}"
         if run.close == "passed" and entry.number not in unsolved:
             continue
-        is_told_hung = run.cause == hanging.HUNG and len(found) < MOST_HUNG
+        is_told_hung = run.cause == hanging.HUNG and len(found) < hanging.MOST_HUNG
         sentence, below = told(run, entry, given.order, game, hanging.hung_told(entry, run, player) if is_told_hung else "")
         fault = fault_in(run.cause or "")
         if run.close == "passed":
@@ -157,7 +157,8 @@ def write_files(suite: Suite, failures: List[Failure], unsolved: Dict[int, str],
     if given.junit:
         write_whole(given.junit, junit_of(suite.runs, suite.sessions.path, suite.sessions, given.order, "error", unsolved))
     if given.report:
-        report = Report(suite.sessions, given.order)
+        engine = engine_of(given)
+        report = Report(suite.sessions, given.order, origin_of(suite.sessions, given, program_told(engine.words())), hanging.finder(suite.sessions, engine))
         for run in suite.runs:
             report.add(run)
         write_whole(given.report, report.page())

@@ -1,0 +1,35 @@
+"""Where a report comes from: nothing that isn't given, so that the same files give the same page."""
+from __future__ import annotations
+
+import hashlib
+from argparse import ArgumentParser, Namespace
+from pathlib import Path
+from typing import List
+
+from saxtegun.commands import cut, plural
+from saxtegun.sessions import Sessions
+
+VERSION = Path(__file__).resolve().parents[2] / "VERSION"
+DIGITS = 16
+
+
+def add_date(words: ArgumentParser) -> None:
+    words.add_argument("--date", metavar="TEXT", help="a date for the page, which has none by itself")
+
+
+def digest_of(data: bytes) -> str:
+    return hashlib.sha256(data).hexdigest()[:DIGITS]
+
+
+def origin_of(sessions: Sessions, given: Namespace, played: str) -> List[str]:
+    """The sentences of a page on where it comes from; `played` is the one on the lines or the program."""
+    content = f"; SHA-256 {digest_of(sessions.text.encode())}" if sessions.text else ""
+    version = VERSION.read_text(encoding="utf-8").strip() if VERSION.is_file() else "of no version"
+    date = [f"Date: {cut(given.date)}."] if given.date else []
+    return [*date, f"Sessions: {cut(Path(sessions.path).name)} ({plural(len(sessions.entries), 'session')}{content}).", f"{cut(played)}, order {given.order}.", f"Written by saxtegun {version}."]
+
+
+def program_told(words: List[str]) -> str:
+    """A program by its name and its content."""
+    path = Path(words[0])
+    return f"Played by {path.name} (SHA-256 {digest_of(path.read_bytes())})" if path.is_file() else f"Played by {path.name}"

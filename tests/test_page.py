@@ -1,0 +1,174 @@
+"""The playground: how dev/page joins it, what its policy allows, and that it reads games and tells faults as the command does. web/tests looks at it in browsers."""
+import hashlib
+import base64
+import json
+import re
+import shutil
+import subprocess
+import unittest
+from html.parser import HTMLParser
+
+from tool import CASES, InARoom, TOP, run
+from saxtegun.explaining import culprit_told, cause_told, fault_in
+from saxtegun.games import Game
+from saxtegun.levelsets import entries_of_levels
+from saxtegun.lines import Frame, Run
+from saxtegun.pages import look_of
+from saxtegun.sessions import Entry
+
+NODE, OWN, MODULE = shutil.which("node"), TOP / "tests" / "web", b"\0asm\1\0\0\0"
+# The name of a language of XML, which nothing is fetched from.
+SVG = "http://www.w3.org/2000/svg"
+CODES = ("Unknown", "OutsideProfile", "BadGlyph", "Duplicate", "NoLayer", "Missing", "BadRule", "Section", "Other")
+
+
+class Elements(HTMLParser):
+    """The elements of a page by their tags, and the texts of its scripts and styles by their ids."""
+
+    def __init__(self, text):
+        super().__init__(convert_charrefs=False)
+        self.found, self.texts, self.open = [], {}, None
+        self.feed(text)
+
+    def handle_starttag(self, tag, attrs):
+        self.found.append((tag, dict(attrs)))
+        self.open = dict(attrs).get("id", tag) if tag in ("script", "style") else None
+
+    def handle_endtag(self, tag):
+        self.open = None
+
+    def handle_data(self, data):
+        if self.open is not None:
+            self.texts[self.open] = self.texts.get(self.open, "") + data
+
+
+class Page(InARoom):
+    def setUp(self):
+        super().setUp()
+        (self.room / "module.wasm").write_bytes(MODULE)
+
+    def built(self, name="page.html"):
+        answer = run(TOP / "dev/page", "--module", self.room / "module.wasm", "--output", self.room / "new" / name)
+        self.assertEqual((answer.status, answer.errors), (0, ""))
+        return (self.room / "new" / name).read_text(encoding="utf-8"), answer.out
+
+    def test_the_same_sources_give_the_same_bytes(self):
+        (one, said), (other, _) = self.built("one.html"), self.built("other.html")
+        self.assertEqual(one, other)
+        self.assertIn(hashlib.sha256(one.encode()).hexdigest(), said)
+
+    def test_the_module_and_the_example_stand_in_it(self):
+        texts = Elements(self.built()[0]).texts
+        self.assertEqual(base64.b64decode(texts["module"]), MODULE)
+        self.assertEqual(json.loads(texts["example-game"]), (TOP / "examples/day/game.txt").read_text(encoding="utf-8"))
+
+    def test_its_policy_lets_nothing_else_run_and_asks_no_network(self):
+        elements = Elements(self.built()[0])
+        policy = next(words["content"] for tag, words in elements.found if tag == "meta" and words.get("http-equiv") == "Content-Security-Policy")
+        of = {words[0]: words[1:] for words in (it.split() for it in policy.split(";"))}
+        digest = {name: "'sha256-" + base64.b64encode(hashlib.sha256(elements.texts[name].encode()).digest()).decode() + "'" for name in ("script", "style")}
+        self.assertEqual(of, {"default-src": ["'none'"], "script-src": [digest["script"], "'wasm-unsafe-eval'"], "style-src": [digest["style"]], "worker-src": ["blob:"],
+                              "base-uri": ["'none'"], "form-action": ["'none'"]})
+
+    def test_no_element_runs_or_loads_anything_by_itself(self):
+        elements = Elements(self.built()[0])
+        for tag, words in elements.found:
+            with self.subTest(tag):
+                self.assertEqual([it for it in words if it.startswith("on") or it in ("src", "href", "srcset", "style", "action", "data")], [])
+        self.assertEqual([words for tag, words in elements.found if tag == "script" and "type" not in words], [{"id": "script"}])
+
+    def test_nothing_names_an_address_of_a_network(self):
+        page = self.built()[0].replace(SVG, "")
+        self.assertEqual(re.findall(r"(?i)\b(?:https?|wss?|ftp):.{0,40}|.{0,40}[\"'`]//[a-z].{0,40}", page), [])
+        # the glue would fetch a module that is named by its address, which the policy forbids
+        for word in ("XMLHttpRequest", "WebSocket", "EventSource", "sendBeacon", "innerHTML", "insertAdjacentHTML", "document.write", "eval(", "new Function"):
+            self.assertNotIn(word, page)
+
+    def test_each_element_that_the_script_asks_for_is_there(self):
+        elements = Elements(self.built()[0])
+        ids = [words["id"] for _, words in elements.found if "id" in words]
+        self.assertEqual(len(ids), len(set(ids)))
+        asked = set(re.findall(r'\bat\("([a-z-]+)"\)', elements.texts["script"])) | set(re.findall(r'\bclick\("([a-z-]+)"', elements.texts["script"]))
+        self.assertEqual(asked - set(ids), set())
+
+    def test_what_is_clicked_or_filled_in_has_a_name(self):
+        text = self.built()[0]
+        labelled = set(re.findall(r'<label for="([a-z-]+)"', text)) | {found for found in re.findall(r'<label>[^<]*<select id="([a-z-]+)"', text)} | {"file"}
+        for tag, words in Elements(text).found:
+            if tag in ("input", "select", "textarea", "progress"):
+                with self.subTest(words):
+                    self.assertTrue(words.get("aria-label") or words["id"] in labelled)
+            if tag == "canvas":
+                self.assertEqual(words["role"], "img")
+
+    def test_a_module_that_is_not_there_is_told(self):
+        answer = run(TOP / "dev/page", "--module", self.room / "none", "--output", self.room / "page.html")
+        self.assertEqual((answer.status, answer.errors), (1, f"dev/page: there is no module at {self.room}/none; engine/build makes it\n"))
+
+    @unittest.skipUnless(NODE, "Node is not there")
+    def test_node_reads_its_script(self):
+        (self.room / "script.cjs").write_text(Elements(self.built()[0]).texts["script"], encoding="utf-8")
+        ran = subprocess.run([NODE, "--check", self.room / "script.cjs"], stdout=subprocess.PIPE, stderr=subprocess.STDOUT, check=False)
+        self.assertEqual(ran.returncode, 0, ran.stdout.decode())
+
+
+def in_node(script, values):
+    """What a script of tests/web makes of values."""
+    ran = subprocess.run([NODE, OWN / script], input=json.dumps(values).encode(), stdout=subprocess.PIPE, check=True)
+    return json.loads(ran.stdout)
+
+
+def entries_of_cases():
+    """Each session of the cases that JSON can be read of, with the lines of its case."""
+    for case in sorted(CASES.iterdir()):
+        try:
+            values = json.loads((case / "input.json").read_bytes().decode())
+        except (ValueError, RecursionError):
+            continue
+        lines = [json.loads(it) for it in (case / "stdout").read_text(encoding="utf-8").splitlines()]
+        for number, value in enumerate(values if isinstance(values, list) else []):
+            if isinstance(value, list) and len(value) > 1 and isinstance(value[1], list) and value[1] and isinstance(value[1][0], str) and not re.search("[\ud800-\udfff]", value[1][0]):
+                yield value, [it for it in lines if it["session"] == number]
+
+
+# Texts at the edges of what is read, beside those of the cases.
+STRANGE = ("", "title \u3000 A (comment) b\nOBJECTS (\n) \nx y\n", "color_palette mastersystem\nbackground_color #AbC\nOBJECTS\n\nBackground \U0001f600\nnocolour transparent #12\n01.9.\n.....\n00000\n00000\n00000\nBackground\nred\n"
+           "LEGEND\n\U0001f601 = Background\nA = B\nB = A\nC = a and\n= = Background\nD = Background and A\nCOLLISIONLAYERS\nA, Background\nBackground, D\nLEVELS\nmessage (hello)\n\U0001f600\U0001f601\nA\n\nmessage\n",
+           "objects of mine\nplayer\r\nblue\r\n=====\n(a (b) c) Wall w\nred\n(d\n) 00000\nLegend\nconstructor = player\n__proto__ = player\ntoString = wall or player\ncollisionlayers\n,,\nconstructor,__proto__\nrules\n"
+           "+[a]->[b](c)\nmessage->x (y)\nlevels\nw\u2028w\n")
+
+
+@unittest.skipUnless(NODE, "Node is not there")
+class Twins(unittest.TestCase):
+    """The page reads games and tells faults as the command does: what Python says is what is wanted."""
+
+    def test_games_are_read_as_python_reads_them(self):
+        sources = list(dict.fromkeys([*(value[1][0] for value, _ in entries_of_cases()), (TOP / "examples/day/game.txt").read_text(encoding="utf-8"), *STRANGE]))
+        self.assertGreater(len(sources), 150)
+        for source, found in zip(sources, in_node("read-games.mjs", sources)):
+            game = Game(source)
+            glyphs = sorted([" ".join(sorted(names)), letter] for names, letter in game.glyphs.items())
+            wanted = {"title": game.title, "notes": game.notes, "look": look_of(game), "glyphs": glyphs, "grounds": sorted(game.grounds), "levels": [list(it.rows) for it in entries_of_levels(source)]}
+            found["glyphs"].sort()
+            with self.subTest(source[:200]):
+                self.assertEqual(found, json.loads(json.dumps(wanted)))
+
+    def test_faults_are_told_as_python_tells_them(self):
+        told = [(line["cause"], value[1][0], value[1][1], [it["at"] for it in lines if "at" in it]) for value, lines in entries_of_cases() for line in lines if "cause" in line]
+        self.assertGreater(len(told), 80)
+        told += [(f"{code}:{number}", source, [0, "tick"], []) for source in STRANGE for code in CODES for number in range(source.count("\n") + 2)]
+        found = in_node("read-faults.mjs", [[cause, source, inputs, [{"at": it} for it in frames]] for cause, source, inputs, frames in told])
+        for (cause, source, inputs, frames), it in zip(told, found):
+            run_of = Run(0, "", "refused", cause, [Frame(at, "move", "") for at in frames])
+            fault = fault_in(cause)
+            sentence = cause_told(cause) + culprit_told(Entry(0, "", source, inputs, "", 0, {}, False), run_of)
+            with self.subTest(cause):
+                self.assertEqual(it, {"sentence": sentence, "line": fault[1] if fault and fault[1] else None})
+
+    def test_the_logic_of_the_page(self):
+        ran = subprocess.run([NODE, "--test", "--test-reporter=tap", OWN / "logic.test.mjs"], stdout=subprocess.PIPE, stderr=subprocess.STDOUT, check=False)
+        self.assertEqual(ran.returncode, 0, ran.stdout.decode(errors="replace"))
+
+
+if __name__ == "__main__":
+    unittest.main()

@@ -1,0 +1,93 @@
+"""The pages of web/: how their modules are joined, and whether their colours can be read."""
+import re
+import shutil
+import subprocess
+import tempfile
+import unittest
+from pathlib import Path
+
+from tool import TOP
+from saxtegun.webpages import modules_of, script_of
+
+WEB = TOP / "web"
+GROUNDS = ("ground", "panel", "chosen")
+LETTERS = ("letters", "faint", "passed", "differs", "stopped", "refused")
+# What isn't letters: edges of what can be clicked, and the ring of what has the focus.
+EDGES = ("edge", "focus")
+
+
+def colours_in(text):
+    return {name: tuple(bytes.fromhex(digits)) for name, digits in re.findall(r"--([a-z]+): #([0-9a-f]{6});", text)}
+
+
+def schemes():
+    """The colours of both schemes, as web/common.css has them."""
+    light, _, dark = (WEB / "common.css").read_text(encoding="utf-8").partition("@media (prefers-color-scheme: dark)")
+    return {"light": colours_in(light), "dark": colours_in(dark.partition("\n}\n")[0])}
+
+
+def brightness(colour):
+    """The relative luminance of a colour, as the guidelines of the W3C define it."""
+    linear = [it / 12.92 if it <= 0.04045 else ((it + 0.055) / 1.055) ** 2.4 for it in (part / 255 for part in colour)]
+    return 0.2126 * linear[0] + 0.7152 * linear[1] + 0.0722 * linear[2]
+
+
+def contrast(one, other):
+    dark, bright = sorted((brightness(one), brightness(other)))
+    return (bright + 0.05) / (dark + 0.05)
+
+
+class Colours(unittest.TestCase):
+    def test_contrast_is_counted_as_the_guidelines_count_it(self):
+        self.assertAlmostEqual(contrast((0, 0, 0), (255, 255, 255)), 21)
+        self.assertAlmostEqual(contrast((118, 118, 118), (255, 255, 255)), 4.54, 2)
+
+    def test_letters_have_a_contrast_of_four_and_a_half(self):
+        for scheme, colours in schemes().items():
+            for name, ground in ((name, ground) for name in LETTERS for ground in GROUNDS):
+                with self.subTest(f"{name} on {ground}, {scheme}"):
+                    self.assertGreaterEqual(contrast(colours[name], colours[ground]), 4.5)
+
+    def test_edges_have_a_contrast_of_three(self):
+        for scheme, colours in schemes().items():
+            for name in EDGES:
+                with self.subTest(f"{name}, {scheme}"):
+                    self.assertGreaterEqual(contrast(colours[name], colours["ground"]), 3)
+
+    def test_letters_have_colours_of_the_schemes_alone(self):
+        for style in WEB.glob("*.css"):
+            for value in re.findall(r"[{;\s]color: ([^;}]+)", style.read_text(encoding="utf-8")):
+                with self.subTest(style.name):
+                    self.assertRegex(value, r"^(inherit|var\(--[a-z]+\))$")
+            self.assertNotRegex(style.read_text(encoding="utf-8"), "[^-]opacity:")
+
+
+class Joined(unittest.TestCase):
+    def test_a_module_stands_behind_those_that_it_imports(self):
+        modules = modules_of("report.mjs")
+        self.assertEqual(modules[-1], "report.mjs")
+        for number, name in enumerate(modules):
+            for other in re.findall(r'from "\./([a-z-]+\.mjs)"', (WEB / name).read_text(encoding="utf-8")):
+                self.assertIn(other, modules[:number])
+
+    def test_nothing_of_modules_is_left(self):
+        self.assertNotRegex(script_of("report.mjs"), r"(?m)^\s*(import|export)\b")
+
+    @unittest.skipUnless(shutil.which("node"), "Node is not there")
+    def test_node_reads_the_joined_script(self):
+        with tempfile.TemporaryDirectory() as folder:
+            script = Path(folder) / "script.js"
+            script.write_text(script_of("report.mjs"), encoding="utf-8")
+            ran = subprocess.run(["node", "--check", script], stdout=subprocess.PIPE, stderr=subprocess.STDOUT)
+            self.assertEqual(ran.returncode, 0, ran.stdout.decode())
+
+
+class Modules(unittest.TestCase):
+    @unittest.skipUnless(shutil.which("node"), "Node is not there")
+    def test_what_needs_no_browser_passes_in_node(self):
+        ran = subprocess.run(["node", "--test", *sorted(WEB.glob("tests/*.test.mjs"))], stdout=subprocess.PIPE, stderr=subprocess.STDOUT)
+        self.assertEqual(ran.returncode, 0, ran.stdout.decode())
+
+
+if __name__ == "__main__":
+    unittest.main()

@@ -1,0 +1,256 @@
+// What the playground thinks, without a page: recordings, sessions files, lines, comparisons, lists and keys. What is expected is written by hand.
+import assert from "node:assert/strict";
+import test from "node:test";
+import { Ending, endingTold, obstacleTold, partingOf, partingTold } from "../../web/comparing.mjs";
+import { kindOf } from "../../web/handing.mjs";
+import { meaningOf } from "../../web/keys.mjs";
+import { Labels, readCells, widthOf } from "../../web/level-text.mjs";
+import { framesIn, readRuns, runsOf } from "../../web/lines.mjs";
+import { likeness, nearest } from "../../web/nearest.mjs";
+import { Recording, markOf, windowAround } from "../../web/recording.mjs";
+import { Refusal, SessionFile, refusalTold } from "../../web/session-file.mjs";
+import { following, isFailure, listed } from "../../web/session-list.mjs";
+
+const bytesOf = (text) => new TextEncoder().encode(text);
+const textOf = (bytes) => new TextDecoder().decode(bytes);
+
+// A game that shows a frame for each input, and two for a tick; it stops at an action, and is solved once it has gone right three times.
+function play(inputs, from) {
+  const frames = [{ at: 0, kind: "start", level: "0" }];
+  for (const [place, input] of inputs.entries()) {
+    if (input === 4) return { frames: frames.filter(({ at }) => at >= from), cause: "loop-limit", isSolved: false };
+    const frame = { at: place + 1, kind: "move", level: String(input) };
+    frames.push(...(input === "tick" ? [frame, frame] : [frame]));
+  }
+  return { frames: frames.filter(({ at }) => at >= from), cause: null, isSolved: inputs.filter((input) => input === 3).length >= 3 };
+}
+
+const levels = (recording) => recording.frames.map(({ level }) => level).join(" ");
+
+test("each input is played behind the frame that is looked at", () => {
+  const recording = new Recording(play);
+  for (const input of [0, "tick", 3]) assert.equal(recording.press(input), null);
+  assert.deepEqual([recording.inputs, levels(recording), recording.shown, recording.taken], [[0, "tick", 3], "0 0 tick tick 3", 4, 3]);
+  recording.showInput(1);
+  assert.deepEqual([recording.shown, recording.taken, recording.isAtEnd], [1, 1, false]);
+  recording.press(2);
+  assert.deepEqual([recording.inputs, levels(recording), recording.isAtEnd], [[0, 2], "0 0 2", true]);
+});
+
+test("what was cut off is put back", () => {
+  const recording = new Recording(play, [0, 1, 2]);
+  recording.show(1);
+  recording.press(3);
+  assert.deepEqual([recording.inputs, recording.before], [[0, 3], [0, 1, 2]]);
+  recording.putBack();
+  assert.deepEqual([recording.inputs, levels(recording), recording.before], [[0, 1, 2], "0 0 1 2", null]);
+  recording.cut();
+  recording.cut();
+  assert.deepEqual([recording.inputs, recording.before], [[0], [0, 1, 2]]);
+  recording.putBack();
+  recording.show(0);
+  recording.cut();
+  assert.deepEqual([recording.inputs, levels(recording)], [[], "0"]);
+});
+
+test("the last input is cut where its frame is looked at, also where it has several", () => {
+  const recording = new Recording(play, [0, "tick"]);
+  recording.showInput(2);
+  recording.cut();
+  assert.deepEqual(recording.inputs, [0]);
+});
+
+test("an input at which the game stops is left out", () => {
+  const recording = new Recording(play, [0]);
+  assert.equal(recording.press(4), "loop-limit");
+  assert.deepEqual([recording.inputs, levels(recording), recording.cause], [[0], "0 0", null]);
+});
+
+test("a recording that stops shows what there is, and its cause", () => {
+  const recording = new Recording(play, [0, 4, 1]);
+  assert.deepEqual([recording.inputs.length, levels(recording), recording.cause], [3, "0 0", "loop-limit"]);
+});
+
+test("whether it is solved is told at once", () => {
+  const recording = new Recording(play, [3, 3]);
+  assert.equal(recording.isSolved, false);
+  recording.press(3);
+  assert.equal(recording.isSolved, true);
+});
+
+test("a frame beyond the ends is the first or the last", () => {
+  const recording = new Recording(play, [0, 1]);
+  recording.show(-Infinity);
+  assert.equal(recording.shown, 0);
+  recording.show(Infinity);
+  assert.equal(recording.shown, 2);
+});
+
+test("a window has its place in it", () => {
+  assert.deepEqual(windowAround(5, 3, 10), [0, 5]);
+  assert.deepEqual(windowAround(100, 0, 10), [0, 10]);
+  assert.deepEqual(windowAround(100, 50, 10), [45, 55]);
+  assert.deepEqual(windowAround(100, 99, 10), [90, 100]);
+});
+
+test("each input has a mark", () => {
+  assert.equal([0, 1, 2, 3, 4, "undo", "restart", "tick"].map(markOf).join(""), "\u2191\u2190\u2193\u2192\u25cfzr.");
+});
+
+const FILE = `[ ["one", ["source", [0, "undo"], "a:0,", 1, "seed"], "solved"] ,\n["\\u0074wo",["",[],"b:0,"]]\n]\n`;
+
+test("a sessions file is read", () => {
+  const file = new SessionFile("f.json", bytesOf(FILE));
+  assert.deepEqual(file.entries, [
+    { name: "one", source: "source", inputs: [0, "undo"], level: "a:0,", index: 1 },
+    { name: "two", source: "", inputs: [], level: "b:0,", index: 0 },
+  ]);
+  assert.equal(file.isOverAGame, true);
+  assert.equal(textOf(file.playedOver("the game")), '[["one",["source",[0,"undo"],"a:0,",1]],["two",["the game",[],"b:0,",0]]]');
+});
+
+test("a changed level leaves all else letter by letter", () => {
+  const file = new SessionFile("f.json", bytesOf(FILE)).withLevels([[0, 'é"\n'], [1, "c:0,"]]);
+  assert.equal(textOf(file.bytes), FILE.replace('"a:0,"', '"é\\"\\n"').replace('"b:0,"', '"c:0,"'));
+});
+
+test("a session is added, replaced and removed", () => {
+  const file = new SessionFile("f.json", bytesOf(FILE)), entry = { name: "three", source: "s", inputs: [3], level: "", index: 2 };
+  const three = '["three",["s",[3],"",2]]';
+  assert.equal(textOf(file.with(entry).bytes), FILE.replace('"b:0,"]]', `"b:0,"]],\n${three}`));
+  assert.equal(textOf(file.withReplaced(1, entry).bytes), FILE.replace('["\\u0074wo",["",[],"b:0,"]]', three));
+  assert.deepEqual(file.with(entry).without(1).entries.map(({ name }) => name), ["one", "three"]);
+  assert.deepEqual(file.without(0).entries.map(({ name }) => name), ["two"]);
+  assert.deepEqual(file.without(1).without(0).entries, []);
+  assert.equal(textOf(SessionFile.empty("f").with(entry).bytes), `[\n${three}\n]\n`);
+});
+
+test("what is no sessions file is refused with its place", () => {
+  const refusals = [
+    ["{}", "f is no JSON list of sessions"], ['[["a",["s",[5],""]]]', "f, session 0: its input 0 is neither 0 to 4 nor undo, restart or tick"],
+    ['[["a",["s",[],"",0]],["b",["s",[]]]]', "f, session 1: behind its name there is no list of a source, a list of inputs and a level text"],
+    ["[1]", "f, session 0: it is no list of a name and a list"], ['[["a",["s",[],"",-1]]]', "f, session 0: its index is no whole number"],
+    ['[["\\ud800",["s",[],""]]]', "f, session 0: a text of it holds half a letter (a lone surrogate)"], ['[["a",["s",["left"],""]]]', "f, session 0: its input 0 is neither 0 to 4 nor undo, restart or tick"],
+  ];
+  for (const [text, message] of refusals) assert.throws(() => new SessionFile("f", bytesOf(text)), (error) => error instanceof Refusal && error.message === message, text);
+  assert.throws(() => new SessionFile("f", bytesOf("[,]")), Refusal);
+  assert.throws(() => new SessionFile("f", new Uint8Array([0xff])), (error) => error.message === "f is no text in UTF-8");
+});
+
+test("a fault of the engine is told in words", () => {
+  assert.equal(refusalTold("bad-level 7"), "the recorded level of session 7 is no level text");
+  assert.equal(refusalTold("memory"), "there is not enough memory");
+});
+
+const frame = (at, number, kind, level, session) => `{"at":${at},"frame":${number},"kind":"${kind}","level":"${level}","session":${session}}\n`;
+const LINES = `${frame(0, 0, "start", "a:0,b:1,", 0)}${frame(1, 1, "move", "b:0,a:1,", 0)}{"close":"differs","frames":2,"name":"one","session":0}\n{"cause":"BadRule:3","close":"refused","frames":0,"name":"two","session":1}\n`;
+
+test("lines are cut into runs, and frames are read where they are wanted", () => {
+  const lines = bytesOf(LINES), runs = runsOf(lines);
+  assert.deepEqual(runs.map(({ name, close, cause, count }) => [name, close, cause, count]), [["one", "differs", null, 2], ["two", "refused", "BadRule:3", 0]]);
+  assert.deepEqual(framesIn(lines, runs[0]), [{ at: 0, kind: "start", level: "a:0,b:1," }, { at: 1, kind: "move", level: "b:0,a:1," }]);
+  assert.deepEqual(framesIn(lines, runs[1]), []);
+});
+
+test("lines of another engine are read the same, and refused where they are none", () => {
+  const [one, two] = readRuns(LINES);
+  assert.deepEqual([one.close, one.frames.length, two.cause], ["differs", 2, "BadRule:3"]);
+  for (const [text, message] of [
+    ["no\n", "line 1: no line of a recording"], ['{"session":0,"close":"won"}\n', "line 1: neither a frame nor a close"],
+    [frame(0, 1, "start", "", 0), "line 1: not frame 0 of its session"], [frame(0, 0, "start", "", 0), "the lines end within session 0, which has no close"],
+    ['{"close":"passed","frames":1,"name":"one","session":0}\n', "line 1: no close of a session of 0 frames"], [frame(0, 0, "start", "", 3), "line 1: session 3 where session 0 is wanted"],
+    ['{"close":"stopped","frames":0,"name":"one","session":0}\n', "line 1: no close of a session of 0 frames"],
+  ]) assert.throws(() => readRuns(text), (error) => error instanceof Refusal && error.message === message, text);
+});
+
+const run = (frames, close = "passed", cause = null) => ({ frames: frames.map(([at, kind, level]) => ({ at, kind, level })), close, cause });
+const START = [0, "start", "a:0,0,"];
+
+test("two runs part at the first frame that differs", () => {
+  const one = run([START, [1, "move", "a:0,b:1,"]]);
+  assert.equal(partingOf(one, run([START, [1, "move", "a:0,b:1,"]])), null);
+  // the same cells by another spelling
+  assert.equal(partingOf(one, run([[0, "start", "a:0,a:1,"], [1, "move", "A a:0,b:1,"]])), null);
+  assert.deepEqual(partingOf(one, run([START, [1, "move", "b:0,a:1,"]])), { frame: 1, kind: "level" });
+  assert.deepEqual(partingOf(one, run([START, [1, "tick", "a:0,b:1,"]])), { frame: 1, kind: "kind" });
+  assert.deepEqual(partingOf(one, run([START])), { frame: 1, kind: "end" });
+  assert.deepEqual(partingOf(one, run([START, [1, "move", "a:0,b:1,"]], "differs")), { frame: 2, kind: "close" });
+});
+
+test("a parting is told with its input", () => {
+  const one = run([START, [1, "move", "a:0,b:1,"]]), other = run([START], "stopped", "loop-limit");
+  assert.equal(partingTold(partingOf(one, other), one, other, [3]), "frame 1, after input 1 (right): no more frames there, which is stopped (loop-limit)");
+  const differs = run(one.frames.map(({ at, kind, level }) => [at, kind, level]), "differs");
+  assert.equal(partingTold(partingOf(one, differs), one, differs, [3]), "the same 2 frames, and then here passed, there differs");
+});
+
+test("the level that was reached is held against the recorded one", () => {
+  const told = (reached, recorded, order = "columns") => endingTold(new Ending(reached, recorded, order));
+  assert.equal(told("a:0,b:1,\n0,0,\n", "a:0,0,0,0,"), "1 of 4 cells (2 wide, 2 high) differs from the recorded level");
+  assert.equal(told("a:0,b:1,\n0,0,\n", "a:0,0,b:1,0,"), "2 of 4 cells (2 wide, 2 high) differ from the recorded level; the recorded level is this one in the other order than columns");
+  assert.equal(told("a:0,0,\n", "a:0,"), "the recorded level has 1 cell, and the one that was reached 2");
+  assert.equal(told("a:0,0,\n", "a"), "the recorded level is no level text");
+  assert.match(told("a,b:0,0,\n", "a:0,"), /^the level that was reached can't be read back/);
+});
+
+test("what can't be recorded is told", () => {
+  const ending = (recorded) => new Ending("a:0,b:1,\n0,0,\n", recorded, "columns");
+  assert.equal(obstacleTold(run([], "differs"), ending("a:0,0,0,0,")), null);
+  assert.equal(obstacleTold(run([], "stopped", "loop-limit"), ending("a:0,0,0,0,")), "it was stopped, and not played to its end");
+  assert.match(obstacleTold(run([], "differs"), ending("a:0,0,b:1,0,")), /in the other order than columns/);
+});
+
+test("level texts are read as docs/sessions.md has them", () => {
+  const names = (text) => {
+    const labels = new Labels();
+    return readCells(text, labels)?.map((label) => labels.names[label].join(" ")) ?? null;
+  };
+  assert.deepEqual(names("b a:0,\r\n00,:1,A b:2,\n"), ["a b", "a b", "", "a b"]);
+  assert.deepEqual(names(""), []);
+  for (const text of ["a", "a:1,", "0,", "a:0,1,", "a:0,x,", "a:0,a:0,"]) assert.equal(names(text), null, text);
+  assert.equal(widthOf("a:0,0,\n0,0,\n", 4), 2);
+  assert.equal(widthOf("a:0,0,0,", 3), 3);
+});
+
+test("the nearest word is found as difflib finds it", () => {
+  assert.equal(likeness("abcd", "bcde"), 0.75);
+  assert.equal(nearest("plaer", ["player", "wall", "crate"]), "player");
+  assert.equal(nearest("ochre", ["player", "wall"]), null);
+});
+
+const row = (name, close, parting = null) => ({ name, close, parting });
+const ROWS = [row("Level one", "passed"), row("level two", "differs"), row("three", "passed", { frame: 2 }), row("four", null)];
+
+test("a list is filtered by close and by name", () => {
+  assert.deepEqual(listed(ROWS, "all", ""), [0, 1, 2, 3]);
+  assert.deepEqual(listed(ROWS, "all", "LEVEL"), [0, 1]);
+  assert.deepEqual(listed(ROWS, "differs", ""), [1]);
+  assert.deepEqual(listed(ROWS, "parts", ""), [2]);
+  assert.deepEqual(ROWS.map(isFailure), [false, true, true, false]);
+});
+
+test("the next and the last of a list go round", () => {
+  assert.equal(following([1, 4, 7], null, 1), 1);
+  assert.equal(following([1, 4, 7], null, -1), 7);
+  assert.equal(following([1, 4, 7], 4, 1), 7);
+  assert.equal(following([1, 4, 7], 7, 1), 1);
+  assert.equal(following([1, 4, 7], 2, -1), 1);
+  assert.equal(following([1, 4, 7], 1, -1), 7);
+  assert.equal(following([], 1, 1), null);
+});
+
+const pressed = (key, selector = "body", more = {}) => meaningOf({ key, target: { matches: (wanted) => wanted.split(",").some((it) => it.trim().startsWith(selector)) }, ...more });
+
+test("keys mean inputs and moves, but not where something is typed", () => {
+  assert.deepEqual(pressed("ArrowLeft"), { input: 1 });
+  assert.deepEqual(pressed("D"), { input: 3 });
+  assert.deepEqual(pressed("."), { input: "tick" });
+  assert.deepEqual(pressed("ArrowLeft", "body", { shiftKey: true }), { move: "back" });
+  assert.deepEqual(pressed("N", "body", { shiftKey: true }), { move: "previous-failure" });
+  assert.deepEqual(pressed("End"), { move: "last" });
+  for (const it of [pressed("x", "textarea"), pressed("q"), pressed("z", "body", { ctrlKey: true }), pressed(" ", "button"), pressed("Tab"), pressed("Enter")]) assert.equal(it, null);
+});
+
+test("a file is taken for what its first letter says", () => {
+  assert.deepEqual(["\ufeff [", '{"at":0', "title A", ""].map(kindOf), ["sessions", "lines", "game", "game"]);
+});

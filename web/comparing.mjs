@@ -1,0 +1,90 @@
+// How two runs of a session part, and how the level that a session reached differs from the recorded one. The twin of python/saxtegun/parting.py
+// and of what explaining.py says of the end.
+import { differing, isOfOneSize } from "./levels.mjs";
+import { Labels, readCells, readLevel } from "./level-text.mjs";
+import { plural } from "./elements.mjs";
+import { inputTold } from "./faults.mjs";
+
+const commasOf = (text) => text.split("\n", 1)[0].split(",").length - 1;
+
+// Whether two level texts spell the same cells.
+function isSameLevel(one, other) {
+  if (one === other) return true;
+  const labels = new Labels(), cells = readCells(one, labels), others = readCells(other, labels);
+  return cells !== null && others !== null && cells.length === others.length && cells.every((label, at) => label === others[at]) && commasOf(one) === commasOf(other);
+}
+
+function isSameFrame(one, other) {
+  return one !== undefined && other !== undefined && one.at === other.at && one.kind === other.kind && isSameLevel(one.level, other.level);
+}
+
+// Where two runs part: { frame, kind }; null where they are the same. Where only their closes differ, the frame is the one behind the last.
+export function partingOf(one, other) {
+  const count = Math.max(one.frames.length, other.frames.length);
+  for (let frame = 0; frame < count; frame += 1) {
+    const [left, right] = [one.frames[frame], other.frames[frame]];
+    if (isSameFrame(left, right)) continue;
+    if (left === undefined || right === undefined) return { frame, kind: "end" };
+    return { frame, kind: left.at === right.at && left.kind === right.kind ? "level" : "kind" };
+  }
+  return one.close === other.close && one.cause === other.cause ? null : { frame: count, kind: "close" };
+}
+
+const closeTold = ({ close, cause }) => (cause === null ? close : `${close} (${cause})`);
+
+function afterTold(inputs, at) {
+  if (at === 0) return "at the start";
+  return at <= inputs.length ? `after input ${at} (${inputTold(inputs[at - 1])})` : `after input ${at}`;
+}
+
+// Where two runs part, in a sentence without its end.
+export function partingTold({ frame, kind }, one, other, inputs) {
+  if (kind === "close") return `the same ${plural(frame, "frame")}, and then here ${closeTold(one)}, there ${closeTold(other)}`;
+  const [left, right] = [one.frames[frame], other.frames[frame]];
+  const where = `frame ${frame}, ${afterTold(inputs, (left ?? right).at)}`;
+  if (kind === "end") return `${where}: no more frames ${left === undefined ? `here, which is ${closeTold(one)}` : `there, which is ${closeTold(other)}`}`;
+  if (kind === "kind") return `${where}: here ${left.kind} of ${plural(left.at, "input")}, there ${right.kind} of ${right.at}`;
+  return where;
+}
+
+// Whether one level is the other in the other order of cells.
+function isTurned(level, other) {
+  const step = level.order === "rows" ? level.width : level.cells.length / level.width;
+  const turned = Array.from({ length: step }, (_, first) => level.cells.filter((_label, at) => at % step === first)).flat();
+  return turned.every((label, at) => label === other.cells[at]);
+}
+
+// The level that was reached beside another one, a recorded one or that of another run.
+export class Ending {
+  constructor(reached, recorded, order, labels = new Labels()) {
+    this.labels = labels;
+    this.reached = readLevel(reached, labels, order);
+    const other = readLevel(recorded, labels, order);
+    const isSameCount = other !== null && this.reached !== null && other.cells.length === this.reached.cells.length;
+    // a recorded text need not have the line breaks
+    this.recorded = isSameCount ? { ...other, width: this.reached.width } : other;
+    this.cells = isOfOneSize(this.reached, this.recorded) ? differing(this.reached, this.recorded) : null;
+  }
+
+  get isTurned() {
+    return this.cells !== null && this.cells.length > 0 && isTurned(this.reached, this.recorded);
+  }
+}
+
+// How a level differs from the recorded one, in a sentence without its end.
+export function endingTold(ending) {
+  const { reached, recorded, cells } = ending;
+  if (reached === null) return "the level that was reached can't be read back, since a name of an object in it holds a comma";
+  if (recorded === null) return "the recorded level is no level text";
+  if (cells === null) return `the recorded level has ${plural(recorded.cells.length, "cell")}, and the one that was reached ${reached.cells.length}`;
+  const order = reached.order, turned = ending.isTurned ? `; the recorded level is this one in the other order than ${order}` : "";
+  const size = `(${reached.width} wide, ${reached.cells.length / reached.width} high)`;
+  return `${cells.length} of ${plural(reached.cells.length, "cell")} ${size} ${cells.length === 1 ? "differs" : "differ"} from the recorded level${turned}`;
+}
+
+// Why what a session reached can't be recorded, or null.
+export function obstacleTold(run, ending) {
+  if (run.cause !== null) return `it was ${run.close}, and not played to its end`;
+  if (ending.reached === null) return endingTold(ending);
+  return ending.isTurned ? `the recorded level is the reached one in the other order than ${ending.reached.order}: play it in the order that it was recorded in` : null;
+}

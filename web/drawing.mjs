@@ -1,0 +1,95 @@
+// Draws a level on a canvas, from the look of its game: { ground, objects }. The ground is a colour; each object is
+// [name, layer, colours, sprite], where a colour that is null is transparent, and a sprite is 25 letters (a digit for a colour,
+// or "." for none), or "" for a block of the first colour.
+import { heightOf, isDrawn, placeOf } from "./levels.mjs";
+
+export const SIDE = 5; // pixels of a sprite
+
+function paintObject(context, [, , colours, sprite]) {
+  const pixels = sprite === "" ? [[0, 0, 0, SIDE]] : Array.from(sprite, (letter, number) => [letter, number % SIDE, Math.floor(number / SIDE), 1]);
+  for (const [letter, column, row, side] of pixels) {
+    const colour = letter === "." ? null : colours[Number(letter)];
+    if (!colour) continue;
+    context.fillStyle = colour;
+    context.fillRect(column, row, side, side);
+  }
+}
+
+// The pictures of a game's cells, each drawn once. `labels` says for a label which objects stand in the cell, by their names.
+export class Pictures {
+  constructor(look, labels) {
+    this.ground = look.ground;
+    this.objects = new Map(look.objects.map((object) => [object[0], object]));
+    this.labels = labels;
+    this.pictures = new Map();
+  }
+
+  of(label) {
+    if (!this.pictures.has(label)) this.pictures.set(label, this.paint(this.labels[label]));
+    return this.pictures.get(label);
+  }
+
+  paint(names) {
+    const picture = document.createElement("canvas");
+    picture.width = SIDE;
+    picture.height = SIDE;
+    const context = picture.getContext("2d");
+    context.fillStyle = this.ground;
+    context.fillRect(0, 0, SIDE, SIDE);
+    const objects = names.map((name) => this.objects.get(name)).filter(Boolean);
+    objects.sort((one, other) => one[1] - other[1]).forEach((object) => paintObject(context, object));
+    return picture;
+  }
+}
+
+// The largest whole number of pixels for a sprite's pixel with which a level fits into a room, from 1 to `most`.
+export function scaleFor(level, width, height, most) {
+  const fitting = Math.min(width / (level.width * SIDE), height / (heightOf(level) * SIDE));
+  return Math.max(1, Math.min(most, Math.floor(fitting)));
+}
+
+// The lines of a frame within a cell, whole or its corners alone: each from one point to another.
+function frameLines(left, top, side, isWhole) {
+  const [right, bottom, part] = [left + side, top + side, isWhole ? side / 2 : side / 4];
+  const corners = [[left, top, 1, 1], [right, top, -1, 1], [right, bottom, -1, -1], [left, bottom, 1, -1]];
+  return corners.map(([x, y, across, down]) => [[x + across * part, y], [x, y], [x, y + down * part]]);
+}
+
+function strokeFrame(context, level, number, size, thickness, isWhole) {
+  const [column, row] = placeOf(level, number);
+  const inset = thickness / 2;
+  context.beginPath();
+  for (const [begin, ...more] of frameLines(column * size + inset, row * size + inset, size - thickness, isWhole)) {
+    context.moveTo(...begin);
+    for (const point of more) context.lineTo(...point);
+  }
+  context.stroke();
+}
+
+// Draws a level so many pixels for each of a sprite's. `framed` are cells that get a frame, whole or its corners alone: [{ cells, colour, isWhole }].
+export function drawLevel(canvas, level, pictures, scale, framed = []) {
+  canvas.hidden = !isDrawn(level);
+  if (canvas.hidden) return;
+  const size = SIDE * scale;
+  canvas.width = level.width * size;
+  canvas.height = heightOf(level) * size;
+  const context = canvas.getContext("2d");
+  context.imageSmoothingEnabled = false;
+  level.cells.forEach((label, number) => {
+    const [column, row] = placeOf(level, number);
+    context.drawImage(pictures.of(label), column * size, row * size, size, size);
+  });
+  const thickness = Math.max(1, Math.round(size / 12));
+  context.lineWidth = thickness;
+  for (const { cells, colour, isWhole = true } of framed) {
+    context.strokeStyle = colour;
+    for (const number of cells) strokeFrame(context, level, number, size, thickness, isWhole);
+  }
+}
+
+// The column and the row of the cell below a pointer, both from 0.
+export function cellBelow(canvas, level, event) {
+  const box = canvas.getBoundingClientRect();
+  const share = (at, begin, length, count) => Math.min(count - 1, Math.max(0, Math.floor(((at - begin) / length) * count)));
+  return [share(event.clientX, box.left, box.width, level.width), share(event.clientY, box.top, box.height, heightOf(level))];
+}

@@ -1,0 +1,30 @@
+// Elements of a page. What came from games goes into them as text alone.
+
+export const at = (id) => document.getElementById(id);
+
+export const json = (id) => JSON.parse(at(id).textContent);
+
+export function make(tag, className, text) {
+  const element = document.createElement(tag);
+  element.className = className;
+  element.textContent = text;
+  return element;
+}
+
+export function makeButton(className, text, act) {
+  const button = make("button", className, text);
+  button.type = "button";
+  button.addEventListener("click", act);
+  return button;
+}
+
+export const cut = (text, most) => (text.length > most ? `${text.slice(0, most)}\u2026` : text);
+
+export const plural = (count, word) => (count === 1 ? `1 ${word}` : `${count} ${word}s`);
+
+// Scrolls a box, and nothing around it, until an element in it is seen.
+export function reveal(box, element) {
+  const [outer, inner] = [box.getBoundingClientRect(), element.getBoundingClientRect()];
+  if (inner.top < outer.top) box.scrollTop -= outer.top - inner.top;
+  else if (inner.bottom > outer.bottom) box.scrollTop += inner.bottom - outer.bottom;
+}

@@ -1,0 +1,49 @@
+// The nearest of some words, as Python's difflib finds it, which the command line tells too.
+
+const CUTOFF = 0.6;
+
+// The longest stretch that two words share, between places of each.
+function longestShared(one, other, [low, high], [lowOther, highOther]) {
+  let best = { at: low, atOther: lowOther, size: 0 }, lengths = new Map();
+  for (let at = low; at < high; at += 1) {
+    const next = new Map();
+    for (let atOther = lowOther; atOther < highOther; atOther += 1) {
+      if (one[at] !== other[atOther]) continue;
+      const size = (lengths.get(atOther - 1) ?? 0) + 1;
+      next.set(atOther, size);
+      if (size > best.size) best = { at: at - size + 1, atOther: atOther - size + 1, size };
+    }
+    lengths = next;
+  }
+  return best;
+}
+
+// How many letters two words share, by longest stretches and then on both sides of each.
+function shared(one, other) {
+  const left = [[[0, one.length], [0, other.length]]];
+  let count = 0;
+  while (left.length > 0) {
+    const [[low, high], [lowOther, highOther]] = left.pop();
+    const { at, atOther, size } = longestShared(one, other, [low, high], [lowOther, highOther]);
+    if (size === 0) continue;
+    count += size;
+    left.push([[low, at], [lowOther, atOther]], [[at + size, high], [atOther + size, highOther]]);
+  }
+  return count;
+}
+
+// How like two words are, from 0 to 1.
+export function likeness(one, other) {
+  const [letters, others] = [[...one], [...other]], both = letters.length + others.length;
+  return both === 0 ? 1 : (2 * shared(letters, others)) / both;
+}
+
+// The word of a list that is nearest to a word, or null where none is near.
+export function nearest(word, words) {
+  let best = null, most = CUTOFF;
+  for (const candidate of [...words].sort()) {
+    const like = likeness(candidate, word);
+    if (like >= most) [best, most] = [candidate, like];
+  }
+  return best;
+}

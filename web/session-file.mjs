@@ -1,0 +1,160 @@
+// A sessions file as docs/sessions.md has it: its entries, and its bytes, of which a change leaves all else letter by letter. The twin of
+// python/saxtegun/sessions.py.
+import { elementsOf } from "../engine/saxtegun.mjs";
+
+const WORDS = ["undo", "restart", "tick"];
+const MOST_INDEX = 2 ** 64;
+const HALF_A_LETTER = /\p{Surrogate}/u;
+const BLANK = [0x20, 0x0a, 0x0d, 0x09];
+
+// Why a file has no answer, in a sentence.
+export class Refusal extends Error {}
+
+export const MOST_INPUTS = 65_536;
+
+const isInput = (value) => WORDS.includes(value) || (Number.isInteger(value) && value >= 0 && value <= 4);
+
+// What makes a value no entry of a sessions file, or null.
+function faultOf(entry) {
+  if (!Array.isArray(entry) || typeof entry[0] !== "string" || !Array.isArray(entry[1])) return "it is no list of a name and a list";
+  const [source, inputs, level, index = null] = entry[1];
+  if (typeof source !== "string" || !Array.isArray(inputs) || typeof level !== "string") return "behind its name there is no list of a source, a list of inputs and a level text";
+  const bad = inputs.findIndex((input) => !isInput(input));
+  if (bad >= 0) return `its input ${bad} is neither 0 to 4 nor undo, restart or tick`;
+  if (index !== null && !(Number.isInteger(index) && index >= 0 && index <= MOST_INDEX)) return "its index is no whole number";
+  return [entry[0], source, level].some((text) => HALF_A_LETTER.test(text)) ? "a text of it holds half a letter (a lone surrogate)" : null;
+}
+
+// A span of bytes without the white space around it.
+function tight(bytes, [begin, end]) {
+  let [first, last] = [begin, end];
+  while (first < last && BLANK.includes(bytes[first])) first += 1;
+  while (first < last && BLANK.includes(bytes[last - 1])) last -= 1;
+  return [first, last];
+}
+
+// Where the elements of the list stand that a span of bytes is.
+const spansIn = (bytes, [begin, end]) => elementsOf(bytes.subarray(begin, end)).map(([one, other]) => tight(bytes, [begin + one, begin + other]));
+
+// The bytes with others in the place of a span.
+function spliced(bytes, [begin, end], piece) {
+  const whole = new Uint8Array(bytes.length - (end - begin) + piece.length);
+  whole.set(bytes.subarray(0, begin));
+  whole.set(piece, begin);
+  whole.set(bytes.subarray(end), begin + piece.length);
+  return whole;
+}
+
+const encoded = (value) => new TextEncoder().encode(JSON.stringify(value));
+
+function entryOf(value, number) {
+  const fault = faultOf(value);
+  if (fault !== null) throw new Refusal(`session ${number}: ${fault}`);
+  const [name, [source, inputs, level, index]] = value;
+  return { name, source, inputs, level, index: Math.min(index ?? 0, Number.MAX_SAFE_INTEGER) };
+}
+
+// The text of bytes, or a refusal where they are none.
+export function textOf(bytes, name) {
+  try {
+    return new TextDecoder("utf-8", { fatal: true, ignoreBOM: true }).decode(bytes);
+  } catch {
+    throw new Refusal(`${name} is no text in UTF-8`);
+  }
+}
+
+export class SessionFile {
+  constructor(name, bytes) {
+    this.name = name;
+    this.bytes = bytes;
+    let values = null;
+    try {
+      values = JSON.parse(textOf(bytes, name));
+    } catch (error) {
+      if (error instanceof Refusal) throw error;
+      throw new Refusal(`${name} is no JSON list of sessions: ${error.message}`);
+    }
+    if (!Array.isArray(values)) throw new Refusal(`${name} is no JSON list of sessions`);
+    try {
+      this.entries = values.map(entryOf);
+    } catch (error) {
+      throw error instanceof Refusal ? new Refusal(`${name}, ${error.message}`) : error;
+    }
+  }
+
+  static empty(name) {
+    return new SessionFile(name, new TextEncoder().encode("[\n]\n"));
+  }
+
+  // The sessions that are played over the text of a game, since they have the empty text as their own.
+  get isOverAGame() {
+    return this.entries.some((entry) => entry.source === "");
+  }
+
+  // The file as it is played, with a game's text in the place of empty ones.
+  playedOver(game) {
+    if (!this.isOverAGame) return this.bytes;
+    return encoded(this.entries.map(({ name, source, inputs, level, index }) => [name, [source || game, inputs, level, index]]));
+  }
+
+  spans() {
+    return spansIn(this.bytes, [0, this.bytes.length]);
+  }
+
+  changedBy(span, piece) {
+    return new SessionFile(this.name, spliced(this.bytes, span, piece));
+  }
+
+  // The file with other recorded levels, [[number, level]].
+  withLevels(changes) {
+    let file = this;
+    const spans = this.spans();
+    // from the last one on, so that the spans of those before stay
+    for (const [number, level] of [...changes].sort(([one], [other]) => other - one)) {
+      const body = spansIn(file.bytes, spans[number])[1];
+      file = { bytes: spliced(file.bytes, spansIn(file.bytes, body)[2], encoded(level)) };
+    }
+    return new SessionFile(this.name, file.bytes);
+  }
+
+  // The file with one more session at its end.
+  with(entry) {
+    const spans = this.spans(), text = encoded(valueOf(entry));
+    if (spans.length > 0) {
+      const end = spans.at(-1)[1];
+      return this.changedBy([end, end], new Uint8Array([...new TextEncoder().encode(",\n"), ...text]));
+    }
+    return new SessionFile(this.name, new Uint8Array([...new TextEncoder().encode("[\n"), ...text, ...new TextEncoder().encode("\n]\n")]));
+  }
+
+  // The file with a session in the place of another.
+  withReplaced(number, entry) {
+    return this.changedBy(this.spans()[number], encoded(valueOf(entry)));
+  }
+
+  without(number) {
+    const spans = this.spans();
+    if (spans.length === 1) return SessionFile.empty(this.name);
+    const span = number === 0 ? [spans[0][0], spans[1][0]] : [spans[number - 1][1], spans[number][1]];
+    return this.changedBy(span, new Uint8Array(0));
+  }
+
+}
+
+// An entry as a sessions file has it.
+export const valueOf = ({ name, source, inputs, level, index }) => [name, [source, inputs, level, index]];
+
+const REFUSALS = {
+  "too-many": "it has more than 16 MiB or 65,536 sessions",
+  "not-json": "it is no JSON list",
+  "bad-entry": "session {number} is no entry of a name, a source, inputs and a level",
+  "bad-level": "the recorded level of session {number} is no level text",
+  memory: "there is not enough memory",
+  broken: "the engine stopped at a fault of its own",
+};
+
+// A fault of the engine in words.
+export function refusalTold(fault) {
+  const [word, number] = fault.split(" ");
+  return Object.hasOwn(REFUSALS, word) ? REFUSALS[word].replace("{number}", number) : fault;
+}

@@ -1,0 +1,251 @@
+"""Drives real browsers for the tests by hand: chromium over two pipes, and firefox over its Marionette port. Needs nothing of Python's outside."""
+import base64
+import json
+import os
+import shutil
+import socket
+import subprocess
+import time
+from pathlib import Path
+
+SECONDS = 30  # so long a page may take
+# Keys that have no letter, by their number in the messages of firefox.
+FIREFOX_KEYS = {"ArrowUp": "\ue013", "ArrowLeft": "\ue012", "ArrowDown": "\ue015", "ArrowRight": "\ue014", "Home": "\ue011", "End": "\ue010", "Tab": "\ue004", "Enter": "\ue007",
+                "Escape": "\ue00c", "Backspace": "\ue003"}
+
+
+def program_of(*names):
+    return next((it for it in map(shutil.which, names) if it), None)
+
+
+class Browser:
+    """What both browsers do. A script is an expression, whose value JSON can write."""
+
+    def until(self, script, wanted, seconds=SECONDS):
+        """Waits for a value of the page; the last one that it had."""
+        value, end = self.value(script), time.monotonic() + seconds
+        while value != wanted and time.monotonic() < end:
+            time.sleep(0.02)
+            value = self.value(script)
+        return value
+
+    def open(self, page, address="", is_ready="document.readyState === 'complete'"):
+        """Opens a page anew; the seconds until it is ready."""
+        self.go("about:blank")
+        self.forget()
+        begin = time.monotonic()
+        self.go(f"{page.as_uri() if isinstance(page, Path) else page}{address}")
+        if self.until(is_ready, True) is not True:
+            raise RuntimeError("the page did not open")
+        return time.monotonic() - begin
+
+    def point(self, element, across, down, is_tap=False):
+        """Moves the pointer over an element, by shares of its sides, and taps it where that is wanted."""
+        box = self.value(f"(({{left, top, width, height}}) => [left, top, width, height])(document.getElementById('{element}').getBoundingClientRect())")
+        self.pointer(box[0] + across * box[2], box[1] + down * box[3], is_tap)
+
+    def click(self, selector):
+        """Clicks the middle of the element that a selector finds."""
+        box = self.value(f"((it) => {{ it.scrollIntoView({{block: 'nearest'}}); const {{left, top, width, height}} = it.getBoundingClientRect(); return [left, top, width, height]; }})"
+                         f"(document.querySelector({json.dumps(selector)}))")
+        self.pointer(box[0] + box[2] / 2, box[1] + box[3] / 2, True)
+
+
+class Chromium(Browser):
+    """Chromium, which is told what to do by messages that end with a nought."""
+
+    name = "chromium"
+    program = program_of("chromium", "chromium-browser", "google-chrome")
+    words = ("--headless=new", "--no-sandbox", "--disable-gpu", "--no-first-run", "--remote-debugging-pipe", "--window-size=1280,760", "--hide-scrollbars")
+
+    def __init__(self, room):
+        (it_reads, self.output), (self.input, it_writes) = os.pipe(), os.pipe()
+        words = [self.program, *self.words, f"--user-data-dir={room}/chromium", "about:blank"]
+        # the browser reads from descriptor 3 and writes to 4
+        command = ["sh", "-c", f'exec "$@" 3<&{it_reads} 4>&{it_writes}', "sh", *words]
+        with open(f"{room}/chromium.log", "wb") as log:
+            self.process = subprocess.Popen(command, pass_fds=(it_reads, it_writes), stdout=log, stderr=log)
+        os.close(it_reads)
+        os.close(it_writes)
+        self.rest, self.count, self.events, self.session = b"", 0, [], None
+        page = next(it for it in self.call("Target.getTargets")["targetInfos"] if it["type"] == "page")
+        self.session = self.call("Target.attachToTarget", targetId=page["targetId"], flatten=True)["sessionId"]
+        for part in ("Page", "Network", "Runtime", "Log"):
+            self.call(f"{part}.enable")
+        self.size(1280, 760)
+
+    def message(self):
+        while b"\0" not in self.rest:
+            data = os.read(self.input, 1 << 16)
+            if not data:
+                raise EOFError("the browser has ended")
+            self.rest += data
+        text, _, self.rest = self.rest.partition(b"\0")
+        return json.loads(text)
+
+    def call(self, method, **words):
+        self.count += 1
+        call = {"id": self.count, "method": method, "params": words, **({"sessionId": self.session} if self.session else {})}
+        os.write(self.output, json.dumps(call).encode() + b"\0")
+        while True:
+            message = self.message()
+            if message.get("id") == self.count:
+                if "error" in message:
+                    raise RuntimeError(f"{method}: {message['error']}")
+                return message["result"]
+            self.events.append(message)
+
+    def value(self, script):
+        result = self.call("Runtime.evaluate", expression=script, returnByValue=True, awaitPromise=True)
+        if "exceptionDetails" in result:
+            raise RuntimeError(json.dumps(result["exceptionDetails"]))
+        return result["result"].get("value")
+
+    def go(self, address):
+        self.call("Page.navigate", url=address)
+
+    def forget(self):
+        self.events = []
+
+    def press(self, key, shift=False):
+        is_letter = len(key) == 1
+        words = {"key": key, "code": {" ": "Space"}.get(key, f"Key{key.upper()}" if key.isalpha() and is_letter else key), "modifiers": 8 if shift else 0}
+        virtual = {"Tab": 9, "Enter": 13, "ArrowLeft": 37, "ArrowUp": 38, "ArrowRight": 39, "ArrowDown": 40, "Home": 36, "End": 35, "Escape": 27, "Backspace": 8}
+        words["windowsVirtualKeyCode"] = virtual.get(key, ord(key[0].upper()))
+        text = {"Enter": "\r"}.get(key, key if is_letter else None)
+        self.call("Input.dispatchKeyEvent", type="keyDown", **words, **({"text": text} if text else {}))
+        self.call("Input.dispatchKeyEvent", type="keyUp", **words)
+
+    def type(self, text):
+        self.call("Input.insertText", text=text)
+
+    def pointer(self, x, y, is_tap=False):
+        self.call("Input.dispatchMouseEvent", type="mouseMoved", x=x, y=y)
+        for kind in ("mousePressed", "mouseReleased") if is_tap else ():
+            self.call("Input.dispatchMouseEvent", type=kind, x=x, y=y, button="left", clickCount=1)
+
+    def size(self, width, height):
+        self.call("Emulation.setDeviceMetricsOverride", width=width, height=height, deviceScaleFactor=1, mobile=False)
+
+    def scheme(self, name):
+        """Wants the light or the dark scheme."""
+        self.call("Emulation.setEmulatedMedia", features=[{"name": "prefers-color-scheme", "value": name}])
+
+    def picture(self, path):
+        Path(path).write_bytes(base64.b64decode(self.call("Page.captureScreenshot", format="png")["data"]))
+
+    def faults(self, room):
+        """What was asked of any network beside the files of a folder, and what went wrong in the page."""
+        self.value("0")
+        asked = [it["params"]["request"]["url"] for it in self.events if it.get("method") == "Network.requestWillBeSent"]
+        wrong = [it for it in self.events if it.get("method") in ("Runtime.exceptionThrown", "Page.javascriptDialogOpening")]
+        said = [it["params"]["entry"] for it in self.events if it.get("method") == "Log.entryAdded"]
+        called = [it["params"] for it in self.events if it.get("method") == "Runtime.consoleAPICalled"]
+        own = (Path(room).as_uri(), "about:", "data:", "blob:")
+        return [*(it for it in asked if not it.startswith(own)), *wrong, *(it for it in said if it["level"] == "error"), *(it for it in called if it["type"] == "error")]
+
+    def end(self):
+        self.call("Browser.close")
+        self.process.wait(20)
+        os.close(self.input)
+        os.close(self.output)
+
+
+class Firefox(Browser):
+    """Firefox, which is told what to do by messages with their lengths before them. What it asks of a network and what goes wrong in a page it tells
+    only as far as the page itself sees it."""
+
+    name = "firefox"
+    program = program_of("firefox", "firefox-esr")
+    wishes = {"marionette.port": 0, "toolkit.startup.max_resumed_crashes": -1, "browser.shell.checkDefaultBrowser": False, "datareporting.policy.dataSubmissionEnabled": False,
+              "app.update.auto": False, "browser.tabs.remote.autostart": True, "dom.disable_open_during_load": False}
+
+    def __init__(self, room):
+        profile = Path(room) / "firefox"
+        profile.mkdir()
+        (profile / "user.js").write_text("".join(f"user_pref({json.dumps(name)}, {json.dumps(value)});\n" for name, value in self.wishes.items()))
+        command = [self.program, "--headless", "--marionette", "--no-remote", "--width", "1280", "--height", "760", "--profile", profile]
+        with open(f"{room}/firefox.log", "wb") as log:
+            self.process = subprocess.Popen(command, stdout=log, stderr=log)
+        self.socket, self.rest, self.count = self.connected(profile / "MarionetteActivePort"), b"", 0
+        self.message()
+        self.call("WebDriver:NewSession", capabilities={"alwaysMatch": {"unhandledPromptBehavior": "ignore"}})
+        self.size(1280, 760)
+
+    def connected(self, file):
+        end = time.monotonic() + 60
+        while time.monotonic() < end:
+            try:
+                return socket.create_connection(("127.0.0.1", int(file.read_text())))
+            except (OSError, ValueError):
+                time.sleep(0.1)
+        raise RuntimeError("firefox did not start")
+
+    def message(self):
+        while b":" not in self.rest:
+            self.rest += self.received()
+        length, _, self.rest = self.rest.partition(b":")
+        while len(self.rest) < int(length):
+            self.rest += self.received()
+        text, self.rest = self.rest[: int(length)], self.rest[int(length) :]
+        return json.loads(text)
+
+    def received(self):
+        data = self.socket.recv(1 << 16)
+        if not data:
+            raise EOFError("the browser has ended")
+        return data
+
+    def call(self, method, **words):
+        self.count += 1
+        text = json.dumps([0, self.count, method, words]).encode()
+        self.socket.sendall(b"%d:%s" % (len(text), text))
+        _, _, error, result = self.message()
+        if error:
+            raise RuntimeError(f"{method}: {error['error']}: {error['message']}")
+        return result
+
+    def value(self, script):
+        return self.call("WebDriver:ExecuteScript", script=f"return {script}", args=[])["value"]
+
+    def go(self, address):
+        self.call("WebDriver:Navigate", url=address)
+
+    def forget(self):
+        pass
+
+    def perform(self, kind, *actions, **words):
+        self.call("WebDriver:PerformActions", actions=[{"type": kind, "id": kind, "actions": list(actions), **words}])
+
+    def press(self, key, shift=False):
+        letter, held = FIREFOX_KEYS.get(key, key), ["\ue008"] if shift else []
+        downs = [{"type": "keyDown", "value": it} for it in [*held, letter]]
+        self.perform("key", *downs, *({"type": "keyUp", "value": it} for it in [letter, *held]))
+
+    def type(self, text):
+        self.perform("key", *(it for letter in text for it in ({"type": "keyDown", "value": letter}, {"type": "keyUp", "value": letter})))
+
+    def pointer(self, x, y, is_tap=False):
+        taps = [{"type": "pointerDown", "button": 0}, {"type": "pointerUp", "button": 0}] if is_tap else []
+        self.perform("pointer", {"type": "pointerMove", "x": round(x), "y": round(y), "duration": 0}, *taps, parameters={"pointerType": "mouse"})
+
+    def size(self, width, height):
+        """Gives the page this size. Firefox makes no window narrower than 450."""
+        inner = self.value("[window.outerWidth - window.innerWidth, window.outerHeight - window.innerHeight]")
+        self.call("WebDriver:SetWindowRect", width=width + inner[0], height=height + inner[1])
+
+    def picture(self, path):
+        Path(path).write_bytes(base64.b64decode(self.call("WebDriver:TakeScreenshot", full=False)["value"]))
+
+    def faults(self, room):
+        asked = self.value("performance.getEntriesByType('resource').map((it) => it.name)")
+        own = (Path(room).as_uri(), "about:", "data:", "blob:")
+        return [it for it in asked if not it.startswith(own)]
+
+    def end(self):
+        self.call("Marionette:Quit", flags=["eForceQuit"])
+        self.process.wait(30)
+        self.socket.close()
+
+
+BROWSERS = [it for it in (Chromium, Firefox) if it.program]

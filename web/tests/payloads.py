@@ -1,0 +1,38 @@
+"""Texts of somebody who wants to run a script in a page, to ask something of a network, or to break a page; and a suite that has each in five places."""
+import json
+
+HACK = "window.hacked=1"
+PAYLOADS = [
+    f"<script>{HACK}</script>", f"</script><script>{HACK}</script>", f"<img src=x onerror={HACK}>", f"<svg onload={HACK}>", f"<svg><script>{HACK}</script></svg>",
+    f"<iframe srcdoc='<script>parent.hacked=1</script>'></iframe>", f"javascript:{HACK}", f"<a href=javascript:{HACK}>a</a>", f"<body onload={HACK}>", f"<details open ontoggle={HACK}>",
+    f"<input autofocus onfocus={HACK}>", f"<video><source onerror={HACK}></video>", f"<math><mtext><style><img src=x onerror={HACK}></style>", f"<!--<script>{HACK}//-->", "<!--<script>",
+    f"]]><script>{HACK}</script>", f"';{HACK};'", f"\";{HACK};\"", f"`${{{HACK}}}`", f"\\u003cscript\\u003e{HACK}\\u003c/script\\u003e", f"&lt;script&gt;{HACK}&lt;/script&gt;",
+    "<link rel=stylesheet href=http://localhost:9/a.css>", "<meta http-equiv=refresh content='0;url=http://localhost:9/'>", "<base href=http://localhost:9/>", "<img src=http://localhost:9/a.png>",
+    f"<form action=http://localhost:9/><button autofocus>", "@script@ @data@ @style@ @policy@", f"\u2028{HACK}\u2029", "__proto__ constructor toString", f"<style>*{{background:url(http://localhost:9/)}}</style>",
+]
+REFUSED = "BadRule:13"
+
+
+def source_of(payload):
+    """A game with a payload as its title, its palette, a colour, an object and a line that is no rule (line 13 is that)."""
+    word = payload.replace(" ", "/")
+    return (f"title {payload}\ncolor_palette {payload}\nOBJECTS\nBackground\nurl({word})\nPlayer\nwhite\nLEGEND\nCOLLISIONLAYERS\nBackground\nPlayer\nRULES\n{payload}\nWINCONDITIONS\nLEVELS\n"
+            "p.\n")
+
+
+def hostile_suite():
+    """A sessions file with its lines: for each payload a session whose level can be read, one whose level can't, and one that is refused."""
+    entries, lines = [], []
+
+    def add(payload, level, close, cause=None):
+        number = len(entries)
+        entries.append([payload, [source_of(payload), [3], "background:0,0,"]])
+        if level is not None:
+            lines.append({"at": 0, "frame": 0, "kind": "start", "level": level, "session": number})
+        lines.append({**({"cause": cause} if cause else {}), "close": close, "frames": int(level is not None), "name": payload, "session": number})
+
+    for payload in PAYLOADS:
+        add(payload, f"{payload.replace(',', '').replace(':', '')} background:0,background:1,\n", "differs")
+        add(payload, f"{payload},:0,\n", "differs")
+        add(payload, None, "refused", REFUSED)
+    return json.dumps(entries), "".join(json.dumps(it) + "\n" for it in lines)
