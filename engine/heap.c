@@ -15,6 +15,7 @@ typedef struct Free { struct Free *next; } Free;
 #ifndef LARGE
 #define LARGE 0x100000u // from this size on a block that grows is given room to grow further, so that no smaller copies of it are left behind
 #endif
+#define SPACIOUS 64 // how many times as large such a block is at most
 #define MOST 0xa0000000u // bytes of a block with its header: no sum below exceeds a word of 32 bits, since the memory has at most 3 GiB
 
 #ifdef __wasm__
@@ -82,15 +83,18 @@ static void give_back(void *block) {
     lists[class] = first;
 }
 
-// Whether a block may stay where it is as one of so many bytes: it has them, and no more than four times as many.
+// Whether a block may stay where it is as one of so many bytes: it has them, and not many times as many.
 static int may_stay(void *block, u64 size) {
     word has = size_of(*class_at(block)) - HEADER;
-    return size <= has && size >= has / 4;
+    return size <= has && size >= has / (has < LARGE ? 4 : SPACIOUS);
 }
 
-// A block for what was in a smaller one. What isn't written of its memory costs addresses alone.
+// A block for what was in a smaller one: a large one with room to grow further, as much as is given while little of the memory is in use, and later less.
+// What isn't written of it costs addresses alone, while each smaller copy that is left behind was written.
 static void *take_grown(u64 size) {
-    void *block = size >= LARGE && size <= MOST / 16 ? take(4 * size - HEADER) : 0;
+    void *block = 0;
+    if (size >= LARGE && used - begin() <= MOST / 4 && size <= MOST / 4 / SPACIOUS) block = take(SPACIOUS * size - HEADER);
+    if (!block && size >= LARGE && size <= MOST / 16) block = take(4 * size - HEADER);
     return block ? block : take(size);
 }
 

@@ -60,7 +60,7 @@ export interface Engine {
   replay(text: string | ArrayBuffer | ArrayBufferView, options?: Options): Answer;
   /**
    * Plays one session from its start, for a player that presses one key after another: its close, and of its frames those that were shown after `from` inputs or
-   * more; all, where that is left out. Where there is a fault, there are neither.
+   * more; all, where that is left out. `from` is a whole number from 0 on. The module itself leaves the others out. Where there is a fault, there are neither.
    */
   frames(session: Session, options?: Options & { from?: number }): { frames: Frame[]; close: Close | null; fault: string | null };
   /** Plays a file in workers of its own, cut into files of consecutive sessions. The answer is that of `replay`. */

@@ -50,6 +50,12 @@ function numberOf(order) {
   return ORDERS[order];
 }
 
+/** The number of an input, as the module is told it. */
+function inputOf(from) {
+  if (!Number.isSafeInteger(from) || from < 0) throw new TypeError('inputs are numbered from 0');
+  return BigInt(from);
+}
+
 /** An instance of the module, with the room into which it writes lines. */
 class Instance {
   #exports;
@@ -75,12 +81,13 @@ class Instance {
     const outcome = this.#take(OUTCOME_BYTES);
     if (!input.at || !outcome.at || !this.#room.at) return refused('memory');
     new Uint8Array(this.#exports.memory.buffer, input.at, input.size).set(file);
-    let count = call(this.#exports, input, this.#room, outcome.at);
+    const asked = () => Number(call(this.#exports, input, this.#room, outcome.at));
+    let count = asked();
     if (count > this.#room.size) {
       this.#exports.give_back_room(this.#room.at);
       this.#room = this.#take(count);
       if (!this.#room.at) return refused('memory');
-      count = call(this.#exports, input, this.#room, outcome.at);
+      count = asked();
     }
     const answer = this.#answer(outcome.at, count);
     this.#exports.give_back_room(input.at);
@@ -116,14 +123,15 @@ class Engine {
   replay(text, { order = 'columns' } = {}) {
     const number = numberOf(order);
     return this.#ask(text, (exports, input, room, outcome) =>
-      Number(exports.saxtegun_lines(input.at, BigInt(input.size), number, room.at, BigInt(room.size), outcome)));
+      exports.saxtegun_lines(input.at, BigInt(input.size), number, room.at, BigInt(room.size), outcome));
   }
 
   frames({ source, inputs, level = '', index = 0 }, { order = 'columns', from = 0 } = {}) {
-    const { lines, fault } = this.replay(JSON.stringify([['', [source, inputs, level, index]]]), { order });
-    if (fault !== null) return { frames: [], close: null, fault };
-    const [close, ...frames] = lastObjects(lines, object => object.at === undefined || object.at >= from);
-    return { frames: frames.reverse(), close, fault };
+    const number = numberOf(order), first = inputOf(from);
+    const { lines, fault } = this.#ask(JSON.stringify([['', [source, inputs, level, index]]]), (exports, input, room, outcome) =>
+      exports.saxtegun_frames(input.at, BigInt(input.size), number, first, room.at, BigInt(room.size), outcome));
+    const frames = parse(lines), close = frames.pop() ?? null;
+    return { frames, close, fault };
   }
 
   async replayInWorkers(text, { order = 'columns', workers = idleProcessors(), progress = () => {}, signal } = {}) {
@@ -182,19 +190,6 @@ export async function load(source = new URL('out/saxtegun.wasm', import.meta.url
 
 export function parse(lines) {
   return new TextDecoder().decode(lines).split('\n').slice(0, -1).map(line => JSON.parse(line));
-}
-
-/** The objects of the last lines that are wanted, the last one first. */
-function lastObjects(lines, isWanted) {
-  const found = [], decoder = new TextDecoder();
-  for (let end = lines.length; end > 0;) {
-    const begin = end < 2 ? 0 : lines.lastIndexOf(0x0a, end - 2) + 1;
-    const object = JSON.parse(decoder.decode(lines.subarray(begin, end)));
-    if (!isWanted(object)) break;
-    found.push(object);
-    end = begin;
-  }
-  return found;
 }
 
 // A file in parts.

@@ -104,11 +104,17 @@ class To32(InARoom):
 
 @unittest.skipUnless(NODE and IS_BUILT, "there is no node, or the module is not built")
 class EngineGlue(InARoom):
-    """The functions of the glue and their refusals; the name begins with Engine, by which ./check finds it."""
+    """The exports, the functions of the glue and their refusals; the name begins with Engine, by which ./check finds it."""
+
+    def pass_in_node(self, name):
+        ran = subprocess.run([NODE, "--test", "--test-reporter=tap", OWN / name], stdout=subprocess.PIPE, stderr=subprocess.STDOUT, check=False)
+        self.assertEqual(ran.returncode, 0, ran.stdout.decode(errors="replace"))
 
     def test_the_glue(self):
-        ran = subprocess.run([NODE, "--test", "--test-reporter=tap", OWN / "glue.test.mjs"], stdout=subprocess.PIPE, stderr=subprocess.STDOUT, check=False)
-        self.assertEqual(ran.returncode, 0, ran.stdout.decode(errors="replace"))
+        self.pass_in_node("glue.test.mjs")
+
+    def test_the_exports(self):
+        self.pass_in_node("exports.test.mjs")
 
     def test_the_script_of_the_page_about_it(self):
         script = re.search(r"```js\n(.*?)```", (TOP / "docs/engine.md").read_text(encoding="utf-8"), re.S)[1]

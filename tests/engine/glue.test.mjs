@@ -68,6 +68,7 @@ test('what is no file, no order and no number of workers is an error', async () 
   for (const file of [undefined, null, 3, {}, []]) assert.throws(() => engine.replay(file), TypeError);
   for (const order of ['row', '', null, 'toString']) {
     assert.throws(() => engine.replay('[]', { order }), TypeError);
+    assert.throws(() => engine.frames({ source: '', inputs: [] }, { order }), TypeError);
     await assert.rejects(engine.replayInWorkers('[]', { order }), TypeError);
   }
   for (const workers of [0, 65, 1.5, '2']) await assert.rejects(engine.replayInWorkers('[]', { workers }), TypeError);
@@ -96,6 +97,7 @@ test('the frames of a session are given from an input on', async () => {
     const frames = all.filter(it => it.at >= from);
     assert.deepEqual(engine.frames({ source, inputs, level }, { order: 'rows', from }), { frames, close, fault: null });
   }
+  for (const from of [-1, 1.5, NaN, Infinity, '1', null, 2 ** 53]) assert.throws(() => engine.frames({ source, inputs, level }, { from }), TypeError);
   const { frames, close: other } = engine.frames({ source, inputs }, { order: 'rows' });
   assert.deepEqual([frames, other.close], [all, 'differs']);
   assert.deepEqual(engine.frames({ source: '', inputs: [] }).close, { cause: 'Section:0', close: 'refused', frames: 0, name: '', session: 0 });

@@ -2,13 +2,13 @@
 use Rattle.std.specs.Prelude.{◌≡◌, ℕ, List, Ok}
 use Rattle.pz_entries.specs.declared.entry.Entry.{Entry}
 use Rattle.pz_record.specs.declared.order.Order.{Order}
-use Rattle.pz_lines.specs.Lines.{text_of}
+use Rattle.pz_case.specs.declared.recording.Record.{Record}
 use Rattle.pz_engine.specs.Sessions.{all_passed, sessions_in, shown_of}
 use Rattle.pz_engine.specs.declared.engine.Played.{Played}
 
--- all lines of what the sessions of a file show, and whether every session passed
-pub record IsPlayed (order : Order) (bytes : List ℕ) (played : Played) : Type 0 where
+-- a text of what the sessions of a file show, and whether every session passed
+pub record IsPlayed (text : List Record → List ℕ) (order : Order) (bytes : List ℕ) (played : Played) : Type 0 where
   pub entries : List Entry
   pub read : sessions_in bytes ≡ Ok entries
-  pub whole : played.lines.items ≡ text_of (shown_of order entries)
+  pub whole : played.lines.items ≡ text (shown_of order entries)
   pub told : played.passed ≡ all_passed (shown_of order entries)

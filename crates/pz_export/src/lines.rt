@@ -1,10 +1,12 @@
 //! The lines of a file of sessions, for a host.
 
-ghost use Rattle.std.specs.Prelude.{◌≡◌, ◌≢◌, length};
-ghost use Rattle.pz_export.specs.Lines.{IsAnswered, IsRefused, begun_with, order_of};
+ghost use Rattle.std.specs.Prelude.{◌≡◌, ◌≢◌, IfErr, IfOk, length};
+ghost use Rattle.pz_lines.specs.Lines.{text_from, text_of};
+ghost use Rattle.pz_export.specs.Lines.{IsAnswered, IsRefused, IsTold, IsToldWhy, begun_with, order_of};
 
 use crate::outcome::{Outcome, REFUSED, played, refused};
-use pz_engine::engine::lines;
+use pz_engine::engine::{Played, lines, lines_from};
+use pz_entries::fault::FileFault;
 use pz_record::order::Order;
 use std::alloc::Global;
 
@@ -29,6 +31,24 @@ fn begin_with(room: &mut [u8], bytes: &[u8])
     }
 }
 
+/// Tells a host how a file was answered, and answers the number of bytes of the lines.
+fn tell(answer: Result<Played, FileFault>, room: &mut [u8], outcome: &mut Outcome) -> usize
+    ensures told { IfOk answer (λ played. IsTold played room.old room.new outcome.new result) }
+    ensures told_why { IfErr answer (λ cause. IsToldWhy cause room.old room.new outcome.new result) }
+{
+    match answer {
+        Ok(answer) => {
+            *outcome = played(answer.passed);
+            begin_with(room, &answer.lines);
+            answer.lines.len()
+        }
+        Err(cause) => {
+            *outcome = refused(cause);
+            0
+        }
+    }
+}
+
 /// Plays the sessions of a file, the cells of each level by rows where the order is 0, and else by columns. The answer is the number of bytes of
 /// their lines: where the room has so many, it begins with them, and else the host asks again with a larger one, and all is played again.
 #[unsafe(no_mangle)]
@@ -40,18 +60,29 @@ pub extern "C" fn saxtegun_lines(
     outcome: &mut Outcome,
 ) -> usize
     ensures size { length room.new ≡ length room.old }
-    ensures answered { outcome.new.status ≢ REFUSED → IsAnswered (order_of order) file.now room.old room.new outcome.new result }
+    ensures answered { outcome.new.status ≢ REFUSED → IsAnswered text_of (order_of order) file.now room.old room.new outcome.new result }
     ensures refused { outcome.new.status ≡ REFUSED → IsRefused file.now room.old room.new outcome.new result }
 {
-    match lines(alloc, file, order_of(order)) {
-        Ok(answer) => {
-            *outcome = played(answer.passed);
-            begin_with(room, &answer.lines);
-            answer.lines.len()
-        }
-        Err(cause) => {
-            *outcome = refused(cause);
-            0
-        }
-    }
+    tell(lines(alloc, file, order_of(order)), room, outcome)
+}
+
+/// The same, with the lines of the items from an input on alone: the frames that are shown after so many inputs or more, and each close.
+#[unsafe(no_mangle)]
+pub extern "C" fn saxtegun_frames(
+    alloc: Global,
+    file: &[u8],
+    order: u32,
+    from: u64,
+    room: &mut [u8],
+    outcome: &mut Outcome,
+) -> usize
+    ensures size { length room.new ≡ length room.old }
+    ensures answered { outcome.new.status ≢ REFUSED → IsAnswered (text_from from) (order_of order) file.now room.old room.new outcome.new result }
+    ensures refused { outcome.new.status ≡ REFUSED → IsRefused file.now room.old room.new outcome.new result }
+{
+    tell(
+        lines_from(alloc, file, order_of(order), from),
+        room,
+        outcome,
+    )
 }

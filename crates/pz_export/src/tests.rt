@@ -1,6 +1,6 @@
 //! What a host sees.
 
-use crate::lines::saxtegun_lines;
+use crate::lines::{saxtegun_frames, saxtegun_lines};
 use crate::outcome::{Outcome, played};
 use std::test::Fail;
 
@@ -14,6 +14,14 @@ const LINES: &str = concat!(
     "{\"at\":2,\"frame\":2,\"kind\":\"move\",\"level\":\"background wall:0,background:1,background player:2,\\n0,0,0,\\n\",\"session\":0}\n",
     "{\"close\":\"passed\",\"frames\":3,\"name\":\"walk\",\"session\":0}\n",
 );
+
+/// Of these the lines from the second input on.
+const LAST_LINES: &str = concat!(
+    "{\"at\":2,\"frame\":2,\"kind\":\"move\",\"level\":\"background wall:0,background:1,background player:2,\\n0,0,0,\\n\",\"session\":0}\n",
+    "{\"close\":\"passed\",\"frames\":3,\"name\":\"walk\",\"session\":0}\n",
+);
+
+const CLOSE: &str = "{\"close\":\"passed\",\"frames\":3,\"name\":\"walk\",\"session\":0}\n";
 
 /// What a host is answered in a room of this size, whose bytes were all 7.
 #[derive(Drop)]
@@ -87,6 +95,21 @@ fn says_why_a_file_is_refused(rt: HostRuntime) -> Result<(), Fail> {
                 && answer.outcome.entry == entry
         );
         assert!(rt; answer.room.iter().all(|byte| *byte == 7));
+    }
+    Ok(())
+}
+
+#[test]
+fn gives_the_frames_from_an_input_on(rt: HostRuntime) -> Result<(), Fail> {
+    for (from, lines) in [(0, LINES), (2, LAST_LINES), (3, CLOSE), (u64::MAX, CLOSE)] {
+        let mut room = vec![in rt.alloc(); 7; 1000]?;
+        let mut outcome = played(false);
+        let file = WALK.as_bytes();
+        let count = saxtegun_frames(rt.alloc(), file, 0, from, room.as_mut_slice(), &mut outcome);
+        assert!(rt; count == lines.len());
+        assert!(rt; room.as_slice().starts_with(lines.as_bytes()));
+        assert!(rt; room.iter().skip(count).all(|byte| *byte == 7));
+        assert!(rt; outcome.status == 0 && outcome.fault == 0 && outcome.entry == 0);
     }
     Ok(())
 }

@@ -1,4 +1,5 @@
 pub mod Cut
+pub mod From
 pub mod Sent
 pub mod Texts
 pub mod WorkedLines

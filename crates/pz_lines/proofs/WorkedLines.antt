@@ -11,7 +11,7 @@ use Rattle.pz_case.specs.declared.item.Item.TheVariants as item
 use Rattle.pz_case.specs.declared.item.Refusal.TheVariants.{Source, NoLevel}
 use Rattle.pz_case.specs.declared.item.Stop.TheVariants as stop
 use Rattle.pz_case.specs.declared.item.Verdict.TheVariants.{Passed, Stopped, Refused}
-use Rattle.pz_lines.specs.Lines.{frame_line, verdict_line, close_line, text_of}
+use Rattle.pz_lines.specs.Lines.{frame_line, verdict_line, close_line, text_from, text_of}
 use Rattle.pz_lines.specs.Naming.{kind_name, code_name, stop_name, refusal_name, close_name, cause_name}
 
 abbrev frame : FrameKind → List ℕ → Frame
@@ -48,3 +48,19 @@ two_sessions = refl
 no_session : text_of [] ≡ []
 unfolding text_of
 no_session = refl
+
+-- from input 1 on the start is left out, and of a session that was refused nothing; numbers, and how many frames a close tells, stay those of the whole text
+from_1 : text_from 1 (record { name = codes "a"; items = item.Frame 0 0 (frame kind.Start []) ∷ item.Frame 1 1 (frame kind.Move []) ∷ item.Frame 2 2 (frame kind.Tick []) ∷ item.Close Passed ∷ [] }
+    ∷ record { name = codes "b"; items = item.Close (Refused NoLevel) ∷ [] } ∷ [])
+    ≡ codes "{\"at\":1,\"frame\":1,\"kind\":\"move\",\"level\":\"\",\"session\":0}\n"
+    ++ codes "{\"at\":2,\"frame\":2,\"kind\":\"tick\",\"level\":\"\",\"session\":0}\n"
+    ++ codes "{\"close\":\"passed\",\"frames\":3,\"name\":\"a\",\"session\":0}\n"
+    ++ codes "{\"cause\":\"no-level\",\"close\":\"refused\",\"frames\":0,\"name\":\"b\",\"session\":1}\n"
+unfolding text_from frame_line close_line verdict_line kind_name cause_name close_name refusal_name digits escape_byte
+from_1 = refl
+
+-- behind the last input there is the close alone
+from_2 : text_from 2 (record { name = codes "a"; items = item.Frame 0 0 (frame kind.Start []) ∷ item.Frame 1 1 (frame kind.Move []) ∷ item.Close Passed ∷ [] } ∷ [])
+    ≡ codes "{\"close\":\"passed\",\"frames\":2,\"name\":\"a\",\"session\":0}\n"
+unfolding text_from close_line verdict_line cause_name close_name digits escape_byte
+from_2 = refl

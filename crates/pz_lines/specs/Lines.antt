@@ -1,5 +1,5 @@
 -- The text of a recording: a line for each item, compact JSON with its keys in the order of their bytes.
-use Rattle.std.specs.Prelude.{ℕ, Bool, true, false, suc, List, [], ◌∷◌, ◌++◌, filter, flat_map, length, Option, Some, None, codes, decimal}
+use Rattle.std.specs.Prelude.{ℕ, Bool, true, false, suc, nat_le, List, [], ◌∷◌, ◌++◌, filter, flat_map, length, Option, Some, None, codes, decimal}
 use Rattle.json.specs.Print.{quoted}
 use Rattle.pz_case.specs.declared.item.Frame.{Frame}
 use Rattle.pz_case.specs.declared.item.Item.{Item}
@@ -45,10 +45,23 @@ item_line session name frames (item.Close verdict) = close_line session name fra
 abbrev pub lines_of : ℕ → Record → List ℕ
 lines_of session shown = flat_map (item_line session shown.name (frame_count shown.items)) shown.items
 
+-- whether an item is shown from an input on: a frame that is shown after so many inputs or more, and the close
+abbrev pub is_from : ℕ → Item → Bool
+is_from from (item.Frame number at frame) = nat_le from at
+is_from from (item.Close verdict) = true
+
+-- of the lines of what a session showed those of the items from an input on
+abbrev pub lines_from : ℕ → ℕ → Record → List ℕ
+lines_from from session shown = flat_map (item_line session shown.name (frame_count shown.items)) (filter (is_from from) shown.items)
+
 -- the lines of the sessions, which are numbered from this number on
-abbrev pub lines_from : ℕ → List Record → List ℕ
-lines_from session [] = []
-lines_from session (shown ∷ later) = lines_of session shown ++ lines_from (suc session) later
+abbrev pub numbered : (ℕ → Record → List ℕ) → ℕ → List Record → List ℕ
+numbered lines session [] = []
+numbered lines session (shown ∷ later) = lines session shown ++ numbered lines (suc session) later
 
 unfoldable pub text_of : List Record → List ℕ
-text_of recording = lines_from 0 recording
+text_of recording = numbered lines_of 0 recording
+
+-- of the text of a recording the lines of the items from an input on
+unfoldable pub text_from : ℕ → List Record → List ℕ
+text_from from recording = numbered (lines_from from) 0 recording

@@ -2,7 +2,7 @@
 
 ghost use Rattle.std.specs.Prelude.{◌≡◌, ◌++◌, IfOk, OnOk, decimal};
 ghost use Rattle.json.specs.Print.{quoted};
-ghost use Rattle.pz_lines.specs.Lines.{frame_count, frame_line, close_line, item_line, lines_of, with_cause};
+ghost use Rattle.pz_lines.specs.Lines.{frame_count, frame_line, close_line, is_from, item_line, lines_from, with_cause};
 ghost use Rattle.pz_lines.specs.Naming.{cause_name};
 
 use crate::naming::{cause_name, close_name, quoted_kind};
@@ -128,20 +128,34 @@ pub(crate) fn write_item(
     }
 }
 
-/// Puts the lines of what a session showed behind others.
-pub fn append_session(
+/// Whether an item is shown from an input on.
+fn is_from(from: u64, item: &Item) -> bool
+    ensures { result ≡ is_from from item.now }
+{
+    match item {
+        Item::Frame { at, .. } => from <= *at,
+        Item::Close(_) => true,
+    }
+}
+
+/// Puts the lines of what a session showed from an input on behind others: of the frames that are shown after so many inputs or more, and of the
+/// close. From 0 on they are all that the session has.
+pub fn append_session_from(
     alloc: Global,
     before: Vec<u8>,
     session: u64,
     shown: &Record,
+    from: u64,
 ) -> Result<Vec<u8>, AllocError>
-    ensures { IfOk result (λ lines. lines.items ≡ before.items ++ lines_of session shown.now) }
+    ensures { IfOk result (λ lines. lines.items ≡ before.items ++ lines_from from session shown.now) }
 {
     let items = shown.items.items();
     let frames = frame_count(items);
     let mut lines = before;
     for item in items {
-        lines = write_item(alloc, lines, session, shown.name.as_str(), frames, item)?;
+        if is_from(from, item) {
+            lines = write_item(alloc, lines, session, shown.name.as_str(), frames, item)?;
+        }
     }
     Ok(lines)
 }

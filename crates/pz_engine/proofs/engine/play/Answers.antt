@@ -1,7 +1,7 @@
 use Rattle.std.proofs.Common.{◌≡◌, ◌≤◌, ◌<◌, ◌++◌, ◌&&◌, Some, length, ap, sym, ◌∙◌, arith}
 use Rattle.std.specs.Prelude.{slice_get}
 use Rattle.pz_case.specs.Playing.{shown_by}
-use Rattle.pz_lines.specs.Lines.{lines_of, text_of}
+use Rattle.pz_lines.specs.Lines.{lines_from, text_from}
 use Rattle.pz_session.specs.Case.{items_of}
 use Rattle.pz_engine.specs.Sessions.{has_passed}
 use Rattle.pz_engine.proofs.Played.{all_lines, every_passed, one_more, one_passed}
@@ -19,17 +19,17 @@ loop-number-preserved c =
       | else-passed w ↦ w.passed-is ∙ (w.if-passed.false ∙ sym (ap (λ so_far. so_far && has_passed (shown_by items_of case)) w.if-passed.false))
     ] in
     record {
-      written = one_more (shown_by items_of) job number case c.loop-number.lines.items c.in_ok-lines.lines.items within c.case.ensures c.loop-number.invariant.written
-          (c.in_ok-lines.ensures ∙ ap (λ shown. c.loop-number.lines.items ++ lines_of number shown) c.in_ok-shown.ensures);
+      written = one_more (lines_from c.args.from) (shown_by items_of) job number case c.loop-number.lines.items c.in_ok-lines.lines.items within c.case.ensures c.loop-number.invariant.written
+          (c.in_ok-lines.ensures ∙ ap (λ shown. c.loop-number.lines.items ++ lines_from c.args.from number shown) c.in_ok-shown.ensures);
       told = one_passed has_passed (shown_by items_of) job number case c.loop-number.passed c.if-passed.passed within c.case.ensures c.loop-number.invariant.told more;
     }
 
 pub returns : goal.returns
-unfolding text_of
+unfolding text_from
 returns c =
     let job = c.args.job.now in
     let over : length job ≤ c.loop-number.number = omega (arith, c.loop-number-test.false, c.len-number-end.ensures.count) in
     record {
-      lines = all_lines (shown_by items_of) job c.loop-number.number c.loop-number.lines.items over c.loop-number.invariant.written;
+      lines = all_lines (lines_from c.args.from) (shown_by items_of) job c.loop-number.number c.loop-number.lines.items over c.loop-number.invariant.written;
       passed = every_passed has_passed (shown_by items_of) job c.loop-number.number c.loop-number.passed over c.loop-number.invariant.told;
     }

@@ -1,12 +1,13 @@
-use Rattle.std.proofs.Common.{ℕ, List, sym, ap, ◌∙◌}
-use Rattle.pz_export.specs.Lines.{begun_with}
+use Rattle.std.proofs.Common.{sym}
+use Rattle.pz_engine.specs.Engine.{IsPlayed}
+use Rattle.pz_lines.specs.Lines.{text_of}
+use Rattle.pz_export.specs.Lines.{order_of}
+use Rattle.pz_export.proofs.Told.{answered, refused}
 use Rattle.pz_export.proofs.lines.saxtegun_lines.Goals as goal
 
-pub returns-in-Ok-clause-answered : goal.returns-in-Ok-clause-answered
-returns-in-Ok-clause-answered c = λ answered. record {
-  answer = c.in-Ok.answer;
-  is_played = rw (sym c.order_of.ensures) c.in-Ok.ensures.played;
-  says = c.played.ensures;
-  counted = c.len.ensures ∙ c.in-Ok.answer.lines.ok.0;
-  held = c.begin_with.ensures ∙ ap (λ (lines : List ℕ). begun_with lines c.args.room.now) c.deref.ensures.value;
-}
+pub returns-clause-answered : goal.returns-clause-answered
+returns-clause-answered c =
+    answered text_of (order_of c.args.order) c.args.file.now _ _ _ _ c.lines.result (rw (sym c.order_of.ensures) c.lines.ensures.played) c.tell.ensures.told c.tell.ensures.told_why
+
+pub returns-clause-refused : goal.returns-clause-refused
+returns-clause-refused c = refused c.args.file.now _ _ _ _ c.lines.result c.lines.ensures.refused c.tell.ensures.told c.tell.ensures.told_why
