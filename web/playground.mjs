@@ -1,7 +1,7 @@
 // The playground: a game is played, recorded and replayed, by the engine that stands in the page. The whole session is played again at each key.
 import { shapeOf } from "./closes.mjs";
 import { Ending, endingTold, obstacleTold, partingOf, partingTold } from "./comparing.mjs";
-import { at, json, make, plural } from "./elements.mjs";
+import { at, cut, json, make, plural } from "./elements.mjs";
 import { culpritTold, inputTold } from "./faults.mjs";
 import { Game, levelsOf } from "./game.mjs";
 import { download, kindOf, takeFiles } from "./handing.mjs";
@@ -19,6 +19,7 @@ import { Strip } from "./strip.mjs";
 
 const FRAME_PAUSE = 160; // milliseconds between two frames when playing
 const KEPT_AFTER = 400; // milliseconds without a change, after which all is kept
+const LETTERS_OF_A_FILE = 60;
 const RECORDINGS = "recordings.json";
 const RECORDED_ORDER = "columns"; // the one of the published level texts, in which `saxtegun test` plays
 
@@ -31,6 +32,8 @@ class Playground {
     this.engine = engine;
     this.order = RECORDED_ORDER;
     this.file = null;
+    this.isUnsaved = false; // whether the file has changes that were not saved as a file
+    this.former = null; // a file with such changes, in whose place another was opened
     this.lines = null;
     this.runs = null;
     this.partings = null;
@@ -262,8 +265,25 @@ class Playground {
 
   // ---- the sessions file
 
+  // Keeps the file that is open where it was not saved, for another takes its place.
+  setAside() {
+    if (this.file !== null && this.isUnsaved) this.former = this.file;
+    this.isUnsaved = false;
+  }
+
+  // Goes back to the file that was set aside.
+  async goBack() {
+    const former = this.former;
+    this.former = null;
+    const isPlayed = this.useFile(former);
+    this.isUnsaved = true;
+    await isPlayed;
+    this.keepSoon();
+  }
+
   // Takes a sessions file and plays it.
   async useFile(file) {
+    this.setAside();
     this.file = file;
     this.opened = null;
     this.lookedAt.clear();
@@ -336,6 +356,8 @@ class Playground {
   }
 
   showList() {
+    at("former").hidden = this.former === null;
+    at("former").textContent = this.former === null ? "" : `Back to ${cut(this.former.name, LETTERS_OF_A_FILE)}, which was not saved as a file`;
     at("none").hidden = this.file !== null;
     at("some").hidden = this.file === null;
     at("sessions-tab").textContent = this.file === null ? "Sessions" : `Sessions (${this.file.entries.length})`;
@@ -387,6 +409,7 @@ class Playground {
     }
     if (changes.length > 0) {
       this.file = this.file.withLevels(changes);
+      this.isUnsaved = true;
       await this.playAll();
     }
     at("saved").textContent = [`${plural(changes.length, "recorded level")} changed`, ...refusals].join("; ");
@@ -416,6 +439,7 @@ class Playground {
   async save(number = null) {
     const entry = this.entry(), file = this.file ?? SessionFile.empty(RECORDINGS);
     this.file = number === null ? file.with(entry) : file.withReplaced(number, entry);
+    this.isUnsaved = true;
     this.opened = number ?? this.file.entries.length - 1;
     this.recording.before = null;
     this.order = RECORDED_ORDER;
@@ -428,6 +452,7 @@ class Playground {
 
   async remove() {
     this.file = this.file.without(this.opened);
+    this.isUnsaved = true;
     this.opened = null;
     this.lookedAt.clear();
     await this.playAll();
@@ -435,6 +460,7 @@ class Playground {
   }
 
   closeFile() {
+    this.setAside();
     this.file = null;
     this.opened = null;
     this.lookedAt.clear();
@@ -496,8 +522,8 @@ class Playground {
   keepSoon() {
     clearTimeout(this.timers.keep);
     this.timers.keep = setTimeout(async () => {
-      const file = this.file && { name: this.file.name, bytes: this.file.bytes };
-      const isKept = await keep("work", { ...this.work(), order: this.order, file });
+      const [file, former] = [this.file, this.former].map((it) => it && { name: it.name, bytes: it.bytes });
+      const isKept = await keep("work", { ...this.work(), order: this.order, file, former, isUnsaved: this.isUnsaved });
       if (!isKept) at("promise").textContent = "Nothing leaves this machine. This browser keeps nothing for a page from the disk: save your work as files.";
     }, KEPT_AFTER);
   }
@@ -508,7 +534,8 @@ class Playground {
     if (work === null) return this.begin({ source: example });
     this.order = work.order;
     at("order").value = this.order;
-    if (work.file !== null) this.file = new SessionFile(work.file.name, work.file.bytes);
+    [this.file, this.former] = [work.file, work.former].map((it) => it && new SessionFile(it.name, it.bytes));
+    this.isUnsaved = work.isUnsaved;
     this.begin(work);
     this.showList();
     return this.file === null ? null : this.playAll();
@@ -566,7 +593,12 @@ function listenToButtons(page, moves, example) {
   click("stop", () => page.controller.abort());
   click("accept", () => page.accept([page.opened]));
   click("accept-all", () => page.accept([...page.lookedAt].filter((number) => page.runs[number].close === "differs").sort((one, other) => one - other)));
-  click("save-sessions", () => download(page.file.name.endsWith(".json") ? page.file.name : RECORDINGS, page.file.bytes));
+  click("save-sessions", () => {
+    download(page.file.name.endsWith(".json") ? page.file.name : RECORDINGS, page.file.bytes);
+    page.isUnsaved = false;
+    page.keepSoon();
+  });
+  click("former", () => page.goBack());
   click("save-lines", () => download("lines", page.lines));
   click("remove", () => page.remove());
   click("close-file", () => page.closeFile());
