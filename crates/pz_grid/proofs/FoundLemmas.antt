@@ -1,8 +1,8 @@
 -- The places of a row, found line by line.
-use Rattle.std.proofs.Common.{◌≡◌, ◌≢◌, ℕ, zero, suc, ◌+◌, ◌-◌, ◌<◌, ◌≤◌, List, [], ◌∷◌, ◌++◌, map, filter, Bool, length, arith, ap, sym, ◌∙◌, refl}
+use Rattle.std.proofs.Common.{◌≡◌, ◌≢◌, ℕ, zero, suc, ◌+◌, ◌-◌, ◌<◌, ◌≤◌, List, [], ◌∷◌, ◌++◌, map, filter, Bool, length, arith, ap, sym, ◌∙◌, refl, inl, inr}
 use Rattle.std.specs.List.{flat_map, range_with_len}
 use Rattle.std.specs.Prelude.{Result, Ok, Err, nat_lt, if◌then◌else◌}
-use Rattle.std.proofs.lemmas.Bool.{ltb-true, ltb-false, false_from_ne_true, true_from_ne_false}
+use Rattle.std.proofs.lemmas.Bool.{ltb-true, ltb-false, false_from_ne_true, true_from_ne_false, cases_lt}
 use Rattle.std.proofs.lemmas.List.{length-append, append_assoc}
 use Rattle.std.proofs.lemmas.List.Elements.{filter-append}
 use Rattle.pz_game.specs.declared.direction.Dir.{Dir}
@@ -61,6 +61,13 @@ searched-over grid row dir over =
     let found = places grid row dir in
     let gives : Bool → Result (List Place) GridFault = λ b. if b then Err MatchLimit else Ok found in
     ap gives (true_from_ne_false (nat_lt MATCH_LIMIT (length found)) (λ e. let within = ltb-false MATCH_LIMIT (length found) e in omega arith))
+
+-- what it gives are the places
+pub searched-gives : (grid : Grid) (row : RuleRow) (dir : Dir) (found : List Place) → searched grid row dir ≡ Ok found → found ≡ places grid row dir
+searched-gives grid row dir found is = elim (cases_lt MATCH_LIMIT (length (places grid row dir))) [
+  | inl over ↦ absurd (let f : Ok found ≡ Err MatchLimit = sym is ∙ searched-over grid row dir over in cc)
+  | inr within ↦ (let f : Ok found ≡ Ok (places grid row dir) = sym is ∙ searched-within grid row dir (omega (arith, within)) in cc)
+]
 
 -- the places of one pair, of one start cell, of one line
 abbrev pub found_with : Grid → RuleRow → Dir → ℕ → ℕ → ℕ → List Place

@@ -3,17 +3,11 @@ use Rattle.std.proofs.Common.{◌≡◌, ℕ, zero, suc, ◌+◌, List, [], ◌�
 use Rattle.std.specs.List.{flat_map, range_with_len}
 use Rattle.std.proofs.lemmas.Grind.{flat_map-append}
 use Rattle.std.proofs.lemmas.List.{append-nil}
+use Rattle.pz_sheet.proofs.CountLemmas.{range_more}
 
 -- a list made piece by piece for each number below n
 abbrev pub gather : {X : Type 0} → (ℕ → List X) → ℕ → List X
 gather h n = flat_map h (range_with_len 0 n)
-
-range_suc : (a n : ℕ) → range_with_len a (suc n) ≡ range_with_len a n ++ (a + n) ∷ []
-range_suc a zero = ap (λ k. k ∷ []) (omega arith)
-range_suc a (suc n) = ap (λ xs. a ∷ xs) (range_suc (a + 1) n ∙ ap (λ k. range_with_len (a + 1) n ++ k ∷ []) (omega arith))
-
-pub range_more : (a n : ℕ) → range_with_len a (n + 1) ≡ range_with_len a n ++ (a + n) ∷ []
-range_more a n = ap (range_with_len a) (let e : n + 1 ≡ suc n = omega arith in e) ∙ range_suc a n
 
 pub gather_more : {X : Type 0} (h : ℕ → List X) (n : ℕ) → gather h (n + 1) ≡ gather h n ++ h n
 gather_more h n =

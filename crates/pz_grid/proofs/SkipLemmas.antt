@@ -2,7 +2,7 @@
 use Rattle.std.proofs.Common.{◌≡◌, ℕ, zero, suc, ◌+◌, ◌-◌, ◌*◌, ◌<◌, ◌≤◌, List, [], ◌∷◌, ◌++◌, filter, Bool, true, false, cond, not, ◌&&◌, ◌||◌, nat_eq, Option, None, Some, arith, ap, sym, ◌∙◌, refl, subst, mul-le-mul_right}
 use Rattle.std.specs.Prelude.{nat_lt, nat_le, is_some}
 use Rattle.std.specs.List.{list_all, list_any, flat_map, range_with_len, enumerate_from, count_by, sum_by}
-use Rattle.std.proofs.lemmas.Bool.{and_parts, ltb-true, eqb-true}
+use Rattle.std.proofs.lemmas.Bool.{and_parts, ltb-true, eqb-true, false_from_ne_true}
 use Rattle.std.proofs.lemmas.List.Sums.{count_by-le-length, sum_by-append}
 use Rattle.std.proofs.lemmas.List.FromFn.{length-range_with_len}
 use Rattle.pz_sets.specs.Sets.{member}
@@ -16,15 +16,18 @@ use Rattle.pz_cells.specs.declared.piece.Piece.{Piece}
 use Rattle.pz_grid.specs.declared.placing.Place.{Place}
 use Rattle.pz_cells.specs.Standing.{standing}
 use Rattle.pz_sheet.specs.Presence.{is_in}
+use Rattle.pz_sheet.specs.Runs.{run_holds}
 use Rattle.pz_sheet.specs.Grid.{Grid, LevelState, cell_at}
 use Rattle.pz_game.specs.Items.{names}
 use Rattle.pz_cells.specs.Pattern.{word_holds, item_holds, pattern_holds}
-use Rattle.pz_grid.specs.Places.{on_map, along, distance, position_of, holds_at, cell_holds, row_holds, place_in, gap_count, line_length, line_count, pairs, places}
+use Rattle.pz_grid.specs.Places.{on_map, along, distance, position_of, holds_at, cell_holds, row_holds, place_in, gap_count, line_length, line_count, pairs, places, head_of, starts_with}
 use Rattle.pz_grid.specs.Marks.{IsMarked}
 use Rattle.pz_grid.specs.Admitted.{marks_of, marks_item, marks_cell, admits, admits_line, admitted, searches_level, searches_line, line_of, start_of, starts_at, starts_in, start_count, StartsNowhere}
 use Rattle.pz_cells.proofs.RewriteLemmas.{and_no}
 use Rattle.pz_grid.proofs.MarkLemmas.{in_row_from, in_column_from}
-use Rattle.pz_grid.proofs.GatherLemmas.{gather, range_more}
+use Rattle.pz_sheet.proofs.CountLemmas.{sum_more, count_more}
+use Rattle.pz_grid.proofs.GatherLemmas.{gather}
+use Rattle.pz_grid.proofs.HeadLemmas.{head_from_row}
 use Rattle.pz_grid.proofs.FoundLemmas.{found_with, found_at, found_in, found_at_all, found_in_all}
 
 -- where an item's object isn't marked, the pattern doesn't hold
@@ -171,7 +174,7 @@ sum_cons f x xs = sum_by-append f (x ∷ []) xs ∙ ap (λ (n : ℕ). n + sum_by
 count_cons : {X : Type 0} (p : X → Bool) (x : X) (xs : List X) → count_by p (x ∷ xs) ≡ cond (p x) 1 0 + count_by p xs
 count_cons p x xs = sum_cons (λ y. let n : ℕ = cond (p y) 1 0 in n) x xs
 
-count_none : {X : Type 0} (p : X → Bool) (xs : List X) → ((x : X) → p x ≡ false) → count_by p xs ≡ 0
+pub count_none : {X : Type 0} (p : X → Bool) (xs : List X) → ((x : X) → p x ≡ false) → count_by p xs ≡ 0
 count_none p [] h = refl
 count_none p (x ∷ xs) h = count_cons p x xs ∙ ap (λ (b : Bool). cond b 1 0 + count_by p xs) (h x) ∙ (let e : 0 + count_by p xs ≡ 0 = omega (arith, count_none p xs h) in e)
 
@@ -227,6 +230,30 @@ starts_nowhere grid row dir size line none =
 pub starts_in_line : (dir : Dir) (found : List Place) (size line : ℕ) → starts_in dir found size line ≤ size
 starts_in_line dir found size line = omega (arith, count_by-le-length (λ (start : ℕ). list_any (starts_at dir line start) found) (range_with_len 0 size), length-range_with_len 0 size)
 
+-- where a place starts, the cells before the row's gap hold
+start_of_place : (grid : Grid) (dir : Dir) (head : List (List Item)) (place : Place) → starts_with grid dir (line_of dir place) head (start_of dir place) ≡ run_holds grid dir place.x place.y head
+start_of_place grid Right head place = refl
+start_of_place grid Left head place = refl
+start_of_place grid Down head place = refl
+start_of_place grid Up head place = refl
+start_of_place grid Action head place = refl
+
+place_starts : (grid : Grid) (row : RuleRow) (dir : Dir) (line start : ℕ) (place : Place) → starts_at dir line start place ≡ true → row_holds grid row dir place ≡ true → starts_with grid dir line (head_of row) start ≡ true
+place_starts grid row dir line start place at holds =
+    let parts = and_parts (nat_eq (line_of dir place) line) (nat_eq (start_of dir place) start) at in
+    subst (λ (l : ℕ). starts_with grid dir l (head_of row) start ≡ true) (eqb-true _ _ parts.0)
+    (subst (λ (s : ℕ). starts_with grid dir (line_of dir place) (head_of row) s ≡ true) (eqb-true _ _ parts.1) (start_of_place grid dir (head_of row) place ∙ head_from_row grid row dir place holds))
+
+-- so no more cells of a line are starts than those from which the cells before the gap hold
+pub starts_fewer : (grid : Grid) (row : RuleRow) (dir : Dir) (size line : ℕ) → starts_in dir (places grid row dir) size line ≤ count_by (starts_with grid dir line (head_of row)) (range_with_len 0 size)
+starts_fewer grid row dir size line =
+    count_fewer (λ (start : ℕ). list_any (starts_at dir line start) (places grid row dir)) (starts_with grid dir line (head_of row)) (range_with_len 0 size) (λ start any. by_start start any (starts_with grid dir line (head_of row) start) refl) where
+      by_start : (start : ℕ) → list_any (starts_at dir line start) (places grid row dir) ≡ true → (b : Bool) → starts_with grid dir line (head_of row) start ≡ b → starts_with grid dir line (head_of row) start ≡ true
+      by_start start any true e = e
+      by_start start any false e =
+          let fails = λ (place : Place) (at : starts_at dir line start place ≡ true). false_from_ne_true (row_holds grid row dir place) (λ holds. absurd (let f : false ≡ true = sym e ∙ place_starts grid row dir line start place at holds in cc)) in
+          absurd (let g : false ≡ true = sym (any_none (starts_at dir line start) (row_holds grid row dir) (pairs grid row dir) fails) ∙ any in cc)
+
 -- how many lines are searched
 abbrev pub searched_lines : LevelState → RuleRow → Dir → ℕ → ℕ
 searched_lines state row dir n = count_by (searches_line state row dir) (range_with_len 0 n)
@@ -253,15 +280,6 @@ pub tested_bounded : (state : LevelState) (row : RuleRow) (dir : Dir) (tested : 
 tested_bounded state row dir tested e = omega (arith, e, product_le (searched_lines state row dir (line_count state.grid dir)) (admitted state row dir) (line_length state.grid dir) (searched_fewer state row dir))
 
 -- ---- one more line
-pub sum_more : (f : ℕ → ℕ) (n : ℕ) → sum_by f (range_with_len 0 (n + 1)) ≡ sum_by f (range_with_len 0 n) + f n
-sum_more f n =
-    let a : sum_by f (range_with_len 0 (n + 1)) ≡ sum_by f (range_with_len 0 n ++ (0 + n) ∷ []) = ap (sum_by f) (range_more 0 n) in
-    let b : sum_by f ((0 + n) ∷ []) ≡ f n = (let e : 0 + n ≡ n = omega arith in let g : 0 + f (0 + n) ≡ f (0 + n) = omega arith in g ∙ ap f e) in
-    a ∙ sum_by-append f (range_with_len 0 n) ((0 + n) ∷ []) ∙ ap (λ (k : ℕ). sum_by f (range_with_len 0 n) + k) b
-
-pub count_more : (p : ℕ → Bool) (n : ℕ) → count_by p (range_with_len 0 (n + 1)) ≡ count_by p (range_with_len 0 n) + cond (p n) 1 0
-count_more p n = sum_more (λ (k : ℕ). let m : ℕ = cond (p k) 1 0 in m) n
-
 -- the counts of cells go on
 pub tested_more : (p : ℕ → Bool) (n size tested more : ℕ) → tested ≤ count_by p (range_with_len 0 n) * size → more ≤ tested + cond (p n) size 0 → more ≤ count_by p (range_with_len 0 (n + 1)) * size
 tested_more p n size tested more e f = by_test (p n) refl where
@@ -274,9 +292,3 @@ tested_more p n size tested more e f = by_test (p n) refl where
 
 pub starts_more : (f : ℕ → ℕ) (n tested more : ℕ) → sum_by f (range_with_len 0 n) ≤ tested → tested + f n ≤ more → sum_by f (range_with_len 0 (n + 1)) ≤ more
 starts_more f n tested more e h = omega (arith, e, h, sum_more f n)
-
-pub count_yes : (p : ℕ → Bool) (n : ℕ) → p n ≡ true → count_by p (range_with_len 0 (n + 1)) ≡ count_by p (range_with_len 0 n) + 1
-count_yes p n e = count_more p n ∙ ap (λ (b : Bool). count_by p (range_with_len 0 n) + cond b 1 0) e
-
-pub count_no : (p : ℕ → Bool) (n : ℕ) → p n ≡ false → count_by p (range_with_len 0 (n + 1)) ≡ count_by p (range_with_len 0 n)
-count_no p n e = count_more p n ∙ ap (λ (b : Bool). count_by p (range_with_len 0 n) + cond b 1 0) e ∙ (let f : count_by p (range_with_len 0 n) + 0 ≡ count_by p (range_with_len 0 n) = omega arith in f)

@@ -1,6 +1,6 @@
 //! The places of a row of a rule: where it holds.
 
-ghost use Rattle.std.specs.List.{list_all, enumerate_from};
+ghost use Rattle.std.specs.List.{list_all, enumerate_from, count_by, range_with_len};
 ghost use Rattle.std.specs.Prelude.{◌≡◌, ◌≢◌, All, take, true, ◌+◌, ◌*◌, ◌<◌, ◌≤◌, cond, [], ◌∷◌, ◌++◌, ◌^◌, filter, length, OnOk, IfOk, IfErr, IfSome, Ok, Err};
 ghost use Rattle.pz_game.specs.declared.limits.TheConstants.{MAX_SIDE};
 ghost use Rattle.pz_game.specs.Pattern.{AreOf, IsRowOf, AreRowsOf};
@@ -14,7 +14,7 @@ use pz_game::direction::Dir;
 use pz_game::pattern::{Pattern, Row};
 use pz_program::instance::Instance;
 use pz_sheet::Sheet;
-use pz_sheet::line::{self, Axis, Way};
+use pz_sheet::line::{self, Axis, Way, column, row};
 use std::alloc::Global;
 
 /// The greatest number of places that a search gives.
@@ -253,6 +253,27 @@ fn next_start<const N: usize>(
     }
 }
 
+/// In how many cells of a line the search tests whether the cells of a row before its gap hold from there on.
+fn tested_in<const N: usize>(sheet: &Sheet<N>, line: Line, head: &[Pattern]) -> u32
+    requires some { 0 < length head.now }
+    requires line_in { line.number < line_count sheet.now.grid line.dir }
+    requires of_game { All (AreOf sheet.now.grid.layers) head.now }
+    ensures low { count_by (starts_with sheet.now.grid line.dir line.number head.now) (range_with_len 0 (line_length sheet.now.grid line.dir)) ≤ result }
+    ensures high { result ≤ line_length sheet.now.grid line.dir }
+    ensures short { result ≤ MAX_SIDE }
+{
+    // (brings the proof how short a line is)
+    let _ = line_length(sheet, line.dir);
+    let number = line.number;
+    match line.dir {
+        Dir::Right => sheet.tested_in(row(number), Way::Ahead, head),
+        Dir::Left => sheet.tested_in(row(number), Way::Back, head),
+        Dir::Down => sheet.tested_in(column(number), Way::Ahead, head),
+        Dir::Up => sheet.tested_in(column(number), Way::Back, head),
+        Dir::Action => 0,
+    }
+}
+
 /// Adds a place.
 fn add_found(place: Place, found: &mut Vec<Place>) -> Result<(), GridFault>
     requires room { length found.old.items ≤ MATCH_LIMIT }
@@ -420,57 +441,65 @@ fn add_places_at<const N: usize>(
     }
 }
 
-/// Adds the places that start in a line, and counts the start cells that it tests: each is searched for the cells before the row's gap, and
-/// the gaps only where these hold.
+/// Adds the places that start in a line: it is searched for the cells before the row's gap, and the gaps only where these hold.
 fn add_places_in<const N: usize>(
     sheet: &Sheet<N>,
     row: &Row,
     line: Line,
     found: &mut Vec<Place>,
-    tested: u64,
-) -> Result<u64, GridFault>
+) -> Result<(), GridFault>
     requires of_game { IsRowOf sheet.now.grid.layers row.now }
     requires line_in { line.number < line_count sheet.now.grid line.dir }
     requires room { length found.old.items ≤ MATCH_LIMIT }
-    requires few { tested ≤ 65536 }
     ensures added { OnOk result (found.new.items ≡ found.old.items ++ filter (row_holds sheet.now.grid row.now line.dir) (pairs_in sheet.now.grid row.now line.dir line.number)) }
-    ensures count { IfOk result (λ count. count ≡ tested + line_length sheet.now.grid line.dir) }
-    ensures few { IfOk result (λ count. count ≤ tested + MAX_SIDE) }
     ensures room { OnOk result (length found.new.items ≤ MATCH_LIMIT) }
     ensures limit { result ≡ Err GridFault.MatchLimit → MATCH_LIMIT < length (found.old.items ++ filter (row_holds sheet.now.grid row.now line.dir) (pairs_in sheet.now.grid row.now line.dir line.number)) }
 {
-    let length = line_length(sheet, line.dir);
+    // (brings the proof how short a line is)
+    let _ = line_length(sheet, line.dir);
     let head = head_of(row);
     let mut from = 0;
     'starts: while let Some(start) = next_start(sheet, line, from, head) {
         add_places_at(sheet, row, line, start, found)?;
         from = start + 1;
     }
-    Ok(tested + length as u64)
+    Ok(())
 }
 
-/// Searches a line: the sheet that a level has adds the places that start there, and counts the start cells that it tests.
+/// Searches a line: the sheet that a level has adds the places that start there.
 fn search_line(
     bare: &BareLevel,
     row: &Row,
     line: Line,
     found: &mut Vec<Place>,
-    tested: u64,
-) -> Result<u64, GridFault>
+) -> Result<(), GridFault>
     requires of_game { IsRowOf bare.now.grid.layers row.now }
     requires line_in { line.number < line_count bare.now.grid line.dir }
     requires room { length found.old.items ≤ MATCH_LIMIT }
-    requires few { tested ≤ 65536 }
     ensures added { OnOk result (found.new.items ≡ found.old.items ++ filter (row_holds bare.now.grid row.now line.dir) (pairs_in bare.now.grid row.now line.dir line.number)) }
-    ensures count { IfOk result (λ count. count ≡ tested + line_length bare.now.grid line.dir) }
-    ensures few { IfOk result (λ count. count ≤ tested + MAX_SIDE) }
     ensures room { OnOk result (length found.new.items ≤ MATCH_LIMIT) }
     ensures limit { result ≡ Err GridFault.MatchLimit → MATCH_LIMIT < length (found.old.items ++ filter (row_holds bare.now.grid row.now line.dir) (pairs_in bare.now.grid row.now line.dir line.number)) }
 {
     match bare.sheet() {
-        Sized::Small(sheet) => add_places_in(sheet, row, line, found, tested),
-        Sized::Middle(sheet) => add_places_in(sheet, row, line, found, tested),
-        Sized::Large(sheet) => add_places_in(sheet, row, line, found, tested),
+        Sized::Small(sheet) => add_places_in(sheet, row, line, found),
+        Sized::Middle(sheet) => add_places_in(sheet, row, line, found),
+        Sized::Large(sheet) => add_places_in(sheet, row, line, found),
+    }
+}
+
+/// How many cells of a line are tested, where it is searched for a row.
+fn tested_for(bare: &BareLevel, row: &Row, line: Line) -> u32
+    requires of_game { IsRowOf bare.now.grid.layers row.now }
+    requires line_in { line.number < line_count bare.now.grid line.dir }
+    ensures low { starts_in line.dir (places bare.now.grid row.now line.dir) (line_length bare.now.grid line.dir) line.number ≤ result }
+    ensures high { result ≤ line_length bare.now.grid line.dir }
+    ensures short { result ≤ MAX_SIDE }
+{
+    let head = head_of(row);
+    match bare.sheet() {
+        Sized::Small(sheet) => tested_in(sheet, line, head),
+        Sized::Middle(sheet) => tested_in(sheet, line, head),
+        Sized::Large(sheet) => tested_in(sheet, line, head),
     }
 }
 
@@ -482,32 +511,58 @@ impl Level {
         line_count(&self.bare, dir)
     }
 
-    /// Adds the places that start in a line, if the line is searched, and counts the start cells that it tests.
+    /// Adds the places that start in a line, if the line is searched.
     fn add_searched(
         &self,
         row: &Row,
         dir: Dir,
         line: u32,
         found: &mut Vec<Place>,
-        tested: u64,
-    ) -> Result<u64, GridFault>
+    ) -> Result<(), GridFault>
         requires of_game { IsRowOf self.now.grid.layers row.now }
         requires line_in { line < line_count self.now.grid dir }
         requires room { length found.old.items ≤ MATCH_LIMIT }
-        requires few { tested ≤ 65536 }
         ensures added { OnOk result (found.new.items ≡ found.old.items ++ filter (row_holds self.now.grid row.now dir) (pairs_in self.now.grid row.now dir line)) }
-        ensures low { IfOk result (λ count. tested + starts_in dir (places self.now.grid row.now dir) (line_length self.now.grid dir) line ≤ count) }
-        ensures high { IfOk result (λ count. count ≤ tested + cond (searches_line self.now row.now dir line) (line_length self.now.grid dir) 0) }
-        ensures few { IfOk result (λ count. count ≤ tested + MAX_SIDE) }
         ensures room { OnOk result (length found.new.items ≤ MATCH_LIMIT) }
         ensures limit { result ≡ Err GridFault.MatchLimit → MATCH_LIMIT < length (found.old.items ++ filter (row_holds self.now.grid row.now dir) (pairs_in self.now.grid row.now dir line)) }
     {
         let _ = &self.bare;
         if self.may_start(row, dir, line) {
-            search_line(&self.bare, row, Line { dir, number: line }, found, tested)
+            search_line(&self.bare, row, Line { dir, number: line }, found)
         } else {
-            Ok(tested)
+            Ok(())
         }
+    }
+
+    /// In how many cells of a line the search tests whether a row starts there: in none, if the line is left out.
+    fn tested(&self, row: &Row, dir: Dir, line: u32) -> u32
+        requires of_game { IsRowOf self.now.grid.layers row.now }
+        requires line_in { line < line_count self.now.grid dir }
+        ensures low { starts_in dir (places self.now.grid row.now dir) (line_length self.now.grid dir) line ≤ result }
+        ensures high { result ≤ cond (searches_line self.now row.now dir line) (line_length self.now.grid dir) 0 }
+        ensures short { result ≤ MAX_SIDE }
+    {
+        let _ = &self.bare;
+        if self.may_start(row, dir, line) {
+            tested_for(&self.bare, row, Line { dir, number: line })
+        } else {
+            0
+        }
+    }
+
+    /// In how many cells of the level the search tests whether a row starts there.
+    fn tested_in_all(&self, row: &Row, dir: Dir) -> u64
+        requires of_game { IsRowOf self.now.grid.layers row.now }
+        ensures low { start_count self.now.grid dir (places self.now.grid row.now dir) ≤ result }
+        ensures high { result ≤ admitted self.now row.now dir * line_length self.now.grid dir }
+    {
+        // (brings the proof the law of levels)
+        let _ = self.width();
+        let mut tested = 0;
+        for line in 0..self.line_count(dir) {
+            tested += self.tested(row, dir, line) as u64;
+        }
+        tested
     }
 }
 
@@ -518,12 +573,21 @@ pub fn places(alloc: Global, level: &Level, row: &Row, dir: Dir) -> Result<Vec<P
     ensures found { IfOk result (λ found. searched level.now.grid row.now dir ≡ Ok found.items) }
     ensures fault { IfErr result (λ fault. fault ≢ GridFault.Memory → searched level.now.grid row.now dir ≡ Err fault) }
 {
-    let (found, _) = places_counted(alloc, level, row, dir)?;
+    // (brings the proof the law of levels)
+    let _ = level.width();
+    let mut found = Vec::new(alloc);
+    if !level.is_searched_for(row) {
+        return Ok(found);
+    }
+    for line in 0..level.line_count(dir) {
+        level.add_searched(row, dir, line, &mut found)?;
+    }
     Ok(found)
 }
 
-/// The places of a row as `places` gives them, and how many start cells were tested for them. Tested are only cells of lines (rows for left
-/// and right, columns for up and down) that `admitted` counts, each once. A line that is searched counts with all its cells.
+/// The places of a row as `places` gives them, and in how many cells it was tested whether the row starts there. Tested are only cells of lines
+/// (rows for left and right, columns for up and down) that `admitted` counts, each once: in a line of up to 128 cells those that are left once
+/// the positions of the objects that the row's cells name have been joined, in a longer one all.
 pub fn places_counted(
     alloc: Global,
     level: &Level,
@@ -536,16 +600,8 @@ pub fn places_counted(
     ensures low { IfOk result (λ r. start_count level.now.grid dir r.0.items ≤ r.1) }
     ensures high { IfOk result (λ r. r.1 ≤ admitted level.now row.now dir * line_length level.now.grid dir) }
 {
-    // (brings the proof the law of levels)
-    let _ = level.width();
-    if !level.is_searched_for(row) {
-        return Ok((Vec::new(alloc), 0));
-    }
-    let mut found = Vec::new(alloc);
-    let mut tested = 0;
-    for line in 0..level.line_count(dir) {
-        tested = level.add_searched(row, dir, line, &mut found, tested)?;
-    }
+    let found = places(alloc, level, row, dir)?;
+    let tested = level.tested_in_all(row, dir);
     Ok((found, tested))
 }
 

@@ -12,15 +12,6 @@ use Rattle.pz_grid.specs.Admitted.{searches_line, starts_in}
 use Rattle.pz_grid.proofs.SkipLemmas.{found_nowhere, starts_nowhere, starts_in_line}
 use Rattle.pz_grid.proofs.Level.add_searched.Goals as goal
 
-enough : (result : Result ℕ GridFault) (tested starts size : ℕ) → starts ≤ size → IfOk result (λ count. count ≡ tested + size) → IfOk result (λ count. tested + starts ≤ count)
-enough (Ok count) tested starts size few is = omega (arith, few, is)
-enough (Err fault) tested starts size few is = tt
-
-as_searched : (result : Result ℕ GridFault) (tested size : ℕ) (searched : Bool) → searched ≡ true → IfOk result (λ count. count ≡ tested + size) → IfOk result (λ count. count ≤ tested + cond searched size 0)
-as_searched (Ok count) tested size true same is = omega (arith, is)
-as_searched (Ok count) tested size false same is = absurd (cc)
-as_searched (Err fault) tested size searched same is = tt
-
 pub search_line-requires-clause-of_game : goal.search_line-requires-clause-of_game
 search_line-requires-clause-of_game c = subst (λ (s : LevelState). IsRowOf s.grid.layers c.args.row.now) (sym c.self.view_is) c.requires.of_game
 
@@ -35,27 +26,8 @@ pub returns-then-may_start-clause-limit : goal.returns-then-may_start-clause-lim
 returns-then-may_start-clause-limit c =
     subst (λ (s : LevelState). c.search_line.result ≡ Err MatchLimit → MATCH_LIMIT < length (c.args.found.now.items ++ filter (row_holds s.grid c.args.row.now c.args.dir) (pairs_in s.grid c.args.row.now c.args.dir c.args.line))) c.self.view_is c.search_line.ensures.limit
 
-pub returns-then-may_start-clause-high : goal.returns-then-may_start-clause-high
-returns-then-may_start-clause-high c =
-    let state = c.args.self.now in
-    let count = subst (λ (s : LevelState). IfOk c.search_line.result (λ count. count ≡ c.args.tested + line_length s.grid c.args.dir)) c.self.view_is c.search_line.ensures.count in
-    as_searched c.search_line.result c.args.tested (line_length state.grid c.args.dir) (searches_line state c.args.row.now c.args.dir c.args.line) (c.may_start.ensures.searched c.if-may_start.true) count
-
-pub returns-then-may_start-clause-low : goal.returns-then-may_start-clause-low
-returns-then-may_start-clause-low c =
-    let state = c.args.self.now in
-    let dir = c.args.dir in
-    let size = line_length state.grid dir in
-    let count = subst (λ (s : LevelState). IfOk c.search_line.result (λ count. count ≡ c.args.tested + line_length s.grid dir)) c.self.view_is c.search_line.ensures.count in
-    enough c.search_line.result c.args.tested (starts_in dir (places state.grid c.args.row.now dir) size c.args.line) size (starts_in_line dir (places state.grid c.args.row.now dir) size c.args.line) count
-
 pub returns-else-may_start-clause-added : goal.returns-else-may_start-clause-added
 returns-else-may_start-clause-added c =
     let old = c.args.found.now.items in
     let none = found_nowhere c.args.self.now.grid c.args.row.now c.args.dir c.args.line (c.may_start.ensures.none c.if-may_start.false) in
     sym (append-nil old) ∙ ap (λ (xs : List Place). old ++ xs) (sym none)
-
-pub returns-else-may_start-clause-low : goal.returns-else-may_start-clause-low
-returns-else-may_start-clause-low c =
-    let state = c.args.self.now in
-    omega (arith, starts_nowhere state.grid c.args.row.now c.args.dir (line_length state.grid c.args.dir) c.args.line (c.may_start.ensures.none c.if-may_start.false))

@@ -25,7 +25,7 @@ returns-in_err-add_places_at-clause-limit g c = λ is.
     subst (λ (xs : List Place). MATCH_LIMIT < length (c.args.found.now.items ++ xs)) (found_in_all grid row dir line) t
 
 pub overflow_add-from : goal.overflow_add-from
-overflow_add-from g c = omega (arith, c.in-Some.ensures.1, c.line_length-length.ensures.value, c.line_length-length.ensures.small)
+overflow_add-from g c = omega (arith, c.in-Some.ensures.1, c.line_length.ensures.value, c.line_length.ensures.small)
 
 pub starts-preserved : goal.starts-preserved
 starts-preserved g c =
