@@ -28,6 +28,19 @@ class DayOfTheReadme(InARoom):
         self.assertEqual((again.returncode, sum(it.startswith(b"passed, ") for it in again.stdout.splitlines())), (0, 6))
         self.assertEqual(sorted(it.name for it in folder.iterdir()), ["game.txt", "recordings.json", "report.html"])
 
+    def test_the_first_screen_shows_what_is_printed(self):
+        shown = (TOP / "README.md").read_text(encoding="utf-8").partition("\n    $ ./")[2].partition("\n\n")[0]
+        command, _, rest = shown.partition("\n")
+        lines = [it[4:] for it in rest.split("\n")]
+        answer = subprocess.run([*command.split()], executable=TOP / command.split()[0], cwd=TOP, env=environment(), stdout=subprocess.PIPE)
+        printed = answer.stdout.decode().splitlines()
+        # two points stand for lines that are left out
+        parts = [part.strip("\n").split("\n") for part in "\n".join(lines).split("\n..")]
+        self.assertEqual((answer.returncode, printed[: len(parts[0])], printed[-len(parts[-1]) :]), (1, parts[0], parts[-1]))
+        for part in parts[1:-1]:
+            self.assertIn(part, [printed[at : at + len(part)] for at in range(len(printed))])
+
+
 
 if __name__ == "__main__":
     unittest.main()
