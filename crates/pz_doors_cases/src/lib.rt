@@ -16,6 +16,8 @@ mod resting;
 #[cfg(test)]
 mod running;
 #[cfg(test)]
+mod searching;
+#[cfg(test)]
 mod stepping;
 #[cfg(test)]
 mod texts;

@@ -53,7 +53,7 @@ fn are_rows_of(layers: &[usize], rows: &Rows) -> bool
 }
 
 /// Fails for an instance that is of another game.
-fn test_instance(game: &Game, instance: &Instance) -> Result<(), Fail>
+pub(crate) fn test_instance(game: &Game, instance: &Instance) -> Result<(), Fail>
     ensures { OnOk result (IsInstanceOf game.now.layers instance.now) }
 {
     if are_rows_of(game.layers(), &instance.left) && are_rows_of(game.layers(), &instance.right) {
@@ -74,7 +74,7 @@ fn first_of(group: &Group) -> Result<&Instance, Fail> {
 }
 
 /// The first instance of the first group.
-fn first_instance(program: &Program) -> Result<&Instance, Fail> {
+pub(crate) fn first_instance(program: &Program) -> Result<&Instance, Fail> {
     match program.early() {
         [Block::One(group), ..] => first_of(group),
         _ => Err(Fail::new("no group")),

@@ -1,6 +1,6 @@
 //! The engine as a library: from the bytes of a file to its lines.
 
-use pz_engine::engine::lines;
+use pz_engine::engine::{lines, lines_from};
 use pz_entries::fault::FileFault;
 use pz_record::order::Order;
 use std::test::Fail;
@@ -22,6 +22,26 @@ fn plays_each_session_of_a_file(rt: HostRuntime) -> Result<(), Fail> {
     let played = lines(rt.alloc(), SESSIONS.as_bytes(), Order::Rows).map_err(|_| "no lines")?;
     assert!(rt; played.lines.as_slice() == LINES.as_bytes());
     assert!(rt; !played.passed);
+    Ok(())
+}
+
+/// Of these the lines from the first input on.
+const LINES_FROM_1: &str = concat!(
+    "{\"at\":1,\"frame\":1,\"kind\":\"move\",\"level\":\"background wall:0,background:1,background player:2,0,\\n\",\"session\":0}\n",
+    "{\"at\":2,\"frame\":2,\"kind\":\"move\",\"level\":\"background wall:0,background:1,background player:2,0,\\n\",\"session\":0}\n",
+    "{\"close\":\"passed\",\"frames\":3,\"name\":\"walk\",\"session\":0}\n",
+    "{\"cause\":\"Section:0\",\"close\":\"refused\",\"frames\":0,\"name\":\"refused\",\"session\":1}\n",
+);
+
+#[test]
+fn gives_the_lines_from_an_input_on(rt: HostRuntime) -> Result<(), Fail> {
+    for (from, wanted) in [(0, LINES), (1, LINES_FROM_1)] {
+        let played = lines_from(rt.alloc(), SESSIONS.as_bytes(), Order::Rows, from).map_err(
+            |_| "no lines",
+        )?;
+        assert!(rt; played.lines.as_slice() == wanted.as_bytes());
+        assert!(rt; !played.passed);
+    }
     Ok(())
 }
 
