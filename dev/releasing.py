@@ -83,7 +83,8 @@ CONTENTS = """# What stands in this archive
 - `replay` starts the program. The documents say that it proves and builds first; here it has nothing to build.
 - `saxtegun.html` is the playground, one file to open in a browser.
 - `engine/` has what plays in Node and in a page: `node engine/replay.mjs examples/block-pushing.json`.
-- `examples/`, `docs/`, `adapters/`, `web/` are as in the repository. `PROVED.txt` names the commit.
+- `examples/` has sessions, the lines that the program wrote for them, and a page of each, to open in a browser: `examples/day.html`.
+- `docs/`, `adapters/` and `web/` are as in the repository; `man/saxtegun.1` is the manual page. `PROVED.txt` names the commit.
 
 Only in the repository are the proofs and what makes and tests all this. The documents name it, and here it is not:
 

@@ -76,6 +76,7 @@ class Release(unittest.TestCase):
         self.assertEqual(called.stdout, f"--order columns {example}\n")
         self.assertEqual(subprocess.run([str(release / "replay"), "one", "two words"], capture_output=True, text=True).stdout, "one two words\n")
         self.assertIn("commit ", (release / "PROVED.txt").read_text())
+        self.assertTrue((release / "examples/day.html").is_file() and (release / "examples/day.lines").is_file())
 
     def test_the_documents_of_an_archive_name_what_is_in_it_or_is_told_to_be_elsewhere(self):
         release = self.unpacked()
