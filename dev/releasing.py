@@ -4,6 +4,7 @@ from __future__ import annotations
 import gzip
 import hashlib
 import io
+import json
 import re
 import subprocess
 import sys
@@ -13,8 +14,11 @@ from pathlib import Path
 from typing import Dict, List, NamedTuple
 
 PROGRAM = "crates/pz_replayer/out/pz_replayer"
+MODULE = "engine/out/saxtegun.wasm"
+# The engine for Node and for pages, beside its module.
+GLUE = ["engine/saxtegun.mjs", "engine/saxtegun.d.ts", "engine/replay.mjs"]
 # What stands in a release as it stands here: the command with its package, the examples, and the documents for users.
-TAKEN = ["saxtegun", "VERSION", "README.md", "CHANGELOG.md", "python", "web", "examples", "docs", "adapters", "HANDLES"]
+TAKEN = ["saxtegun", "VERSION", "README.md", "CHANGELOG.md", "CONTRIBUTING.md", "python", "web", "examples", "docs", "adapters", "HANDLES", *GLUE]
 
 
 class Broken(Exception):
@@ -28,11 +32,19 @@ class File(NamedTuple):
     runs: bool
 
 
+class Built(NamedTuple):
+    """What is proved and built of a commit: the program, and the module for Node and for pages."""
+
+    program: bytes
+    module: bytes
+
+
 def told(top: Path, *words: str) -> str:
     """What a command writes that must not fail."""
     ran = subprocess.run(words, cwd=top, capture_output=True, text=True)
     if ran.returncode:
-        raise Broken(f"{' '.join(words)}: {(ran.stderr or ran.stdout).strip().splitlines()[-1:] or 'it failed'}")
+        said = (ran.stderr or ran.stdout).strip().splitlines()
+        raise Broken(f"{' '.join(words)}: {said[-1] if said else 'it failed'}")
     return ran.stdout.strip()
 
 
@@ -56,19 +68,73 @@ def proved_words(top: Path, version: str) -> str:
         f"Saxtegun {version}\n"
         f"commit   {told(top, 'git', 'rev-parse', 'HEAD')}\n"
         f"kit      {kit.splitlines()[0]}\n"
-        f"program  made of the proved crates of that commit by dev/build pz_replayer\n\n"
+        "program  made of the proved crates of that commit by dev/build pz_replayer\n"
+        "module   made of the same crates by engine/build\n\n"
         "What is proved, what is only tested and what is trusted: docs/promises.md.\n"
         "To make this release again with a kit: check that commit out, and call dev/release --verify ARCHIVE.\n"
     )
 
 
-def files_of(top: Path, version: str, program: bytes) -> Dict[str, File]:
-    """The files of a release by their paths: those that the commit has, the program, and what is said of it."""
+CONTENTS = """# What stands in this archive
+
+*For who has unpacked it: what is here, and what of the documents is only in the repository.*
+
+- `saxtegun` is the command, in Python alone; `bin/pz_replayer` is the program that it calls. `./saxtegun test examples/block-pushing.json` is a first try.
+- `replay` starts the program. The documents say that it proves and builds first; here it has nothing to build.
+- `saxtegun.html` is the playground, one file to open in a browser.
+- `engine/` has what plays in Node and in a page: `node engine/replay.mjs examples/block-pushing.json`.
+- `examples/` has sessions, the lines that the program wrote for them, and a page of each, to open in a browser: `examples/day.html`.
+- `docs/`, `adapters/` and `web/` are as in the repository; `man/saxtegun.1` is the manual page. `PROVED.txt` names the commit.
+
+Only in the repository are the proofs and what makes and tests all this. The documents name it, and here it is not:
+
+{absent}
+"""
+# What the documents name and an archive hasn't.
+ABSENT = ["crates/", "crates.txt", "conformance/", "attack/", "bench/", "tests/", "dev/", ".ci/", "web/out/", "check", "released/",
+          "engine/build", "engine/to32.py", "engine/heap.c", "engine/helpers.c", "engine/tests-browser"]
+REPLAY = b"""#!/bin/sh
+exec "$(dirname "$0")/bin/pz_replayer" "$@"
+"""
+
+
+def page_of(top: Path, module: bytes) -> bytes:
+    """The playground, as dev/page makes it of a module."""
+    with tempfile.TemporaryDirectory() as folder:
+        given, made = Path(folder) / "module.wasm", Path(folder) / "page.html"
+        given.write_bytes(module)
+        told(top, sys.executable, "dev/page", "--module", str(given), "--output", str(made))
+        return made.read_bytes()
+
+
+def files_of(top: Path, version: str, built: Built) -> Dict[str, File]:
+    """The files of a release by their paths: those that the commit has, what was built, and what is said of it."""
     paths = told(top, "git", "ls-files", "--", *TAKEN).splitlines()
     files = {path: File((top / path).read_bytes(), bool((top / path).stat().st_mode & 0o100)) for path in paths}
-    files["bin/pz_replayer"] = File(program, True)
+    files["bin/pz_replayer"] = File(built.program, True)
+    files["replay"] = File(REPLAY, True)
+    files[MODULE] = File(built.module, False)
+    files["saxtegun.html"] = File(page_of(top, built.module), False)
+    files["man/saxtegun.1"] = File(MANUAL.encode(), False)
+    files["CONTENTS.md"] = File(CONTENTS.format(absent="\n".join(f"- `{path}`" for path in ABSENT)).encode(), False)
     files["PROVED.txt"] = File(proved_words(top, version).encode(), False)
     return files
+
+
+def engine_files(files: Dict[str, File], version: str) -> Dict[str, File]:
+    """The files of the package for Node, which finds its module in out/ beside it."""
+    said = {
+        "name": "saxtegun-engine",
+        "version": version,
+        "description": "Plays recorded PuzzleScript sessions again: the proved engine as a WebAssembly module",
+        "type": "module",
+        "exports": {".": {"types": "./saxtegun.d.ts", "default": "./saxtegun.mjs"}, "./out/saxtegun.wasm": "./out/saxtegun.wasm"},
+        "types": "./saxtegun.d.ts",
+        "bin": {"saxtegun-replay": "replay.mjs"},
+        "engines": {"node": ">=20"},
+    }
+    packed = {path.partition("/")[2]: files[path] for path in [*GLUE, MODULE]}
+    return {**packed, "package.json": File((json.dumps(said, indent=2) + "\n").encode(), False)}
 
 
 def archive(files: Dict[str, File], folder: str, time: int) -> bytes:
@@ -140,22 +206,25 @@ def put(path: Path, content: bytes, runs: bool) -> None:
     path.chmod(0o755 if runs else 0o644)
 
 
-def program_of(top: Path) -> bytes:
-    """The program of these sources, proved and built where it isn't yet."""
-    if subprocess.run([str(top / "dev/build"), "pz_replayer"], stdout=sys.stderr).returncode:
-        raise Broken("the program was not built")
-    return (top / PROGRAM).read_bytes()
+def built_of(top: Path) -> Built:
+    """The program and the module of these sources, proved and built where they aren't yet."""
+    for words in (["dev/build", "pz_replayer"], ["engine/build"]):
+        if subprocess.run([str(top / words[0]), *words[1:]], stdout=sys.stderr).returncode:
+            raise Broken(f"{' '.join(words)} has not built")
+    return Built((top / PROGRAM).read_bytes(), (top / MODULE).read_bytes())
 
 
-def make(top: Path, version: str, into: Path, program: bytes) -> List[str]:
+def make(top: Path, version: str, into: Path, built: Built) -> List[str]:
     """Writes a release, and tells a line for each file: its sum, its size and its name."""
     check_version(top, version)
     time = int(told(top, "git", "log", "-1", "--format=%ct"))
-    files = files_of(top, version, program)
+    files = files_of(top, version, built)
     name = f"saxtegun-{version}-linux-x86_64"
     made = {
         f"{name}.tar.gz": archive(files, name, time),
         f"saxtegun_{version}_amd64.deb": package(files, version, time),
+        f"saxtegun-engine-{version}.tgz": archive(engine_files(files, version), "package", time),
+        "saxtegun.html": files["saxtegun.html"].content,
     }
     into.mkdir(parents=True, exist_ok=True)
     sums = []
@@ -178,7 +247,7 @@ def members(content: bytes) -> Dict[str, File]:
         return found
 
 
-def differences(top: Path, path: Path, program: bytes) -> List[str]:
+def differences(top: Path, path: Path, built: Built) -> List[str]:
     """What of an archive this commit doesn't make so."""
     theirs = members(path.read_bytes())
     if "PROVED.txt" not in theirs or "VERSION" not in theirs:
@@ -187,7 +256,7 @@ def differences(top: Path, path: Path, program: bytes) -> List[str]:
     here = told(top, "git", "rev-parse", "HEAD")
     if commit is None or commit[1].decode() != here:
         raise Broken(f"{path} is of commit {commit[1].decode() if commit else 'none'}, and {here} is checked out")
-    ours = files_of(top, theirs["VERSION"].content.decode().strip(), program)
+    ours = files_of(top, theirs["VERSION"].content.decode().strip(), built)
     return [name for name in sorted({*theirs, *ours}) if theirs.get(name) != ours.get(name)]
 
 
@@ -197,7 +266,7 @@ def call(top: Path, words: List[str], usage: str) -> int:
             print(usage.strip())
             return 0
         if len(words) == 2 and words[0] == "--verify":
-            found = differences(top, Path(words[1]), program_of(top))
+            found = differences(top, Path(words[1]), built_of(top))
             for name in found:
                 print(f"differs: {name}")
             print("each file is as this commit makes it" if not found else f"{len(found)} files differ")
@@ -206,7 +275,7 @@ def call(top: Path, words: List[str], usage: str) -> int:
             raise Broken("call it as dev/release VERSION [--into FOLDER], or dev/release --verify ARCHIVE")
         check_version(top, words[0])
         into = Path(words[2]) if len(words) == 3 else top / "release"
-        print("\n".join(make(top, words[0], into, program_of(top))))
+        print("\n".join(make(top, words[0], into, built_of(top))))
         return 0
     except (Broken, OSError, tarfile.TarError, gzip.BadGzipFile) as why:
         print(f"release: {why}", file=sys.stderr)
