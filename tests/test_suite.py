@@ -6,6 +6,7 @@ are the lines of the part's sessions, numbered from 0.
 import json
 import re
 import unittest
+from itertools import accumulate
 
 from tool import CASES, InARoom, run
 
@@ -70,11 +71,21 @@ class Suite(InARoom):
             lines.write_text(re.sub('"cause":"[^"]*",|"close":"\\w+"', lambda it: '"close":"passed"' if "close" in it[0] else "", lines.read_text()))
         self.assertEqual(run("join", self.parts).status, 0)
 
-    def test_parts_are_consecutive_and_of_nearly_one_length(self):
+    def test_parts_are_consecutive(self):
         entries = json.loads((CASES / SUITES[0] / "input.json").read_text())
         self.split_and_play(SUITES[0], 4)
-        self.assertEqual([int(file.stem) for file in self.files()], [0, 2, 4, 6])
-        self.assertEqual([entry for file in self.files() for entry in json.loads(file.read_text())], entries)
+        parts = [json.loads(file.read_text()) for file in self.files()]
+        self.assertEqual([entry for part in parts for entry in part], entries)
+        self.assertEqual([int(it.stem) for it in self.files()], [0, *accumulate(map(len, parts[:-1]))])
+
+    def test_parts_have_about_as_many_inputs(self):
+        # an entry costs its inputs and one, so two parts cost 103 each
+        entries = [["long", ["", [0] * 100]], ["a", ["", []]], ["b", ["", []]], ["no entry"], ["c", ["", [0] * 50]], ["d", ["", [0] * 50]]]
+        for count, firsts in ((1, [0]), (2, [0, 3]), (3, [0, 1, 5]), (5, [0, 1, 2, 4, 5]), (6, [0, 1, 2, 3, 4, 5]), (9, [0, 1, 2, 3, 4, 5])):
+            with self.subTest(parts=count):
+                self.parts = self.room / str(count)
+                self.assertEqual(self.split(count, json.dumps(entries)).status, 0)
+                self.assertEqual([int(it.stem) for it in self.files()], firsts)
 
     def test_an_entry_is_copied_letter_by_letter(self):
         entries = ['["a", [1.0, -0,  1e400]]', '{"\\u0041" :\t18446744073709551616}', '"(ä, ]"']
@@ -103,14 +114,16 @@ class Suite(InARoom):
 
     def test_a_missing_part_is_told(self):
         self.split_and_play(SUITES[0], 3)
-        self.files()[1].with_suffix(".lines").unlink()
-        self.assert_refused(run("join", self.parts), "00000003.lines is missing")
+        missing = self.files()[1].with_suffix(".lines")
+        missing.unlink()
+        self.assert_refused(run("join", self.parts), f"{missing.name} is missing")
 
     def test_a_part_that_was_cut_off_is_told(self):
         self.split_and_play(SUITES[0], 3)
-        lines = self.files()[2].with_suffix(".lines")
+        part = self.files()[2]
+        lines, sessions = part.with_suffix(".lines"), len(json.loads(part.read_text()))
         lines.write_text("".join(lines.read_text().splitlines(keepends=True)[:-1]))
-        self.assert_refused(run("join", self.parts), "closes 2 of 3 sessions")
+        self.assert_refused(run("join", self.parts), f"closes {sessions - 1} of {sessions} sessions")
 
     def test_the_lines_of_another_part_are_told(self):
         self.split_and_play(SUITES[0], 9)

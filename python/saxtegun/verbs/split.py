@@ -1,7 +1,7 @@
 """Splits a sessions file into parts, to be played apart and joined again by `saxtegun join`.
 
 FOLDER must not be there yet. Each part is a sessions file, FOLDER/NUMBER.json, where NUMBER is that of its first session in SESSIONS; the
-parts have equally many entries, or one more. An entry is copied letter by letter, so the program judges it as it would in SESSIONS. Beside
+parts have about equally many inputs, so that they end together. An entry is copied letter by letter, so the program judges it as it would in SESSIONS. Beside
 the parts stands FOLDER/parts.txt, which says what belongs together. SESSIONS may be larger than a file that the program takes; a part must
 not be. Exit status 0, or 2 where SESSIONS is no list or a part would be too large."""
 from __future__ import annotations
@@ -11,7 +11,9 @@ import os
 import shutil
 import tempfile
 from argparse import ArgumentParser, Namespace
-from typing import List, Tuple
+from bisect import bisect_left
+from itertools import accumulate
+from typing import Any, List, NamedTuple, Tuple
 
 from saxtegun.commands import Refused
 from saxtegun.files import read_text
@@ -22,7 +24,14 @@ USAGE = "split SESSIONS PARTS FOLDER"
 MOST_BYTES = 16_777_216
 MOST_ENTRIES = 65_536
 READER = json.JSONDecoder()
-Named = Tuple[str, str]
+
+
+class Cut(NamedTuple):
+    """An entry of the file: its text, its name, and about what it costs to play."""
+
+    text: str
+    name: str
+    cost: int
 
 
 def add_words(words: ArgumentParser) -> None:
@@ -38,9 +47,28 @@ def next_mark(text: str, at: int, marks: Tuple[str, ...]) -> Tuple[str, int]:
     return text[at], at + 1
 
 
-def entries_in(text: str) -> List[Named]:
-    """The entries of a sessions file, each as its text and its name."""
-    entries: List[Named] = []
+def cost_of(entry: Any) -> int:
+    """What an entry costs, whatever it is: its inputs, and one for its start."""
+    session = entry[1] if isinstance(entry, list) and len(entry) > 1 else None
+    inputs = session[1] if isinstance(session, list) and len(session) > 1 else None
+    return 1 + (len(inputs) if isinstance(inputs, list) else 0)
+
+
+def bounds_of(costs: List[int], count: int) -> List[int]:
+    """Where parts of about the same cost begin, and the end: each has an entry, where there are as many."""
+    total, so_far = sum(costs), list(accumulate(costs, initial=0))
+    bounds = [0]
+    for number in range(1, count):
+        wanted = total * number / count
+        behind = bisect_left(so_far, wanted)
+        nearest = min((behind - 1, behind), key=lambda it: abs(so_far[it] - wanted))
+        bounds.append(min(max(nearest, bounds[-1] + 1), len(costs) - (count - number)))
+    return [*bounds, len(costs)]
+
+
+def entries_in(text: str) -> List[Cut]:
+    """The entries of a sessions file."""
+    entries: List[Cut] = []
     mark, at = next_mark(text, 0, ("[",))
     at = after_space(text, at)
     if text[at : at + 1] == "]":
@@ -48,22 +76,22 @@ def entries_in(text: str) -> List[Named]:
     while mark != "]":
         begin = after_space(text, at)
         value, end = READER.raw_decode(text, begin)
-        entries.append((text[begin:end], name_in(value)))
+        entries.append(Cut(text[begin:end], name_in(value), cost_of(value)))
         mark, at = next_mark(text, end, (",", "]"))
     return entries
 
 
-def write_parts(count: int, entries: List[Named], folder: str) -> None:
+def write_parts(count: int, entries: List[Cut], folder: str) -> None:
     """Writes the parts into a folder beside, which gets its name once all of them are there."""
     beside = os.path.dirname(os.path.abspath(folder))
     parts: List[Part] = []
     room = tempfile.mkdtemp(prefix=".saxtegun-", dir=beside)
     try:
         os.chmod(room, 0o755)
-        for number in range(count):
-            first, behind = number * len(entries) // count, (number + 1) * len(entries) // count
-            part = Part(first, [name for _, name in entries[first:behind]])
-            data = ("[\n" + ",\n".join(text for text, _ in entries[first:behind]) + "\n]\n").encode()
+        bounds = bounds_of([it.cost for it in entries], count)
+        for first, behind in zip(bounds, bounds[1:]):
+            part = Part(first, [it.name for it in entries[first:behind]])
+            data = ("[\n" + ",\n".join(it.text for it in entries[first:behind]) + "\n]\n").encode()
             if len(data) > MOST_BYTES or behind - first > MOST_ENTRIES:
                 raise Refused(f"the part from session {first} on is larger than a file may be: ask for more parts")
             with open(os.path.join(room, part.file("json")), "wb") as file:
