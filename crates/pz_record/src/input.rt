@@ -14,7 +14,7 @@ pub fn inputs_are_limited()
 {}
 
 /// An input of a session: a direction or the action is pressed, the last change is undone, the level is restarted, or time passes.
-#[derive(Clone, Copy, PartialEq, Eq)]
+#[derive(Clone, Copy, Debug, PartialEq, Eq)]
 pub enum Input {
     Press(Dir),
     Undo,
