@@ -7,16 +7,15 @@ import subprocess
 import tempfile
 from argparse import Namespace
 from contextlib import contextmanager
-from pathlib import Path
 from typing import IO, Any, Iterator, List, NamedTuple, Optional, Sequence
 
 from saxtegun.belonging import Tests, read_runs
 from saxtegun.commands import Refused, plural, say
 from saxtegun.files import write_whole
 from saxtegun.lines import Run, frame_of, line_of, runs_in
+from saxtegun.programs import has_played, program_words
 from saxtegun.sessions import Entry, Sessions, written
 
-TOP = Path(__file__).resolve().parent.parent.parent
 # What the program's lines at status 2 mean; the number is that of a session or of bytes.
 REFUSALS = {
     "open-fault": "it can't be opened",
@@ -31,27 +30,11 @@ REFUSALS = {
 }
 
 
-BUILT = TOP / "crates/pz_replayer/out/pz_replayer"
-RELEASED = TOP / "bin/pz_replayer"  # where a release has the program
-HAS_PLAYED: List[bool] = []
-
-
 class Played(NamedTuple):
     """What a program wrote, as a file, and how it ended: 0 or 1."""
 
     lines: str
     status: int
-
-
-def program_words(named: Optional[str] = None) -> List[str]:
-    """How the program is called: the one that is named, that of SAXTEGUN_PROGRAM, that of a release, or ./replay, which builds it where it must."""
-    path = named or os.environ.get("SAXTEGUN_PROGRAM") or (str(RELEASED) if RELEASED.is_file() else None)
-    if not path:
-        # ./replay looks whether the program is that of the sources; what has played once in this process is
-        return [str(BUILT)] if HAS_PLAYED else [str(TOP / "replay")]
-    if not os.path.isfile(path) or not os.access(path, os.X_OK):
-        raise Refused(f"there is no program at {path!r}")
-    return [os.path.abspath(path)]
 
 
 class Engine(NamedTuple):
@@ -114,10 +97,9 @@ def play_file(path: str, lines: str, engine: Engine, of: Optional[Sessions] = No
             ran = watched(words, file, subprocess.DEVNULL)
     except OSError as why:
         raise Refused(f"{lines} can't be written: {why.strerror}") from None
-    if ran.status in (0, 1) and BUILT.is_file() and not HAS_PLAYED:
-        HAS_PLAYED.append(True)
     if ran.status not in (0, 1):
         raise Refused(refusal(ran.said, of.path if of else path, of.entries if of else ()))
+    has_played()
     return Played(lines, ran.status)
 
 
