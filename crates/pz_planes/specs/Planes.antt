@@ -35,6 +35,10 @@ pub record HasLines (objects count : ℕ) (words : List ℕ) : Type 0 where
 abbrev pub stands_in : LineSets → ℕ → ℕ → ℕ → Bool
 stands_in sets object line at = member sets.words ((object * sets.count + line) * 128 + at)
 
+-- an object is noted at no position of a line
+abbrev pub IsMissingIn : LineSets → ℕ → ℕ → Type 0
+IsMissingIn sets line object = (at : ℕ) → object < sets.objects → at < 128 → stands_in sets object line at ≡ false
+
 -- nothing is noted at all
 abbrev pub IsEmpty : LineSets → Type 0
 IsEmpty sets = (object line at : ℕ) → stands_in sets object line at ≡ false

@@ -1,6 +1,6 @@
 //! Positions of a line as the bits of a word: the position n, counted from 0, is in the set if bit n of the word is set.
 
-ghost use Rattle.std.specs.Prelude.{◌≡◌, ℕ, ◌<◌, ◌≤◌, ◌&&◌, true, not};
+ghost use Rattle.std.specs.Prelude.{◌≡◌, ℕ, ◌<◌, ◌≤◌, ◌&&◌, true, false, not};
 ghost use Rattle.pz_sets.specs.Sets.{in_word};
 ghost use Rattle.pz_sets.specs.Next.{IsNext};
 ghost use Rattle.pz_planes.specs.Line.{step_to, room_from};
@@ -16,6 +16,13 @@ pub fn all() -> u128
     ensures { (at : ℕ) → at < 128 → in_word result at ≡ true }
 {
     u128::MAX
+}
+
+/// Whether a set has no position.
+pub fn is_empty(set: u128) -> bool
+    ensures { result ≡ true → (at : ℕ) → at < 128 → in_word set at ≡ false }
+{
+    set == 0
 }
 
 /// The positions of both sets.

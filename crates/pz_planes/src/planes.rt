@@ -5,7 +5,7 @@ ghost use Rattle.std.specs.Prelude.{◌≡◌, ℕ, ◌+◌, ◌*◌, ◌/◌, �
 ghost use Rattle.pz_game.specs.declared.limits.TheConstants.{MAX_OBJECTS, MAX_SIDE};
 ghost use Rattle.pz_game.specs.Items.{names};
 ghost use Rattle.pz_sets.specs.Sets.{in_word, member};
-ghost use Rattle.pz_planes.specs.Planes.{stands_in, IsEmpty, IsChanged, AreChanged, IsInside, IsKnown, AreKnown, AreThere, HaveSameLines, HasRoomOf, IsFor, AreItemsOf, MayHold, MayRun, lines_of};
+ghost use Rattle.pz_planes.specs.Planes.{stands_in, IsMissingIn, IsEmpty, IsChanged, AreChanged, IsInside, IsKnown, AreKnown, AreThere, HaveSameLines, HasRoomOf, IsFor, AreItemsOf, MayHold, MayRun, lines_of};
 
 use crate::bits;
 use crate::line::{Axis, Way};
@@ -163,13 +163,31 @@ impl LinePlanes {
     {
         let mut starts = bits::all();
         for index in 0..patterns.len().min(bits::ROOM as usize) {
-            if starts == 0 {
-                return starts;
-            }
             let places = self.places(line, &patterns[index]);
             starts = bits::both(starts, bits::from_which(places, way, index));
         }
         starts
+    }
+
+    /// Whether an object is noted in a line.
+    fn has(&self, object: usize, line: usize) -> bool
+        requires { line < self.now.count }
+        ensures { result ≡ false → IsMissingIn self.now line object }
+    {
+        object < self.objects && !bits::is_empty(self.words[self.index(object, line)])
+    }
+
+    /// Whether one of some objects is noted in a line.
+    pub fn has_one_of(&self, line: usize, objects: &[usize]) -> bool
+        requires { line < self.now.count }
+        ensures { result ≡ false → All (IsMissingIn self.now line) objects.now }
+    {
+        for object in objects {
+            if self.has(*object, line) {
+                return true;
+            }
+        }
+        false
     }
 
     /// Whether another has as many objects and lines, so that its notes fit in this one's memory.

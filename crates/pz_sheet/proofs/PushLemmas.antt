@@ -1,7 +1,7 @@
 -- Objects that are given a direction.
-use Rattle.std.proofs.Common.{◌≡◌, ◌≢◌, inl, inr, ℕ, suc, ◌+◌, ◌<◌, ◌≤◌, List, [], ◌∷◌, ◌++◌, Option, Some, None, Bool, true, false, ◌||◌, cond, is_some, map, set, take, drop, length, get_or, nat_eq, arith, ap, sym, ◌∙◌, refl, subst, eq-eqb, length-append, length-drop, length-take}
+use Rattle.std.proofs.Common.{◌≡◌, ◌≢◌, inl, inr, ℕ, zero, suc, ◌+◌, ◌*◌, ◌<◌, ◌≤◌, List, [], ◌∷◌, ◌++◌, Option, Some, None, Bool, true, false, ◌||◌, cond, is_some, map, set, take, drop, length, get_or, nat_eq, arith, ap, sym, ◌∙◌, refl, subst, eq-eqb, length-append, length-drop, length-take}
+use Rattle.std.proofs.Math.Nat.{mul_comm, suc-mul, mul-le-mul_right}
 use Rattle.std.specs.Prelude.{IfSome}
-use Rattle.std.specs.List.{All}
 use Rattle.std.proofs.lemmas.Bool.{cases_eq, false≢true, ne_eqb}
 use Rattle.std.proofs.lemmas.List.{append-nil, drop_more, drop_all, get_or_default, length-map, set-get_or, take_all}
 use Rattle.std.proofs.lemmas.List.Edits.{map_over_more}
@@ -12,8 +12,8 @@ use Rattle.pz_cells.specs.declared.piece.Piece.{Piece}
 use Rattle.pz_cells.specs.Shown.{place_of, cell_of, Shows, AreLawful, Changes}
 use Rattle.pz_cells.proofs.PlaceLemmas.{lawful_changed, shows_changed, place_some, object_there}
 use Rattle.pz_cells.specs.Standing.{standing}
-use Rattle.pz_sheet.specs.Grid.{Grid}
-use Rattle.pz_sheet.specs.Presence.{is_in}
+use Rattle.pz_sheet.specs.Grid.{Grid, cell_at}
+use Rattle.pz_sheet.specs.Presence.{is_in, AreMissing}
 use Rattle.pz_sheet.proofs.HoldingLemmas.{none_of}
 use Rattle.pz_sheet.specs.Pushing.{is_one_of, pushed_place, pushed_at, pushed}
 use Rattle.pz_cells.proofs.ListLemmas.{cell_mapped}
@@ -117,7 +117,7 @@ apart_back : (a b : ℕ) → nat_eq a b ≡ false → nat_eq b a ≡ false
 apart_back a b apart = ne_eqb b a (λ same. false≢true (sym apart ∙ eq-eqb a b (sym same)))
 
 -- nobody of some players stands there
-pub absent_pushed : (players : List ℕ) (dir : Dir) (cell : List (Option Piece)) → All (λ player. is_in cell player ≡ false) players → map (pushed_place players dir) cell ≡ cell
+pub absent_pushed : (players : List ℕ) (dir : Dir) (cell : List (Option Piece)) → AreMissing players cell → map (pushed_place players dir) cell ≡ cell
 absent_pushed players dir [] none = refl
 absent_pushed players dir (None ∷ places) none = ap (λ (rest : List (Option Piece)). None ∷ rest) (absent_pushed players dir places none)
 absent_pushed players dir (Some piece ∷ places) none =
@@ -131,28 +131,70 @@ pub unpushed_at : (players : List ℕ) (dir : Dir) (index : ℕ) (grid : Grid) �
 unpushed_at players dir index grid same =
     ap (λ (cells : List (List (Option Piece))). record grid { cells = cells }) (sym (ap (set grid.cells index) same ∙ set-get_or grid.cells index []))
 
-pub pushed_long : (players : List ℕ) (dir : Dir) (index : ℕ) (old now : Grid) → now ≡ record old { cells = map (map (pushed_place players dir)) (take index old.cells) ++ drop index old.cells } → length now.cells ≡ length old.cells
-pushed_long players dir index old now is =
-    let f = map (pushed_place players dir) in
-    omega (arith, ap (λ (g : Grid). length g.cells) is ∙ length-append (map f (take index old.cells)) (drop index old.cells), length-map (take index old.cells) f, length-take index old.cells, length-drop index old.cells)
+pushed_length : (f : List (Option Piece) → List (Option Piece)) (count : ℕ) (cells : List (List (Option Piece))) → length (map f (take count cells) ++ drop count cells) ≡ length cells
+pushed_length f count cells =
+    omega (arith, length-append (map f (take count cells)) (drop count cells), length-map (take count cells) f, length-take count cells, length-drop count cells)
+
+-- the cells before a number are pushed, and no others
+abbrev pub ArePushedTo : List ℕ → Dir → ℕ → Grid → Grid → Type 0
+ArePushedTo players dir count old now = now ≡ record old { cells = map (map (pushed_place players dir)) (take count old.cells) ++ drop count old.cells }
+
+pub pushed_as : (players : List ℕ) (dir : Dir) (count other : ℕ) (old now : Grid) → count ≡ other → ArePushedTo players dir count old now → ArePushedTo players dir other old now
+pushed_as players dir count other old now same is = subst (λ (n : ℕ). ArePushedTo players dir n old now) same is
+
+-- none is pushed yet
+pub pushed_to_none : (players : List ℕ) (dir : Dir) (count : ℕ) (grid : Grid) → 0 ≡ count → ArePushedTo players dir count grid grid
+pushed_to_none players dir count grid none = pushed_as players dir 0 count grid grid none refl
 
 -- one more cell is pushed
-pub pushed_on : (players : List ℕ) (dir : Dir) (index : ℕ) (old now next : Grid) → index < length old.cells
-    → now ≡ record old { cells = map (map (pushed_place players dir)) (take index old.cells) ++ drop index old.cells } → next ≡ pushed_at players dir index now
-    → next ≡ record old { cells = map (map (pushed_place players dir)) (take (index + 1) old.cells) ++ drop (index + 1) old.cells }
-pushed_on players dir index old now next within is e =
+pub pushed_on : (players : List ℕ) (dir : Dir) (index : ℕ) (old now next : Grid) → index < length now.cells → ArePushedTo players dir index old now → next ≡ pushed_at players dir index now → ArePushedTo players dir (index + 1) old next
+pushed_on players dir index old now next inside is e =
     let f = map (pushed_place players dir) in
     let cells = map f (take index old.cells) ++ drop index old.cells in
     let here = get_or cells index [] in
-    let inside : index < length cells = omega (arith, within, ap (λ (g : Grid). length g.cells) is, pushed_long players dir index old now is) in
+    let same : length now.cells ≡ length cells = ap (λ (g : Grid). length g.cells) is in
+    let long : length cells ≡ length old.cells = pushed_length f index old.cells in
     e ∙ ap (λ (grid : Grid). pushed_at players dir index grid) is
-    ∙ ap (λ (all : List (List (Option Piece))). record old { cells = all }) (map_over_more f old.cells cells index here within refl (get_or_default cells index [] here inside))
+    ∙ ap (λ (all : List (List (Option Piece))). record old { cells = all }) (map_over_more f old.cells cells index here (omega (arith, inside, same, long)) refl (get_or_default cells index [] here (omega (arith, inside, same))))
+
+-- some cells, in which none of the players stands, need no push
+pub pushed_past : (players : List ℕ) (dir : Dir) (from count : ℕ) (old now : Grid) → from + count ≤ length now.cells → ((k : ℕ) → k < count → AreMissing players (get_or now.cells (from + k) [])) → ArePushedTo players dir from old now
+    → ArePushedTo players dir (from + count) old now
+pushed_past players dir from zero old now within missing is = pushed_as players dir from (from + 0) old now (omega arith) is
+pushed_past players dir from (suc count) old now within missing is =
+    let before = pushed_past players dir from count old now (omega (arith, within)) (λ k h. missing k (omega (arith, h))) is in
+    let at = from + count in
+    pushed_as players dir (at + 1) (from + suc count) old now (omega arith)
+    (pushed_on players dir at old now now (omega (arith, within)) before (unpushed_at players dir at now (absent_pushed players dir (get_or now.cells at []) (missing count (omega arith)))))
 
 -- all cells are pushed
-pub pushed_end : (players : List ℕ) (dir : Dir) (index : ℕ) (old now : Grid) → length old.cells ≤ index
-    → now ≡ record old { cells = map (map (pushed_place players dir)) (take index old.cells) ++ drop index old.cells } → now ≡ pushed players dir old
-pushed_end players dir index old now past is =
+pub pushed_end : (players : List ℕ) (dir : Dir) (count : ℕ) (old now : Grid) → length now.cells ≤ count → ArePushedTo players dir count old now → now ≡ pushed players dir old
+pushed_end players dir count old now past is =
     let f = map (pushed_place players dir) in
-    is ∙ ap (λ (all : List (List (Option Piece))). record old { cells = all })
-    (ap (λ (rest : List (List (Option Piece))). map f (take index old.cells) ++ rest) (drop_all index old.cells past)
-    ∙ (append-nil (map f (take index old.cells)) ∙ ap (map f) (take_all index old.cells past)))
+    let all : length old.cells ≤ count = omega (arith, past, ap (λ (g : Grid). length g.cells) is, pushed_length f count old.cells) in
+    is ∙ ap (λ (cells : List (List (Option Piece))). record old { cells = cells })
+    (ap (λ (rest : List (List (Option Piece))). map f (take count old.cells) ++ rest) (drop_all count old.cells all)
+    ∙ (append-nil (map f (take count old.cells)) ∙ ap (map f) (take_all count old.cells all)))
+
+-- one more row is pushed
+pub pushed_row : (players : List ℕ) (dir : Dir) (y at : ℕ) (old now : Grid) → at ≡ old.width → ArePushedTo players dir (y * old.width + at) old now → ArePushedTo players dir ((y + 1) * old.width) old now
+pushed_row players dir y at old now end is = pushed_as players dir (y * old.width + at) ((y + 1) * old.width) old now (omega (arith, end, suc-mul y old.width)) is
+
+-- one in which none of the players stands needs no push
+pub passed_row : (players : List ℕ) (dir : Dir) (y : ℕ) (old now : Grid) → length old.cells ≡ old.width * old.height → y < old.height → ((x : ℕ) → x < now.width → AreMissing players (cell_at now x y)) → ArePushedTo players dir (y * old.width) old now
+    → ArePushedTo players dir ((y + 1) * old.width) old now
+passed_row players dir y old now covers y_in missing is =
+    let wide : now.width ≡ old.width = ap (λ (g : Grid). g.width) is in
+    let here : ArePushedTo players dir (y * now.width) old now = pushed_as players dir (y * old.width) (y * now.width) old now (ap (λ (w : ℕ). y * w) (sym wide)) is in
+    let long : length now.cells ≡ length old.cells = ap (λ (g : Grid). length g.cells) is ∙ pushed_length (map (pushed_place players dir)) (y * old.width) old.cells in
+    let within : y * now.width + now.width ≤ length now.cells = omega (arith, long, covers, wide, ap (λ (w : ℕ). y * w) wide, suc-mul y old.width, mul_comm old.width old.height, mul-le-mul_right old.width y_in) in
+    let after : ArePushedTo players dir (y * now.width + now.width) old now = pushed_past players dir (y * now.width) now.width old now within missing here in
+    pushed_as players dir (y * now.width + now.width) ((y + 1) * old.width) old now (omega (arith, suc-mul y old.width, wide, ap (λ (w : ℕ). y * w) wide)) after
+
+-- as many rows are pushed as there are
+pub pushed_rows : (players : List ℕ) (dir : Dir) (rows : ℕ) (old now : Grid) → length now.cells ≡ now.width * now.height → old.height ≤ rows → ArePushedTo players dir (rows * old.width) old now → now ≡ pushed players dir old
+pushed_rows players dir rows old now covers all is =
+    let wide : now.width ≡ old.width = ap (λ (g : Grid). g.width) is in
+    let high : now.height ≡ old.height = ap (λ (g : Grid). g.height) is in
+    let product : now.width * now.height ≡ old.height * old.width = ap (λ (w : ℕ). w * now.height) wide ∙ ap (λ (h : ℕ). old.width * h) high ∙ mul_comm old.width old.height in
+    pushed_end players dir (rows * old.width) old now (omega (arith, covers, product, mul-le-mul_right old.width all)) is

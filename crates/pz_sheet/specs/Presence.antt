@@ -1,5 +1,5 @@
 -- Which objects are in a cell, in a row and in a column.
-use Rattle.std.specs.Prelude.{ℕ, Bool, not, ◌&&◌, ◌||◌, List, [], Option, is_some, slice_index_or}
+use Rattle.std.specs.Prelude.{◌≡◌, ℕ, Bool, false, All, not, ◌&&◌, ◌||◌, List, [], Option, is_some, slice_index_or}
 use Rattle.std.specs.List.{list_any, list_all, range_with_len}
 use Rattle.pz_cells.specs.declared.piece.Piece.{Piece}
 use Rattle.pz_sheet.specs.declared.line.Line.{Line}
@@ -18,6 +18,10 @@ holds_one objects cell = list_any (is_in cell) objects
 -- each of the objects is in a cell
 abbrev pub holds_each : List ℕ → List (Option Piece) → Bool
 holds_each objects cell = list_all (is_in cell) objects
+
+-- none of the objects is in a cell
+abbrev pub AreMissing : List ℕ → List (Option Piece) → Type 0
+AreMissing objects cell = All (λ object. is_in cell object ≡ false) objects
 
 -- the cell of a number, counted row by row
 abbrev pub cell_of : Grid → ℕ → List (Option Piece)

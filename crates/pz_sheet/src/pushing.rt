@@ -1,16 +1,19 @@
 //! The direction of an input, given to the player.
 
-ghost use Rattle.std.specs.Prelude.{◌≡◌, ◌<◌, [], ◌∷◌, length, map};
+ghost use Rattle.std.specs.Prelude.{◌≡◌, ℕ, ◌<◌, [], ◌∷◌, false, length, map};
 ghost use Rattle.pz_cells.specs.Lists.{seen, IsSound};
-ghost use Rattle.pz_sheet.specs.Grid.{IsLawful};
+ghost use Rattle.pz_sheet.specs.Grid.{IsLawful, cell_at};
 ghost use Rattle.pz_sheet.specs.Holding.{IsSetFor};
+ghost use Rattle.pz_sheet.specs.Presence.{AreMissing};
 ghost use Rattle.pz_sheet.specs.Pushing.{pushed_place, pushed_at, pushed};
 
 use crate::Sheet;
 use crate::holding::set_of;
+use crate::line::Axis;
 use pz_cells::cell::Cell;
 use pz_cells::layers::Layers;
 use pz_game::direction::Dir;
+use pz_planes::bits;
 use pz_sets::set::NumberSet;
 use pz_sets::words::is_disjoint;
 
@@ -21,11 +24,24 @@ impl<const N: usize> Sheet<N> {
         ensures lawful { IsLawful self.new.grid }
     {
         let set = set_of(players);
-        for index in 0..self.cell_count() {
-            self.push_at(index, players, &set, dir);
+        for y in 0..self.height() {
+            if self.may_stand_in_row(y, players) {
+                for x in 0..self.width() {
+                    self.push_at(self.index(x, y), players, &set, dir);
+                }
+            }
         }
         // (brings the proof the law of the level)
         let _ = self.width();
+    }
+
+    /// Whether one of some objects may stand in a row, by what is noted of where objects stand: true, if one does.
+    fn may_stand_in_row(&self, y: u32, objects: &[usize]) -> bool
+        requires { y < self.now.grid.height }
+        ensures { result ≡ false → (x : ℕ) → x < self.now.grid.width → AreMissing objects.now (cell_at self.now.grid x y) }
+    {
+        let rows = self.planes.lines(Axis::Horizontal);
+        self.width > bits::ROOM || rows.has_one_of(y as usize, objects)
     }
 
     /// Lets each of some objects head in a direction, in the cell of a number. Only a cell that holds one of them is changed.

@@ -1,16 +1,55 @@
-use Rattle.std.proofs.Common.{◌<◌, length, arith, rules}
-use Rattle.pz_sheet.proofs.PushLemmas.{pushed_long, pushed_on, pushed_end}
+use Rattle.std.proofs.Common.{◌≡◌, ℕ, ◌+◌, ◌*◌, arith, rules, ap, sym, ◌∙◌, subst}
+use Rattle.pz_sheet.specs.Grid.{Grid, BareState}
+use Rattle.pz_sheet.specs.Pushing.{pushed_at}
+use Rattle.pz_sheet.proofs.PushLemmas.{ArePushedTo, pushed_to_none, pushed_on, pushed_as, pushed_row, passed_row, pushed_rows}
 use Rattle.pz_sheet.proofs.Sheet.push_all.Goals as goal
+use Rattle.pz_sheet.proofs.Sheet.push_all.Goals.{then-may_stand_in_row+else-loop-x-test, else-may_stand_in_row}
+
+pub loop-y-init : goal.loop-y-init
+loop-y-init g c = pushed_to_none c.args.players.now c.args.dir _ c.args.self.now.grid (omega arith)
+
+pub may_stand_in_row-requires : goal.may_stand_in_row-requires
+may_stand_in_row-requires g c = (search rules, omega (arith, c.loop-y-test.true, c.height-y-end.ensures.height, ap (λ (grid : Grid). grid.height) c.loop-y.invariant))
+
+pub loop-x-init : goal.loop-x-init
+loop-x-init g c = λ old before. pushed_as c.args.players.now c.args.dir _ _ old c.loop-y.self.grid (omega arith) before
+
+pub index-requires : goal.index-requires
+index-requires g c =
+    let is = c.loop-x.invariant c.args.self.now.grid c.loop-y.invariant in (
+      search rules,
+      (
+        omega (arith, c.loop-x-test.true, c.width-x-end.ensures.width, ap (λ (grid : Grid). grid.width) c.loop-y.invariant, ap (λ (grid : Grid). grid.width) is),
+        omega (arith, c.loop-y-test.true, c.height-y-end.ensures.height, ap (λ (grid : Grid). grid.height) is),
+      ),
+    )
 
 pub push_at-requires : goal.push_at-requires
-push_at-requires g c =
-    let long = pushed_long c.args.players.now c.args.dir c.loop-index.index c.args.self.now.grid c.loop-index.self.grid c.loop-index.invariant in
-    (search rules, (omega (arith, c.loop-index-test.true, c.cell_count-index-end.ensures, long), c.set_of-set.ensures))
+push_at-requires g c = (search rules, (c.index.ensures.within, c.set_of-set.ensures))
 
-pub loop-index-preserved : goal.loop-index-preserved
-loop-index-preserved g c =
-    let within : c.loop-index.index < length c.args.self.now.grid.cells = omega (arith, c.loop-index-test.true, c.cell_count-index-end.ensures) in
-    pushed_on c.args.players.now c.args.dir c.loop-index.index c.args.self.now.grid c.loop-index.self.grid c.push_at.new.self.grid within c.loop-index.invariant c.push_at.ensures
+pub loop-x-preserved : goal.loop-x-preserved
+loop-x-preserved g c = λ old before.
+    let players = c.args.players.now in
+    let dir = c.args.dir in
+    let here = c.loop-y.y * old.width + c.loop-x.x in
+    let is = c.loop-x.invariant old before in
+    let at : c.index.result ≡ here = c.index.ensures.index ∙ ap (λ (grid : Grid). c.loop-y.y * grid.width + c.loop-x.x) is in
+    let pushed = c.push_at.ensures ∙ ap (λ (index : ℕ). pushed_at players dir index c.loop-x.self.grid) at in
+    pushed_as players dir (here + 1) _ old c.push_at.new.self.grid (omega arith) (pushed_on players dir here old c.loop-x.self.grid c.push_at.new.self.grid (omega (arith, c.index.ensures.within, at)) is pushed)
+
+pub loop-y-preserved : goal.loop-y-preserved
+loop-y-preserved g c =
+    let players = c.args.players.now in
+    let dir = c.args.dir in
+    let old = c.args.self.now.grid in
+    let before = c.loop-y.invariant in
+    elim c.if-may_stand_in_row.branch as (λ x. ArePushedTo players dir ((c.loop-y.y + 1) * old.width) old c.if-may_stand_in_row.self.grid) [
+      | then-may_stand_in_row+else-loop-x-test w ↦ subst (λ (s : BareState). ArePushedTo players dir ((c.loop-y.y + 1) * old.width) old s.grid) (sym w.self-is)
+          (pushed_row players dir c.loop-y.y w.loop-x.x old w.loop-x.self.grid (omega (arith, w.loop-x.auto.x-end, w.loop-x-test.false, w.width-x-end.ensures.width, ap (λ (grid : Grid). grid.width) before)) (w.loop-x.invariant old before))
+      | else-may_stand_in_row w ↦ subst (λ (s : BareState). ArePushedTo players dir ((c.loop-y.y + 1) * old.width) old s.grid) (sym w.self-is)
+          (passed_row players dir c.loop-y.y old c.loop-y.self.grid c.height-y-end.ensures.lawful.covers (omega (arith, c.loop-y-test.true, c.height-y-end.ensures.height)) (c.may_stand_in_row.ensures w.if-may_stand_in_row.false) before)
+    ]
 
 pub returns-clause-pushed : goal.returns-clause-pushed
-returns-clause-pushed g c = pushed_end c.args.players.now c.args.dir c.loop-index.index c.args.self.now.grid c.loop-index.self.grid (omega (arith, c.loop-index-test.false, c.cell_count-index-end.ensures)) c.loop-index.invariant
+returns-clause-pushed g c =
+    pushed_rows c.args.players.now c.args.dir c.loop-y.y c.args.self.now.grid c.loop-y.self.grid c.width.ensures.lawful.covers (omega (arith, c.loop-y-test.false, c.height-y-end.ensures.height)) c.loop-y.invariant

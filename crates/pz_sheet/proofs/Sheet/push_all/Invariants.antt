@@ -1,6 +1,11 @@
-use Rattle.std.proofs.Common.{◌≡◌, ◌++◌, map, take, drop}
-use Rattle.pz_sheet.specs.Pushing.{pushed_place}
+use Rattle.std.proofs.Common.{◌+◌, ◌*◌}
+use Rattle.pz_sheet.specs.Grid.{Grid}
+use Rattle.pz_sheet.proofs.PushLemmas.{ArePushedTo}
 use Rattle.pz_sheet.proofs.Sheet.push_all.Given as goal
 
-abbrev pub invariant-loop-index : goal.invariant-loop-index
-invariant-loop-index g l = l.self.grid ≡ record l.initial.self.grid { cells = map (map (pushed_place l.players l.dir)) (take l.index l.initial.self.grid.cells) ++ drop l.index l.initial.self.grid.cells }
+abbrev pub invariant-loop-y : goal.invariant-loop-y
+invariant-loop-y g l = ArePushedTo l.players l.dir (l.y * l.initial.self.grid.width) l.initial.self.grid l.self.grid
+
+-- of whatever level the rows before this one are pushed
+abbrev pub invariant-loop-x : goal.invariant-loop-x
+invariant-loop-x g l = (old : Grid) → ArePushedTo l.players l.dir (l.y * old.width) old l.initial.self.grid → ArePushedTo l.players l.dir (l.y * old.width + l.x) old l.self.grid
