@@ -2,7 +2,7 @@
 
 ghost use Rattle.std.specs.Prelude.{◌≡◌, ◌≢◌, ◌≤◌, Ok, Err, IfOk, IfErr, length};
 ghost use Rattle.pz_entries.specs.declared.fault.FileFault.TheVariants as fault;
-ghost use Rattle.pz_engine.specs.Sessions.{all_passed, has_passed, sessions_in};
+ghost use Rattle.pz_engine.specs.Sessions.{all_passed, has_passed, is_pass, sessions_in};
 
 use pz_case::item::{Item, Verdict};
 use pz_case::recording::{Record, Recording};
@@ -27,15 +27,18 @@ pub fn decode(alloc: Global, bytes: &[u8]) -> Result<Vec<Entry>, FileFault>
     read_sessions(alloc, text)
 }
 
+/// Whether an item says that its session passed.
+pub(crate) fn is_pass(item: &Item) -> bool
+    ensures { result ≡ is_pass item.now }
+{
+    matches!(item, Item::Close(Verdict::Passed))
+}
+
 /// Whether a session passed.
 pub fn has_passed(shown: &Record) -> bool
     ensures { result ≡ has_passed shown.now }
 {
-    shown
-        .items
-        .items()
-        .iter()
-        .any(|item| matches!(item, Item::Close(Verdict::Passed)))
+    shown.items.items().iter().any(|item| is_pass(item))
 }
 
 /// Whether every session passed.

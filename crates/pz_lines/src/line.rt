@@ -2,13 +2,12 @@
 
 ghost use Rattle.std.specs.Prelude.{◌≡◌, ◌++◌, IfOk, OnOk, decimal};
 ghost use Rattle.json.specs.Print.{quoted};
-ghost use Rattle.pz_lines.specs.Lines.{frame_count, frame_line, close_line, is_from, item_line, lines_from, with_cause};
+ghost use Rattle.pz_lines.specs.Lines.{frame_count, frame_line, close_line, is_from, item_line, with_cause};
 ghost use Rattle.pz_lines.specs.Naming.{cause_name};
 
 use crate::naming::{cause_name, close_name, quoted_kind};
 use itoa::Buffer;
 use pz_case::item::{Frame, Item, Verdict};
-use pz_case::recording::Record;
 use pz_record::quoted::QuotedText;
 use std::alloc::{AllocError, Global};
 
@@ -112,7 +111,7 @@ pub(crate) fn frame_count(items: &[Item]) -> u64
 }
 
 /// Writes the line of an item of a session, whose name and number of frames the close tells.
-pub(crate) fn write_item(
+pub fn write_item(
     alloc: Global,
     lines: Vec<u8>,
     session: u64,
@@ -128,34 +127,12 @@ pub(crate) fn write_item(
     }
 }
 
-/// Whether an item is shown from an input on.
-fn is_from(from: u64, item: &Item) -> bool
+/// Whether an item is shown from an input on: a frame that is shown after so many inputs or more, and the close.
+pub fn is_from(from: u64, item: &Item) -> bool
     ensures { result ≡ is_from from item.now }
 {
     match item {
         Item::Frame { at, .. } => from <= *at,
         Item::Close(_) => true,
     }
-}
-
-/// Puts the lines of what a session showed from an input on behind others: of the frames that are shown after so many inputs or more, and of the
-/// close. From 0 on they are all that the session has.
-pub fn append_session_from(
-    alloc: Global,
-    before: Vec<u8>,
-    session: u64,
-    shown: &Record,
-    from: u64,
-) -> Result<Vec<u8>, AllocError>
-    ensures { IfOk result (λ lines. lines.items ≡ before.items ++ lines_from from session shown.now) }
-{
-    let items = shown.items.items();
-    let frames = frame_count(items);
-    let mut lines = before;
-    for item in items {
-        if is_from(from, item) {
-            lines = write_item(alloc, lines, session, shown.name.as_str(), frames, item)?;
-        }
-    }
-    Ok(lines)
 }

@@ -1,5 +1,4 @@
-use Rattle.std.proofs.Common.{◌≡◌, ◌≤◌, ◌<◌, ◌++◌, ◌&&◌, Some, length, ap, sym, ◌∙◌, arith}
-use Rattle.std.specs.Prelude.{slice_get}
+use Rattle.std.proofs.Common.{◌≡◌, ◌≤◌, ◌<◌, ◌&&◌, length, ap, sym, ◌∙◌, arith}
 use Rattle.pz_case.specs.Playing.{shown_by}
 use Rattle.pz_lines.specs.Lines.{lines_from, text_from}
 use Rattle.pz_session.specs.Case.{items_of}
@@ -15,12 +14,11 @@ loop-number-preserved c =
     let case = c.case.result.now in
     let within : number < length job = omega (arith, c.loop-number-test.true, c.len-number-end.ensures.count) in
     let more : c.if-passed.passed ≡ (c.loop-number.passed && has_passed (shown_by items_of case)) = elim c.if-passed.branch [
-      | then-passed w ↦ w.passed-is ∙ (w.has_passed-passed.ensures ∙ (ap has_passed c.in_ok-shown.ensures ∙ sym (ap (λ so_far. so_far && has_passed (shown_by items_of case)) w.if-passed.true)))
+      | then-passed w ↦ w.passed-is ∙ (c.in_ok-played.ensures.passed ∙ sym (ap (λ so_far. so_far && has_passed (shown_by items_of case)) w.if-passed.true))
       | else-passed w ↦ w.passed-is ∙ (w.if-passed.false ∙ sym (ap (λ so_far. so_far && has_passed (shown_by items_of case)) w.if-passed.false))
     ] in
     record {
-      written = one_more (lines_from c.args.from) (shown_by items_of) job number case c.loop-number.lines.items c.in_ok-lines.lines.items within c.case.ensures c.loop-number.invariant.written
-          (c.in_ok-lines.ensures ∙ ap (λ shown. c.loop-number.lines.items ++ lines_from c.args.from number shown) c.in_ok-shown.ensures);
+      written = one_more (lines_from c.args.from) (shown_by items_of) job number case c.loop-number.lines.items c.in_ok-played.played.lines.items within c.case.ensures c.loop-number.invariant.written c.in_ok-played.ensures.lines;
       told = one_passed has_passed (shown_by items_of) job number case c.loop-number.passed c.if-passed.passed within c.case.ensures c.loop-number.invariant.told more;
     }
 
