@@ -102,6 +102,15 @@ class Programs(InAFreshClone):
         self.put(self.top / "bin/pz_replayer", '#!/bin/sh\necho released "$@"\n')
         self.assertEqual(self.called("lines", EXAMPLE), (0, f"released --order columns {EXAMPLE}\n", ""))
 
+    def test_a_c_library_that_is_too_old_is_told(self):
+        """As the loader of Debian bullseye says it, which ends with 1."""
+        said = "/x: /lib/x86_64-linux-gnu/libc.so.6: version `GLIBC_2.34' not found (required by /x)"
+        self.put(self.top / "bin/pz_replayer", f'#!/bin/sh\necho "{said}" >&2\nexit 1\n'.replace("`", "\\`"))
+        for verb in ("test", "lines"):
+            status, out, errors = self.called(verb, EXAMPLE)
+            self.assertEqual((status, out), (2, ""))
+            self.assertEqual(errors, f"saxtegun {verb}: the program needs a newer C library than this machine has (GLIBC_2.34): play in Node, as docs/engine.md tells\n")
+
 
 @unittest.skipUnless(NODE and (TOP / "released").is_dir(), "there is no Node, or nothing is released")
 class Released(InAFreshClone):

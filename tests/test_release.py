@@ -16,6 +16,7 @@ TOP = Path(__file__).resolve().parent.parent
 sys.path.insert(0, str(TOP / "dev"))
 from releasing import MODULE, PROGRAM, Broken, Built, check_version, ends_in, gate_of, headline, make, make_released, package_files, release_of, sum_of, told  # noqa: E402
 from symbols import c_library_of  # noqa: E402
+from tool import PROGRAM as PROVED, plays  # noqa: E402
 from verifying import differences  # noqa: E402
 
 # Stands in for the program: it says how it was called. The module is one without anything in it.
@@ -58,6 +59,16 @@ class Symbols(unittest.TestCase):
             with self.subTest(name):
                 self.assertEqual(c_library_of(program.read_bytes()), f"{newest[0]}.{newest[1]}")
         self.assertEqual(c_library_of(b"#!/bin/sh\n"), "")
+
+
+@plays
+class DayOfTheLibrary(unittest.TestCase):
+    def test_the_documents_say_which_c_library_the_program_needs(self):
+        needed = c_library_of(PROVED.read_bytes())
+        for path in ("README.md", "docs/ci.md", "CONTRIBUTING.md"):
+            text = " ".join((TOP / path).read_text(encoding="utf-8").split())
+            with self.subTest(path):
+                self.assertEqual(re.findall(r"C library,? (?:from )?(\d\.\d+) (?:or later|on)", text), [needed])
 
 
 @unittest.skipUnless((TOP / ".git").exists() and shutil.which("dpkg-deb"), "a release is made of a clone, with dpkg-deb")

@@ -65,6 +65,13 @@ def refusal(said: str, path: str, entries: Sequence[Entry] = ()) -> str:
     return f"{path} was not played: {told} ({line})"
 
 
+def check_library(said: str) -> None:
+    """Refuses where a program isn't even begun, since the C library of this machine is too old for it."""
+    missing = re.search(r"version `(GLIBC_[\d.]+)' not found", said)
+    if missing is not None:
+        raise Refused(f"the program needs a newer C library than this machine has ({missing[1]}): play in Node, as docs/engine.md tells")
+
+
 class Ran(NamedTuple):
     """How a program ended, and the last line that it said on standard error."""
 
@@ -84,6 +91,7 @@ def watched(words: Sequence[str], output: IO[Any], stdin: Optional[int] = None) 
                 last = line.decode("utf-8", "replace").rstrip("\n")
     except OSError as why:
         raise Refused(f"{words[0]} can't be run: {why.strerror}") from None
+    check_library(last)
     if ran.returncode in (0, 1) and last:
         say(last)
     return Ran(ran.returncode, last)
@@ -129,6 +137,7 @@ def shown_beyond(entry: Entry, known: int, engine: Engine) -> Run:
         ran = subprocess.run(words, input=written([entry]).encode(), stdout=subprocess.PIPE, stderr=subprocess.PIPE, check=False)
     except OSError as why:
         raise Refused(f"{words[0]} can't be run: {why.strerror}") from None
+    check_library(ran.stderr.decode("utf-8", "replace"))
     if ran.returncode not in (0, 1):
         raise Refused(refusal(ran.stderr.decode("utf-8", "replace"), entry.name, [entry]))
     lines = ran.stdout.decode("utf-8", "replace").split("\n")[known:-1]
