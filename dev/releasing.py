@@ -6,15 +6,25 @@ import hashlib
 import io
 import json
 import re
+import shutil
 import subprocess
 import sys
 import tarfile
 import tempfile
+import textwrap
+from functools import lru_cache
 from pathlib import Path
-from typing import Dict, List, NamedTuple
+from typing import Dict, List, NamedTuple, Optional, Sequence
+
+from symbols import c_library_of
 
 PROGRAM = "crates/pz_replayer/out/pz_replayer"
 MODULE = "engine/out/saxtegun.wasm"
+PASSED = "out/gate-passed"
+SUMS = "SHA256SUMS"
+RELEASED = "released"
+MOST_RELEASED = 1_000_000
+GATE_ENDED = "The gate, ./check, passed on that commit; so its parts ended:"
 # The engine for Node and for pages, beside its module.
 GLUE = ["engine/saxtegun.mjs", "engine/saxtegun.d.ts", "engine/replay.mjs"]
 # What stands in a release as it stands here: the command with its package, the examples, and the documents for users.
@@ -33,10 +43,11 @@ class File(NamedTuple):
 
 
 class Built(NamedTuple):
-    """What is proved and built of a commit: the program, and the module for Node and for pages."""
+    """What is proved and built of a commit: the program, the module for Node and for pages, and how the parts of its gate ended."""
 
     program: bytes
     module: bytes
+    ends: Sequence[str] = ()
 
 
 def told(top: Path, *words: str) -> str:
@@ -56,23 +67,77 @@ def check_version(top: Path, version: str) -> None:
         raise Broken(f"the file VERSION says {here}")
     if f"## {version}\n" not in (top / "CHANGELOG.md").read_text():
         raise Broken(f"CHANGELOG.md has no heading '## {version}'")
-    changed = told(top, "git", "status", "--porcelain")
+    check_clean(top)
+
+
+def check_clean(top: Path) -> None:
+    """Refuses where something is changed or new; what is released before is no part of what is released now."""
+    changed = told(top, "git", "status", "--porcelain", "--", ".", f":!{RELEASED}")
     if changed:
         raise Broken(f"{changed.splitlines()[0].strip()}: commit what is changed or new first")
 
 
-def proved_words(top: Path, version: str) -> str:
-    """What a reader of the release must know to trust it, or to make it again."""
-    kit = told(top, "/opt/rattle/bin/rt", "version") if Path("/opt/rattle/bin/rt").exists() else "no kit on this machine"
-    return (
-        f"Saxtegun {version}\n"
-        f"commit   {told(top, 'git', 'rev-parse', 'HEAD')}\n"
-        f"kit      {kit.splitlines()[0]}\n"
-        "program  made of the proved crates of that commit by dev/build pz_replayer\n"
-        "module   made of the same crates by engine/build\n\n"
-        "What is proved, what is only tested and what is trusted: docs/promises.md.\n"
-        "To make this release again with a kit: check that commit out, and call dev/release --verify ARCHIVE.\n"
-    )
+class Gate(NamedTuple):
+    """A gate that passed (out/gate-passed): of which commit it was, the sums of what it built, and how its parts ended."""
+
+    commit: str
+    sums: Dict[str, str]
+    ends: List[str]
+
+
+def gate_of(top: Path) -> Optional[Gate]:
+    """The gate that passed here on the commit that is checked out, where what it built is still there."""
+    path = top / PASSED
+    lines = path.read_text(encoding="utf-8").splitlines() if path.is_file() else []
+    commit = lines[0].partition("commit ")[2] if lines else ""
+    sums = dict(reversed(it.split("  ", 1)) for it in lines[1:] if re.match("[0-9a-f]{64}  ", it))
+    is_there = all((top / it).is_file() and sums.get(it) == sum_of((top / it).read_bytes()) for it in (PROGRAM, MODULE))
+    if not is_there or commit != told(top, "git", "rev-parse", "HEAD"):
+        return None
+    return Gate(commit, sums, lines[1 + len(sums):])
+
+
+def sum_of(content: bytes) -> str:
+    return hashlib.sha256(content).hexdigest()
+
+
+def kit_told(top: Path) -> List[str]:
+    """The kit of this machine and its logic."""
+    rt = shutil.which("rt") or "/opt/rattle/bin/rt"
+    said = re.match(r"(\S+) logic (\S+)", told(top, rt, "version")) if Path(rt).exists() else None
+    return [f"kit      {said[1]}", f"logic    {said[2]}"] if said else ["kit      none on the machine that made this"]
+
+
+def headline(top: Path) -> List[str]:
+    """The sentence of docs/promises.md that all others carry, line by line."""
+    lines = (top / "docs/promises.md").read_text(encoding="utf-8").splitlines()
+    return textwrap.wrap(" ".join(it[2:] for it in lines if it.startswith("> ")), 96)
+
+
+def proved_words(top: Path, version: str, ends: Sequence[str]) -> str:
+    """What a reader of the release must know to trust it, or to make it again. `ends`: how the parts of the gate ended."""
+    return "\n".join([
+        f"Saxtegun {version}",
+        f"commit   {told(top, 'git', 'rev-parse', 'HEAD')}",
+        *kit_told(top),
+        "program  bin/pz_replayer, of the proved crates of that commit, by dev/build pz_replayer",
+        "module   engine/out/saxtegun.wasm, of the same crates, by engine/build",
+        "",
+        GATE_ENDED,
+        *(f"    {it}" for it in ends),
+        "",
+        "What is proved of what plays:",
+        *(f"    {it}" for it in headline(top)),
+        "",
+        "Which contracts carry this, what else is proved, only tested or trusted: docs/promises.md.",
+        "To make this release again with a kit: check that commit out, and call dev/release --verify FILE.",
+        "",
+    ])  # fmt: skip
+
+
+def ends_in(text: str) -> List[str]:
+    """How the parts of the gate ended, as PROVED.txt says."""
+    return [it[4:] for it in text.partition(f"{GATE_ENDED}\n")[2].partition("\n\n")[0].splitlines()]
 
 
 CONTENTS = """# What stands in this archive
@@ -98,6 +163,7 @@ exec "$(dirname "$0")/bin/pz_replayer" "$@"
 """
 
 
+@lru_cache(maxsize=1)
 def page_of(top: Path, module: bytes) -> bytes:
     """The playground, as dev/page makes it of a module."""
     with tempfile.TemporaryDirectory() as folder:
@@ -117,15 +183,16 @@ def files_of(top: Path, version: str, built: Built) -> Dict[str, File]:
     files["saxtegun.html"] = File(page_of(top, built.module), False)
     files["man/saxtegun.1"] = File(MANUAL.encode(), False)
     files["CONTENTS.md"] = File(CONTENTS.format(absent="\n".join(f"- `{path}`" for path in ABSENT)).encode(), False)
-    files["PROVED.txt"] = File(proved_words(top, version).encode(), False)
+    files["PROVED.txt"] = File(proved_words(top, version, built.ends).encode(), False)
     return files
 
 
-def engine_files(files: Dict[str, File], version: str) -> Dict[str, File]:
+def engine_files(top: Path, files: Dict[str, File], version: str) -> Dict[str, File]:
     """The files of the package for Node, which finds its module in out/ beside it."""
     said = {
         "name": "saxtegun-engine",
         "version": version,
+        "gitHead": told(top, "git", "rev-parse", "HEAD"),
         "description": "Plays recorded PuzzleScript sessions again: the proved engine as a WebAssembly module",
         "type": "module",
         "exports": {".": {"types": "./saxtegun.d.ts", "default": "./saxtegun.mjs"}, "./out/saxtegun.wasm": "./out/saxtegun.wasm"},
@@ -155,7 +222,7 @@ Architecture: amd64
 Maintainer: The Saxtegun project <saxtegun@localhost>
 Section: games
 Priority: optional
-Depends: libc6 (>= 2.34), python3 (>= 3.8)
+Depends: {library}python3 (>= 3.8)
 Installed-Size: {size}
 Description: proved replayer of PuzzleScript sessions
  Plays recorded PuzzleScript sessions again, writes every frame, and says
@@ -179,16 +246,25 @@ what it does. The documents stand in /usr/lib/saxtegun/docs.
 """
 
 
-def package(files: Dict[str, File], version: str, time: int) -> bytes:
-    """The files as a Debian package: below /usr/lib/saxtegun, with the command on the path and a manual page."""
+def package_files(files: Dict[str, File], version: str, time: int) -> Dict[str, File]:
+    """The files of a Debian package: below usr/lib/saxtegun, the command on the path, a manual page, and below DEBIAN what is said of it."""
+    library = c_library_of(files["bin/pz_replayer"].content)
+    size = sum(len(file.content) for file in files.values()) // 1024
+    control = CONTROL.format(version=version, size=size, library=f"libc6 (>= {library}), " if library else "")
+    return {
+        **{f"usr/lib/saxtegun/{path}": file for path, file in files.items()},
+        "usr/bin/saxtegun": File(b'#!/bin/sh\nexec /usr/lib/saxtegun/saxtegun "$@"\n', True),
+        "usr/share/man/man1/saxtegun.1.gz": File(gzip.compress(MANUAL.encode(), 9, mtime=time), False),
+        "DEBIAN/control": File(control.encode(), False),
+    }
+
+
+def package(files: Dict[str, File], time: int) -> bytes:
+    """Files as a Debian package."""
     with tempfile.TemporaryDirectory() as folder:
         root = Path(folder) / "root"
         for path, file in files.items():
-            put(root / "usr/lib/saxtegun" / path, file.content, file.runs)
-        put(root / "usr/bin/saxtegun", b'#!/bin/sh\nexec /usr/lib/saxtegun/saxtegun "$@"\n', True)
-        put(root / "usr/share/man/man1/saxtegun.1.gz", gzip.compress(MANUAL.encode(), 9, mtime=time), False)
-        size = sum(len(file.content) for file in files.values()) // 1024
-        put(root / "DEBIAN/control", CONTROL.format(version=version, size=size).encode(), False)
+            put(root / path, file.content, file.runs)
         for path in [root, *root.rglob("*")]:
             if path.is_dir():
                 path.chmod(0o755)
@@ -206,77 +282,88 @@ def put(path: Path, content: bytes, runs: bool) -> None:
     path.chmod(0o755 if runs else 0o644)
 
 
-def built_of(top: Path) -> Built:
-    """The program and the module of these sources, proved and built where they aren't yet."""
-    for words in (["dev/build", "pz_replayer"], ["engine/build"]):
-        if subprocess.run([str(top / words[0]), *words[1:]], stdout=sys.stderr).returncode:
-            raise Broken(f"{' '.join(words)} has not built")
-    return Built((top / PROGRAM).read_bytes(), (top / MODULE).read_bytes())
+def does(top: Path, *words: str) -> None:
+    if subprocess.run([str(top / words[0]), *words[1:]], cwd=top, stdout=sys.stderr).returncode:
+        raise Broken(f"{' '.join(words)} has not passed")
+
+
+def gated(top: Path) -> Built:
+    """The program and the module that the gate built of this commit, which is tried now where it hasn't passed here."""
+    if gate_of(top) is None:
+        does(top, "check")
+    gate = gate_of(top)
+    if gate is None:
+        raise Broken(f"the gate has passed, but {PASSED} doesn't say so of this commit and of what is built now")
+    return Built((top / PROGRAM).read_bytes(), (top / MODULE).read_bytes(), gate.ends)
+
+
+def proved(top: Path) -> Built:
+    """The program and the module of these sources, proved and built where the gate hasn't built them."""
+    gate = gate_of(top)
+    if gate is None:
+        does(top, "dev/build", "pz_replayer")
+        does(top, "engine/build")
+    return Built((top / PROGRAM).read_bytes(), (top / MODULE).read_bytes(), gate.ends if gate else ())
+
+
+def proved_module(top: Path) -> bytes:
+    if gate_of(top) is None:
+        does(top, "engine/build")
+    return (top / MODULE).read_bytes()
+
+
+class Release(NamedTuple):
+    """What a release is made of: the files of its archive and of its package for Node, and the time of its commit."""
+
+    version: str
+    files: Dict[str, File]
+    engine: Dict[str, File]
+    time: int
+
+    @property
+    def name(self) -> str:
+        return f"saxtegun-{self.version}-linux-x86_64"
+
+    def made(self) -> Dict[str, bytes]:
+        """The files of the release, by their names."""
+        made = {
+            f"{self.name}.tar.gz": archive(self.files, self.name, self.time),
+            f"saxtegun_{self.version}_amd64.deb": package(package_files(self.files, self.version, self.time), self.time),
+            f"saxtegun-engine-{self.version}.tgz": archive(self.engine, "package", self.time),
+            "saxtegun.html": self.files["saxtegun.html"].content,
+        }
+        return {**made, SUMS: sums_of(made).encode()}
+
+
+def sums_of(made: Dict[str, bytes]) -> str:
+    """What sha256sum says of files."""
+    return "".join(f"{sum_of(content)}  {path}\n" for path, content in sorted(made.items()))
+
+
+def release_of(top: Path, version: str, built: Built) -> Release:
+    files = files_of(top, version, built)
+    return Release(version, files, engine_files(top, files, version), int(told(top, "git", "log", "-1", "--format=%ct")))
+
+
+def write_all(made: Dict[str, bytes], into: Path) -> List[str]:
+    """Writes files, and tells a line for each: its size and its name."""
+    into.mkdir(parents=True, exist_ok=True)
+    for path, content in made.items():
+        (into / path).write_bytes(content)
+    return [f"{len(made[path])} bytes  {into / path}" for path in sorted(made)]
 
 
 def make(top: Path, version: str, into: Path, built: Built) -> List[str]:
-    """Writes a release, and tells a line for each file: its sum, its size and its name."""
+    """Writes a release."""
     check_version(top, version)
-    time = int(told(top, "git", "log", "-1", "--format=%ct"))
-    files = files_of(top, version, built)
-    name = f"saxtegun-{version}-linux-x86_64"
-    made = {
-        f"{name}.tar.gz": archive(files, name, time),
-        f"saxtegun_{version}_amd64.deb": package(files, version, time),
-        f"saxtegun-engine-{version}.tgz": archive(engine_files(files, version), "package", time),
-        "saxtegun.html": files["saxtegun.html"].content,
-    }
-    into.mkdir(parents=True, exist_ok=True)
-    sums = []
-    for path, content in sorted(made.items()):
-        (into / path).write_bytes(content)
-        sums.append(f"{hashlib.sha256(content).hexdigest()}  {path}\n")
-    (into / "SHA256SUMS").write_text("".join(sums))
-    return [f"{len(made[path])} bytes  {path}" for path in sorted(made)]
+    return write_all(release_of(top, version, built).made(), into)
 
 
-def members(content: bytes) -> Dict[str, File]:
-    """The files of an archive, by their paths below its folder."""
-    with tarfile.open(fileobj=io.BytesIO(content), mode="r:gz") as tar:
-        found = {}
-        for info in tar:
-            taken = tar.extractfile(info)
-            if taken is None:
-                raise Broken(f"{info.name} in the archive is no file")
-            found[info.name.partition("/")[2]] = File(taken.read(), bool(info.mode & 0o100))
-        return found
-
-
-def differences(top: Path, path: Path, built: Built) -> List[str]:
-    """What of an archive this commit doesn't make so."""
-    theirs = members(path.read_bytes())
-    if "PROVED.txt" not in theirs or "VERSION" not in theirs:
-        raise Broken(f"{path} is no release: it has no PROVED.txt or no VERSION")
-    commit = re.search(rb"^commit +(\w+)$", theirs["PROVED.txt"].content, re.M)
-    here = told(top, "git", "rev-parse", "HEAD")
-    if commit is None or commit[1].decode() != here:
-        raise Broken(f"{path} is of commit {commit[1].decode() if commit else 'none'}, and {here} is checked out")
-    ours = files_of(top, theirs["VERSION"].content.decode().strip(), built)
-    return [name for name in sorted({*theirs, *ours}) if theirs.get(name) != ours.get(name)]
-
-
-def call(top: Path, words: List[str], usage: str) -> int:
-    try:
-        if words == ["--help"]:
-            print(usage.strip())
-            return 0
-        if len(words) == 2 and words[0] == "--verify":
-            found = differences(top, Path(words[1]), built_of(top))
-            for name in found:
-                print(f"differs: {name}")
-            print("each file is as this commit makes it" if not found else f"{len(found)} files differ")
-            return 1 if found else 0
-        if len(words) not in (1, 3) or words[0].startswith("-") or (len(words) == 3 and words[1] != "--into"):
-            raise Broken("call it as dev/release VERSION [--into FOLDER], or dev/release --verify ARCHIVE")
-        check_version(top, words[0])
-        into = Path(words[2]) if len(words) == 3 else top / "release"
-        print("\n".join(make(top, words[0], into, built_of(top))))
-        return 0
-    except (Broken, OSError, tarfile.TarError, gzip.BadGzipFile) as why:
-        print(f"release: {why}", file=sys.stderr)
-        return 2
+def make_released(top: Path, version: str, module: bytes) -> List[str]:
+    """Writes the page and the module that a clone has, with their sums and the commit that they are of."""
+    made = {"saxtegun.html": page_of(top, module), "saxtegun.wasm": module}
+    size = sum(map(len, made.values()))
+    if size > MOST_RELEASED:
+        raise Broken(f"the page and the module have {size} bytes, more than {MOST_RELEASED}")
+    head = f"# Saxtegun {version}, commit {told(top, 'git', 'rev-parse', 'HEAD')}\n"
+    return write_all({**made, SUMS: (head + sums_of(made)).encode()}, top / RELEASED)

@@ -1,9 +1,12 @@
 #!/usr/bin/env node
 // engine/replay.mjs [--workers N] [--order rows|columns] [FILE]: the program's command line, lines and exit statuses, for Node 20 and later. With more than one
 // worker a file is cut and its parts are played side by side; without the option one plays. Of a standard stream that is closed Node doesn't know.
+// SAXTEGUN_MODULE may name another module than out/saxtegun.wasm.
 import { openSync, readSync, writeSync } from 'node:fs';
+import { pathToFileURL } from 'node:url';
 import { load } from './saxtegun.mjs';
 
+const MODULE = process.env.SAXTEGUN_MODULE;
 const MOST_BYTES = 16_777_216;
 const OPTION = /^(--order|--workers)(?:=(.*))?$/s;
 const WORKERS = /^\+?0*([1-9]|[1-5][0-9]|6[0-4])$/;
@@ -93,7 +96,7 @@ function writeLines(lines) {
 
 async function play({ order, workers, file }) {
   const input = readInput(open(file));
-  const engine = await load();
+  const engine = await load(MODULE ? pathToFileURL(MODULE) : undefined);
   const answer = workers > 1 ? await engine.replayInWorkers(input, { order, workers }) : engine.replay(input, { order });
   if (answer.fault !== null) throw new Refusal(answer.fault);
   writeLines(answer.lines);

@@ -60,6 +60,12 @@ class Documents(unittest.TestCase):
         program = (TOP / "crates" / "pz_library_example" / "src" / "main.rt").read_text(encoding="utf-8")
         self.assertIn(f"```rust\n{program}```\n", text)
 
+    def test_the_program_of_the_library_page_prints_what_stands_behind_it(self):
+        text = (TOP / "docs" / "library.md").read_text(encoding="utf-8")
+        # rt ci holds what it prints against this file
+        printed = (TOP / "crates" / "pz_library_example" / "stdout").read_text(encoding="utf-8")
+        self.assertIn("```\n\nIt prints the text of the level and whether it is won:\n\n" + "".join(f"    {it}\n" for it in printed.splitlines()) + "\n", text)
+
 
 if __name__ == "__main__":
     unittest.main()

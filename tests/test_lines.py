@@ -49,6 +49,9 @@ class Frames(unittest.TestCase):
         self.assertIsNone(written_frame(self.LINE, 6, 3))
         self.assertIsNone(written_frame(self.LINE, 7, 4))
 
+    def test_half_a_letter_is_left_to_json(self):
+        self.assertIsNone(written_frame(self.LINE.replace("a \u00e9", "\\ud800"), 7, 3))
+
     def test_what_is_read_at_once_is_what_json_says(self):
         chance, at_once = random.Random(6), 0
         letters = '{}":,\\n0123456789aet\u00e9\u2028\t\r\n \x00\x7f'

@@ -6,6 +6,7 @@ import re
 import shutil
 import subprocess
 import unittest
+import zlib
 from html.parser import HTMLParser
 
 from tool import CASES, InARoom, TOP, run
@@ -59,7 +60,7 @@ class Page(InARoom):
 
     def test_the_module_and_the_example_stand_in_it(self):
         texts = Elements(self.built()[0]).texts
-        self.assertEqual(base64.b64decode(texts["module"]), MODULE)
+        self.assertEqual(zlib.decompress(base64.b64decode(texts["module"])), MODULE)
         self.assertEqual(json.loads(texts["example-game"]), (TOP / "examples/day/game.txt").read_text(encoding="utf-8"))
 
     def test_its_policy_lets_nothing_else_run_and_asks_no_network(self):

@@ -14,16 +14,61 @@ from pathlib import Path
 
 TOP = Path(__file__).resolve().parent.parent
 sys.path.insert(0, str(TOP / "dev"))
-from releasing import Broken, Built, check_version, differences, make, told  # noqa: E402
+from releasing import MODULE, PROGRAM, Broken, Built, check_version, ends_in, gate_of, headline, make, make_released, package_files, release_of, sum_of, told  # noqa: E402
+from symbols import c_library_of  # noqa: E402
+from tool import PROGRAM as PROVED, plays  # noqa: E402
+from verifying import differences  # noqa: E402
 
 # Stands in for the program: it says how it was called. The module is one without anything in it.
-STAND_IN = Built(b'#!/bin/sh\necho "$@"\n', b"\0asm\1\0\0\0")
+ENDS = ["rt ci: 7 passed, 0 failed", "cases by the program: 9 passed, 0 failed"]
+STAND_IN = Built(b'#!/bin/sh\necho "$@"\n', b"\0asm\1\0\0\0", ENDS)
 ALONE = {**os.environ, "GIT_AUTHOR_DATE": "2026-11-26T12:00:00Z", "GIT_COMMITTER_DATE": "2026-11-26T12:00:00Z"}
 
 
+# What no release holds and no tool of these tests reads: most of the files.
+LEFT_OUT = ["/attack/", "/bench/", "/conformance/", "/crates/"]
+
+
+def git(folder, *words):
+    who = ["-c", "user.name=Tests", "-c", "user.email=tests@localhost"]
+    return subprocess.run(["git", *who, *words], cwd=folder, check=True, env=ALONE, stdout=subprocess.PIPE).stdout.decode().strip()
+
+
 def clone(folder, source=TOP):
-    subprocess.run(["git", "clone", "-q", str(source), str(folder)], check=True)
+    """A clone without what is left out, so that it is quickly there."""
+    subprocess.run(["git", "clone", "-q", "--no-checkout", "--shared", str(source), str(folder)], check=True)
+    git(folder, "sparse-checkout", "set", "--no-cone", "/*", *(f"!{it}" for it in LEFT_OUT))
+    git(folder, "checkout", "-q")
     return Path(folder)
+
+
+def put(path, content):
+    path.parent.mkdir(parents=True, exist_ok=True)
+    path.write_bytes(content)
+    path.chmod(0o755)
+
+
+@unittest.skipUnless(shutil.which("objdump"), "there is no objdump")
+class Symbols(unittest.TestCase):
+    def test_the_c_library_of_a_program_is_what_objdump_says(self):
+        """Each program of this machine names a version as objdump lists it; a script has none."""
+        for name in ("ls", "bash", "git"):
+            program = Path(os.path.realpath(shutil.which(name)))
+            said = subprocess.run(["objdump", "-T", str(program)], capture_output=True, text=True).stdout
+            newest = max(tuple(map(int, it)) for it in re.findall(r"\(GLIBC_(\d+)\.(\d+)", said))
+            with self.subTest(name):
+                self.assertEqual(c_library_of(program.read_bytes()), f"{newest[0]}.{newest[1]}")
+        self.assertEqual(c_library_of(b"#!/bin/sh\n"), "")
+
+
+@plays
+class DayOfTheLibrary(unittest.TestCase):
+    def test_the_documents_say_which_c_library_the_program_needs(self):
+        needed = c_library_of(PROVED.read_bytes())
+        for path in ("README.md", "docs/ci.md", "CONTRIBUTING.md"):
+            text = " ".join((TOP / path).read_text(encoding="utf-8").split())
+            with self.subTest(path):
+                self.assertEqual(re.findall(r"C library,? (?:from )?(\d\.\d+) (?:or later|on)", text), [needed])
 
 
 @unittest.skipUnless((TOP / ".git").exists() and shutil.which("dpkg-deb"), "a release is made of a clone, with dpkg-deb")
@@ -35,8 +80,8 @@ class Release(unittest.TestCase):
         cls.version = (cls.one / "VERSION").read_text().strip()
         changes = cls.one / "CHANGELOG.md"
         changes.write_text(changes.read_text() + f"\n## {cls.version}\n")
-        who = ["-c", "user.name=Tests", "-c", "user.email=tests@localhost"]
-        subprocess.run(["git", *who, "commit", "-qam", "Give the version its heading"], cwd=cls.one, check=True, env=ALONE)
+        git(cls.one, "commit", "-qam", "Give the version its heading")
+        cls.commit = git(cls.one, "rev-parse", "HEAD")
         cls.release = Path(cls.kept.name) / "release"
         cls.told = make(cls.one, cls.version, cls.release, STAND_IN)
         cls.archive = cls.release / f"saxtegun-{cls.version}-linux-x86_64.tar.gz"
@@ -135,26 +180,150 @@ class Release(unittest.TestCase):
             self.assertRegex(listed.stdout, rf"(?m) {path}$")
         self.assertNotRegex(listed.stdout, r"(?m)^\S+ (?!root/root)")
 
-    def test_an_archive_of_this_commit_is_told_to_be_so(self):
-        self.assertEqual(differences(self.one, self.archive, STAND_IN), [])
+    def test_each_file_of_this_commit_is_told_to_be_so(self):
+        for file in sorted(self.release.iterdir()):
+            with self.subTest(file.name):
+                self.assertEqual(differences(self.one, file, STAND_IN._replace(ends=())), [])
+
+    def changed(self, name, change):
+        """A file of the release in which what `change` makes of the bytes of each member stands, if it is no archive of all."""
+        file = Path(self.kept.name) / f"changed-{name}"
+        with tarfile.open(self.release / name) as old, tarfile.open(file, "w:gz") as new:
+            for info in old:
+                content = change(info, old.extractfile(info).read())
+                info.size = len(content)
+                new.addfile(info, io.BytesIO(content))
+        return file
 
     def test_what_was_changed_in_an_archive_is_named(self):
-        changed = Path(self.kept.name) / "changed.tar.gz"
-        with tarfile.open(self.archive) as old, tarfile.open(changed, "w:gz") as new:
-            for info in old:
-                content = old.extractfile(info).read()
-                if info.name.endswith("/saxtegun"):
-                    content += b"# another line\n"
-                    info.size = len(content)
-                new.addfile(info, io.BytesIO(content))
-        self.assertEqual(differences(self.one, changed, STAND_IN), ["saxtegun"])
-        self.assertEqual(differences(self.one, self.archive, STAND_IN._replace(program=b"another program")), ["bin/pz_replayer"])
+        changed = self.changed(self.archive.name, lambda info, content: content + (b"# another line\n" if info.name.endswith("/saxtegun") else b""))
+        self.assertEqual(differences(self.one, changed, STAND_IN), ["differs: saxtegun"])
+        self.assertEqual(differences(self.one, self.archive, STAND_IN._replace(program=b"another program")), ["differs: bin/pz_replayer"])
         another = STAND_IN._replace(module=b"another module")
-        self.assertEqual(differences(self.one, self.archive, another), ["engine/out/saxtegun.wasm", "saxtegun.html"])
+        self.assertEqual(differences(self.one, self.archive, another), ["differs: engine/out/saxtegun.wasm", "differs: saxtegun.html"])
 
-    def test_an_archive_of_another_commit_is_refused(self):
-        with self.assertRaisesRegex(Broken, "is checked out"):
-            differences(TOP, self.archive, STAND_IN)
+    def test_a_member_with_other_rights_or_of_another_kind_is_named(self):
+        def changes(info, content):
+            info.mode = 0o4755 if info.name.endswith("/pz_replayer") else info.mode
+            if info.name.endswith("/VERSION"):
+                info.type, info.linkname = tarfile.SYMTYPE, "/etc/passwd"
+                return b""
+            return content
+
+        self.assertEqual(differences(self.one, self.changed(self.archive.name, changes), STAND_IN), ["differs: VERSION", "differs: bin/pz_replayer"])
+
+    def test_what_was_changed_in_the_package_for_node_is_named(self):
+        changed = self.changed(f"saxtegun-engine-{self.version}.tgz", lambda info, content: content + (b"//" if info.name.endswith("replay.mjs") else b""))
+        self.assertEqual(differences(self.one, changed, STAND_IN), ["differs: package/replay.mjs"])
+
+    def test_what_was_changed_in_the_debian_package_is_named(self):
+        room = Path(self.kept.name) / "deb"
+        package = self.release / f"saxtegun_{self.version}_amd64.deb"
+        subprocess.run(["dpkg-deb", "-R", str(package), str(room)], check=True)
+        put(room / "DEBIAN/postinst", b"#!/bin/sh\n")
+        (room / "usr/lib/saxtegun/examples/day.lines").unlink()
+        changed = Path(self.kept.name) / "changed.deb"
+        subprocess.run(["dpkg-deb", "--root-owner-group", "--build", str(room), str(changed)], check=True, stdout=subprocess.DEVNULL)
+        self.assertEqual(differences(self.one, changed, STAND_IN), ["differs: DEBIAN/postinst", "differs: usr/lib/saxtegun/examples/day.lines"])
+
+    def test_another_page_and_another_sum_are_named(self):
+        page, sums = Path(self.kept.name) / "other.html", Path(self.kept.name) / "other sums"
+        page.write_bytes((self.release / "saxtegun.html").read_bytes() + b"<!-- -->\n")
+        self.assertEqual(differences(self.one, page, STAND_IN), ["differs: saxtegun.html"])
+        sums.mkdir()
+        for file in self.release.iterdir():
+            shutil.copy(file, sums)
+        (sums / "saxtegun.html").write_bytes(page.read_bytes())
+        self.assertEqual(differences(self.one, sums / "SHA256SUMS", STAND_IN), ["another file than its sum: saxtegun.html"])
+        text = (sums / "SHA256SUMS").read_text()
+        (sums / "SHA256SUMS").write_text(text.replace(sum_of((self.release / "saxtegun.html").read_bytes()), sum_of(page.read_bytes())))
+        self.assertEqual(differences(self.one, sums / "SHA256SUMS", STAND_IN), ["differs: saxtegun.html"])
+
+    def test_sums_without_their_archive_are_refused(self):
+        alone = Path(self.kept.name) / "alone" / "SHA256SUMS"
+        put(alone, (self.release / "SHA256SUMS").read_bytes())
+        with self.assertRaisesRegex(Broken, "fetch it too"):
+            differences(self.one, alone, STAND_IN)
+
+    def test_a_file_of_another_commit_or_of_no_release_is_refused(self):
+        other = clone(Path(self.kept.name) / "other", self.one)
+        git(other, "commit", "-q", "--allow-empty", "-m", "Another commit")
+        for file in self.release.iterdir():
+            if file.name != "saxtegun.html":  # a page names no commit
+                with self.subTest(file.name), self.assertRaisesRegex(Broken, "is checked out"):
+                    differences(other, file, STAND_IN)
+        for content in (b"", b"no release\n", b"\x1f\x8b", b"!<arch>\n"):
+            put(Path(self.kept.name) / "none", content)
+            with self.subTest(content), self.assertRaises((Broken, OSError, EOFError, tarfile.TarError)):
+                differences(self.one, Path(self.kept.name) / "none", STAND_IN)
+
+    def test_what_is_proved_is_told(self):
+        text = (self.unpacked() / "PROVED.txt").read_text(encoding="utf-8")
+        self.assertIn(f"commit   {self.commit}\n", text)
+        self.assertRegex(text, r"(?m)^kit +\S")
+        self.assertEqual(ends_in(text), ENDS)
+        promise = " ".join(headline(self.one))
+        self.assertTrue(promise.startswith("For every list of recorded sessions") and promise.endswith("equals the recorded one."), promise)
+        self.assertIn("".join(f"    {it}\n" for it in headline(self.one)), text)
+
+    def gate(self):
+        """A clone in which the gate has passed, and what it built."""
+        top = clone(Path(tempfile.mkdtemp(dir=self.kept.name)) / "gate", self.one)
+        put(top / PROGRAM, STAND_IN.program)
+        put(top / MODULE, STAND_IN.module)
+        self.note(top, self.commit)
+        return top
+
+    def note(self, top, commit, program=STAND_IN.program):
+        passed = [f"commit {commit}", f"{sum_of(program)}  {PROGRAM}", f"{sum_of(STAND_IN.module)}  {MODULE}", *ENDS]
+        put(top / "out/gate-passed", "".join(f"{it}\n" for it in passed).encode())
+
+    def test_a_gate_counts_for_its_commit_and_for_what_it_built(self):
+        top = self.gate()
+        self.assertEqual(gate_of(top).ends, ENDS)
+        self.note(top, "0" * 40)
+        self.assertIsNone(gate_of(top))
+        self.note(top, self.commit, b"another program")
+        self.assertIsNone(gate_of(top))
+        self.assertIsNone(gate_of(self.one))
+
+    def test_the_command_makes_a_release_of_what_the_gate_built_and_keeps_page_and_module(self):
+        top = self.gate()
+        for _ in range(2):
+            called = subprocess.run([str(top / "dev/release"), self.version], capture_output=True, text=True)
+            self.assertEqual((called.returncode, called.stderr), (0, ""))
+        for file in self.release.iterdir():
+            self.assertEqual(file.read_bytes(), (top / "release" / file.name).read_bytes(), file.name)
+        self.assert_released(top)
+        self.assertEqual(git(top, "status", "--porcelain", "--", ".", ":!released"), "")
+
+    def assert_released(self, top):
+        head, *sums = (top / "released/SHA256SUMS").read_text().splitlines()
+        self.assertEqual(head, f"# Saxtegun {self.version}, commit {self.commit}")
+        self.assertEqual(sorted(it.name for it in (top / "released").iterdir()), ["SHA256SUMS", "saxtegun.html", "saxtegun.wasm"])
+        subprocess.run(["sha256sum", "--check", "--quiet", "--strict", "SHA256SUMS"], cwd=top / "released", check=True)
+        self.assertEqual(len(sums), 2)
+        self.assertEqual((top / "released/saxtegun.wasm").read_bytes(), STAND_IN.module)
+        self.assertEqual((top / "released/saxtegun.html").read_bytes(), (self.release / "saxtegun.html").read_bytes())
+
+    def test_page_and_module_are_kept_alone(self):
+        top = self.gate()
+        called = subprocess.run([str(top / "dev/release"), "--released"], capture_output=True, text=True)
+        self.assertEqual((called.returncode, called.stderr), (0, ""))
+        self.assert_released(top)
+        with self.assertRaisesRegex(Broken, "more than 1000000"):
+            make_released(top, self.version, os.urandom(1_000_000))
+        (top / "README.md").write_text("changed\n")
+        called = subprocess.run([str(top / "dev/release"), "--released"], capture_output=True, text=True)
+        self.assertEqual((called.returncode, called.stderr), (2, "release: M README.md: commit what is changed or new first\n"))
+
+    def test_the_debian_package_wants_the_c_library_that_its_program_needs(self):
+        package = self.release / f"saxtegun_{self.version}_amd64.deb"
+        self.assertEqual(subprocess.run(["dpkg-deb", "-f", str(package), "Depends"], capture_output=True, text=True).stdout, "python3 (>= 3.8)\n")
+        files = release_of(self.one, self.version, STAND_IN._replace(program=Path(sys.executable).read_bytes())).files
+        wanted = c_library_of(Path(sys.executable).read_bytes())
+        control = package_files(files, self.version, 0)["DEBIAN/control"].content.decode()
+        self.assertIn(f"Depends: libc6 (>= {wanted}), python3 (>= 3.8)\n", control)
 
     def test_what_is_no_release_is_refused(self):
         with self.assertRaisesRegex(Broken, "is no version"):
@@ -179,7 +348,7 @@ class Release(unittest.TestCase):
         self.assertEqual(str(why.exception), "false: it failed")
 
     def test_wrong_words_and_a_file_that_is_no_archive_end_with_2(self):
-        for words in ([], ["--verify"], ["1.2.3", "--into"]):
+        for words in ([], ["--verify"], ["1.2.3", "--into"], ["1.2.3", "--to", "x"], ["--released", "x"]):
             called = subprocess.run([str(TOP / "dev/release"), *words], capture_output=True, text=True)
             self.assertEqual(called.returncode, 2)
             self.assertRegex(called.stderr, r"^release: .*\n$")

@@ -6,9 +6,15 @@ import { MOST_INPUTS } from "./session-file.mjs";
 // The last win shows no frame of its own; with one more input that runs no rule, play that is over shows it.
 const ONE_MORE = "undo";
 
+// The module, which stands in the page compressed.
+async function moduleBytes() {
+  const packed = Uint8Array.from(atob(at("module").textContent), (letter) => letter.charCodeAt(0));
+  return new Response(new Blob([packed]).stream().pipeThrough(new DecompressionStream("deflate"))).arrayBuffer();
+}
+
 // Loads the module. Workers are started from the page's own script, which does nothing but play in them.
 export async function startEngine() {
-  const bytes = Uint8Array.from(atob(at("module").textContent), (letter) => letter.charCodeAt(0));
+  const bytes = await moduleBytes();
   const address = URL.createObjectURL(new Blob([at("script").textContent], { type: "text/javascript" }));
   return load(bytes, { worker: (name) => new Worker(address, { name }) });
 }

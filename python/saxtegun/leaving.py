@@ -1,7 +1,7 @@
 """A source with one rule or win line left out, its other lines where they were."""
 from __future__ import annotations
 
-from typing import List, NamedTuple
+from typing import List, NamedTuple, Sequence
 
 from saxtegun.commands import fold
 from saxtegun.sources import Line, lines_of
@@ -18,12 +18,12 @@ class Part(NamedTuple):
     source: str
 
 
-def parts_in(lines: List[Line]) -> List[Line]:
+def parts_in(lines: Sequence[Line]) -> List[Line]:
     """The rules and win lines of a source."""
     return [it for it in lines if it.text and (it.section == "winconditions" or (it.section == "rules" and fold(it.text) not in LOOP_WORDS))]
 
 
-def without(source: str, lines: List[Line], left: Line) -> str:
+def without(source: str, lines: Sequence[Line], left: Line) -> str:
     """The source without a line. Where it began a group, the next line of the group begins it."""
     raw = source.split("\n")
     if left.text not in raw[left.number - 1]:

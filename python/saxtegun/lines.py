@@ -3,6 +3,7 @@ from __future__ import annotations
 
 import json
 import re
+from functools import lru_cache
 from typing import Any, Dict, Iterator, List, NamedTuple, Optional, Tuple
 
 from saxtegun.commands import Refused
@@ -13,8 +14,12 @@ KINDS = ("start", "move", "undo", "restart", "load", "tick", "over")
 READER = json.JSONDecoder()
 CLOSES = ("passed", "differs", "stopped", "refused")
 NUMBER = "(0|[1-9][0-9]{0,18})"
-# The line of a frame as the program writes it. Where its level holds an escape but those of line breaks, it is read as JSON.
-WRITTEN = re.compile(rf'\{{"at":{NUMBER},"frame":{NUMBER},"kind":"({"|".join(KINDS)})","level":"([^"\x00-\x1f]*)","session":{NUMBER}\}}\n?')
+# The line of a frame as the program writes it, up to the text of its level.
+LEVEL = '"level":'
+HEAD = re.compile(rf'\{{"at":{NUMBER},"frame":{NUMBER},"kind":"({"|".join(KINDS)})",')
+# No head is longer, with the key of its level; so many are known at once, and those of many sessions are the same.
+MOST_OF_HEAD = 100
+MOST_HEADS = 4096
 
 
 class Frame(NamedTuple):
@@ -58,16 +63,26 @@ def frame_of(line: Dict[str, Any]) -> Optional[Frame]:
     return Frame(line["at"], line["kind"], line["level"])
 
 
+@lru_cache(maxsize=MOST_HEADS)
+def head_of(text: str) -> Optional[Tuple[int, int, str]]:
+    """What the head of a frame's line says: the inputs taken, its number, its kind; or None where the program writes none such."""
+    found = HEAD.fullmatch(text)
+    return (int(found[1]), int(found[2]), found[3]) if found else None
+
+
 def written_frame(text: str, session: int, number: int) -> Optional[Frame]:
     """The frame of this number of a session that a line is, or None where it is to be read as JSON."""
-    found = WRITTEN.fullmatch(text)
-    if found is None:
+    begin = text.find(LEVEL, 0, MOST_OF_HEAD)
+    head = head_of(text[:begin]) if begin >= 0 else None
+    if head is None or head[1] != number or "\\u" in text:
         return None
-    at, frame, kind, text, of = found.groups()
-    level = text.replace("\\n", "\n")
-    if "\\" in level or int(frame) != number or int(of) != session:
+    try:
+        level, end = READER.raw_decode(text, begin + len(LEVEL))
+    except (ValueError, RecursionError):
         return None
-    return Frame(int(at), kind, level)
+    if not isinstance(level, str) or text[end:] not in (f',"session":{session}}}\n', f',"session":{session}}}'):
+        return None
+    return Frame(head[0], head[2], level)
 
 
 def close_of(line: Dict[str, Any], frames: List[Frame]) -> Optional[Run]:

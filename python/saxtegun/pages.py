@@ -23,6 +23,7 @@ from saxtegun.webpages import page_of, script_of, style_of
 UNSAFE = {letter: f"\\u{ord(letter):04x}" for letter in "<>&"}
 NEIGHBOURS = 3
 MOST_LINES = 40
+NUMBERS = {kind: number for number, kind in enumerate(KINDS)}
 # So many frames are shown behind the one at which two runs part.
 MORE_FRAMES = 20
 GENERAL = "Colours by name are those of arnecolors. The whole level is drawn, also where the game shows a part of it."
@@ -95,8 +96,8 @@ def source_lines(source: str, cause: str) -> List[List[Any]]:
 
 def frames_of(run: Run, labels: Labels) -> List[List[Any]]:
     """The frames of a run: the inputs taken, the number of the kind, and what makes the level of the one before."""
-    levels = Levels(labels)
-    return [[frame.at, KINDS.index(frame.kind), levels.change(frame.level)] for frame in run.frames]
+    change = Levels(labels).change
+    return [[at, NUMBERS[kind], change(level)] for at, kind, level in run.frames]
 
 
 def recorded_side(entry: Entry, ending: Ending) -> List[Any]:

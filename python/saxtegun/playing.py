@@ -7,16 +7,15 @@ import subprocess
 import tempfile
 from argparse import Namespace
 from contextlib import contextmanager
-from pathlib import Path
 from typing import IO, Any, Iterator, List, NamedTuple, Optional, Sequence
 
 from saxtegun.belonging import Tests, read_runs
 from saxtegun.commands import Refused, plural, say
 from saxtegun.files import write_whole
 from saxtegun.lines import Run, frame_of, line_of, runs_in
+from saxtegun.programs import has_played, program_words
 from saxtegun.sessions import Entry, Sessions, written
 
-TOP = Path(__file__).resolve().parent.parent.parent
 # What the program's lines at status 2 mean; the number is that of a session or of bytes.
 REFUSALS = {
     "open-fault": "it can't be opened",
@@ -31,27 +30,11 @@ REFUSALS = {
 }
 
 
-BUILT = TOP / "crates/pz_replayer/out/pz_replayer"
-RELEASED = TOP / "bin/pz_replayer"  # where a release has the program
-HAS_PLAYED: List[bool] = []
-
-
 class Played(NamedTuple):
     """What a program wrote, as a file, and how it ended: 0 or 1."""
 
     lines: str
     status: int
-
-
-def program_words(named: Optional[str] = None) -> List[str]:
-    """How the program is called: the one that is named, that of SAXTEGUN_PROGRAM, that of a release, or ./replay, which builds it where it must."""
-    path = named or os.environ.get("SAXTEGUN_PROGRAM") or (str(RELEASED) if RELEASED.is_file() else None)
-    if not path:
-        # ./replay looks whether the program is that of the sources; what has played once in this process is
-        return [str(BUILT)] if HAS_PLAYED else [str(TOP / "replay")]
-    if not os.path.isfile(path) or not os.access(path, os.X_OK):
-        raise Refused(f"there is no program at {path!r}")
-    return [os.path.abspath(path)]
 
 
 class Engine(NamedTuple):
@@ -82,6 +65,13 @@ def refusal(said: str, path: str, entries: Sequence[Entry] = ()) -> str:
     return f"{path} was not played: {told} ({line})"
 
 
+def check_library(said: str) -> None:
+    """Refuses where a program isn't even begun, since the C library of this machine is too old for it."""
+    missing = re.search(r"version `(GLIBC_[\d.]+)' not found", said)
+    if missing is not None:
+        raise Refused(f"the program needs a newer C library than this machine has ({missing[1]}): play in Node, as docs/engine.md tells")
+
+
 class Ran(NamedTuple):
     """How a program ended, and the last line that it said on standard error."""
 
@@ -101,6 +91,7 @@ def watched(words: Sequence[str], output: IO[Any], stdin: Optional[int] = None) 
                 last = line.decode("utf-8", "replace").rstrip("\n")
     except OSError as why:
         raise Refused(f"{words[0]} can't be run: {why.strerror}") from None
+    check_library(last)
     if ran.returncode in (0, 1) and last:
         say(last)
     return Ran(ran.returncode, last)
@@ -114,10 +105,9 @@ def play_file(path: str, lines: str, engine: Engine, of: Optional[Sessions] = No
             ran = watched(words, file, subprocess.DEVNULL)
     except OSError as why:
         raise Refused(f"{lines} can't be written: {why.strerror}") from None
-    if ran.status in (0, 1) and BUILT.is_file() and not HAS_PLAYED:
-        HAS_PLAYED.append(True)
     if ran.status not in (0, 1):
         raise Refused(refusal(ran.said, of.path if of else path, of.entries if of else ()))
+    has_played()
     return Played(lines, ran.status)
 
 
@@ -147,6 +137,7 @@ def shown_beyond(entry: Entry, known: int, engine: Engine) -> Run:
         ran = subprocess.run(words, input=written([entry]).encode(), stdout=subprocess.PIPE, stderr=subprocess.PIPE, check=False)
     except OSError as why:
         raise Refused(f"{words[0]} can't be run: {why.strerror}") from None
+    check_library(ran.stderr.decode("utf-8", "replace"))
     if ran.returncode not in (0, 1):
         raise Refused(refusal(ran.stderr.decode("utf-8", "replace"), entry.name, [entry]))
     lines = ran.stdout.decode("utf-8", "replace").split("\n")[known:-1]

@@ -2,6 +2,7 @@
 from __future__ import annotations
 
 import re
+from functools import lru_cache
 from typing import List, NamedTuple, Optional, Tuple
 
 from saxtegun.commands import fold
@@ -78,8 +79,9 @@ def heading_in(section: str, text: str) -> Optional[str]:
     return fold(text) if fold(text) in HEADINGS else None
 
 
-def lines_of(source: str) -> List[Line]:
-    """The lines of a source that are not left out, without headings."""
+@lru_cache(maxsize=2)
+def lines_of(source: str) -> Tuple[Line, ...]:
+    """The lines of a source that are not left out, without headings. A source is asked for several times in a row."""
     lines: List[Line] = []
     section, depth = "prelude", 0
     for number, raw in enumerate(source.split("\n"), 1):
@@ -92,4 +94,4 @@ def lines_of(source: str) -> List[Line]:
             section = heading
         elif not is_left_out:
             lines.append(Line(number, section, text))
-    return lines
+    return tuple(lines)

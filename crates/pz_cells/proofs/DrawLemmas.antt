@@ -46,12 +46,6 @@ cell_empty depth layers objects movement e =
     cell_from_shows depth layers objects movement (empty_cell depth) (length-replicate depth none) (λ object here. never (member objects) object (e.objects_none object) here)
     (λ layer low. subst (Shows layers (member objects) (heads movement layer) layer) (sym (get_or-replicate depth layer none none low)) (empty_shows layers objects movement layer e))
 
--- a layer is filled where nothing stands
-pub cell_filled : (depth : ℕ) (layers objects movement objects_new movement_new : List ℕ) (layer : ℕ) (piece : Piece) → layer < depth → AreLawful layers objects movement → Changes layers objects movement objects_new movement_new layer (Some (unwrap_or (place_of layers objects movement layer) piece)) → cell_of depth layers objects_new movement_new ≡ filled_cell layer piece (cell_of depth layers objects movement)
-cell_filled depth layers objects movement objects_new movement_new layer piece low lawful change =
-    cell_changed depth layers objects movement objects_new movement_new layer (Some (unwrap_or (place_of layers objects movement layer) piece)) lawful change
-    ∙ ap (λ (p : Option Piece). set (cell_of depth layers objects movement) layer (Some (unwrap_or p piece))) (sym (place_seen depth layers objects movement layer low))
-
 -- one more cell of a glyph
 pub record AreGlyphs {N : ℕ} (layering : Layering) (f : ℕ → List (Option Piece)) (numbers : List ℕ) (cells : List (Cell N)) : Type 0 where
   pub sound : All (IsSound layering) cells

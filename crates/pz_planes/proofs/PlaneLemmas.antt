@@ -114,13 +114,6 @@ same_lines start old new x y noted size changed = record {
   column_count = changed.columns.count ∙ size.column_count;
 }
 
--- ---- a position of a level, by the sets that are for its lines
-pub inside_of : (objects width height x y : ℕ) (planes : PlaneSets) → IsFor objects width height planes → x < width → y < height → IsInside planes x y
-inside_of objects width height x y planes fits x_in y_in = record {
-  x_in = omega (arith, x_in, fits.column_count);
-  y_in = omega (arith, y_in, fits.row_count);
-}
-
 pub known_of : (layers : List ℕ) (width height : ℕ) (planes : PlaneSets) (objects : List ℕ) → IsFor (length layers) width height planes → ((object : ℕ) → member objects object ≡ true → object < length layers) → AreKnown planes objects
 known_of layers width height planes objects fits of_game object e =
     let low = of_game object e in

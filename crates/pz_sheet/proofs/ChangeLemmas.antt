@@ -20,7 +20,8 @@ use Rattle.pz_sheet.specs.Grid.{Grid, IsLawful, SameSize}
 use Rattle.pz_sheet.specs.Presence.{cell_of}
 use Rattle.pz_sets.specs.Next.{IsNext}
 use Rattle.pz_cells.specs.Lists.{seen, IsSound, AreAlike}
-use Rattle.pz_sheet.specs.Seen.{grid_of}
+use Rattle.pz_planes.specs.Notes.{HeadingSets}
+use Rattle.pz_sheet.specs.Seen.{grid_of, IsStored}
 use Rattle.pz_cells.proofs.ListLemmas.{no_cell, sound_at}
 use Rattle.pz_sheet.proofs.SameLemmas.{seen_alike, alike_seen}
 use Rattle.pz_sheet.proofs.SheetLemmas.{seen_at}
@@ -182,11 +183,10 @@ pub record AreBoth (N wa ha : ℕ) (la : Layering) (ca : List (Cell N)) (wb hb :
   pub size : SameSize grid other
   pub is : grid_of wa ha la ca ≡ grid
   pub is_other : grid_of wb hb lb cb ≡ other
-  pub covers : length ca ≡ wa * ha
-  pub covers_other : length cb ≡ wb * hb
-  pub layered : All (λ l. l < la.depth) la.layers
-  pub sound : All (IsSound la) ca
-  pub sound_other : All (IsSound lb) cb
+  pub notes : HeadingSets
+  pub notes_other : HeadingSets
+  pub stored : IsStored N wa ha la ca notes
+  pub stored_other : IsStored N wb hb lb cb notes_other
 
 module _ (N wa ha : ℕ) (la : Layering) (ca : List (Cell N)) (wb hb : ℕ) (lb : Layering) (cb : List (Cell N)) (grid other : Grid) (a : AreBoth N wa ha la ca wb hb lb cb grid other) where
   many : length grid.cells ≡ length ca
@@ -196,7 +196,7 @@ module _ (N wa ha : ℕ) (la : Layering) (ca : List (Cell N)) (wb hb : ℕ) (lb 
   as_many =
       let width : wa ≡ wb = ap (λ (g : Grid). g.width) a.is ∙ (sym a.size.width ∙ sym (ap (λ (g : Grid). g.width) a.is_other)) in
       let height : ha ≡ hb = ap (λ (g : Grid). g.height) a.is ∙ (sym a.size.height ∙ sym (ap (λ (g : Grid). g.height) a.is_other)) in
-      as_long wa ha wb hb (length ca) (length cb) width height a.covers a.covers_other
+      as_long wa ha wb hb (length ca) (length cb) width height a.stored.covers a.stored_other.covers
 
   pub over_layers : la ≡ lb
   over_layers =
@@ -204,12 +204,9 @@ module _ (N wa ha : ℕ) (la : Layering) (ca : List (Cell N)) (wb hb : ℕ) (lb 
       let depth : la.depth ≡ lb.depth = ap (λ (g : Grid). g.depth) a.is ∙ (sym a.size.depth ∙ sym (ap (λ (g : Grid). g.depth) a.is_other)) in
       λ i. record { depth = depth i; layers = layers i }
 
-  pub in_second : (index : ℕ) → index < length grid.cells → index < length cb
-  in_second index within = omega (arith, within, many, as_many)
-
   -- the other's cell is of the first one's game
   pub sound_there : (index : ℕ) (y : Cell N) → index < length cb → y ≡ get_or cb index y → IsSound la y
-  sound_there index y within is_y = subst (λ (l : Layering). IsSound l y) (sym over_layers) (sound_at lb cb index y a.sound_other within is_y)
+  sound_there index y within is_y = subst (λ (l : Layering). IsSound l y) (sym over_layers) (sound_at lb cb index y a.stored_other.sound within is_y)
 
   -- and is seen so as in the other
   pub seen_there : (index : ℕ) (y : Cell N) → index < length cb → y ≡ get_or cb index y → seen la y ≡ cell_of other index
@@ -224,7 +221,7 @@ module _ (N wa ha : ℕ) (la : Layering) (ca : List (Cell N)) (wb hb : ℕ) (lb 
       let within_other : index < length cb = omega (arith, within, as_many) in
       let is_x : x ≡ get_or ca index x = get_or_default ca index (no_cell N) x within in
       let is_y : y ≡ get_or cb index y = get_or_default cb index (no_cell N) y within_other in
-      sym (test_is N la a.layered x y r (sound_at la ca index x a.sound within is_x) (sound_there index y within_other is_y) decides)
+      sym (test_is N la a.stored.law.layered x y r (sound_at la ca index x a.stored.sound within is_x) (sound_there index y within_other is_y) decides)
       ∙ (ap (λ (cell : List (Option Piece)). same_cell cell (seen la y)) (seen_at N wa ha la ca grid index x a.is within is_x) ∙ ap (same_cell (cell_of grid index)) (seen_there index y within_other is_y))
 
   alike_same : (index : ℕ) → index < length ca → AreAlike (get_or ca index (no_cell N)) (get_or cb index (no_cell N)) → differ_in grid other index ≡ false

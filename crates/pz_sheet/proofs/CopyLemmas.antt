@@ -1,6 +1,5 @@
 -- A level that has the words of another.
-use Rattle.std.proofs.Common.{◌≡◌, ℕ, List, Result, Ok, Err, ap, sym, ◌∙◌, subst}
-use Rattle.std.specs.Result.{OnErr}
+use Rattle.std.proofs.Common.{◌≡◌, ℕ, List, sym, subst}
 use Rattle.pz_cells.specs.declared.cell.Cell.{Cell}
 use Rattle.pz_cells.specs.Layering.{Layering}
 use Rattle.pz_planes.specs.Planes.{PlaneSets}
@@ -17,8 +16,3 @@ sheet_same N width height layering other_layering cells other_cells notes other_
     (subst (λ (it : HeadingSets). IsSheet N width height other_layering other_cells it planes) (sym same_notes)
     (subst (λ (it : List (Cell N)). IsSheet N width height other_layering it notes planes) (sym same_cells)
     (subst (λ (it : Layering). IsSheet N width height it cells notes planes) (sym same_layers) s)))
-
--- what holds in any case holds after a fault
-pub on_fault : {X Y : Type 0} (result : Result X Y) (P : Type 0) → P → OnErr result P
-on_fault (Ok x) P holds = tt
-on_fault (Err e) P holds = holds

@@ -2,11 +2,10 @@
 use Rattle.pz_cells.specs.Layering.{Layering}
 use Rattle.std.proofs.Common.{◌≡◌, ℕ, ◌*◌, ◌<◌, List, Option, map, length, ap, sym, ◌∙◌, subst, arith}
 use Rattle.std.proofs.lemmas.List.{length-map}
-use Rattle.std.specs.List.{All}
 use Rattle.pz_cells.specs.declared.cell.Cell.{Cell}
 use Rattle.pz_cells.specs.declared.piece.Piece.{Piece}
 use Rattle.pz_planes.specs.Notes.{HeadingSets}
-use Rattle.pz_cells.specs.Lists.{seen, IsSound, AreMapped}
+use Rattle.pz_cells.specs.Lists.{seen, AreMapped}
 use Rattle.pz_sheet.specs.Seen.{AreNoted, IsStored}
 
 -- ---- the level whose cells are changed

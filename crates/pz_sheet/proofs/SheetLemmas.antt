@@ -1,9 +1,9 @@
 -- A cell of a level in words, and what is seen of it.
 use Rattle.pz_cells.specs.Layering.{Layering}
-use Rattle.std.proofs.Common.{◌≡◌, ℕ, ◌+◌, ◌*◌, ◌/◌, ◌%◌, ◌<◌, ◌≤◌, List, [], Option, Some, None, Bool, true, false, not, ◌&&◌, cond, map, set, length, get_or, ap, sym, ◌∙◌, refl, subst, arith, inl, inr, get_or-set_same, get_or-set_other}
+use Rattle.std.proofs.Common.{◌≡◌, ℕ, ◌+◌, ◌*◌, ◌/◌, ◌%◌, ◌<◌, ◌≤◌, List, [], Option, Some, None, Bool, true, false, not, ◌&&◌, cond, set, length, get_or, ap, sym, ◌∙◌, refl, subst, arith, inl, inr, get_or-set_same, get_or-set_other}
 use Rattle.std.specs.Prelude.{nat_lt, IfSome, MatchOption}
 use Rattle.std.proofs.lemmas.Bool.{lt-ltb, cases_eq}
-use Rattle.std.proofs.lemmas.List.{length-map, length-set, get_or-map, get_or_default, map-set, set-get_or}
+use Rattle.std.proofs.lemmas.List.{length-map, length-set, get_or-map, get_or_default, set-get_or}
 use Rattle.std.proofs.lemmas.List.FromFn.{length-map-range_with_len}
 use Rattle.std.proofs.lemmas.List.Elements.{All-map, All-set}
 use Rattle.pz_game.specs.declared.limits.TheConstants.{MAX_OBJECTS}
@@ -16,9 +16,8 @@ use Rattle.pz_cells.proofs.SameLemmas.{same_cell_is}
 use Rattle.pz_game.specs.declared.pattern.Item.{Item}
 use Rattle.pz_cells.specs.Cell.{IsCell, IsOnLayer}
 use Rattle.pz_cells.specs.Standing.{standing}
-use Rattle.pz_cells.specs.Shown.{place_of, IsSetOf, Changes}
-use Rattle.pz_cells.proofs.HoldLemmas.{on_its_layer, place_seen, standing_by}
-use Rattle.pz_cells.proofs.PlaceLemmas.{lawful_changed, cell_changed}
+use Rattle.pz_cells.specs.Shown.{place_of}
+use Rattle.pz_cells.proofs.HoldLemmas.{on_its_layer, standing_by}
 use Rattle.pz_sheet.specs.Grid.{Grid, IsLawful, cell_at, place_at, with_place}
 use Rattle.pz_sheet.specs.Standing.{standing_at}
 use Rattle.pz_sheet.specs.Rewriting.{with_rewritten}
@@ -53,13 +52,6 @@ lawful_seen N width height layering cells headings s = record {
   layered = s.law.layered;
   stacked = All-map (IsCell layering.depth layering.layers) (seen layering) cells (λ k d within. cell_seen N layering (get_or cells k d) (s.sound k d within));
 }
-
--- the place of a layer of a cell that is read
-pub place_read : (N width height : ℕ) (layering : Layering) (cells : List (Cell N)) (grid : Grid) (x y layer at : ℕ) (cell : Cell N) → grid_of width height layering cells ≡ grid → at < length cells → cell ≡ get_or cells at cell → at ≡ y * grid.width + x
-    → get_or (seen layering cell) layer None ≡ place_at grid x y layer
-place_read N width height layering cells grid x y layer at cell e h is number =
-    ap (λ (c : List (Option Piece)). get_or c layer None) (seen_at N width height layering cells grid at cell e h is)
-    ∙ ap (λ (i : ℕ). get_or (get_or grid.cells i []) layer None) number
 
 pub low_place : (layers : List ℕ) (layer : ℕ) (place : Option Piece) → length layers ≤ MAX_OBJECTS → IsOnLayer layers layer place → IfSome place (λ piece. piece.object < MAX_OBJECTS)
 low_place layers layer None few on = tt
@@ -112,15 +104,6 @@ stored_set N width height layering cells at new notes next s sound here wider = 
             (subst (IsNoted N width next at) (sym (get_or-set_same cells at new cell (omega (arith, there, same)))) (subst (λ (w : ℕ). IsNoted N w next at new) s.noted.column_count here))
         | inr other ↦ subst (IsNoted N width next index) (sym (get_or-set_other cells at index new cell other)) (still_noted N width index notes next (get_or cells index cell) wider (s.noted.each index cell there))
       ]
-
--- the cell at a position is changed by a function
-pub grid_set : (N width height : ℕ) (layering : Layering) (cells : List (Cell N)) (at place : ℕ) (cell new : Cell N) (f : List (Option Piece) → List (Option Piece)) → at < length cells → at ≡ place → cell ≡ get_or cells at cell → seen layering new ≡ f (seen layering cell)
-    → grid_of width height layering (set cells at new) ≡ record (grid_of width height layering cells) { cells = set (map (seen layering) cells) place (f (get_or (map (seen layering) cells) place [])) }
-grid_set N width height layering cells at place cell new f h same is e =
-    let all = map (seen layering) cells in
-    let here : seen layering cell ≡ get_or all at [] = ap (seen layering) is ∙ sym (get_or-map (seen layering) cells at cell [] h) in
-    ap (λ (ys : List (List (Option Piece))). record (grid_of width height layering cells) { cells = ys })
-    (map-set (seen layering) cells at new ∙ (ap (set all at) (e ∙ ap f here) ∙ ap (λ (i : ℕ). set all i (f (get_or all i []))) same))
 
 -- what was put stands there
 pub placed_there : (grid : Grid) (x y layer : ℕ) (place : Option Piece) → y * grid.width + x < length grid.cells → layer < length (cell_at grid x y) → place_at (with_place grid x y layer place) x y layer ≡ place

@@ -68,6 +68,10 @@ module _ (N width height : ℕ) (layering : Layering) (cells : List (Cell N)) (n
   pub all_head_nowhere : ((number : ℕ) → member notes.whole number ≡ false) → HeadNowhere cells
   all_head_nowhere none index cell number within = none_within (get_or cells index cell).movement notes.whole (s.noted.each index cell within).whole none number
 
+-- cells that were read head nowhere where the notes say so
+pub nowhere_read : (N width height : ℕ) (layering : Layering) (cells read : List (Cell N)) (notes : HeadingSets) (still : Bool) → IsStored N width height layering cells notes → read ≡ cells → (still ≡ true → (number : ℕ) → member notes.whole number ≡ false) → still ≡ true → HeadNowhere read
+nowhere_read N width height layering cells read notes still s is none are_still = subst HeadNowhere (sym is) (all_head_nowhere N width height layering cells notes s (none are_still))
+
 -- cells that head nowhere need no notes
 pub noted_nowhere : (N width height : ℕ) (notes : HeadingSets) (cells : List (Cell N)) → length notes.rows ≡ height → length notes.columns ≡ width → HeadNowhere cells → AreNoted N width height notes cells
 noted_nowhere N width height notes cells rows columns nowhere = record {

@@ -1,14 +1,25 @@
-"""Takes what was reached as the new recorded level, for sessions that were played to their end.
+"""Takes what was reached as the new recorded level, for sessions that were played
+to their end.
 
-SESSIONS is the file that was played, LINES what the program wrote for it; without LINES the sessions are played now. Each session that
-differs gets the level of its last frame as its recorded level, with --only those whose names fit (`level 2*`); all else stays letter by
-letter. The new file goes to standard output, or with --in-place into the place of SESSIONS, renamed there once it is whole. Look at what
-you accept first, by `saxtegun report` or `saxtegun explain`, or by --review, which shows one after the other with both levels and asks.
-Says on standard error which sessions it changed, and which it could not: one that was stopped or refused was not played to its end. All is
-refused, and nothing changed, where a session was played in the other order than it was recorded in, as far as that can be told: where LINES
-don't begin with the level that the source draws, in this order (they may be over another source too), and where the recorded level is the
-reached one in the other order. Where these levels are the same in both orders nothing tells it. Exit status 0; 1 where a session that --only
-names could not be changed; 2 where a file is refused."""
+SESSIONS is the file that was played, and LINES what the program wrote for it.
+Without LINES the sessions are played now. Each session that differs gets the
+level of its last frame as its recorded level; --only takes those whose names
+fit (`level 2*`). All else stays letter by letter. The new file goes to standard
+output, or with --in-place into the place of SESSIONS once it is whole. Standard
+error says which sessions changed, and which could not: one that was stopped or
+refused was not played to its end.
+
+Look first at what you accept, by `saxtegun report` or `saxtegun explain`. Or
+let --review show one after the other, with both levels, and ask.
+
+Nothing is changed if a session was played in another order than it was recorded
+in. That shows if LINES don't begin with the level that the source draws in this
+order (they may be over another source too), or if the recorded level is the
+reached one in the other order. It can't be told of levels that are the same in
+both orders.
+
+Exit status: 0; 1 a session that --only names could not be changed; 2 a file is
+refused."""
 from __future__ import annotations
 
 import sys

@@ -1,11 +1,19 @@
-"""Adds recordings to a sessions file, as an editor's console prints them or as published test data has them.
+"""Adds recordings to a sessions file, as an editor's console prints them or as
+published test data has them.
 
-CONSOLE.txt (`-`, or no word: standard input) has one entry or several, with or without commas between or behind, or a list of them. They are
-read as JavaScript, refused whole where something is no entry, and played before they are added: one whose source is refused or that stops is
-not added, and so nothing is. One that differs from what was recorded is refused too, but for --anyway. With --game GAME.txt an entry whose source
-is that text is added with the empty text in its place, to be played by `saxtegun test GAME.txt SESSIONS.json`; without it entries keep theirs.
-Where SESSIONS.json isn't there it is made. What stands in it stays letter by letter; the new file is written beside it and renamed.
-Exit status 0; 1 where a recording did not pass and so nothing was added; 2 where a file is refused."""
+CONSOLE.txt (`-`, or no word: standard input) has one entry or several, with or
+without commas, or a list of them. They are read as JavaScript and played before
+they are added. If something is no entry, or if a source is refused or a session
+stops, nothing is added. A recording that differs is refused too, unless you say
+--anyway.
+
+With --game GAME.txt an entry with that source gets the empty text in its place;
+`saxtegun test GAME.txt SESSIONS.json` plays it. Without --game entries keep
+their sources. SESSIONS.json is made if it isn't there. What stands in it stays
+letter by letter; the new file is written beside it and renamed.
+
+Exit status: 0 all were added, 1 a recording did not pass and so none was, 2 a
+file is refused."""
 from __future__ import annotations
 
 import json

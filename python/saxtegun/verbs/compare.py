@@ -1,10 +1,17 @@
-"""Tells where two runs of the same sessions part: the first frame, after which input, which cells, and both levels.
+"""Tells where two runs of the same sessions part: the first frame, after which
+input, which cells, and both levels.
 
-    saxtegun compare ONE.lines OTHER.lines [SESSIONS]         lines that are there; with SESSIONS inputs are named and levels drawn
-    saxtegun compare --engines P Q SESSIONS                   plays two programs with the command line of ours
-    saxtegun compare --sources OLD.txt NEW.txt SESSIONS       plays one program over two texts of a game
+    saxtegun compare ONE.lines OTHER.lines [SESSIONS]
+        compares two files of lines; SESSIONS lets it name inputs and draw levels
+    saxtegun compare --engines P Q SESSIONS
+        plays two programs that have our command line
+    saxtegun compare --sources OLD.txt NEW.txt SESSIONS
+        plays one program over two texts of a game
 
-With --report F a page is written that shows both runs of each session that parts side by side, from the frame at which they part. Frames and inputs are counted from 0. Exit status 0 where all are the same, 1 where some part, 2 where something is refused."""
+With --report F it also writes a page that shows both runs side by side, from
+the frame at which they part. Frames and inputs are counted from 0.
+
+Exit status: 0 all are the same, 1 some part, 2 something is refused."""
 from __future__ import annotations
 
 import sys

@@ -1,11 +1,16 @@
-"""Tells which rules and win lines no session needs: each is left out in turn, and the suite is played again.
+"""Tells which rules and win lines no session needs: leaves out each in turn, and
+plays the suite again.
 
     saxtegun coverage SESSIONS.json
-    saxtegun coverage GAME.txt SESSIONS.json      the game's text is that of recordings whose source is the empty text
+    saxtegun coverage GAME.txt SESSIONS.json
+        the game's text goes under each recording whose source is the empty text
 
-A session notices that a line is gone if it closes otherwise; a win line also if it wins otherwise. Lines of a game whose sessions all are refused
-are left out, and so is what can't be left out alone, since the rest is refused then. Exit status 0 where some session notices each line, 1 where
-there are lines that none notices, 2 where there is no whole answer."""
+A session notices that a line is gone if it closes otherwise; a win line also if
+it wins otherwise. Not tried are the lines of a game whose sessions are all
+refused, and lines without which the rest is refused.
+
+Exit status: 0 some session notices each line, 1 none notices some line, 2 there
+is no whole answer."""
 from __future__ import annotations
 
 import sys

@@ -1,10 +1,16 @@
 """Tells in words which sessions did not pass, and why.
 
-SESSIONS is the file that was played, LINES what the program wrote for it (`-`: standard input); without LINES the sessions are played
-now. For each session that did not pass there is a line with its cause; below it the source's line that the cause names, or the first
-cells that differ, with what stands there and what was recorded, and both levels by the game's own letters where each cell has one.
-Sessions and frames are counted from 0, as the program does, columns and rows from 1. The order is the one that the lines were written
-in. Exit status 0, or 2 where a file is refused."""
+SESSIONS is the file that was played, and LINES what the program wrote for it
+(`-`: standard input). Without LINES the sessions are played now. Each session
+that did not pass has a line with its cause. Below it stands the line of the
+source that the cause names, or the first cells that differ, with what stands
+there and what was recorded. If the game's letters can draw them, both levels
+follow.
+
+Sessions and frames are counted from 0, as the program does, columns and rows
+from 1. --order must be the order of the lines.
+
+Exit status: 0, or 2 if a file is refused."""
 from __future__ import annotations
 
 import sys

@@ -1,9 +1,13 @@
-"""Joins the lines of the parts that `saxtegun split` made, and gives each session its number in the whole file.
+"""Joins the lines of the parts that `saxtegun split` made, and gives each session
+its number in the whole file.
 
-For each part FOLDER/NUMBER.json there must be its lines, FOLDER/NUMBER.lines, as the program wrote them. Writes the lines that the
-program writes for the whole file. Exit status as the program's: 0 where every session passed, 1 where some did not; 2, with a line on
-standard error, where a part has no lines, or is not closed session by session under the names that FOLDER/parts.txt has for it, or where
-there is a part of which it doesn't know (what was written before is then no whole output)."""
+Each part FOLDER/NUMBER.json needs its lines, FOLDER/NUMBER.lines, as the
+program wrote them. The output is what the program writes for the whole file.
+
+Exit status, as the program's: 0 every session passed, 1 some did not. It is 2,
+with a line on standard error, if a part has no lines, if its sessions aren't
+closed under the names of FOLDER/parts.txt, or if a part is there that parts.txt
+doesn't know. What was written before is then no whole output."""
 from __future__ import annotations
 
 import json

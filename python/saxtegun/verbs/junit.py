@@ -1,7 +1,10 @@
 """Writes the program's lines as a JUnit file, for CI systems that show one.
 
-A test case a session: `differs` and `stopped` are failures, `refused` is an error, or with --refused skipped a test that was skipped. With
-SESSIONS, the file that was played, each has the words of `saxtegun explain`. Exit status 0, or 2 where a file is refused."""
+Each session is a test case. `differs` and `stopped` are failures. `refused` is
+an error, or with --refused skipped a skipped test. With SESSIONS, the file that
+was played, each has the words of `saxtegun explain`.
+
+Exit status: 0, or 2 if a file is refused."""
 from __future__ import annotations
 
 import sys

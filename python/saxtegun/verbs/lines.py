@@ -1,8 +1,11 @@
-"""Plays sessions and writes the program's lines: the program itself, with its failures told in words.
+"""Plays sessions and writes the program's lines: the program itself, with its
+failures told in words.
 
-SESSIONS is a sessions file (`-`, or no word: standard input). The lines and the exit status are those of ./replay: 0 where every session
-passed, 1 where some did not, 2 where there is no whole output; then a line on standard error says which file, and where in it.
-docs/sessions.md tells what the lines hold."""
+SESSIONS is a sessions file (`-`, or no word: standard input). docs/sessions.md
+tells what the lines hold.
+
+Exit status, as of ./replay: 0 every session passed, 1 some did not, 2 there is
+no whole output. Then a line on standard error says which file, and where in it."""
 from __future__ import annotations
 
 import sys

@@ -1,9 +1,16 @@
-"""Plays a game in the terminal, each key by the program itself, and saves what was played as a recording.
+"""Plays a game in the terminal, each key by the program itself, and saves what you
+played as a recording.
 
-Arrows or w a s d move, x or space acts, z or u takes back, r begins again, t is a tick, q ends. The level is drawn in the game's colours, or
-with --letters by its letters. --level N starts at the N-th level, messages left out. With --save NAME SESSIONS.json what was played is added
-there under that name at the end, with its last level as the recorded one, and the empty text in place of the game's: `saxtegun test GAME.txt
-SESSIONS.json` plays it. Where standard input is no terminal its letters are the keys. Exit status 0, or 2 where the game is refused."""
+Arrows or w a s d move, x or space acts, z or u takes back, r begins again, t is
+a tick, q ends. The level is drawn in the game's colours, or with --letters by
+its letters. --level N starts at the N-th level; messages don't count.
+
+With --save NAME SESSIONS.json what you played is added there at the end. Its
+last level is the recorded one, and the empty text stands in place of the
+game's: `saxtegun test GAME.txt SESSIONS.json` plays it. If standard input is no
+terminal, its letters are the keys.
+
+Exit status: 0, or 2 if the game is refused."""
 from __future__ import annotations
 
 import json

@@ -1,8 +1,13 @@
-"""Writes a page that shows each session frame by frame, and where it differs from what was recorded.
+"""Writes a page that shows each session frame by frame, and where it differs from
+what was recorded.
 
-SESSIONS is the file that was played, LINES what the program wrote for it (`-`: standard input); without LINES the sessions are played
-now, and where one hangs it is played further, to find out in what. The page opens from the disk in any browser, and needs no network. The order
-is the one that the lines were written in. The same files give the same page: a date is there where --date gives one. Exit status 0, or 2 where a file is refused."""
+SESSIONS is the file that was played, and LINES what the program wrote for it
+(`-`: standard input). Without LINES the sessions are played now, and one that
+hangs is played further, to find out in what. --order must be the order of the
+lines. The page opens from the disk in any browser, and needs no network. The
+same files give the same page; only --date puts a date there.
+
+Exit status: 0, or 2 if a file is refused."""
 from __future__ import annotations
 
 import sys

@@ -1,10 +1,17 @@
-"""Makes the smallest session on which two programs still part in the same way, as a case of conformance/.
+"""Makes the smallest session on which two programs still part in the same way, as
+a case of conformance/.
 
-P and Q are programs with the command line of ours; P is the one whose answer the case has. NAME is a session of SESSIONS, by its name or a
-pattern (`level 2*`) of which the first that parts is taken. Left out is what can be: inputs, then rules, levels, objects, and whatever else
-stands in lines. In the same way means: the same kinds of frames at the place where they part, or the same closes. FOLDER, which must not be
-there yet, gets the five files of a case; read its stdout against the rule before you keep it, since it is what P wrote, and P may be the one
-that is wrong. Exit status 0 where a case was written, 1 where the programs don't part, 2 where something is refused."""
+P and Q are programs with our command line. NAME is a session of SESSIONS, or a
+pattern (`level 2*`): then the first that parts is taken. It leaves out inputs,
+then rules, levels and objects, then other lines, while the programs part in the
+same way: with the same kinds of frames, or with the same closes.
+
+FOLDER, which must not be there yet, gets the five files of a case. Its stdout
+is what P wrote, and P may be wrong: read it against the rule before you keep
+it.
+
+Exit status: 0 a case was written, 1 the programs don't part, 2 something is
+refused."""
 from __future__ import annotations
 
 import os

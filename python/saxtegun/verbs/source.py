@@ -1,9 +1,13 @@
 """Puts an edited game under recordings: which of them still pass?
 
-Writes SESSIONS with the text of GAME.txt as the source of each session, or with --only of those whose names fit; all else stays letter by
-letter. `saxtegun test GAME.txt SESSIONS` does it for recordings whose source is the empty text, and plays them at once. Says on standard
-error how many sessions got the source. Exit status 0, or 2 where a file is refused or no session has a name, and also where sessions of
-different games would get this one's source: name those of the game with --only, or say --all."""
+Writes SESSIONS with the text of GAME.txt as the source of each session; --only
+takes those whose names fit. All else stays letter by letter. Standard error
+says how many sessions got the source. For recordings whose source is the empty
+text, `saxtegun test GAME.txt SESSIONS` does the same and plays them at once.
+
+Exit status: 0, or 2 if a file is refused or no session has a name. It is also 2
+if sessions of different games would get this source: name those of the game
+with --only, or say --all."""
 from __future__ import annotations
 
 import sys

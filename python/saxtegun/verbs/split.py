@@ -1,9 +1,14 @@
-"""Splits a sessions file into parts, to be played apart and joined again by `saxtegun join`.
+"""Splits a sessions file into parts, to be played apart and joined again by
+`saxtegun join`.
 
-FOLDER must not be there yet. Each part is a sessions file, FOLDER/NUMBER.json, where NUMBER is that of its first session in SESSIONS; the
-parts have about equally many inputs, so that they end together. An entry is copied letter by letter, so the program judges it as it would in SESSIONS. Beside
-the parts stands FOLDER/parts.txt, which says what belongs together. SESSIONS may be larger than a file that the program takes; a part must
-not be. Exit status 0, or 2 where SESSIONS is no list or a part would be too large."""
+FOLDER must not be there yet. Each part is a sessions file, FOLDER/NUMBER.json,
+where NUMBER is that of its first session in SESSIONS. The parts have about
+equally many inputs, so that they end together. Entries are copied letter by
+letter, so the program judges them as in SESSIONS. FOLDER/parts.txt says what
+belongs together. SESSIONS may be larger than a file that the program takes; a
+part must not be.
+
+Exit status: 0, or 2 if SESSIONS is no list or a part would be too large."""
 from __future__ import annotations
 
 import json

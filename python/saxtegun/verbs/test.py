@@ -1,12 +1,18 @@
-"""Plays recordings, says what did not pass and how each session ended, and ends with the program's status.
+"""Plays recordings and says what did not pass, and how each session ended.
 
-    saxtegun test game.txt recordings.json     the game's text is that of each recording whose source is the empty text
-    saxtegun test suite.json other.json        recordings that have their sources
+    saxtegun test game.txt recordings.json
+        the game's text goes under each recording whose source is the empty text
+    saxtegun test suite.json other.json
+        recordings that have their sources
 
-`passed` says that the last level is as recorded, not that it was won; so each session also says whether it is solved (all levels), solved up
-to a level, or not. An entry with a further element, [name, [..], "solved"], or a name that fits --solved must be solved, and else fails as
-no longer solved. With --watch the same is played again at each save of a file that was read, until it is stopped. Exit status 0 where all
-passed, 1 where some session did not, 2 where there is no whole answer."""
+`passed` says that the last level is as recorded, not that it was won. So each
+session also says whether it is solved (all levels), solved up to a level, or
+not. A session that --solved names must be solved, and so must an entry with a
+further element, [name, [..], "solved"]; else it fails as no longer solved. With
+--watch all is played again at each save of a file that was read, until you stop
+it.
+
+Exit status: 0 all passed, 1 some session did not, 2 there is no whole answer."""
 from __future__ import annotations
 
 import os

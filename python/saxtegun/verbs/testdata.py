@@ -1,10 +1,16 @@
-"""Turns the published test data of the reference engine, or what an editor's console prints, into a sessions file.
+"""Turns the published test data of the reference engine, or what an editor's
+console prints, into a sessions file.
 
-The test data is JavaScript: `var testdata = [ .. ];`, a list of entries [name, [source, inputs, level, index, seed]]; an editor's console
-prints such entries bare, with a comma behind each. That is what a sessions file is made of, so entries are only written again as JSON, one
-a line; nothing in them is changed or left out. Read are lists, texts in any of the three quotes, numbers, true, false, null, undefined (as
-null), commas before a closing bracket, and comments. Anything else is refused with its line, and so is what is no entry. Exit status 0, or
-2 where the data is refused."""
+Test data is JavaScript: `var testdata = [ .. ];`, a list of entries [name,
+[source, inputs, level, index, seed]]. An editor's console prints such entries
+bare, with a comma behind each. Entries are written again as JSON, one a line;
+nothing in them is changed or left out.
+
+It reads lists, texts in any of the three quotes, numbers, true, false, null,
+undefined (as null), commas before a closing bracket, and comments. It refuses
+anything else with its line, and also what is no entry.
+
+Exit status: 0, or 2 if the data is refused."""
 from __future__ import annotations
 
 import sys

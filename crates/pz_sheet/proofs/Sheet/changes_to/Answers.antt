@@ -1,14 +1,13 @@
-use Rattle.std.proofs.Common.{◌≡◌, ℕ, ◌*◌, rules, arith, ◌<◌, List, All, length, ap, sym, ◌∙◌, subst}
+use Rattle.std.proofs.Common.{◌≡◌, rules, arith, All, length, ap, sym, ◌∙◌, subst}
 use Rattle.std.proofs.lemmas.Result.{IfOk-weaker}
-use Rattle.pz_cells.specs.declared.cell.Cell.{Cell}
 use Rattle.pz_sheet.specs.Changes.{changed_cells, changes_seen, restored}
-use Rattle.pz_sheet.specs.Grid.{Grid, BareState, IsLawful}
-use Rattle.pz_cells.specs.Lists.{IsSound, HeadNowhere}
+use Rattle.pz_sheet.specs.Grid.{BareState, IsLawful}
+use Rattle.pz_cells.specs.Lists.{IsSound}
 use Rattle.pz_cells.proofs.ListLemmas.{small_cell}
 use Rattle.pz_sheet.proofs.SheetLemmas.{lawful_seen}
 use Rattle.pz_cells.specs.Layering.{Layering}
-use Rattle.pz_sheet.proofs.StillLemmas.{all_head_nowhere}
-use Rattle.pz_sheet.proofs.ChangeLemmas.{small_change, way_back_by, over_layers}
+use Rattle.pz_sheet.proofs.StillLemmas.{nowhere_read}
+use Rattle.pz_sheet.proofs.ChangeLemmas.{AreBoth, as_many, small_change, way_back_by, over_layers}
 use Rattle.pz_sheet.proofs.Sheet.changes_to.Goals as goal
 
 pub changes_between-requires : goal.changes_between-requires
@@ -17,30 +16,15 @@ changes_between-requires g c =
     let b = c.older.inside in
     let e = ap (λ (s : BareState). s.grid) c.self.view_is in
     let f = ap (λ (s : BareState). s.grid) c.older.view_is in
-    let layers : a.layers ≡ b.layers = over_layers _ _ _ _ _ _ _ _ _ _ _ (record { size = c.requires.size; is = e; is_other = f; covers = c.self.invariant.stored.covers; covers_other = c.older.invariant.stored.covers; layered = c.self.invariant.stored.law.layered; sound = c.self.invariant.stored.sound; sound_other = c.older.invariant.stored.sound }) in
-    let width : a.width ≡ b.width = ap (λ (g : Grid). g.width) e ∙ (sym c.requires.size.width ∙ sym (ap (λ (g : Grid). g.width) f)) in
-    let height : a.height ≡ b.height = ap (λ (g : Grid). g.height) e ∙ (sym c.requires.size.height ∙ sym (ap (λ (g : Grid). g.height) f)) in (
-      omega arith,
-      (
-        small_cell _ c.self.invariant.stored.law.short,
-        (
-          small_change _ c.self.invariant.stored.law.short,
-          (
-            subst (All (IsSound a.layers)) (sym c.deref.ensures.value) c.self.invariant.stored.sound,
-            (
-              subst (All (IsSound a.layers)) (sym c.deref-2.ensures.value) (subst (λ (l : Layering). All (IsSound l) b.cells.items) (sym layers) c.older.invariant.stored.sound),
-              (
-                ap length c.deref.ensures.value ∙ (c.self.invariant.stored.covers ∙ (ap (λ (w : ℕ). w * a.height) width ∙ (ap (λ (h : ℕ). b.width * h) height ∙ (sym c.older.invariant.stored.covers ∙ sym (ap length c.deref-2.ensures.value))))),
-                (
-                  λ still. subst HeadNowhere (sym c.deref.ensures.value) (all_head_nowhere g.row.N a.width a.height a.layers a.cells.items a.notes c.self.invariant.stored (c.are_empty-are_still.ensures.first still)),
-                  λ still. subst HeadNowhere (sym c.deref-2.ensures.value) (all_head_nowhere g.row.N b.width b.height b.layers b.cells.items b.notes c.older.invariant.stored (c.are_empty-are_still.ensures.second still)),
-                ),
-              ),
-            ),
-          ),
-        ),
-      ),
-    )
+    let both : AreBoth g.row.N a.width a.height a.layers a.cells.items b.width b.height b.layers b.cells.items c.args.self.now.grid c.args.older.now.grid = record { size = c.requires.size; is = e; is_other = f; notes = a.notes; notes_other = b.notes; stored = c.self.invariant.stored; stored_other = c.older.invariant.stored } in
+    let layers : a.layers ≡ b.layers = over_layers _ _ _ _ _ _ _ _ _ _ _ both in
+    let many = as_many _ _ _ _ _ _ _ _ _ _ _ both in
+    let sound = subst (All (IsSound a.layers)) (sym c.deref.ensures.value) c.self.invariant.stored.sound in
+    let sound_there = subst (All (IsSound a.layers)) (sym c.deref-2.ensures.value) (subst (λ (l : Layering). All (IsSound l) b.cells.items) (sym layers) c.older.invariant.stored.sound) in
+    let long = ap length c.deref.ensures.value ∙ (many ∙ sym (ap length c.deref-2.ensures.value)) in
+    let nowhere = nowhere_read _ _ _ _ _ _ _ _ c.self.invariant.stored c.deref.ensures.value c.are_empty-are_still.ensures.first in
+    let nowhere_there = nowhere_read _ _ _ _ _ _ _ _ c.older.invariant.stored c.deref-2.ensures.value c.are_empty-are_still.ensures.second in
+    (omega arith, (small_cell _ c.self.invariant.stored.law.short, (small_change _ c.self.invariant.stored.law.short, (sound, (sound_there, (long, (nowhere, nowhere_there)))))))
 
 pub returns-clause-changes : goal.returns-clause-changes
 returns-clause-changes g c = search rules

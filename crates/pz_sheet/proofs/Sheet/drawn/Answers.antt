@@ -1,4 +1,4 @@
-use Rattle.std.proofs.Common.{◌≡◌, ◌<◌, ℕ, List, length, ◌∙◌, ap, sym, arith, map, refl, subst}
+use Rattle.std.proofs.Common.{◌<◌, ℕ, List, length, ◌∙◌, ap, sym, arith, map, refl, subst}
 use Rattle.std.specs.List.{All}
 use Rattle.pz_cells.specs.declared.cell.Cell.{Cell}
 use Rattle.pz_cells.specs.Drawing.{glyph_cell}
@@ -24,19 +24,10 @@ planes_of-requires g c =
     let glyphs : AreGlyphs c.in_ok-layers.layers (glyph_cell c.args.game.now) c.args.drawing.now.cells c.in_ok-cells.cells.items = record { sound = c.in_ok-cells.ensures.sound; cells_are = c.in_ok-cells.ensures.cells ∙ ap (map (glyph_cell c.args.game.now)) c.cells.ensures.cells } in
     let covers = drawn_covers g.row.N c.args.game.now c.args.drawing.now c.width-width.result c.height-height.result c.in_ok-layers.layers c.in_ok-cells.cells.items c.cells.ensures.drawing c.width-width.ensures.width c.height-height.ensures.height glyphs in
     let size = c.cells.ensures.drawing.size in
-    let is = c.deref-2.ensures.value in (
-      omega arith,
-      (
-        small_cell _ c.requires.short,
-        (
-          omega (arith, c.width-width.ensures.width, size.narrow),
-          (
-            omega (arith, c.height-height.ensures.height, size.low),
-            (ap (λ (all : List (Cell g.row.N)). length all) is ∙ covers, subst (All (IsSound c.in_ok-layers.layers)) (sym is) c.in_ok-cells.ensures.sound),
-          ),
-        ),
-      ),
-    )
+    let is = c.deref-2.ensures.value in
+    let sound = subst (All (IsSound c.in_ok-layers.layers)) (sym is) c.in_ok-cells.ensures.sound in
+    let long = ap (λ (all : List (Cell g.row.N)). length all) is ∙ covers in
+    (omega arith, (small_cell _ c.requires.short, (omega (arith, c.width-width.ensures.width, size.narrow), (omega (arith, c.height-height.ensures.height, size.low), (long, sound)))))
 
 pub invariant_of-result : goal.invariant_of-result
 invariant_of-result g c =

@@ -1,26 +1,18 @@
-use Rattle.std.proofs.Common.{List, ap, sym, subst}
+use Rattle.std.proofs.Common.{List, ap, subst}
 use Rattle.std.specs.Prelude.{IsTrue, ◌↔◌}
 use Rattle.pz_cells.specs.declared.cell.Cell.{Cell}
 use Rattle.pz_sheet.specs.Grid.{BareState}
-use Rattle.pz_cells.specs.Lists.{HaveSame, HeadNowhere}
+use Rattle.pz_cells.specs.Lists.{HaveSame}
 use Rattle.pz_sheet.proofs.SameLemmas.{decided_both}
 use Rattle.pz_cells.proofs.ListLemmas.{small_cell}
-use Rattle.pz_sheet.proofs.StillLemmas.{all_head_nowhere}
+use Rattle.pz_sheet.proofs.StillLemmas.{nowhere_read}
 use Rattle.pz_sheet.proofs.Sheet.equals.Goals as goal
 
 pub same_cells-requires : goal.same_cells-requires
 same_cells-requires g c =
-    let a = c.self.inside in
-    let b = c.other.inside in (
-      small_cell _ c.self.invariant.stored.law.short,
-      (
-        c.self.invariant.stored.law.short,
-        (
-          λ still. subst HeadNowhere (sym c.deref.ensures.value) (all_head_nowhere g.row.N a.width a.height a.layers a.cells.items a.notes c.self.invariant.stored (c.are_empty-are_still.ensures.first still)),
-          λ still. subst HeadNowhere (sym c.deref-then-same_size.ensures.value) (all_head_nowhere g.row.N b.width b.height b.layers b.cells.items b.notes c.other.invariant.stored (c.are_empty-are_still.ensures.second still)),
-        ),
-      ),
-    )
+    let nowhere = nowhere_read _ _ _ _ _ _ _ _ c.self.invariant.stored c.deref.ensures.value c.are_empty-are_still.ensures.first in
+    let nowhere_there = nowhere_read _ _ _ _ _ _ _ _ c.other.invariant.stored c.deref-then-same_size.ensures.value c.are_empty-are_still.ensures.second in
+    (small_cell _ c.self.invariant.stored.law.short, (c.self.invariant.stored.law.short, (nowhere, nowhere_there)))
 
 pub returns-then-same_size : goal.returns-then-same_size
 returns-then-same_size g c =

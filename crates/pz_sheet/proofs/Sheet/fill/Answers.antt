@@ -1,4 +1,4 @@
-use Rattle.std.proofs.Common.{◌≡◌, ◌<◌, ℕ, List, Option, Some, length, arith, ap, sym, ◌∙◌, subst}
+use Rattle.std.proofs.Common.{ℕ, List, Option, Some, length, arith, ap, sym, ◌∙◌, subst}
 use Rattle.std.specs.List.{All}
 use Rattle.pz_cells.specs.declared.cell.Cell.{Cell}
 use Rattle.pz_cells.specs.declared.piece.Piece.{Piece}
@@ -19,16 +19,9 @@ use Rattle.pz_sheet.proofs.Sheet.fill.Goals as goal
 pub fill_cells-requires : goal.fill_cells-requires
 fill_cells-requires g c =
     let a = c.self.inside in
-    let e = ap (λ (s : BareState). s.grid) c.self.view_is in (
-      small_cell _ c.self.invariant.stored.law.short,
-      (
-        omega arith,
-        (
-          omega (arith, c.requires.layer_in, ap (λ (grid : Grid). grid.depth) e),
-          (subst (λ (layers : List ℕ). IsOnLayer layers c.args.layer (Some c.args.piece)) (sym (ap (λ (grid : Grid). grid.layers) e)) c.requires.on_layer, c.self.invariant.stored.sound),
-        ),
-      ),
-    )
+    let e = ap (λ (s : BareState). s.grid) c.self.view_is in
+    let on_layer = subst (λ (layers : List ℕ). IsOnLayer layers c.args.layer (Some c.args.piece)) (sym (ap (λ (grid : Grid). grid.layers) e)) c.requires.on_layer in
+    (small_cell _ c.self.invariant.stored.law.short, (omega arith, (omega (arith, c.requires.layer_in, ap (λ (grid : Grid). grid.depth) e), (on_layer, c.self.invariant.stored.sound))))
 
 pub note_all-requires : goal.note_all-requires
 note_all-requires g c =
@@ -38,16 +31,10 @@ note_all-requires g c =
     let stored = stored_mapped _ a.width a.height a.layers (filled_cell c.args.layer c.args.piece) a.cells.items cells a.notes c.renew_notes.new.notes c.self.invariant.stored mapped
     (noted_read _ a.width a.height _ _ c.renew_notes.new.notes cells c.deref.result.now c.self.invariant.stored.noted.column_count c.self.invariant.stored.noted.row_count c.deref.ensures.value c.renew_notes.ensures) in
     let fits = c.self.invariant.placed.fits in
-    let is = c.deref-2.ensures.value in (
-      omega arith,
-      (
-        small_cell _ c.self.invariant.stored.law.short,
-        (
-          covers_all _ a.width a.height _ a.planes fits (ap (λ (all : List (Cell g.row.N)). length all) is ∙ stored.covers),
-          subst (λ (all : List (Cell g.row.N)). All (λ cell. AreKnown a.planes cell.objects) all) (sym is) (all_known _ a.layers a.width a.height a.planes cells fits stored.sound),
-        ),
-      ),
-    )
+    let is = c.deref-2.ensures.value in
+    let covers = covers_all _ a.width a.height _ a.planes fits (ap (λ (all : List (Cell g.row.N)). length all) is ∙ stored.covers) in
+    let known = subst (λ (all : List (Cell g.row.N)). All (λ cell. AreKnown a.planes cell.objects) all) (sym is) (all_known _ a.layers a.width a.height a.planes cells fits stored.sound) in
+    (omega arith, (small_cell _ c.self.invariant.stored.law.short, (covers, known)))
 
 pub invariant_of-self : goal.invariant_of-self
 invariant_of-self g c =

@@ -1,4 +1,4 @@
-use Rattle.std.proofs.Common.{ℕ, ◌||◌, Bool, ap, sym, ◌∙◌}
+use Rattle.std.proofs.Common.{◌||◌, Bool, ap, sym, ◌∙◌}
 use Rattle.std.specs.List.{list_any, range_with_len}
 use Rattle.pz_sets.specs.Sets.{member}
 use Rattle.pz_sheet.specs.Presence.{stands_in_line}

@@ -1,7 +1,5 @@
-use Rattle.std.proofs.Common.{◌≡◌, ◌<◌, ◌≤◌, arith, ap, sym, ◌∙◌}
-use Rattle.pz_game.specs.declared.limits.TheConstants.{MAX_SIDE}
-use Rattle.pz_planes.specs.Line.{room_from, step_to}
-use Rattle.pz_planes.proofs.BitLemmas.{step_within}
+use Rattle.std.proofs.Common.{◌<◌, arith, ap, sym, ◌∙◌}
+use Rattle.pz_planes.specs.Line.{room_from}
 use Rattle.pz_sheet.specs.Line.{line_length, x_at, y_at, dir_of, holds_in}
 use Rattle.pz_sheet.specs.Runs.{holds_along}
 use Rattle.pz_sheet.proofs.RunLemmas.{enumerate_more, enumerate_fails, enumerate_all}

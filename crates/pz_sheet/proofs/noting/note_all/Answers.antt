@@ -7,19 +7,9 @@ use Rattle.pz_sheet.proofs.noting.note_all.Goals as goal
 pub arrive_all-requires : goal.arrive_all-requires
 arrive_all-requires g c =
     let start = c.args.planes.now in
-    let empty = c.clear.ensures in (
-      omega arith,
-      (
-        small_cell _ c.depth.ensures.law.short,
-        (
-          c.requires.covers ∙ sym (ap (λ (w : ℕ). w * c.clear.new.self.rows.count) empty.size.column_count ∙ ap (λ (h : ℕ). start.columns.count * h) empty.size.row_count),
-          (
-            empty.rows,
-            (empty.columns, λ k cell within. known_still start c.clear.new.self _ empty.size (c.requires.known k cell within)),
-          ),
-        ),
-      ),
-    )
+    let empty = c.clear.ensures in
+    let covers = c.requires.covers ∙ sym (ap (λ (w : ℕ). w * c.clear.new.self.rows.count) empty.size.column_count ∙ ap (λ (h : ℕ). start.columns.count * h) empty.size.row_count) in
+    (omega arith, (small_cell _ c.depth.ensures.law.short, (covers, (empty.rows, (empty.columns, λ k cell within. known_still start c.clear.new.self _ empty.size (c.requires.known k cell within))))))
 
 pub returns : goal.returns
 returns g c =

@@ -11,19 +11,11 @@ pub land-requires : goal.land-requires
 land-requires g c =
     let layers = c.args.layers.now.layers in
     let old = c.args.self.now in
-    let mid = c.lift.new.self in (
-      small_cell _ c.depth.ensures.law.short,
-      (
-        search,
-        (
-          c.requires.low,
-          (
-            lawful_changed layers old.objects old.movement mid.objects mid.movement c.args.layer None c.requires.sound c.lift.ensures,
-            (place_changed layers old.objects old.movement mid.objects mid.movement c.args.layer None c.lift.ensures, subst (IsOnLayer layers c.args.layer) c.in-Some.is c.requires.on_layer),
-          ),
-        ),
-      ),
-    )
+    let mid = c.lift.new.self in
+    let lawful = lawful_changed layers old.objects old.movement mid.objects mid.movement c.args.layer None c.requires.sound c.lift.ensures in
+    let empty = place_changed layers old.objects old.movement mid.objects mid.movement c.args.layer None c.lift.ensures in
+    let on_layer = subst (IsOnLayer layers c.args.layer) c.in-Some.is c.requires.on_layer in
+    (small_cell _ c.depth.ensures.law.short, (search, (c.requires.low, (lawful, (empty, on_layer)))))
 
 both : (g : Over) (c : After-land g) → Becomes c.args.layers.now c.args.self.now c.land.new.self c.args.layer (Some c.in-Some.piece)
 both g c = changes_again c.args.layers.now.layers c.args.self.now.objects c.args.self.now.movement c.lift.new.self.objects c.lift.new.self.movement c.land.new.self.objects c.land.new.self.movement c.args.layer None (Some c.in-Some.piece) c.lift.ensures c.land.ensures

@@ -1,0 +1,260 @@
+"""action.yml and docs/ci.md: each shell step runs, in its order, against a release that is served from the disk."""
+import functools
+import json
+import os
+import re
+import shutil
+import subprocess
+import sys
+import tempfile
+import threading
+import unittest
+from http.server import SimpleHTTPRequestHandler, ThreadingHTTPServer
+from pathlib import Path
+
+from day import lines_of_example
+from test_release import MODULE, PROGRAM, STAND_IN, clone, git, make, put, sum_of
+from tool import TOP
+
+EXAMPLE = TOP / "examples/block-pushing.json"
+# Plays the example's sessions as tests/day.py does by hand.
+PLAYER = f"""#!{sys.executable}
+import json, sys
+sys.path.insert(0, {str(TOP / "tests")!r})
+from day import lines_of_example
+lines = lines_of_example(open(sys.argv[-1], encoding="utf-8").read())
+sys.stdout.write(lines)
+sys.exit(any(json.loads(it).get("close", "passed") != "passed" for it in lines.splitlines()))
+""".encode()
+WORD = re.compile(r"\$\{\{ ([\w.]+) \}\}")
+
+
+class Yaml:
+    """The YAML of these files: mappings, lists, texts in blocks, and words. It knows nothing else, and refuses it."""
+
+    def __init__(self, text):
+        self.lines = [it for it in text.split("\n")]
+        self.at = 0
+
+    def indent(self):
+        while self.at < len(self.lines) and not self.lines[self.at].strip():
+            self.at += 1
+        return len(self.lines[self.at]) - len(self.lines[self.at].lstrip()) if self.at < len(self.lines) else -1
+
+    def value(self):
+        depth = self.indent()
+        return self.items(depth) if self.lines[self.at].lstrip().startswith("- ") else self.mapping(depth)
+
+    def items(self, depth):
+        found = []
+        while self.indent() == depth and self.lines[self.at].lstrip().startswith("- "):
+            rest = self.lines[self.at][depth + 2 :]
+            if rest == "|" or not re.match(r"[\w-]+:( |$)", rest):
+                self.at += 1
+                found.append(self.block(depth) if rest == "|" else self.word(rest))
+            else:
+                self.lines[self.at] = " " * (depth + 2) + rest
+                found.append(self.mapping(depth + 2))
+        return found
+
+    def mapping(self, depth):
+        found = {}
+        while self.indent() == depth and not self.lines[self.at].lstrip().startswith("- "):
+            key, mark, rest = self.lines[self.at].strip().partition(":")
+            assert mark and re.fullmatch(r"[\w-]+", key) and key not in found, self.lines[self.at]
+            self.at += 1
+            found[key] = self.block(depth) if rest == " |" else self.word(rest.strip()) if rest.strip() else self.value()
+        return found
+
+    def block(self, depth):
+        inner, taken = self.indent(), []
+        assert inner > depth
+        while self.at < len(self.lines) and (not self.lines[self.at].strip() or self.lines[self.at].startswith(" " * inner)):
+            taken.append(self.lines[self.at][inner:])
+            self.at += 1
+        return "\n".join(taken).rstrip("\n") + "\n"
+
+    def word(self, text):
+        if text.startswith("["):
+            return [it.strip() for it in text[1:-1].split(",")]
+        return json.loads(text) if text.startswith('"') else {} if text == "{}" else text
+
+
+def read_yaml(text):
+    reader = Yaml(text)
+    found = reader.value()
+    assert reader.indent() == -1, reader.lines[reader.at]
+    return found
+
+
+def files_of_page():
+    """The YAML files of docs/ci.md."""
+    return [read_yaml(it) for it in re.findall(r"```yaml\n(.*?)```", (TOP / "docs/ci.md").read_text(encoding="utf-8"), re.S)]
+
+
+class Runner:
+    """A runner of GitHub's, as far as steps can tell: folders, the files that they write to, and what a word of an expression stands for."""
+
+    def __init__(self, room, values, env=()):
+        self.room, self.values, self.temp = room, dict(values), room / "temp"
+        self.work = room / "work"
+        self.work.mkdir(parents=True)
+        self.temp.mkdir()
+        known = {name: value for name, value in os.environ.items() if name == "HOME" or name.startswith("LANG")}
+        self.env = {**known, "PATH": f"{Path(sys.executable).parent}:/usr/bin:/bin", "GITHUB_WORKSPACE": str(self.work), "RUNNER_TEMP": str(self.temp), **dict(env)}
+        for name in ("GITHUB_PATH", "GITHUB_OUTPUT", "GITHUB_STEP_SUMMARY"):
+            self.env[name] = str(room / name)
+            (room / name).touch()
+        shutil.copy(EXAMPLE, self.work / "sessions.json")
+
+    def filled(self, text):
+        return WORD.sub(lambda it: self.values[it[1]], text)
+
+    def run(self, step):
+        """Runs a step's shell as GitHub does; its status and what it wrote."""
+        env = {**self.env, **{name: self.filled(value) for name, value in step.get("env", {}).items()}}
+        added = (self.room / "GITHUB_PATH").read_text().splitlines()
+        env["PATH"] = ":".join([*reversed(added), env["PATH"]])
+        assert not WORD.search(step["run"]), "what a stranger may say belongs into the environment"
+        words = ["bash", "--noprofile", "--norc", "-eo", "pipefail", "-c", step["run"]]
+        ran = subprocess.run(words, cwd=self.work, env=env, stdin=subprocess.DEVNULL, stdout=subprocess.PIPE, stderr=subprocess.PIPE)
+        for line in (self.room / "GITHUB_OUTPUT").read_text().splitlines():
+            name, _, value = line.partition("=")
+            self.values[f"steps.{step.get('id')}.outputs.{name}"] = value
+        return ran.returncode, ran.stdout.decode(), ran.stderr.decode()
+
+
+class Quiet(SimpleHTTPRequestHandler):
+    def log_message(self, *words):
+        pass
+
+
+@unittest.skipUnless((TOP / ".git").exists() and shutil.which("dpkg-deb") and shutil.which("curl"), "a release is made of a clone, with dpkg-deb, and fetched by curl")
+class InACi(unittest.TestCase):
+    @classmethod
+    def setUpClass(cls):
+        room = tempfile.TemporaryDirectory()
+        cls.addClassCleanup(room.cleanup)
+        cls.kept = Path(room.name)
+        cls.clone = clone(cls.kept / "clone")
+        cls.version = (cls.clone / "VERSION").read_text().strip()
+        changes = cls.clone / "CHANGELOG.md"
+        changes.write_text(changes.read_text() + f"\n## {cls.version}\n")
+        git(cls.clone, "commit", "-qam", "Give the version its heading")
+        make(cls.clone, cls.version, cls.kept / "served", STAND_IN._replace(program=PLAYER))
+        cls.sum = sum_of((cls.kept / f"served/saxtegun-{cls.version}-linux-x86_64.tar.gz").read_bytes())
+        server = ThreadingHTTPServer(("127.0.0.1", 0), functools.partial(Quiet, directory=str(cls.kept / "served")))
+        cls.addClassCleanup(server.server_close)
+        cls.addClassCleanup(server.shutdown)
+        threading.Thread(target=server.serve_forever, daemon=True).start()
+        cls.address = f"http://127.0.0.1:{server.server_port}"
+        cls.action = read_yaml((TOP / "action.yml").read_text(encoding="utf-8"))
+
+    def runner(self, values=(), env=()):
+        return Runner(Path(tempfile.mkdtemp(dir=self.kept)), values, env)
+
+    def act(self, runner, **given):
+        """Runs the shell steps of the action that its conditions let run; the status of each."""
+        inputs = {name: it.get("default") for name, it in self.action["inputs"].items()}
+        inputs = {**inputs, "version": self.version, "from": self.address, **given}
+        runner.values = {**runner.values, **{f"inputs.{name}": value for name, value in inputs.items()}}
+        ended = []
+        for step in self.action["runs"]["steps"]:
+            is_wanted = inputs["sessions"] or "inputs.sessions != ''" not in step.get("if", "")
+            if "run" in step and is_wanted and (not any(it[0] for it in ended) or "always()" in step.get("if", "")):
+                self.assertEqual(step["shell"], "bash")
+                ended.append(runner.run(step))
+        return ended
+
+    def uploaded(self, runner):
+        return sorted(it.name for it in (runner.temp / "saxtegun/upload").iterdir())
+
+    def test_the_action_plays_and_is_red_where_a_session_differs(self):
+        runner = self.runner()
+        (fetched, _, _), (played, out, errors), (gathered, _, _) = self.act(runner, sha256=self.sum)
+        self.assertEqual((fetched, played, gathered), (0, 1, 0), errors)
+        self.assertIn("5 sessions: 4 passed, 1 differs", out)
+        self.assertIn("::error file=sessions.json,line=1,title=session 4%2C a recording that has gone stale::", out)
+        self.assertEqual(self.uploaded(runner), ["junit.xml", "report.html"])
+        self.assertIn("a recording that has gone stale", (runner.room / "GITHUB_STEP_SUMMARY").read_text(encoding="utf-8"))
+
+    def test_the_action_plays_a_game_with_its_recordings_and_uploads_what_is_wanted(self):
+        runner = self.runner()
+        for name in ("game.txt", "recordings.json"):
+            shutil.copy(TOP / "examples/day" / name, runner.work)
+        recordings = runner.work / "recordings.json"
+        recordings.write_text(json.dumps(json.loads(recordings.read_text(encoding="utf-8"))[:4]), encoding="utf-8")
+        ended = self.act(runner, game="game.txt", sessions="recordings.json", upload="summary")
+        self.assertEqual([it[0] for it in ended], [0, 0, 0], ended)
+        self.assertEqual(self.uploaded(runner), ["summary.md"])
+        self.assertEqual(self.act(self.runner(), upload="all")[-1][0], 2)
+
+    def test_an_archive_with_another_sum_is_not_unpacked(self):
+        for given in ({"sha256": "0" * 64}, {"version": "9.9.9"}, {"sha256": "x; echo run"}):
+            runner = self.runner()
+            with self.subTest(given):
+                self.assertNotEqual(self.act(runner, **given)[0][0], 0)
+                self.assertEqual(list((runner.temp / "saxtegun").glob("saxtegun-*")), [])
+
+    def test_the_workflow_gives_the_action_inputs_that_it_has(self):
+        steps = [step for file in files_of_page() for job in file.get("jobs", {}).values() for step in job["steps"]]
+        given = [step["with"] for step in steps if step.get("uses", "").startswith("OWNER/saxtegun@")]
+        self.assertEqual(len(given), 3)
+        for it in given:
+            self.assertEqual(set(it) - set(self.action["inputs"]), set())
+            self.assertEqual((it["version"], len(it["sha256"])), (self.version, 64))
+
+    def test_the_job_for_gitlab_runs(self):
+        job = next(it["replay"] for it in files_of_page() if "script" in it.get("replay", {}))
+        runner = self.runner(env={**job["variables"], "FROM": self.address, "SHA256": self.sum})
+        status, out, errors = runner.run({"run": "\n".join(job["script"])})
+        self.assertEqual((status, errors), (1, ""))
+        self.assertIn("5 sessions: 4 passed, 1 differs", out)
+        for path in job["artifacts"]["paths"]:
+            self.assertTrue((runner.work / path).is_file(), path)
+        status, _, _ = self.runner(env={**job["variables"], "FROM": self.address}).run({"run": "\n".join(job["script"])})
+        self.assertEqual(status, 1)
+
+    def test_a_matrix_of_jobs_gives_the_bytes_of_one_run(self):
+        jobs = next(it["jobs"] for it in files_of_page() if "part" in it.get("jobs", {}))
+        kept = self.kept / "lines of parts"
+        kept.mkdir()
+        for part in jobs["part"]["strategy"]["matrix"]["part"]:
+            runner = self.runner({"matrix.part": part})
+            for step in jobs["part"]["steps"]:
+                self.do(runner, step)
+            for path in runner.work.glob(jobs["part"]["steps"][-1]["with"]["path"]):
+                shutil.copy(path, kept)
+        runner = self.runner()
+        ended = [self.do(runner, step, kept) for step in jobs["replay"]["steps"]]
+        self.assertEqual([it[0] for it in ended if it][-1], 1)
+        self.assertEqual((runner.work / "lines").read_text(encoding="utf-8"), lines_of_example(EXAMPLE.read_text(encoding="utf-8")))
+        for path in next(it["with"]["path"] for it in jobs["replay"]["steps"] if "upload" in it.get("uses", "")).split():
+            self.assertTrue((runner.work / path).is_file(), path)
+
+    def do(self, runner, step, kept=None):
+        """Does a step of the matrix: the action, its shell, or what a download puts there."""
+        if "download-artifact" in step.get("uses", ""):
+            for path in kept.iterdir():
+                shutil.copy(path, runner.work / step["with"]["path"])
+        if step.get("uses", "").startswith("OWNER/"):
+            self.assertEqual(self.act(runner, sessions=step["with"]["sessions"], sha256=self.sum)[-1][0], 0)
+        return runner.run(step) if "run" in step else None
+
+    def test_the_builder_makes_and_publishes_a_release(self):
+        file = next(it for it in files_of_page() if it.get("name") == "release")
+        runner = self.runner({"secrets.TARGET_TOKEN": "token"}, file["env"])
+        top = clone(runner.work / "saxtegun", self.clone)
+        put(top / PROGRAM, STAND_IN.program)
+        put(top / MODULE, STAND_IN.module)
+        put(top / "out/gate-passed", f"commit {git(top, 'rev-parse', 'HEAD')}\n{sum_of(STAND_IN.program)}  {PROGRAM}\n{sum_of(STAND_IN.module)}  {MODULE}\n".encode())
+        put(runner.room / "bin/gh", b'#!/bin/sh\necho "$GH_TOKEN" "$@"\n')
+        runner.env["PATH"] = f"{runner.room}/bin:{runner.env['PATH']}"
+        made, published = [runner.run(step) for step in file["jobs"]["release"]["steps"] if "run" in step]
+        self.assertEqual((made[0], published[0]), (0, 0), made)
+        self.assertIn(f"saxtegun_{self.version}_amd64.deb", made[1])
+        self.assertTrue(published[1].startswith(f"token release create v{self.version} saxtegun/release/SHA256SUMS saxtegun/release/saxtegun-"), published)
+
+
+if __name__ == "__main__":
+    unittest.main()

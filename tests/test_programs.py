@@ -1,0 +1,144 @@
+"""Which program plays where none is named: the one that is built, or the released module in Node; what is said of it, and what is refused."""
+import hashlib
+import json
+import os
+import shutil
+import subprocess
+import sys
+import unittest
+
+from tool import TOP, InARoom
+
+EXAMPLE = TOP / "examples/block-pushing.json"
+NODE = shutil.which("node")
+COMMIT = "0123456789abcdef0123456789abcdef01234567"
+HOW = "install Node 20 or later (nodejs.org), name the program of a release by SAXTEGUN_PROGRAM, or prove and build it with the Rattle kit by ./replay\n"
+PLAYED = "no program is built here; the module of Saxtegun 1.2.3, commit 0123456789ab, plays in Node "
+
+
+class InAFreshClone(InARoom):
+    """A fresh clone, with what its command needs, and a path on which stands what a test puts there."""
+
+    def setUp(self):
+        super().setUp()
+        self.top, self.path = self.room / "clone", self.room / "bin"
+        self.path.mkdir()
+        for name in ("python", "engine", "web"):
+            shutil.copytree(TOP / name, self.top / name, ignore=shutil.ignore_patterns("__pycache__", "out", "tests*"))
+        shutil.copy(TOP / "saxtegun", self.top)
+
+    def put(self, path, text):
+        path.parent.mkdir(parents=True, exist_ok=True)
+        path.write_text(text, encoding="utf-8")
+        path.chmod(0o755)
+
+    def release(self, module=b"\0asm\1\0\0\0"):
+        """Puts a module into released/, with its sum."""
+        released = self.top / "released"
+        released.mkdir()
+        (released / "saxtegun.wasm").write_bytes(module)
+        (released / "SHA256SUMS").write_text(f"# Saxtegun 1.2.3, commit {COMMIT}\n{hashlib.sha256(module).hexdigest()}  saxtegun.wasm\n")
+
+    def node(self, version):
+        """Puts a Node onto the path, which says with which module and how it was called."""
+        self.put(self.path / "node", f'#!/bin/sh\nif test "$1" = --version; then echo {version}; else echo "$SAXTEGUN_MODULE" "$@"; fi\n')
+
+    def called(self, *words):
+        env = {name: value for name, value in os.environ.items() if not name.startswith("SAXTEGUN_")}
+        ran = subprocess.run([sys.executable, str(self.top / "saxtegun"), *map(str, words)], env={**env, "PATH": f"{self.path}"}, stdout=subprocess.PIPE, stderr=subprocess.PIPE)
+        return ran.returncode, ran.stdout.decode(), ran.stderr.decode()
+
+
+class Programs(InAFreshClone):
+    def test_without_a_program_and_node_it_says_how_to_get_one(self):
+        self.release()
+        self.assertEqual(self.called("lines", EXAMPLE), (2, "", f"saxtegun lines: the program is not built here, and there is no Node: {HOW}"))
+        self.put(self.path / "node", "#!/bin/sh\nexit 1\n")
+        self.assertEqual(self.called("lines", EXAMPLE), (2, "", f"saxtegun lines: the program is not built here, and there is no Node: {HOW}"))
+
+    def test_a_node_that_is_too_old_is_told(self):
+        self.release()
+        self.node("v18.20.4")
+        self.assertEqual(self.called("test", EXAMPLE), (2, "", f"saxtegun test: the program is not built here, and Node 18.20.4 is too old to play: {HOW}"))
+
+    def test_a_clone_of_which_nothing_is_released_is_told(self):
+        self.node("v22.1.0")
+        self.assertEqual(self.called("lines", EXAMPLE), (2, "", f"saxtegun lines: the program is not built here, and no module is released: {HOW}"))
+
+    def test_the_released_module_plays_in_node(self):
+        self.release()
+        self.node("v20.0.0")
+        status, out, errors = self.called("lines", EXAMPLE, "--order", "rows", "--workers", "3")
+        self.assertEqual((status, errors), (0, f"saxtegun: {PLAYED}20.0.0\n"))
+        self.assertEqual(out, f"{self.top}/released/saxtegun.wasm {self.top}/engine/replay.mjs --order rows --workers 3 {EXAMPLE}\n")
+
+    def test_a_module_with_another_sum_is_refused(self):
+        self.release()
+        self.node("v20.0.0")
+        with open(self.top / "released/saxtegun.wasm", "ab") as module:
+            module.write(b"\0")
+        status, out, errors = self.called("lines", EXAMPLE)
+        self.assertEqual((status, out, errors.count("\n")), (2, "", 1))
+        self.assertIn("is not the module that SHA256SUMS beside it names: fetch both again", errors)
+        for text in ("", "# Saxtegun 1.2.3, commit none\n", f"# Saxtegun 1.2.3, commit {COMMIT}\nno sum\n", f"# Saxtegun 1.2.3, commit {COMMIT}\n", None):
+            sums = self.top / "released/SHA256SUMS"
+            sums.unlink() if text is None else sums.write_text(text)
+            with self.subTest(text):
+                status, out, errors = self.called("lines", EXAMPLE)
+                self.assertEqual((status, out, errors.count("\n")), (2, "", 1))
+
+    def test_the_program_that_is_built_comes_first_and_is_looked_at_by_replay(self):
+        self.release()
+        self.node("v20.0.0")
+        self.put(self.top / "crates/pz_replayer/out/pz_replayer", '#!/bin/sh\necho built "$@"\n')
+        self.put(self.top / "replay", '#!/bin/sh\necho replay "$@"\n')
+        said = "saxtegun: the program that is built here plays, crates/pz_replayer/out/pz_replayer\n"
+        self.assertEqual(self.called("lines", EXAMPLE), (0, f"replay --order columns {EXAMPLE}\n", said))
+
+    def test_a_program_that_is_named_comes_before_all_and_nothing_is_said(self):
+        self.put(self.room / "mine", '#!/bin/sh\necho mine "$@"\n')
+        self.put(self.top / "crates/pz_replayer/out/pz_replayer", "")
+        self.assertEqual(self.called("lines", EXAMPLE, "--program", self.room / "mine"), (0, f"mine --order columns {EXAMPLE}\n", ""))
+        self.put(self.top / "bin/pz_replayer", '#!/bin/sh\necho released "$@"\n')
+        self.assertEqual(self.called("lines", EXAMPLE), (0, f"released --order columns {EXAMPLE}\n", ""))
+
+    def test_a_c_library_that_is_too_old_is_told(self):
+        """As the loader of Debian bullseye says it, which ends with 1."""
+        said = "/x: /lib/x86_64-linux-gnu/libc.so.6: version `GLIBC_2.34' not found (required by /x)"
+        self.put(self.top / "bin/pz_replayer", f'#!/bin/sh\necho "{said}" >&2\nexit 1\n'.replace("`", "\\`"))
+        for verb in ("test", "lines"):
+            status, out, errors = self.called(verb, EXAMPLE)
+            self.assertEqual((status, out), (2, ""))
+            self.assertEqual(errors, f"saxtegun {verb}: the program needs a newer C library than this machine has (GLIBC_2.34): play in Node, as docs/engine.md tells\n")
+
+
+@unittest.skipUnless(NODE and (TOP / "released").is_dir(), "there is no Node, or nothing is released")
+class Released(InAFreshClone):
+    """The files of released/, which may be of an earlier commit: their sums, and that the functions of this one play by their module."""
+
+    def setUp(self):
+        super().setUp()
+        (self.path / "node").symlink_to(NODE)
+        shutil.copytree(TOP / "released", self.top / "released")
+
+    def test_the_files_are_those_of_the_sums_and_under_a_megabyte(self):
+        files = sorted(it.name for it in (TOP / "released").iterdir())
+        self.assertEqual(files, ["SHA256SUMS", "saxtegun.html", "saxtegun.wasm"])
+        checked = subprocess.run(["sha256sum", "--check", "--quiet", "--strict", "SHA256SUMS"], cwd=TOP / "released", stdout=subprocess.PIPE, stderr=subprocess.PIPE)
+        self.assertEqual((checked.returncode, checked.stdout, checked.stderr), (0, b"", b""))
+        self.assertLess(sum((TOP / "released" / it).stat().st_size for it in files), 1_000_000)
+
+    def test_a_fresh_clone_plays(self):
+        status, out, errors = self.called("lines", EXAMPLE)
+        closes = [it for it in map(json.loads, out.splitlines()) if "close" in it]
+        self.assertEqual((status in (0, 1), [it["name"] for it in closes]), (True, [it[0] for it in json.loads(EXAMPLE.read_text(encoding="utf-8"))]))
+        self.assertRegex(errors, r"^saxtegun: no program is built here; the module of Saxtegun \S+, commit [0-9a-f]{12}, plays in Node \S+\n$")
+
+    def test_the_author_sees_what_differs(self):
+        status, out, errors = self.called("test", EXAMPLE)
+        self.assertEqual((status, errors.count("\n")), (1, 1))
+        self.assertIn("session 4, a recording that has gone stale: differs", out)
+
+
+if __name__ == "__main__":
+    unittest.main()
