@@ -73,6 +73,11 @@ class OfDocuments(OnSmallCrates):
         self.assertEqual(self.told(page, "--write"), (0, []))
         self.assertEqual((self.room / "docs/architecture.md").read_text(encoding="utf-8"), PAGE)
 
+    def test_a_crate_is_told_up_to_a_colon_and_one_of_tests_is_not_told(self):
+        self.write("crates.txt", "pz_one:\npz_one_cases: pz_one\n")
+        self.write("crates/pz_one/src/lib.rt", "//! A crate of one\n//! function: the same number. It has no more.\n#![tactic(auto)]\n")
+        self.assertEqual(self.told(PAGE), (0, []))
+
 
 if __name__ == "__main__":
     unittest.main()
