@@ -92,6 +92,12 @@ def files_of_page():
     return [read_yaml(it) for it in re.findall(r"```yaml\n(.*?)```", (TOP / "docs/ci.md").read_text(encoding="utf-8"), re.S)]
 
 
+def commands_of_page():
+    """The commands that stand in docs/ci.md outside of its files: to compare closes, to play parts, and to play them on several hosts."""
+    text = re.sub(r"```yaml\n.*?```", "", (TOP / "docs/ci.md").read_text(encoding="utf-8"), flags=re.S)
+    return [re.sub("^    ", "", it, flags=re.M) for it in re.findall(r"(?:^    .*\n)+", text, re.M)]
+
+
 class Runner:
     """A runner of GitHub's, as far as steps can tell: folders, the files that they write to, and what a word of an expression stands for."""
 
@@ -203,6 +209,25 @@ class InACi(unittest.TestCase):
         for it in given:
             self.assertEqual(set(it) - set(self.action["inputs"]), set())
             self.assertEqual((it["version"], len(it["sha256"])), (self.version, 64))
+
+    @unittest.skipUnless(shutil.which("jq"), "jq reads the closes")
+    def test_the_commands_that_compare_closes_are_red_where_one_changes(self):
+        commands = commands_of_page()[0]
+        runner = self.runner()
+        self.act(runner, sessions="", sha256=self.sum)
+        (runner.work / "closes.expected").touch()
+        status, out, errors = runner.run({"run": commands})
+        self.assertEqual((status, errors), (1, ""))
+        self.assertIn("+a recording that has gone stale\tdiffers\t\n", out)
+        shutil.copy(runner.work / "closes", runner.work / "closes.expected")
+        self.assertEqual(runner.run({"run": commands}), (0, "", ""))
+
+    def test_the_commands_that_play_parts_give_the_bytes_of_one_run(self):
+        runner = self.runner()
+        self.act(runner, sessions="", sha256=self.sum)
+        # typed by hand, where no shell ends at a status
+        self.assertEqual(runner.run({"run": f"set +e +o pipefail\n{commands_of_page()[1]}"}), (0, "1\n", ""))
+        self.assertEqual((runner.work / "lines").read_text(encoding="utf-8"), lines_of_example(EXAMPLE.read_text(encoding="utf-8")))
 
     def test_the_job_for_gitlab_runs(self):
         job = next(it["replay"] for it in files_of_page() if "script" in it.get("replay", {}))

@@ -1,6 +1,7 @@
 """What the documents quote: each command with `$` before it prints what stands under it, and each verb and option of the command exists.
 
-docs/ci.md is tested with the files that it prints."""
+The files and commands of docs/ci.md run in tests/test_ci.py, the five of the README's day in tests/test_day.py, the program of docs/library.md in
+the gate."""
 import importlib
 import os
 import re
@@ -70,11 +71,10 @@ class Quoted(unittest.TestCase):
     def test_each_verb_and_each_option_exists(self):
         found = 0
         for page, verb, options in calls():
-            if page.name != "ci.md":
-                with self.subTest(page.name, verb=verb):
-                    self.assertTrue((TOP / f"python/saxtegun/verbs/{verb}.py").exists())
-                    self.assertLessEqual(set(options), options_of(verb) | {"--help"})
-                    found += 1
+            with self.subTest(page.name, verb=verb):
+                self.assertTrue((TOP / f"python/saxtegun/verbs/{verb}.py").exists())
+                self.assertLessEqual(set(options), options_of(verb) | {"--help"})
+                found += 1
         self.assertGreater(found, 20)
 
     def test_what_is_left_out_may_be_anything(self):
