@@ -75,7 +75,7 @@ class Quoted(unittest.TestCase):
                     self.assertTrue((TOP / f"python/saxtegun/verbs/{verb}.py").exists())
                     self.assertLessEqual(set(options), options_of(verb) | {"--help"})
                     found += 1
-        self.assertGreater(found, 20)
+        self.assertGreater(found, 10)
 
     def test_what_is_left_out_may_be_anything(self):
         self.assertTrue(are_in_order([["a"], ["c"]], ["a", "b", "c"]))
