@@ -36,8 +36,8 @@ struct Contents {
     masks: Masks,
 }
 
-/// A cell of a rule's row, with its items as sets: it holds where all its items hold. Equal cells may share their contents, of which
-/// the rules of a game have few different ones.
+/// A cell of a rule's row, with its items as sets: it holds where all its items hold. Equal cells may share their contents,
+/// because the rules of a game have few different ones.
 #[derive(Drop)]
 pub struct Pattern {
     contents: Arc<Contents>,
@@ -65,7 +65,7 @@ impl Pattern {
         Ok(Pattern { contents })
     }
 
-    /// Another cell of the same contents.
+    /// Another cell with the same contents.
     pub fn share(&self) -> Result<Pattern, AllocError>
         ensures { IfOk result (λ shared. shared ≡ self.now) }
     {
