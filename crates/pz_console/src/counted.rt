@@ -1,4 +1,4 @@
-//! A reader whose calls are counted, and whose errors are kept in mind.
+//! A reader that counts its calls and remembers an error.
 
 ghost use Rattle.std.specs.Prelude.{◌≡◌, ◌+◌, ◌≤◌, ◌||◌, false, is_err};
 ghost use Rattle.std.specs.Io.{ReadsAtMost};
