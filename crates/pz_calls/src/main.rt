@@ -1,5 +1,5 @@
-//! Plays one call of the library over the standard input, and prints what it answered, or `memory`. The first word names the call, a second one the number
-//! of workers. `conformance/faults` refuses it each growth in turn.
+//! Plays one call of the library over the standard input, and prints what it answered, or `memory`. The first word names the
+//! call, and a second one the number of workers. `conformance/faults` refuses it each growth in turn.
 #![tactic(auto)]
 
 mod gate;
