@@ -28,8 +28,8 @@ pub struct Played {
     pub passed: bool,
 }
 
-/// What is written: the lines of the sessions before and of the items so far of the session that is played, how many of these items are frames, and
-/// whether they say that the session passed.
+/// What is written: the lines of the sessions before, and of the items so far of the session that is played; how many of these
+/// items are frames; and whether they say that the session passed.
 #[derive(Drop)]
 struct Written {
     lines: Vec<u8>,
@@ -37,7 +37,7 @@ struct Written {
     passed: bool,
 }
 
-/// Writes the line of the next item of a session behind the others, if it is shown from an input on.
+/// Writes the line of the next item of a session after the others, if it is shown from an input on.
 fn add_line(
     alloc: Global,
     written: Written,
@@ -89,8 +89,8 @@ fn add_item(
     })
 }
 
-/// Plays the session of a case, and writes the lines of its items from an input on behind those of the sessions before it. Each item is let go before the
-/// next is played, so that beside the lines one item is held at a time.
+/// Plays the session of a case, and writes the lines of its items from an input on after those of the sessions before it. Each
+/// item is dropped before the next is played, so that only one item is held at a time beside the lines.
 fn play_case(
     alloc: Global,
     before: Vec<u8>,

@@ -70,7 +70,7 @@ fn cell_hash(items: &[Item]) -> u64
     hash
 }
 
-/// The hash of some cells, and of one more behind them.
+/// The hash of some cells, and of one more after them.
 #[tactic(auto, unfolding(crate::specs::Hashes::with_cell))]
 fn with_cell(hash: u64, cell: &Pattern) -> u64
     ensures { result ≡ with_cell hash cell.now }

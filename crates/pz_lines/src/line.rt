@@ -1,4 +1,5 @@
-//! The line of an item: compact JSON, its keys in the order of their bytes, and a line feed. It is written behind the lines before it.
+//! The line of an item: compact JSON, its keys in the order of their bytes, and a line feed. It is written after the lines before
+//! it.
 
 ghost use Rattle.std.specs.Prelude.{◌≡◌, ◌++◌, IfOk, OnOk, decimal};
 ghost use Rattle.json.specs.Print.{quoted};

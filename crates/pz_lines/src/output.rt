@@ -18,7 +18,7 @@ fn taken(answer: io::Result<usize>) -> Result<usize, Cause>
     }
 }
 
-/// A writer, and why a write of some bytes failed, if one did. It is called by `write` alone, since no other module sees it.
+/// A writer, and why a write of some bytes failed, if one did. Only `write` calls it, since no other module sees it.
 #[derive(Drop)]
 pub struct Output<W: Write> {
     writer: W,

@@ -6,7 +6,7 @@ ghost use Rattle.pz_sets.specs.declared.set.TheConstants.{CAPACITY};
 
 use crate::word;
 
-/// The word of a number, 0 where the slice has none.
+/// The word of a number, or 0 if the slice has none.
 pub(crate) fn word_at(words: &[u128], index: usize) -> u128
     ensures { result ≡ slice_index words.now index }
 {
