@@ -7,12 +7,12 @@ abbrev pub product : {X : Type 0} → List (List X) → List (List X)
 product [] = [] ∷ []
 product (xs ∷ xss) = flat_map (λ x. map (λ rest. x ∷ rest) (product xss)) xs
 
--- the first of the elements that are the same
+-- the elements, each only where it first occurs
 abbrev pub firsts : {X : Type 0} → (X → X → Bool) → List X → List X
 firsts same [] = []
 firsts same (x ∷ xs) = x ∷ filter (λ y. not (same x y)) (firsts same xs)
 
--- an element behind those that are kept, unless one of them is the same
+-- the kept elements, with one more at the end unless one of them is the same
 abbrev pub added : {X : Type 0} → (X → X → Bool) → List X → X → List X
 added same kept x = if list_any (λ other. same other x) kept then kept else kept ++ x ∷ []
 

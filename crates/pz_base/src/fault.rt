@@ -31,7 +31,7 @@ pub enum Code {
     LateMovement,
 }
 
-/// A refusal: its cause, and the line where it stands, counted from 1; 0 for the whole text.
+/// A refusal: its cause and its line, counted from 1, or 0 for the whole text.
 #[derive(Clone, Copy, Debug, PartialEq, Eq)]
 pub struct SourceFault {
     pub code: Code,

@@ -4,7 +4,7 @@ ghost use Rattle.std.specs.Prelude.{◌≡◌};
 
 use std::marker::Model;
 
-/// A list, which contracts see as the list of its items: it may stand in structs, enums and other lists.
+/// A list. Contracts see it as the list of its items. It may stand in structs, enums and other lists.
 #[derive(Drop, Debug)]
 pub struct Listed<T> {
     items: Vec<T>,

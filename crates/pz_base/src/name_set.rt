@@ -53,7 +53,7 @@ impl NameSet {
         self.texts.contains(name)
     }
 
-    /// Puts a new name behind the others. Err: memory was refused, and they are as they were.
+    /// Adds a new name after the others. Err: memory was refused, and the set is unchanged.
     pub fn add(&mut self, alloc: Global, name: &str) -> Result<(), AllocError>
         requires { is_name_of self.old name.now ≡ false }
         ensures added { OnOk result (self.new ≡ self.old ++ name.now ∷ []) }

@@ -5,7 +5,7 @@ ghost use Rattle.std.specs.Prelude.{◌≡◌, IfOk, string_bytes};
 use std::alloc::{AllocError, Global};
 use std::marker::Model;
 
-/// A text, which contracts see as its bytes: it may stand in structs, enums and lists.
+/// A text. Contracts see it as its bytes. It may stand in structs, enums and lists.
 #[derive(Drop, Debug)]
 pub struct Text {
     text: String,

@@ -1,5 +1,5 @@
-//! Plays one call of the library over the standard input, and prints what it answered, or `memory`. The first word names the call, a second one the number
-//! of workers. `conformance/faults` refuses it each growth in turn.
+//! Plays one call of the library over the standard input, and prints what it answered, or `memory`. The first word names the
+//! call, and a second one the number of workers. `conformance/faults` refuses it each growth in turn.
 #![tactic(auto)]
 
 mod gate;
@@ -14,7 +14,7 @@ use std::sync::Wait;
 use std::thread::Threads;
 use std::{env, io};
 
-/// The words behind the program's name.
+/// The words after the program's name.
 fn words<R: Env + AllocGlobal>(rt: &R) -> Result<Vec<String>, AllocError> {
     match env::args(rt) {
         Ok(words) => words.skip(1).collect(rt.alloc()),

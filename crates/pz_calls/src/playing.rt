@@ -29,7 +29,7 @@ pub(crate) fn prepared(alloc: Global, text: &str) -> Result<String, AllocError> 
     format!(in alloc; "{} cases\n", job.len())
 }
 
-/// Tells an item, with its number where it is a frame.
+/// Tells an item, with its number if it is a frame.
 fn tell_item(told: &mut String, alloc: Global, item: &Item) -> Result<(), AllocError> {
     match item {
         Item::Frame { number, at, frame } => {
@@ -53,7 +53,7 @@ pub(crate) fn shown(alloc: Global, text: &str) -> Result<String, AllocError> {
     Ok(told)
 }
 
-/// Tells the next item of a run, and whether there was one. Where memory was refused, it is refused once more.
+/// Tells the next item of a run, and whether there was one. If memory was refused, it is refused once more.
 fn tell_next(told: &mut String, alloc: Global, run: &mut Run<'_>) -> Result<bool, AllocError> {
     match run.next() {
         Ok(Some(item)) => {

@@ -41,7 +41,7 @@ fn answered<R: Threads + Wait + Sync, G: Gate + Sync>(
     }
 }
 
-/// What it answers where the gate is always open.
+/// What it answers if the gate is always open.
 pub(crate) fn replayed<R: Threads + Wait + Sync>(
     rt: &R,
     alloc: Global,
@@ -51,7 +51,7 @@ pub(crate) fn replayed<R: Threads + Wait + Sync>(
     answered(rt, alloc, workers, text, &Always)
 }
 
-/// What it answers where the gate is closed to the second item of the second session.
+/// What it answers if the gate is closed to the second item of the second session.
 pub(crate) fn stopped<R: Threads + Wait + Sync>(
     rt: &R,
     alloc: Global,

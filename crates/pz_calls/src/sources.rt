@@ -33,7 +33,7 @@ pub(crate) fn read(alloc: Global, source: &str) -> Result<String, AllocError> {
     }
 }
 
-/// What `expand` answers of the game that a source is.
+/// What `expand` answers for the game of a source.
 pub(crate) fn expanded(alloc: Global, source: &str) -> Result<String, AllocError> {
     let game = match read_game(alloc, source) {
         Ok(game) => game,

@@ -9,7 +9,7 @@ abbrev pub Yields : List Item → Option Item → List Item → Type 0
 Yields before None after = (before ≡ []) × (after ≡ [])
 Yields before (Some item) after = before ≡ item ∷ after
 
--- the items of each session of a job, where `items_of` says those of a case
+-- the items of each session of a job, if `items_of` gives those of a case
 abbrev pub sessions_of : (Case → List Item) → List Case → List (List Item)
 sessions_of items_of job = map items_of job
 
@@ -17,7 +17,7 @@ sessions_of items_of job = map items_of job
 abbrev pub items_at : List (List Item) → ℕ → List Item
 items_at sessions number = slice_index_or sessions number []
 
--- the name and the items of a case, where `items_of` says them
+-- the name and the items of a case, if `items_of` gives them
 abbrev pub shown_by : (Case → List Item) → Case → Record
 shown_by items_of case = record { name = case.name; items = items_of case }
 

@@ -10,7 +10,7 @@ pub struct Case {
     pub plan: Result<Plan, Refusal>,
 }
 
-/// Written out, so that each place where one goes out of scope is one call.
+/// Written out, so that dropping one is a single call everywhere.
 impl Drop for Case {
     fn drop(self) {
         let Case { name, plan } = self;

@@ -32,7 +32,7 @@ pub fn level_from(game: &Game, index: u64) -> Option<usize>
     }
 }
 
-/// The first level among the entries of LEVELS behind one of them.
+/// The first level among the entries of LEVELS after one of them.
 pub fn level_after(game: &Game, entry: usize) -> Option<usize>
     requires { entry < length game.now.levels }
     ensures next { result ≡ level_from game.now (entry + 1) }

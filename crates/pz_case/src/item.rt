@@ -22,7 +22,7 @@ pub enum FrameKind {
     Over,
 }
 
-/// A level that is shown, in the order of the job. Its text is kept in the form in which it is written.
+/// A level that is shown, in the order of the job. Its text is kept as it will be written.
 #[derive(Drop)]
 pub struct Frame {
     pub kind: FrameKind,

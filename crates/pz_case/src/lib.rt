@@ -1,12 +1,12 @@
-//! What is played and what is shown. A job has a case for each session: what is needed to play it, or why it is refused. What a session shows
-//! are items: its frames and its close. A recording has those of every session. How a case is played stands apart, in `pz_session`: so what
-//! makes a job ready needs nothing that plays it.
+//! What is played and what is shown. A job has a case for each session: what is needed to play it, or why it is refused. What a
+//! session shows are items: its frames and its close. A recording has those of every session. How a case is played stands apart,
+//! in `pz_session`, so making a job ready needs nothing that plays it.
 //!
 //! - `rulebook`: a game with its rules, which the sessions of one source share
 //! - `first_level`: where a session starts, and which level follows one
 //! - `plan`, `case`, `job`: what is needed to play a session, a session of a job, and the job
-//! - `item`, `recording`: what a session shows, and what those of a job showed
-//! - `playing`: what is asked of who plays the cases of a job
+//! - `item`, `recording`: what a session shows, and what the sessions of a job showed
+//! - `playing`: what is asked of whoever plays the cases of a job
 #![tactic(auto)]
 
 pub mod case;

@@ -24,7 +24,7 @@ pub struct Plan {
     order: Order,
 }
 
-/// Written out, so that each place where one goes out of scope is one call.
+/// Written out, so that dropping one is a single call everywhere.
 impl Drop for Plan {
     fn drop(self) {
         let Plan {

@@ -14,7 +14,7 @@ pub trait Playing: Sized + Drop {
     /// The items that are still to come.
     ghost left: { Self → List Item };
 
-    /// The next item; none after the last. Once memory was refused nothing is promised of the run.
+    /// The next item, or none after the last. After memory was refused, nothing is promised of the run.
     fn next(&mut self) -> Result<Option<Item>, AllocError>
         ensures { IfOk result (λ answer. Yields (left self.old) answer (left self.new)) };
 }

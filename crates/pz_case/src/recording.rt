@@ -13,7 +13,7 @@ pub struct Record {
     pub items: Listed<Item>,
 }
 
-/// Written out, so that each place where one goes out of scope is one call.
+/// Written out, so that dropping one is a single call everywhere.
 impl Drop for Record {
     fn drop(self) {
         let Record { name, items } = self;

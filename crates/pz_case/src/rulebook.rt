@@ -15,7 +15,7 @@ pub struct Rulebook {
     program: Arc<Program>,
 }
 
-/// Written out, so that each place where one goes out of scope is one call.
+/// Written out, so that dropping one is a single call everywhere.
 impl Drop for Rulebook {
     fn drop(self) {
         let Rulebook { game, program } = self;

@@ -18,7 +18,7 @@ pub record Ending : Type 0 where
   pub numbers : List ℕ
   pub found : ℕ
 
--- the maker, with the numbers of the seats that it joined, one seat's behind the other's
+-- the maker, with the numbers of the seats that it joined, one seat's after the other's
 pub record Makes : Type 0 where
   pub of : Numbers
   pub numbers : List ℕ

@@ -11,7 +11,7 @@ use Rattle.pz_claims.specs.declared.view.View.{View}
 abbrev pub times : ℕ → List ℕ → ℕ
 times x xs = count_by (λ y. y == x) xs
 
--- 1 where x is below n, and else 0
+-- 1 if x is below n, and else 0
 abbrev pub once_below : ℕ → ℕ → ℕ
 once_below x n = if ltb x n then 1 else 0
 

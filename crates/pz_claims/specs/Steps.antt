@@ -31,6 +31,6 @@ one_more maker = Making (total_of maker) (numbers_of maker) (suc (made_of maker)
 abbrev pub new_seat : View → View
 new_seat maker = Claiming (total_of maker) []
 
--- the maker with the numbers of an ended seat behind its own
+-- the maker with the numbers of an ended seat after its own
 abbrev pub with_ended : View → View → View
 with_ended maker ended = Making (total_of maker) (numbers_of maker ++ numbers_of ended) (made_of maker) (suc (joined_of maker))

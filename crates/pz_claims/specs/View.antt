@@ -1,4 +1,4 @@
--- What each view of a claim table says. A view that does not speak of a list a count or a word says [] or 0.
+-- What each view of a claim table says. If a view doesn't speak of a list, a count or a word, it says [] or 0.
 use Rattle.std.specs.Prelude.{◌≡◌, ℕ, List, []}
 use Rattle.pz_claims.specs.declared.view.View.{View}
 use Rattle.pz_claims.specs.declared.view.View.TheVariants.{Making, Claiming, Ended, Spent}

@@ -8,7 +8,7 @@ pub const MOST_SEATS: u64 = 64;
 /// The most numbers that a table has.
 pub const MOST_NUMBERS: usize = 65_536;
 
-/// The limits as numbers: a promise, which no constant can change by itself.
+/// Promises the limits as numbers, so that changing a constant alone breaks a proof.
 pub fn tables_are_limited()
     ensures seats { MOST_SEATS ≡ 64 }
     ensures numbers { MOST_NUMBERS ≡ 65_536 }

@@ -42,7 +42,7 @@ pub enum Claimed {
 }
 
 impl Claims {
-    /// A table of the numbers below n, and its maker. Takes the memory of the word, and is the only call that takes any. Err: it was refused.
+    /// A table of the numbers below n, and its maker. This is the only call that takes memory, for the word. Err: it was refused.
     pub fn new(alloc: Global, n: usize) -> Result<(Claims, Maker), AllocError>
         requires { n ≤ MOST_NUMBERS }
         ensures claims { IfOk result (λ r. r.0.total ≡ n) }
@@ -53,7 +53,8 @@ impl Claims {
         Ok((Claims { table, total }, Maker { token, made: 0 }))
     }
 
-    /// A new seat, without a number. One load of the word, whose answer is not looked at. At most `MOST_SEATS` are made at a table.
+    /// A new seat, without a number. It costs one load of the word, whose answer isn't used. At most `MOST_SEATS` are made at a
+    /// table.
     pub fn split(&self, maker: Maker) -> (Maker, Seat)
         requires table { maker.of ≡ self.now }
         requires few { maker.made < MOST_SEATS }
@@ -69,8 +70,8 @@ impl Claims {
         (maker, Seat { token: seat })
     }
 
-    /// The next number, greater than all that the seat had; or the end of the seat. One atomic addition of one to the word, which is
-    /// the whole claim: any thread may call it at any time, beside any other.
+    /// The next number, greater than all that the seat had, or the end of the seat. The whole claim is one atomic addition of one
+    /// to the word, so any thread may call it at any time, beside any other.
     pub fn claim(&self, seat: Seat) -> Claimed
         requires { seat.of ≡ self.now }
         ensures { IsClaim seat result }
@@ -84,8 +85,8 @@ impl Claims {
         }
     }
 
-    /// Takes in a seat that has ended, with its numbers, none of which the maker had. A load of the word, and an atomic addition of nothing
-    /// to it: with that the rule says that no number stands twice.
+    /// Takes in a seat that has ended, with its numbers. The maker had none of these. It costs a load of the word and an atomic
+    /// addition of 0 to it, by which the rule says that no number stands twice.
     pub fn join(&self, maker: Maker, ended: Ended) -> Maker
         requires maker { maker.of ≡ self.now }
         requires ended { ended.of ≡ self.now }
@@ -108,8 +109,8 @@ impl Claims {
         Maker { token, made }
     }
 
-    /// Ends the table once every seat that was made is joined, and answers its word: the number of numbers and of seats, or 0 where
-    /// no seat was made. Where one was, the maker has each number once.
+    /// Ends the table once every seat that was made is joined, and answers its word: the number of numbers plus that of seats, or
+    /// 0 if no seat was made. If one was, the maker has each number once.
     pub fn close(self, maker: Maker) -> u64
         requires table { maker.of ≡ self }
         requires joined { maker.joined ≡ maker.made }

@@ -2,8 +2,8 @@
 
 use std::collections::LinkedList;
 
-/// What a holder of a claim table knows. Proofs alone have such values: none is ever made. Each but the last begins with the number of
-/// numbers of the table, and the numbers that its holder has.
+/// What a holder of a claim table knows. Only proofs have such values, and none is ever made. Each but the last begins with the
+/// number of numbers of the table, and the numbers that its holder has.
 pub enum View {
     /// The maker, with how many seats it made and how many it joined.
     Making(u64, LinkedList<u64>, u64, u64),

@@ -10,12 +10,12 @@ use Rattle.pz_record.specs.declared.order.Order.TheVariants.{Rows, Columns}
 use Rattle.pz_console.specs.declared.options.TheConstants.{MOST_WORKERS}
 use Rattle.pz_console.specs.declared.options.Chosen.{Chosen}
 
--- the number of threads: 1 to as many as may be asked for, in decimal digits, and 2 where none is asked for
+-- the number of threads: 1 to as many as may be asked for, in decimal digits, and 2 by default
 abbrev pub workers_of : Option Text → Option ℕ
 workers_of None = Some 2
 workers_of (Some text) = if is_unsigned_in 1 MOST_WORKERS text then Some (digits_value 10 (without_leading_plus text)) else None
 
--- the order of a level's cells: by columns where none is asked for
+-- the order of a level's cells: by columns by default
 abbrev pub order_of : Option Text → Option Order
 order_of None = Some Columns
 order_of (Some text) = if bytes_eq text (codes "rows") then Some Rows else (if bytes_eq text (codes "columns") then Some Columns else None)
@@ -38,7 +38,7 @@ command = with_rule (with_rule (with_rule (new_app (codes "pz_replayer")) worker
 abbrev pub choice_in : List Row → Option Chosen
 choice_in rows = choice_of (first_of (codes "workers") rows) (first_of (codes "order") rows) (first_of (codes "file") rows)
 
--- nothing where clap finds a fault, a call for help among them
+-- nothing if clap finds a fault, such as a call for help
 abbrev pub without_fault : Kinds → Option Chosen → Option Chosen
 without_fault [] choice = choice
 without_fault (kind ∷ kinds) choice = None

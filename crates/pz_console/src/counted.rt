@@ -1,4 +1,4 @@
-//! A reader whose calls are counted, and whose errors are kept in mind.
+//! A reader that counts its calls and remembers an error.
 
 ghost use Rattle.std.specs.Prelude.{◌≡◌, ◌+◌, ◌≤◌, ◌||◌, false, is_err};
 ghost use Rattle.std.specs.Io.{ReadsAtMost};
@@ -8,7 +8,7 @@ use pz_entries::file::MOST_BYTES;
 use std::io::{self, Read};
 use std::marker::Model;
 
-/// A reader, how often it was called, and whether a call answered an error. It is called by `read` alone, since no other module sees it.
+/// A reader, how often it was called, and whether a call answered an error. Only `read` calls it, since no other module sees it.
 #[derive(Drop)]
 pub struct Counted<R: Read> {
     input: R,

@@ -75,7 +75,7 @@ fn report_file<E: Write>(fault: FileFault, errors: &mut Output<E>) -> Result<(),
     }
 }
 
-/// Writes the line of a failure. Where that writer fails too, the line ends early, and the answer is that fault.
+/// Writes the line of a failure. If that writer fails too, the line ends early, and the answer is that fault.
 fn report<E: Write>(failure: Failure, errors: &mut Output<E>) -> Result<(), WriteFault>
     requires { errors.old.failure ≡ None }
     ensures whole { OnOk result (HasWritten (failure_line failure) errors.old errors.new) }

@@ -36,7 +36,7 @@ pub enum OptionsFault {
 /// The most threads that a command line may ask for.
 pub const MOST_WORKERS: usize = 64;
 
-/// The limit as a number: a promise, which the constant can't change by itself.
+/// Promises the limit as a number, so that changing the constant alone breaks a proof.
 pub fn threads_are_limited()
     ensures { MOST_WORKERS ≡ 64 }
 {}
@@ -80,7 +80,7 @@ fn number(text: &str) -> Option<usize>
     Some(number)
 }
 
-/// The value of `--workers`: 1 to `MOST_WORKERS`, and 2 where there is none.
+/// The value of `--workers`: 1 to `MOST_WORKERS`, and 2 without the option.
 fn workers(text: Option<&str>) -> Option<usize>
     ensures value { result ≡ workers_of (option_map (λ t. t.now) text.entry) }
     ensures some { IfSome result (λ n. 1 ≤ n) }
@@ -92,7 +92,7 @@ fn workers(text: Option<&str>) -> Option<usize>
     }
 }
 
-/// The value of `--order`: rows or columns, and columns where there is none.
+/// The value of `--order`: rows or columns, and columns without the option.
 fn order(text: Option<&str>) -> Option<Order>
     ensures { result ≡ order_of (option_map (λ t. t.now) text.entry) }
 {

@@ -1,4 +1,4 @@
--- Which fault is answered, where several hold.
+-- Which fault is answered if there are several.
 use Rattle.std.specs.Prelude.{ℕ, nat_lt, if◌then◌else◌, Option, Some, None, Result, Ok, Err}
 use Rattle.pz_crew.specs.Lane.{All}
 use Rattle.pz_crew.specs.declared.fault.ReplayFault.{ReplayFault}
@@ -14,13 +14,13 @@ rank fault.Workers = 1
 rank fault.GateClosed = 2
 rank fault.LaneLost = 3
 
--- the first of two faults, where there are two
+-- the first of two faults, or the only one
 abbrev pub first_fault : Option ReplayFault → Option ReplayFault → Option ReplayFault
 first_fault None other = other
 first_fault (Some one) None = Some one
 first_fault (Some one) (Some other) = Some (if nat_lt (rank other) (rank one) then other else one)
 
--- the fault of a worker that ended so and hands back this token: a lane is lost where it finished and has none
+-- the fault of a worker that ended so and hands back this token; if it finished without one, its lane is lost
 abbrev pub fault_at : End → Option All → Option ReplayFault
 fault_at end.Memory sent = Some fault.Memory
 fault_at end.GateClosed sent = Some fault.GateClosed
@@ -30,7 +30,7 @@ fault_at end.Finished (Some all) = None
 abbrev pub fault_of : Worked → Option ReplayFault
 fault_of worked = fault_at worked.end worked.sent
 
--- the fault that is answered, where one is
+-- the fault that is answered, if one is
 abbrev pub fault_in : {A : Type 0} → Result A ReplayFault → Option ReplayFault
 fault_in (Ok made) = None
 fault_in (Err cause) = Some cause

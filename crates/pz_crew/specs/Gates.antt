@@ -42,7 +42,8 @@ pub record IsPassedInPart (passes : ℕ → ℕ → Type 0) (sessions : List (Li
   pub passed : MayPassFor passes sessions whole
   pub begun : MayPassUpTo passes session count
 
--- whatever a worker sent may pass: all items of the sessions that its seat holds, where it ended Finished, and else those that it sent
+-- whatever a worker sent may pass: all items of the sessions that its seat holds if it ended Finished, and else those that it
+-- sent
 pub record IsPassed (passes : ℕ → ℕ → Type 0) (sessions : List (List Item)) (worked : Worked) : Type 0 where
   pub finished : IfSome worked.ended (λ ended. MayPassFor passes sessions ended.numbers)
   pub broken : worked.end ≢ Finished → IfSome worked.sent (λ all. IsPassedInPart passes sessions worked.end all.sent)

@@ -16,7 +16,7 @@ pub record Sends : Type 0 where
   pub capacity : ℕ
   pub sent : List Message
 
--- the end that takes: its lane, what was taken, and the messages behind them that are known to be there
+-- the end that takes: its lane, what was taken, and the messages after that which are known to be there
 pub record Takes : Type 0 where
   pub lane : LaneId
   pub taken : List Message

@@ -18,7 +18,7 @@ abbrev pub kept : List (List Item) → Message → List (List Item)
 kept sessions (messages.Piece session item) = slice_set sessions session (slice_index_or sessions session [] ++ item ∷ [])
 kept sessions (messages.Last end) = sessions
 
--- a session of which one lane alone has items has the items of that lane: `lanes` has what was taken from each
+-- if only one lane has items of a session, the session has the items of that lane; `lanes` has what was taken from each
 abbrev pub Gathered : List (List Message) → List (List Item) → Type 0
 Gathered lanes sessions =
     (number lane : ℕ) → number < length sessions → ((other : ℕ) → other ≢ lane → of_session number (slice_index_or lanes other []) ≡ [])
@@ -38,7 +38,7 @@ lane_of inbox = inbox.taker.lane
 abbrev pub HasEnded : Inbox → Type 0
 HasEnded inbox = IsSome inbox.end
 
--- where an end is known, it was the last message
+-- if an end is known, it was the last message
 abbrev pub IsHonest : Inbox → Type 0
 IsHonest inbox = IfSome inbox.end (λ end. (front : List Message) × (taken_of inbox ≡ front ++ messages.Last end ∷ []))
 

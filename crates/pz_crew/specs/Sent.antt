@@ -15,6 +15,6 @@ abbrev pub messages_for : List (List Item) → List ℕ → List Message
 messages_for sessions [] = []
 messages_for sessions (number ∷ later) = messages_of number (items_at sessions number) ++ messages_for sessions later
 
--- all that a worker sends that ends Finished, where it claimed these numbers
+-- all that a worker sends if it claimed these numbers and ends Finished
 abbrev pub sent_for : List (List Item) → List ℕ → List Message
 sent_for sessions numbers = messages_for sessions numbers ++ messages.Last Finished ∷ []

@@ -30,7 +30,7 @@ IsSettled sessions inbox before recorded after still =
 abbrev pub IsOpened : List Inbox → List Inbox → LaneId → Type 0
 IsOpened before after lane = (inbox : Inbox) × (after ≡ before ++ inbox ∷ []) × (taken_of inbox ≡ []) × (inbox.end ≡ None) × (lane_of inbox ≡ lane)
 
--- all workers are joined; where the maker holds each number once, what was recorded is each session's items
+-- all workers are joined; if the maker holds each number once, each session's items were recorded
 abbrev pub IsAll : List (List Item) → Numbers → ℕ → Makes → List (List Item) → Type 0
 IsAll sessions claims workers maker recorded =
     (maker.of ≡ claims) × (maker.made ≡ workers) × (maker.joined ≡ workers) × (Once claims.total maker.numbers → recorded ≡ sessions)

@@ -2,8 +2,8 @@
 
 ghost use Rattle.std.specs.Prelude.{ℕ, IsTrue, IsFalse};
 
-/// Asked before each item, the close included. A gate that answers false ends the worker that asked. It may answer one thing now and another
-/// later; what it may answer of an item is its own to say.
+/// Asked before each item, the close included. If it answers false, the worker that asked ends. It may answer one thing now and
+/// another later. Each gate says what it may answer of an item.
 pub trait Gate {
     /// The gate may answer true for this item of this session.
     ghost may_pass: { Self → ℕ → ℕ → Type 0 };

@@ -15,7 +15,7 @@ pub enum End {
     Finished,
     /// There was no memory to play a session.
     Memory,
-    /// The gate let an item not pass.
+    /// The gate didn't let an item pass.
     GateClosed,
 }
 
@@ -87,7 +87,7 @@ pub fn lane(alloc: Global, capacity: usize) -> Result<(Sender, Taker), AllocErro
 }
 
 impl Sender {
-    /// Sends a message, or hands it back where the lane is full.
+    /// Sends a message, or hands it back if the lane is full.
     pub fn try_send(&mut self, message: Message) -> Result<(), Message>
         ensures sent { OnOk result (self.new ≡ record self.old { sent = self.old.sent ++ message ∷ [] }) }
         ensures full { IfErr result (λ back. (back ≡ message) × (self.new ≡ self.old)) }
@@ -99,7 +99,7 @@ impl Sender {
         }
     }
 
-    /// Sends no more. The token names all that was sent; there is none where the other end has let it go.
+    /// Ends the sending. The token names all that was sent. There is none if the other end is gone.
     pub fn finish(self) -> Option<SentAll>
         ensures { IfSome result (λ all. all ≡ record { lane = self.lane; sent = self.sent }) }
     {
@@ -110,7 +110,7 @@ impl Sender {
 }
 
 impl Taker {
-    /// Takes the next message, where one is there.
+    /// Takes the next message, if one is there.
     pub fn try_take(&mut self) -> Option<Message>
         ensures taken { IfSome result (λ message. (self.new.lane ≡ self.old.lane) × (self.new.taken ≡ self.old.taken ++ message ∷ [])) }
         ensures none { IfNone result ((self.new.lane ≡ self.old.lane) × (self.new.taken ≡ self.old.taken)) }

@@ -27,7 +27,7 @@ impl Model for Sessions {
 }
 
 impl Sessions {
-    /// This many sessions, none of which has an item.
+    /// This many sessions, all without items.
     pub(crate) fn blank(alloc: Global, count: usize) -> Result<Sessions, AllocError>
         ensures { IfOk result (λ s. s ≡ replicate count []) }
     {
@@ -58,7 +58,7 @@ impl Sessions {
     }
 }
 
-/// A lane at the recorder; how it ended, once its last message was taken; and whether nothing was there when it was visited last.
+/// A lane at the recorder; how it ended, once its last message was taken; and whether it was empty at the last visit.
 #[derive(Drop)]
 pub(crate) struct Inbox {
     pub(crate) taker: Taker,
@@ -66,7 +66,8 @@ pub(crate) struct Inbox {
     pub(crate) is_quiet: bool,
 }
 
-/// Takes one message, if there is one and the lane has not ended, and says whether it has. Without memory for an item there are no sessions any more.
+/// Takes one message, if there is one and the lane has not ended, and says whether it has ended. If there is no memory for an
+/// item, no sessions are kept any more.
 fn visit(inbox: &mut Inbox, sessions: &mut Option<Sessions>) -> bool
     ensures lane { inbox.new.taker.lane ≡ inbox.old.taker.lane }
     ensures visited { IsVisited inbox.old inbox.new sessions.old sessions.new }
@@ -117,7 +118,8 @@ fn are_quiet(inboxes: &[Inbox]) -> bool {
     inboxes.iter().all(|inbox| inbox.is_quiet)
 }
 
-/// Takes from every lane in turn until each has ended, with a pause after each round in which no lane had a message, also when there was no memory for an item: else a worker would wait for room on its lane.
+/// Takes from every lane in turn until each has ended, and pauses after each round in which no lane had a message. It goes on
+/// even if there was no memory for an item, since a worker would otherwise wait for room on its lane.
 pub(crate) fn record<R: Wait>(rt: &R, inboxes: &mut [Inbox], sessions: &mut Option<Sessions>)
     requires { IsRecorded inboxes.old sessions.old }
     ensures recorded { IsRecorded inboxes.new sessions.new }

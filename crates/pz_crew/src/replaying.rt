@@ -22,7 +22,7 @@ use std::thread::Threads;
 /// The most workers that play a job.
 pub const MOST_WORKERS: usize = 64;
 
-/// The limit as a number: a promise, which the constant can't change by itself.
+/// Promises the limit as a number, so that changing the constant alone breaks a proof.
 pub fn workers_are_limited()
     ensures { MOST_WORKERS ≡ 64 }
 {}
@@ -48,7 +48,7 @@ fn named<P: Playable>(
     Ok(Recording::new(records))
 }
 
-/// How many workers are started: no more than there are sessions, but one.
+/// How many workers are started: no more than there are sessions, but at least one.
 fn crew_for(workers: usize, sessions: usize) -> usize
     requires { 1 ≤ workers }
     ensures some { 1 ≤ result }
@@ -57,8 +57,8 @@ fn crew_for(workers: usize, sessions: usize) -> usize
     workers.min(sessions).max(1)
 }
 
-/// What every session of a job shows, by session number. At most so many workers play the sessions, each over a lane that holds `capacity`
-/// messages: none is started for which there is no session.
+/// What every session of a job shows, by session number. At most so many workers play the sessions, each over a lane that holds
+/// `capacity` messages. No worker is started without a session for it.
 pub fn replay_with<'a, P: Playable + Sync, R: Threads + Wait + Sync, G: Gate + Sync>(
     rt: &'a R,
     alloc: Global,

@@ -48,7 +48,7 @@ fn send<R: Wait>(rt: &R, sender: &mut Sender, message: Message)
     unreachable!()
 }
 
-/// Sends the items that are still to come in a run, or the first of them: as far as there is memory to play on and the gate lets them pass.
+/// Sends the items that are still to come in a run, as long as there is memory to play on and the gate lets them pass.
 fn send_items<U: Playing, R: Wait, G: Gate>(
     rt: &R,
     sender: &mut Sender,
@@ -66,7 +66,7 @@ fn send_items<U: Playing, R: Wait, G: Gate>(
         match run.next() {
             Ok(Some(item)) => {
                 if !gate.pass(session, number) {
-                    // (a call: where the scope ended, the ways through an item would be written out)
+                    // (dropped by a call: at the end of the scope the ways through an item would be written out)
                     drop(item);
                     return Err(End::GateClosed);
                 }
@@ -80,7 +80,8 @@ fn send_items<U: Playing, R: Wait, G: Gate>(
     Err(End::Memory)
 }
 
-/// Sends the items of a session, or its first ones. The run is made here and lent to the loop, so that the ways out of the loop drop none.
+/// Sends the items of a session, or its first ones. The run is made here and lent to the loop, so that no way out of the loop
+/// drops it.
 fn play<P: Playable, R: Wait, G: Gate>(
     rt: &R,
     duty: &Duty<'_, P, G>,

@@ -47,8 +47,8 @@ impl<'a, P: Playable, G: Gate> Promise<Worked> for Task<'a, P, G> {
     ghost kept_by = { λ task worked. IsWorked task.claims.now (sessions_of P.items_of (P.job task.played.now)) task.lane.value.lane worked × IsPassed (G.may_pass task.gate.now) (sessions_of P.items_of (P.job task.played.now)) worked × (worked.end ≡ gate_closed → HasStop (G.may_stop task.gate.now) (sessions_of P.items_of (P.job task.played.now))) };
 }
 
-/// Starts a worker, if a thread can be made. No run leaves the thread that makes it; but what is known of runs is known in another thread only
-/// where they may be sent.
+/// Starts a worker, if a thread can be made. No run leaves the thread that makes it. But what is known of runs is known in
+/// another thread only if they may be sent.
 fn start<'s, 'e, P: Playable + Sync, R: Threads + Wait + Sync, G: Gate + Sync>(
     scope: &'s Scope<'s, &'e ()>,
     shared: &Shared<'e, P, R, G>,
@@ -123,7 +123,7 @@ fn confirm<P: Playable>(mut inbox: Inbox, mut sent: SentAll, played: &P, ended: 
     inbox.taker.left(&mut sent);
 }
 
-/// The first of the fault below and that of the worker, where there is one.
+/// The first of the fault below and that of the worker, if there is any.
 fn first_fault(
     below: &Result<(Maker, Sessions), ReplayFault>,
     worked: &Worked,
@@ -142,7 +142,7 @@ fn first_fault(
     }
 }
 
-/// Puts what one worker handed back to what the workers below it made. Of two faults the first goes on up.
+/// Adds what one worker handed back to what the workers below it made. Of two faults the first is handed up.
 fn settle<P: Playable>(
     claims: &Claims,
     played: &P,
@@ -203,8 +203,8 @@ fn open_lane(alloc: Global, capacity: usize, inboxes: &mut Vec<Inbox>) -> Option
     Some(sender)
 }
 
-/// Starts the workers that are left, and records what all of them send. Each call starts one worker, and joins it. A worker that can't be
-/// started is not waited for: those that run are, and the answer is `Memory`.
+/// Starts the workers that are left, and records what all of them send. Each call starts one worker, and joins it. If a worker
+/// can't be started, those that run are still waited for, and the answer is `Memory`.
 fn run_workers<'s, 'e, P: Playable + Sync, R: Threads + Wait + Sync, G: Gate + Sync>(
     scope: &'s Scope<'s, &'e ()>,
     shared: &Shared<'e, P, R, G>,

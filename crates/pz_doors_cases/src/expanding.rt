@@ -15,7 +15,7 @@ fn expect_blocks(alloc: Global, game: &Game, early: &str, late: &str) -> Result<
     expect(found.as_str(), late)
 }
 
-/// Fails a test where these rules have other blocks, before the movement and after it.
+/// Fails a test if these rules have other blocks before or after the movement.
 fn expect_program(alloc: Global, rules: &str, early: &str, late: &str) -> Result<(), Fail> {
     let game = game_of(alloc, rules, "", "p\n")?;
     expect_blocks(alloc, &game, early, late)
@@ -120,7 +120,7 @@ fn fault_in(alloc: Global, game: &Game) -> Option<SourceFault> {
     expand(alloc, game).err()
 }
 
-/// Fails a test where the first rule has another fault.
+/// Fails a test if the first rule has another fault.
 fn expect_fault(alloc: Global, rules: &str, code: Code) -> Result<(), Fail> {
     let game = game_of(alloc, rules, "", "p\n")?;
     let found = fault_in(alloc, &game);

@@ -15,7 +15,7 @@ use std::test::Fail;
 const HEAD: &str =
     "title B\nOBJECTS\nBackground .\nblack\nTarget o\nblue\nPlayer p\nwhite\nWall #\ngrey\nCrate c\nbrown\nSpike s\nred\nMark m\npink\nLEGEND\n@ = Crate and Target\nThing = Crate or Wall\nCOLLISIONLAYERS\nBackground\nTarget\nPlayer, Wall, Crate, Spike\nMark\nRULES\n";
 
-/// What is read of a text. It promises nothing, so that what calls it needn't prove over the meaning of a source.
+/// What is read of a text. It promises nothing, so that its callers' proofs needn't speak of the meaning of a source.
 fn read(alloc: Global, text: &str) -> Result<Game, Fail> {
     read_game(alloc, text).map_err(|_| Fail::new("a refused source"))
 }
@@ -58,7 +58,7 @@ pub(crate) fn loaded(alloc: Global, game: &Game) -> Result<Level, Fail>
     }
 }
 
-/// Fails a test where a level has another text, row by row.
+/// Fails a test if a level has another text, row by row.
 pub(crate) fn expect_level(
     alloc: Global,
     game: &Game,
@@ -69,7 +69,7 @@ pub(crate) fn expect_level(
     expect(found.as_str(), text)
 }
 
-/// Fails a test where another text was found. One function compares for all tests: each comparison is dear to prove.
+/// Fails a test if another text was found. One function compares for all tests, because each comparison is expensive to prove.
 pub(crate) fn expect(found: &str, wanted: &str) -> Result<(), Fail> {
     if found == wanted {
         Ok(())

@@ -52,7 +52,7 @@ fn are_rows_of(layers: &[usize], rows: &Rows) -> bool
     true
 }
 
-/// Fails for an instance that is of another game.
+/// Fails for an instance of another game.
 pub(crate) fn test_instance(game: &Game, instance: &Instance) -> Result<(), Fail>
     ensures { OnOk result (IsInstanceOf game.now.layers instance.now) }
 {
@@ -130,7 +130,7 @@ fn expect_in(alloc: Global, game: &Game, dir: Dir, wanted: &str) -> Result<(), F
     expect_found(alloc, game, &level, dir, wanted)
 }
 
-/// Fails a test where the first row of a rule has other places on a level.
+/// Fails a test if the first row of a rule has other places on a level.
 fn expect_places(
     alloc: Global,
     rule: &str,
@@ -183,7 +183,7 @@ const FAR: Place = Place { x: 0, y: 0, gap: 2 };
 
 const OFF: Place = Place { x: 0, y: 0, gap: 3 };
 
-/// What is told of an instance at three places, of no place and of two, before it is rewritten at the first and after.
+/// What is told of an instance at three places, at no place and at two, before and after it is rewritten at the first.
 fn told(game: &Game, level: &mut Level, instance: &Instance) -> ([bool; 5], bool, [bool; 2], bool)
     requires level_of { IsOfGame game.now level.old.grid }
     requires instance_of { IsInstanceOf game.now.layers instance.now }

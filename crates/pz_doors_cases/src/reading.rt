@@ -9,7 +9,7 @@ fn first_fault(alloc: Global, text: &str) -> Option<SourceFault> {
     read_game(alloc, text).err()
 }
 
-/// Fails a test where a source has another fault, or none.
+/// Fails a test if a source has another fault, or none.
 fn expect_fault(alloc: Global, text: &str, code: Code, line: u32) -> Result<(), Fail> {
     let found = first_fault(alloc, text);
     if found == Some(SourceFault { code, line }) {
@@ -19,7 +19,7 @@ fn expect_fault(alloc: Global, text: &str, code: Code, line: u32) -> Result<(), 
     }
 }
 
-/// A text, whose line of a number, counted from 0, is another one.
+/// A text with one line replaced, by its number from 0.
 fn changed(alloc: Global, text: &str, number: usize, line: &str) -> Result<String, AllocError> {
     let mut made = String::new(alloc);
     for (at, old) in text.lines().enumerate() {

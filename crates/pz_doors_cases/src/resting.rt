@@ -68,7 +68,7 @@ fn played_in(alloc: Global, game: &Game, dir: Dir, text: &str) -> Result<Rested,
     Ok(rested)
 }
 
-/// What the first block gives after a push, where the level is then so.
+/// What the first block gives after a push, if the level is then so.
 fn played(alloc: Global, rules: &str, level: &str, dir: Dir, text: &str) -> Result<Rested, Fail> {
     let game = game_of(alloc, rules, "", level)?;
     played_in(alloc, &game, dir, text)

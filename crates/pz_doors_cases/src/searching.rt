@@ -1,4 +1,5 @@
-//! The search that skips: how many lines it goes through for a row, how many start cells it tests there, and the places that it finds.
+//! The search that skips: how many lines it goes through for a row, how many start cells it tests there, and which places it
+//! finds.
 
 ghost use Rattle.std.specs.Prelude.{IfOk};
 ghost use Rattle.pz_rules.specs.Instance.{IsInstanceOf};
@@ -44,7 +45,7 @@ impl Wanted {
     }
 }
 
-/// The number of start cells of places, of which those of one cell stand together.
+/// The number of start cells of places. The places of one start cell stand together.
 fn start_count(found: &[Place]) -> u32 {
     let mut count = 0_u32;
     let mut last = None;
@@ -85,7 +86,7 @@ fn search_for(
     })
 }
 
-/// Fails a test where the search for the first row of the game's first rule tells something else.
+/// Fails a test if the search for the first row of the game's first rule tells something else.
 fn expect_told(
     alloc: Global,
     game: &Game,
@@ -137,7 +138,7 @@ fn expect_moved(alloc: Global, game: &Game, dir: Dir, wanted: Wanted) -> Result<
     expect_told(alloc, game, &level, dir, wanted)
 }
 
-/// A square level of the background, but for what stands in its first cell.
+/// A square level of the background, except for what stands in its first cell.
 fn square(alloc: Global, first: char, side: usize) -> Result<String, AllocError> {
     let mut rows = String::new(alloc);
     for y in 0..side {

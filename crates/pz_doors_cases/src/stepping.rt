@@ -39,7 +39,7 @@ fn step_in(alloc: Global, game: &Game, input: Option<Dir>, text: &str) -> Result
     step_from(alloc, game, &level, input, text)
 }
 
-/// Fails a test where a step gives another answer, or ends with another level.
+/// Fails a test if a step gives another answer, or ends with another level.
 fn expect_step(
     alloc: Global,
     rules: &str,

@@ -92,7 +92,7 @@ fn writes_both_orders(rt: HostRuntime) -> Result<(), Fail> {
     expect_texts(rt.alloc(), &game)
 }
 
-/// Whether a level equals what is recorded of it in either order, first by rows and then by columns.
+/// Whether a level equals what is recorded of it, first by rows and then by columns.
 fn equal_to(alloc: Global, game: &Game, level: &Level, text: &str) -> Result<(bool, bool), Fail> {
     match read_level_text(alloc, text)? {
         Some(recorded) => Ok((

@@ -15,7 +15,7 @@ use Rattle.pz_case.specs.declared.recording.Record.{Record}
 use Rattle.pz_job.specs.Job.{job_of}
 use Rattle.pz_session.specs.Recording.{recording}
 
--- the entries that the bytes of a file hold, or its first fault: its length, that it is UTF-8, what it says
+-- the entries that the bytes of a file hold, or its first fault: of its length, of UTF-8, of what it says
 unfoldable pub sessions_in : List ℕ → Result (List Entry) FileFault
 sessions_in bytes = if nat_lt MOST_BYTES (length bytes) then Err fault.TooMany else (if is_utf8 bytes then entries_of bytes else Err fault.NotJson)
 

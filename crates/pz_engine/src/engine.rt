@@ -28,8 +28,8 @@ pub struct Played {
     pub passed: bool,
 }
 
-/// What is written: the lines of the sessions before and of the items so far of the session that is played, how many of these items are frames, and
-/// whether they say that the session passed.
+/// What is written: the lines of the sessions before, and of the items so far of the session that is played; how many of these
+/// items are frames; and whether they say that the session passed.
 #[derive(Drop)]
 struct Written {
     lines: Vec<u8>,
@@ -37,7 +37,7 @@ struct Written {
     passed: bool,
 }
 
-/// Writes the line of the next item of a session behind the others, if it is shown from an input on.
+/// Writes the line of the next item of a session after the others, if it is shown from an input on.
 fn add_line(
     alloc: Global,
     written: Written,
@@ -55,7 +55,8 @@ fn add_line(
     }
 }
 
-/// How many frames there are with one item more. A count that no `u64` holds, which no session has, is want of memory.
+/// How many frames there are with one more item. If no `u64` holds the count, the answer is want of memory; no session has so
+/// many.
 fn counted(frames: u64, item: &Item) -> Result<u64, AllocError>
     ensures { IfOk result (λ more. more ≡ frames + frame_count (item.now ∷ [])) }
 {
@@ -65,7 +66,7 @@ fn counted(frames: u64, item: &Item) -> Result<u64, AllocError>
     }
 }
 
-/// Takes the next item of a session in.
+/// Takes in the next item of a session.
 fn add_item(
     alloc: Global,
     written: Written,
@@ -88,8 +89,8 @@ fn add_item(
     })
 }
 
-/// Plays the session of a case, and writes the lines of its items from an input on behind those of the sessions before it. Each item is let go before the
-/// next is played, so that beside the lines one item is held at a time.
+/// Plays the session of a case, and writes the lines of its items from an input on after those of the sessions before it. Each
+/// item is dropped before the next is played, so that only one item is held at a time beside the lines.
 fn play_case(
     alloc: Global,
     before: Vec<u8>,
@@ -133,8 +134,8 @@ fn play(alloc: Global, job: &Job, from: u64) -> Result<Played, AllocError>
     Ok(Played { lines, passed })
 }
 
-/// Plays the sessions that the bytes of a file hold, the cells of each level in this order. The file's first fault is answered where it has one,
-/// as the program tells it, and `Memory` where memory was refused.
+/// Plays the sessions that the bytes of a file hold, the cells of each level in this order. Err: the file's first fault, as the
+/// program tells it, or `Memory` if memory was refused.
 pub fn lines(alloc: Global, bytes: &[u8], order: Order) -> Result<Played, FileFault>
     ensures played { IfOk result (IsPlayed text_of order bytes.now) }
     ensures refused { IfErr result (λ cause. cause ≢ fault.Memory → sessions_in bytes.now ≡ Err cause) }
@@ -142,7 +143,8 @@ pub fn lines(alloc: Global, bytes: &[u8], order: Order) -> Result<Played, FileFa
     lines_from(alloc, bytes, order, 0)
 }
 
-/// The same, with the lines of the items from an input on alone: the frames that are shown after so many inputs or more, and each close.
+/// The same, with only the lines of the items from an input on: the frames that are shown after so many inputs or more, and each
+/// close.
 pub fn lines_from(alloc: Global, bytes: &[u8], order: Order, from: u64) -> Result<Played, FileFault>
     ensures played { IfOk result (IsPlayed (text_from from) order bytes.now) }
     ensures refused { IfErr result (λ cause. cause ≢ fault.Memory → sessions_in bytes.now ≡ Err cause) }

@@ -1,10 +1,10 @@
--- The names that a text parts by spaces.
+-- The names of a text, which spaces separate.
 use Rattle.std.specs.Prelude.{ℕ, ◌==◌, Bool, List, [], length, fold, if◌then◌else◌}
 use Rattle.std.specs.List.{slice_split}
 use Rattle.pz_base.specs.Name.{folded}
 use Rattle.pz_record.specs.CellNames.{with_name}
 
--- nothing between two spaces is no name; a name is kept in lower case
+-- two spaces in a row have no name between them; a name is kept in lower case
 unfoldable pub with_word : List (List ℕ) → List ℕ → List (List ℕ)
 with_word names word = if length word == 0 then names else with_name names (folded word)
 

@@ -9,7 +9,7 @@ use Rattle.pz_entries.specs.Names.{name_set}
 unfoldable pub number_of : List ℕ → Option ℕ
 number_of ds = if nat_lt 0 (length ds) && all_ascii_digits ds then Some (digits_value 10 ds) else None
 
--- a number that is no greater than most
+-- a number that is at most `most`
 abbrev pub up_to : ℕ → Option ℕ → Option ℕ
 up_to most None = None
 up_to most (Some n) = if nat_lt most n then None else Some n
@@ -22,7 +22,7 @@ below count (Some n) = if nat_lt n count then Some n else None
 abbrev pub no_line_end : ℕ → Bool
 no_line_end b = not ((b == 10) || (b == 13))
 
--- before and behind the last colon
+-- what stands before and after the last colon
 abbrev pub or_cut : ℕ → List ℕ → Option (List ℕ × List ℕ) → Option (List ℕ × List ℕ)
 or_cut b bs (Some c) = Some (b ∷ c.0, c.1)
 or_cut b bs None = if b == 58 then Some ([], bs) else None
@@ -57,13 +57,13 @@ read_from sets (p ∷ ps) = option_and_then (λ r. option_map (λ cells. r.0 ∷
 abbrev pub is_comma : ℕ → Bool
 is_comma b = b == 44
 
--- the pieces, each of which a comma ends
+-- the pieces, each ended by a comma
 abbrev pub all_ended : List (List ℕ) → Option (List (List ℕ))
 all_ended [] = None
 all_ended (part ∷ []) = if length part == 0 then Some [] else None
 all_ended (part ∷ next ∷ parts) = option_map (λ ps. part ∷ ps) (all_ended (next ∷ parts))
 
--- what the text says behind pieces that gave these sets
+-- what the text says after pieces that gave these sets
 abbrev pub reading_with : List (List (List ℕ)) → List ℕ → Option (List (List (List ℕ)))
 reading_with sets text = option_and_then (read_from sets) (all_ended (slice_split is_comma text))
 

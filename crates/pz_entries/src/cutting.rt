@@ -10,7 +10,7 @@ fn place_of(text: &[u8], byte: u8) -> Option<usize>
     text.iter().position(|b| *b == byte)
 }
 
-/// Before and behind the first such byte.
+/// What stands before and after the first such byte.
 pub(crate) fn cut_first(text: &[u8], byte: u8) -> Option<(&[u8], &[u8])>
     ensures parts { MatchOption result (slice_split (λ b. b == byte) text.now ≡ text.now ∷ [])
         (λ parts. slice_split (λ b. b == byte) text.now ≡ parts.0.now ∷ slice_split (λ b. b == byte) parts.1.now) }
@@ -22,7 +22,7 @@ pub(crate) fn cut_first(text: &[u8], byte: u8) -> Option<(&[u8], &[u8])>
     }
 }
 
-/// Before and behind the last colon.
+/// What stands before and after the last colon.
 pub(crate) fn cut_last(text: &[u8]) -> Option<(&[u8], &[u8])>
     ensures { option_map (λ parts. (parts.0.now, parts.1.now)) result ≡ cut_last text.now }
 {
@@ -36,7 +36,7 @@ pub(crate) fn cut_last(text: &[u8]) -> Option<(&[u8], &[u8])>
     None
 }
 
-/// The number that the digits write, where it is no greater than `most`.
+/// The number that the digits write, if it is at most `most`.
 pub(crate) fn number_up_to(most: usize, digits: &[u8]) -> Option<usize>
     ensures { result ≡ up_to most (number_of digits.now) }
 {
@@ -55,7 +55,7 @@ pub(crate) fn number_up_to(most: usize, digits: &[u8]) -> Option<usize>
     if number > most { None } else { Some(number) }
 }
 
-/// Do the digits write this number?
+/// Whether the digits write this number.
 pub(crate) fn writes_number(number: usize, digits: &[u8]) -> bool
     ensures { result ≡ is_number number (number_of digits.now) }
 {
@@ -65,7 +65,7 @@ pub(crate) fn writes_number(number: usize, digits: &[u8]) -> bool
     }
 }
 
-/// The number that the digits write, where it is below a count.
+/// The number that the digits write, if it is below a count.
 pub(crate) fn number_below(count: usize, digits: &[u8]) -> Option<usize>
     ensures { result ≡ below count (number_of digits.now) }
 {

@@ -36,7 +36,7 @@ pub(crate) struct Written {
     index: u64,
 }
 
-/// The text that an element of a list is.
+/// An element of a list, if it is a text.
 fn text_at(alloc: Global, value: &Value, index: usize) -> Result<Option<Text>, AllocError>
     ensures { IfOk result (λ text. text ≡ option_and_then as_str (at index (data_of value.now))) }
 {
@@ -46,7 +46,7 @@ fn text_at(alloc: Global, value: &Value, index: usize) -> Result<Option<Text>, A
     }
 }
 
-/// The index of the entry of LEVELS: none and null stand for 0.
+/// The index of the entry of LEVELS. If it is absent or null, it is 0.
 fn read_index(value: Option<&Value>) -> Option<u64>
     ensures { result ≡ index_of (option_map (λ v. data_of v.now) value.entry) }
 {
@@ -91,7 +91,7 @@ fn read_written(alloc: Global, value: &Value) -> Result<Option<Written>, AllocEr
     }))
 }
 
-/// The entry of a number, or its fault: what it says comes before its level's text.
+/// The entry of a number, or its fault. The text of its level is read last.
 #[tactic(auto, unfolding(crate::specs::Entry::entry_of))]
 pub(crate) fn read_entry(alloc: Global, number: u64, value: &Value) -> Result<Entry, FileFault>
     ensures read { IfOk result (λ entry. entry_of number (data_of value.now) ≡ Ok entry) }

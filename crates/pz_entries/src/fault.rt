@@ -5,8 +5,8 @@ ghost use Rattle.pz_entries.specs.declared.fault.FileFault.TheVariants.{Memory};
 
 use std::alloc::{AllocError, AllocFailed};
 
-/// The first fault of a file of sessions: it is no JSON list, the entry of a number from 0 is no entry, the level text of such an
-/// entry is none, or the file is longer than 16,777,216 bytes or has more than 65,536 entries. Memory may come in place of any.
+/// The first fault of a file of sessions: it is no JSON list, an entry is bad, the level text of an entry is bad, or the file has
+/// more than 16,777,216 bytes or more than 65,536 entries. Entries are numbered from 0. `Memory` may come in place of any.
 #[derive(Clone, Copy, Debug, PartialEq, Eq)]
 pub enum FileFault {
     Memory,

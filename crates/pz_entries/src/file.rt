@@ -14,7 +14,7 @@ use std::alloc::Global;
 /// The most bytes that a file has.
 pub const MOST_BYTES: usize = 16_777_216;
 
-/// The limit as a number: a promise, which the constant can't change by itself.
+/// Promises the limit as a number, so that changing the constant alone breaks a proof.
 pub fn bytes_are_limited()
     ensures { MOST_BYTES ≡ 16_777_216 }
 {}
@@ -33,8 +33,8 @@ fn read_entries(alloc: Global, list: &[Value]) -> Result<Vec<Entry>, FileFault>
     Ok(entries)
 }
 
-/// The entries of a file, or its first fault: that it is too long, that it is no JSON list, that it has too many entries, and then
-/// entry by entry that it is none, or that its level text is none. Memory may come in place of any but the first.
+/// The entries of a file, or its first fault: the file is too long, is no JSON list, or has too many entries; then, entry by
+/// entry, the entry is bad, or its level text is. `Memory` may come in place of any but the first.
 pub fn read_sessions(alloc: Global, text: &str) -> Result<Vec<Entry>, FileFault>
     ensures read { IfOk result (λ entries. entries_of text.now ≡ Ok entries.items) }
     ensures refused { IfErr result (λ fault. fault ≢ Memory → entries_of text.now ≡ Err fault) }

@@ -1,4 +1,4 @@
-//! The names that a text parts by spaces.
+//! The names of a text, which spaces separate.
 
 ghost use Rattle.std.specs.Prelude.{◌≡◌, IfOk, OnOk};
 ghost use Rattle.pz_base.specs.Name.{folded};
@@ -28,7 +28,7 @@ fn add_word(alloc: Global, names: &mut CellNames, word: &[u8]) -> Result<(), All
     names.insert(name)
 }
 
-/// The names that a text parts by spaces.
+/// The names of a text, which spaces separate.
 pub(crate) fn read_names(alloc: Global, text: &[u8]) -> Result<CellNames, AllocError>
     ensures { IfOk result (λ names. names ≡ name_set text.now) }
 {

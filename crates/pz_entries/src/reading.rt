@@ -18,7 +18,7 @@ fn joined_lines(alloc: Global, text: &str) -> Result<Vec<u8>, AllocError>
         .collect(alloc)
 }
 
-/// Where the names of a piece stand among the sets; new ones are added.
+/// Where the names of a piece stand among the sets. A new set is added.
 fn read_piece(
     alloc: Global,
     sets: &mut Vec<CellNames>,

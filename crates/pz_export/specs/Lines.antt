@@ -15,11 +15,12 @@ use Rattle.pz_export.specs.declared.outcome.Outcome.{Outcome}
 abbrev pub order_of : ℕ → Order
 order_of number = if nat_eq number 0 then Rows else Columns
 
--- a room that begins with these bytes where they fit, and else as it was
+-- a room that begins with these bytes if they fit, and else is as it was
 abbrev pub begun_with : List ℕ → List ℕ → List ℕ
 begun_with bytes room = if nat_lt (length room) (length bytes) then room else bytes ++ drop (length bytes) room
 
--- a host is told of an answer: whether every session passed, the number of bytes of its lines, and in the room the lines where they fit
+-- a host is told of an answer: whether every session passed, the number of bytes of its lines, and in the room the lines if they
+-- fit
 pub record IsTold (answer : Played) (room_before room : List ℕ) (outcome : Outcome) (count : ℕ) : Type 0 where
   pub says : SaysPlayed answer.passed outcome
   pub counted : count ≡ length answer.lines.items

@@ -17,7 +17,7 @@ kind_of (fault.BadEntry entry) = 3
 kind_of (fault.BadLevel entry) = 4
 kind_of fault.TooMany = 5
 
--- the entry that has a fault, and 0 where it is the whole file's
+-- the entry that has a fault, or 0 if it is the whole file's
 abbrev pub entry_of : FileFault → ℕ
 entry_of (fault.BadEntry entry) = entry
 entry_of (fault.BadLevel entry) = entry

@@ -21,7 +21,7 @@ fn order_of(number: u32) -> Order
     }
 }
 
-/// Puts bytes at the beginning of a room, where they fit.
+/// Puts bytes at the beginning of a room, if they fit.
 fn begin_with(room: &mut [u8], bytes: &[u8])
     ensures { room.new ≡ begun_with bytes.now room.old }
 {
@@ -49,8 +49,9 @@ fn tell(answer: Result<Played, FileFault>, room: &mut [u8], outcome: &mut Outcom
     }
 }
 
-/// Plays the sessions of a file, the cells of each level by rows where the order is 0, and else by columns. The answer is the number of bytes of
-/// their lines: where the room has so many, it begins with them, and else the host asks again with a larger one, and all is played again.
+/// Plays the sessions of a file, the cells of each level by rows if the order is 0, and else by columns. The answer is the number
+/// of bytes of their lines. If the room has so many, it begins with them. Otherwise the host asks again with a larger one, and
+/// all is played again.
 #[unsafe(no_mangle)]
 pub extern "C" fn saxtegun_lines(
     alloc: Global,
@@ -66,7 +67,8 @@ pub extern "C" fn saxtegun_lines(
     tell(lines(alloc, file, order_of(order)), room, outcome)
 }
 
-/// The same, with the lines of the items from an input on alone: the frames that are shown after so many inputs or more, and each close.
+/// The same, with only the lines of the items from an input on: the frames that are shown after so many inputs or more, and each
+/// close.
 #[unsafe(no_mangle)]
 pub extern "C" fn saxtegun_frames(
     alloc: Global,

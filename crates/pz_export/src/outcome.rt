@@ -12,8 +12,8 @@ pub const NOT_PASSED: u64 = 1;
 /// The file was refused, or memory was.
 pub const REFUSED: u64 = 2;
 
-/// How a call ended: its status, which is the exit status that the program would have; where it is 2 the kind of the fault, from 1 on, and the
-/// number of the entry that has it, where it is one entry's.
+/// How a call ended: its status, which is the exit status that the program would have. If that is 2, also the kind of the fault,
+/// from 1 on, and the number of the entry that has it, if one has.
 #[repr(C)]
 #[derive(Clone, Copy)]
 pub struct Outcome {
@@ -22,7 +22,7 @@ pub struct Outcome {
     pub entry: u64,
 }
 
-/// Told of a file that was played.
+/// What is told of a file that was played.
 pub fn played(passed: bool) -> Outcome
     ensures { SaysPlayed passed result }
 {
@@ -34,7 +34,7 @@ pub fn played(passed: bool) -> Outcome
     }
 }
 
-/// Told of a file that was refused.
+/// What is told of a file that was refused.
 pub fn refused(cause: FileFault) -> Outcome
     ensures { SaysRefused cause result }
 {

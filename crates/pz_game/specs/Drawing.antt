@@ -2,7 +2,7 @@
 use Rattle.std.specs.Prelude.{◌≡◌, ℕ, ◌*◌, List, length}
 use Rattle.pz_game.specs.Size.{IsSize}
 
--- its size, and for each cell, row by row, the number of the name that its glyph is
+-- its size, and for each cell, row by row, the number of its glyph's name
 pub record Drawing : Type 0 where
   pub width : ℕ
   pub height : ℕ

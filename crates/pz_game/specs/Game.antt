@@ -14,7 +14,7 @@ use Rattle.pz_game.specs.declared.level.LevelEntry.TheVariants.{Message, Level}
 abbrev pub denotation_in : GameParts → List ℕ → Option Denotation
 denotation_in game name = option_and_then (slice_get game.values) (number_in game.names name)
 
--- the objects of a name, none where there is no such name
+-- the objects of a name, or none if there is no such name
 abbrev pub members_in : GameParts → List ℕ → List ℕ
 members_in game name = option_map_or (λ d. d.members) (denotation_in game name) []
 
@@ -26,7 +26,7 @@ players_of game = members_in game (codes "player")
 abbrev pub background_of : GameParts → ℕ
 background_of game = get_or (members_in game (codes "background")) 0 0
 
--- the objects that a glyph draws, by the number of the name that it is
+-- the objects that a glyph draws, by the number of its name
 abbrev pub glyph_objects : GameParts → ℕ → List ℕ
 glyph_objects game number = option_map_or (λ d. d.members) (slice_get game.values number) []
 

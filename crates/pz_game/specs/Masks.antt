@@ -17,7 +17,7 @@ abbrev pub is_still : Word → Bool
 is_still Still = true
 is_still _ = false
 
--- the direction of a word, under a test
+-- the direction of a word, if a test holds
 abbrev pub toward : Bool → Word → Option Dir
 toward test (Toward dir) = if test then Some dir else None
 toward test _ = None
@@ -48,7 +48,7 @@ is_first item masks = names item.word && not (member masks.layers item.layer)
 abbrev pub IsLow : Item → Type 0
 IsLow item = (item.object < CAPACITY) × (item.layer < MAX_LAYERS)
 
--- what one item more adds to the masks
+-- what one more item adds to the masks
 pub record IsAdded (item : Item) (old new : Masks) : Type 0 where
   pub present : (object : ℕ) → member new.present object ≡ ((names item.word && nat_eq object item.object) || member old.present object)
   pub absent : (object : ℕ) → member new.absent object ≡ ((not (names item.word) && nat_eq object item.object) || member old.absent object)

@@ -14,7 +14,7 @@ pub record RuleRow : Type 0 where
   pub cells : List (List Item)
   pub gap_at : Option ℕ
 
--- the law of a row: it has a cell and no more than a row may have, and its gap stands between two of them
+-- the law of a row: it has at least one cell and no more than a row may have, and its gap stands between two cells
 pub record HasShape (count : ℕ) (gap_at : Option ℕ) : Type 0 where
   pub some : 0 < count
   pub short : count ≤ MAX_ROW_CELLS

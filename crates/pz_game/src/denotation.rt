@@ -10,8 +10,8 @@ pub enum Kind {
     Aggregate,
 }
 
-/// What a name denotes: its kind, its members by their places among the game's objects in the order of first mention, and the
-/// number of the name that it goes back to (a synonym has that of the name that it stands for).
+/// What a name denotes: its kind; its members, by their places among the game's objects, in the order of first mention; and the
+/// number of the name that it goes back to. A synonym has the number of the name that it stands for.
 #[derive(Drop)]
 pub struct Denotation {
     pub kind: Kind,

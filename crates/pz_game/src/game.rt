@@ -29,7 +29,7 @@ pub struct GameParts {
     pub options: Options,
 }
 
-/// Written out, so that each place where one goes out of scope is one call.
+/// Written out, so that dropping one is a single call everywhere.
 impl Drop for GameParts {
     fn drop(self) {
         let GameParts {
@@ -79,7 +79,7 @@ impl Game {
         Game { parts }
     }
 
-    /// The names of the objects, in the order of OBJECTS: of each, the first that its line gives.
+    /// The names of the objects, in the order of OBJECTS: the first name on each line.
     pub fn objects(&self) -> &[Name]
         ensures objects { result.now ≡ self.now.objects }
         ensures game { IsGame self.now }
@@ -140,7 +140,7 @@ impl Game {
         self.parts.values.items()
     }
 
-    /// The number of a name, as it is given among the folded names; None: there is no such name.
+    /// The number of a name, which is looked up among the folded names as it is given. None: there is no such name.
     pub fn number_of(&self, name: &str) -> Option<usize>
         ensures { result ≡ number_in self.now.names name.now }
     {
@@ -154,8 +154,8 @@ impl Game {
         self.parts.values.items().get(number)
     }
 
-    /// The members of a name, by their places among the objects, in the order of first mention. The name is looked up as it is
-    /// given among the folded names; None: there is no such name.
+    /// The members of a name, by their places among the objects, in the order of first mention. The name is looked up among the
+    /// folded names as it is given. None: there is no such name.
     pub fn members(&self, name: &str) -> Option<&[usize]>
         ensures members { option_copied result ≡ option_map (λ d. d.members) (denotation_in self.now name.now) }
         ensures game { IsGame self.now }

@@ -6,7 +6,7 @@ ghost use Rattle.pz_game.specs.Drawing.{IsDrawing};
 use pz_base::listed::Listed;
 use std::marker::Model;
 
-/// A level as its rows draw it: for each cell, row by row, the number of the name that its glyph is.
+/// A level as its rows draw it: for each cell, row by row, the number of its glyph's name.
 #[derive(Drop)]
 pub struct DrawnLevel {
     width: u32,

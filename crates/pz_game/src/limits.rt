@@ -20,7 +20,7 @@ pub const MAX_ROW_CELLS: usize = 64;
 /// The most rows that a side of a rule may have.
 pub const MAX_ROWS: usize = 8;
 
-/// The limits as numbers: a promise, which no constant can change by itself.
+/// Promises the limits as numbers, so that changing a constant alone breaks a proof.
 pub fn games_are_limited()
     ensures objects { MAX_OBJECTS ≡ 512 }
     ensures layers { MAX_LAYERS ≡ 100 }

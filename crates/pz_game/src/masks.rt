@@ -15,9 +15,10 @@ use crate::limits::MAX_LAYERS;
 use crate::pattern::{Item, Word};
 use pz_sets::set::{CAPACITY, NumberSet};
 
-/// What the items of a cell say. Of a left cell: the objects that must be present and absent, the directions that layers must and must not
-/// head in, and the layers of which it tells a movement. Of a right cell: the layers on which it places something (as numbers, and with all their
-/// directions), the objects that it places, the layers whose movement it ends, and the directions that it begins.
+/// What the items of a cell say. Of a left cell: the objects that must be present and absent, the directions that layers must and
+/// must not head in, and the layers for which it has a movement word. Of a right cell: the layers on which it places something
+/// (as numbers, and with all their directions), the objects that it places, the layers whose movement it ends, and the directions
+/// that it begins.
 #[derive(Clone, Copy)]
 pub struct Masks {
     pub present: NumberSet,
@@ -61,7 +62,7 @@ fn is_still(word: Word) -> bool
     }
 }
 
-/// The direction of a word, under a test.
+/// The direction of a word, if a test holds.
 fn toward(test: bool, word: Word) -> Option<Dir>
     ensures { result ≡ toward test word }
 {
@@ -126,7 +127,7 @@ fn add_if(set: &mut NumberSet, layer: usize, heading: Option<Dir>)
     }
 }
 
-/// Whether an item that names its object or doesn't is the first that places something on its layer.
+/// Whether an item names its object as present and is the first to place something on its layer.
 fn is_first(named: bool, layers: &NumberSet, layer: usize) -> bool
     ensures { result ≡ (named && not (member layers.now layer)) }
 {
@@ -152,7 +153,7 @@ impl Masks {
         }
     }
 
-    /// What one item more says.
+    /// Adds what one more item says.
     fn add(&mut self, item: Item)
         requires object { item.object < CAPACITY }
         requires layer { item.layer < MAX_LAYERS }
@@ -173,7 +174,7 @@ impl Masks {
         add_if(&mut self.headed, item.layer, toward(first, item.word));
     }
 
-    /// What one item more says, if its object and its layer are within the limits of games.
+    /// Adds what one more item says, if its object and its layer are within the limits of games.
     fn add_low(&mut self, item: Item)
         ensures { IsLow item → IsAdded item self.old self.new }
     {

@@ -36,8 +36,8 @@ struct Contents {
     masks: Masks,
 }
 
-/// A cell of a rule's row, with its items as sets: it holds where all its items hold. Equal cells may share their contents, of which
-/// the rules of a game have few different ones.
+/// A cell of a rule's row, with its items as sets: it holds where all its items hold. Equal cells may share their contents,
+/// because the rules of a game have few different ones.
 #[derive(Drop)]
 pub struct Pattern {
     contents: Arc<Contents>,
@@ -65,7 +65,7 @@ impl Pattern {
         Ok(Pattern { contents })
     }
 
-    /// Another cell of the same contents.
+    /// Another cell with the same contents.
     pub fn share(&self) -> Result<Pattern, AllocError>
         ensures { IfOk result (λ shared. shared ≡ self.now) }
     {
@@ -73,7 +73,7 @@ impl Pattern {
         Ok(Pattern { contents })
     }
 
-    /// What the items say, as sets, where their objects and layers are within the limits of games.
+    /// What the items say, as sets, if their objects and layers are within the limits of games.
     pub fn masks(&self) -> &Masks
         ensures { All IsLow self.now → AreMasksOf self.now result.now }
     {
@@ -145,7 +145,7 @@ impl Row {
         }
     }
 
-    /// The objects that the cells name as present, where the objects and the layers of their items are within the limits of games.
+    /// The objects that the cells name as present, if the objects and the layers of their items are within the limits of games.
     pub fn named(&self) -> &NumberSet
         ensures { All (All IsLow) self.now.cells → AreNamed self.now.cells result.now }
     {

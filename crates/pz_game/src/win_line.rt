@@ -8,7 +8,7 @@ pub enum Quantifier {
     No,
 }
 
-/// A line of WINCONDITIONS: what it is about and, where it has `on`, what that is to be on, as numbers of names.
+/// A line of WINCONDITIONS: what it is about and, if it has `on`, what that must be on, as numbers of names.
 #[derive(Clone, Copy)]
 pub struct WinLine {
     pub quantifier: Quantifier,

@@ -30,7 +30,7 @@ pub(crate) fn joined(
     Ok(text)
 }
 
-/// Reads a text. It promises nothing, so that what calls it needn't prove over the meaning of a source.
+/// Reads a text. It promises nothing, so that its callers' proofs needn't speak of the meaning of a source.
 pub(crate) fn read(alloc: Global, text: &str) -> Result<Game, SourceFault> {
     read_game(alloc, text)
 }

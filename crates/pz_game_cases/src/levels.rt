@@ -1,4 +1,5 @@
-//! A level, loaded, pushed and moved. No test owns a game or a level, and no function both: such a one is dear to prove.
+//! A level, loaded, pushed and moved. No test owns a game or a level, and no function owns both, because that is expensive to
+//! prove.
 
 ghost use Rattle.std.specs.Prelude.{IfOk};
 ghost use Rattle.pz_sheet.specs.Grid.{IsOfGame};
@@ -141,7 +142,7 @@ fn moves_the_player(rt: HostRuntime) -> Result<(), Fail> {
     Ok(())
 }
 
-/// Keeps a level, which goes by a call.
+/// Keeps a level, which a call drops.
 fn keep(past: &mut Past, level: Level) -> Result<(), Fail> {
     let kept = past.push(level.bare());
     drop(level);

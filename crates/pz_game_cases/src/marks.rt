@@ -1,4 +1,5 @@
-//! The lines in which a row of a rule is searched for, and the start cells that are tested. No test owns a game or a level, and no function both.
+//! The lines in which a row of a rule is searched for, and the start cells that are tested. No test owns a game or a level, and
+//! no function owns both.
 
 ghost use Rattle.std.specs.Prelude.{◌≡◌, true, IfOk, OnOk};
 ghost use Rattle.pz_game.specs.Pattern.{IsOf, AreOf, IsRowOf};
@@ -13,7 +14,7 @@ use pz_grid::{Level, push_players, resolve};
 use std::alloc::{AllocError, Global};
 use std::test::Fail;
 
-/// A game with five objects, but for its levels.
+/// A game with five objects, without its levels.
 const GAME: [&str; 16] = [
     "OBJECTS",
     "Background .",
@@ -73,7 +74,7 @@ fn game_with(alloc: Global, rows: &str) -> Result<Game, Fail> {
     game_of(alloc, text.as_str())
 }
 
-/// The rows of a square level of the background, but for what stands in its first cell.
+/// The rows of a square level of the background, except for what stands in its first cell.
 fn square(alloc: Global, first: char, side: usize) -> Result<String, AllocError> {
     let mut rows = String::new(alloc);
     add_row(&mut rows, first, side)?;
@@ -137,7 +138,7 @@ fn is_row_of(layers: &[usize], row: &Row) -> bool
     true
 }
 
-/// Fails for a row that is of another game.
+/// Fails for a row of another game.
 fn test_row(game: &Game, row: &Row) -> Result<(), Fail>
     ensures { OnOk result (IsRowOf game.now.layers row.now) }
 {

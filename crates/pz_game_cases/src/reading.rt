@@ -1,4 +1,4 @@
-//! Sources, read or refused: a small game, and what becomes of it where lines are changed.
+//! Sources, read or refused: a small game, and what becomes of it if lines are changed.
 
 use crate::game::{game_of, joined, read};
 use pz_base::fault::{Code, SourceFault};
@@ -7,7 +7,7 @@ use pz_game::game::Game;
 use std::alloc::{AllocError, Global};
 use std::test::Fail;
 
-/// The lines of a small game, but for its levels; its first level's first row is line 28.
+/// The lines of a small game, without its levels. Its first level's first row is line 28.
 const GAME: [&str; 27] = [
     "title B",
     "OBJECTS",
@@ -45,7 +45,7 @@ fn game_with(alloc: Global, number: usize, line: &str, levels: &str) -> Result<S
     Ok(text)
 }
 
-/// The fault of a text; None where it is read.
+/// The fault of a text, or None if it is read.
 fn fault_of(alloc: Global, text: &str) -> Option<SourceFault> {
     match read(alloc, text) {
         Ok(_) => None,
@@ -57,7 +57,7 @@ fn at(code: Code, line: u32) -> Option<SourceFault> {
     Some(SourceFault { code, line })
 }
 
-/// Fails a test where a text has another fault. One function compares for all tests: each comparison is dear to prove.
+/// Fails a test if a text has another fault. One function compares for all tests, because each comparison is expensive to prove.
 fn expect(alloc: Global, case: &str, text: &str, fault: Option<SourceFault>) -> Result<(), Fail> {
     let found = fault_of(alloc, text);
     if found == fault {
@@ -67,7 +67,7 @@ fn expect(alloc: Global, case: &str, text: &str, fault: Option<SourceFault>) -> 
     }
 }
 
-/// Fails a test where the small game with a line replaced has another fault.
+/// Fails a test if the small game with a line replaced has another fault.
 fn expect_changed(
     alloc: Global,
     number: usize,
@@ -79,7 +79,7 @@ fn expect_changed(
     expect(alloc, line, text.as_str(), fault)
 }
 
-/// Fails a test where the small game with these levels has another fault.
+/// Fails a test if the small game with these levels has another fault.
 fn expect_levels(alloc: Global, levels: &str, fault: Option<SourceFault>) -> Result<(), Fail> {
     let text = game_with(alloc, 1, "title ( x", levels)?;
     expect(alloc, levels, text.as_str(), fault)
@@ -308,7 +308,7 @@ fn lacks_memory(fault: Option<SourceFault>) -> bool {
     )
 }
 
-/// Each text that begins a source is read or refused, and never for want of memory.
+/// Each beginning of a source is read or refused, and never for want of memory.
 #[test]
 fn reads_or_refuses_each_beginning(rt: HostRuntime) -> Result<(), Fail> {
     let text = game_with(rt.alloc(), 0, "", "#p.#\n")?;

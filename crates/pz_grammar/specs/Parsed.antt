@@ -83,7 +83,7 @@ abbrev pub command_of : Token → Option Command
 command_of (token.Command command) = Some command
 command_of _ = None
 
--- commands alone
+-- only commands
 unfoldable pub commands_of : List Token → Option (List Command)
 commands_of tokens = all_some (map command_of tokens)
 
@@ -128,7 +128,7 @@ abbrev pub with_left : Bool → List Token → Option Seen → Option Rule
 with_left is_joined prefixes None = None
 with_left is_joined prefixes (Some s) = with_rows is_joined prefixes s.rows s.rest
 
--- the rule of a line, if it is one
+-- the rule of a line, if it has one
 unfoldable pub parsed : List Token → Option Rule
 parsed tokens =
     let ts = after_joined tokens in

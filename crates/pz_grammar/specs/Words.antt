@@ -1,4 +1,4 @@
--- The words of rules. In rules a rule word always has its rule meaning, also where it is the name of something.
+-- The words of rules. In rules a rule word always has its rule meaning, even if something has that name.
 use Rattle.std.specs.Prelude.{ℕ, List, [], ◌∷◌, Option, Some, None, codes, if◌then◌else◌}
 use Rattle.std.specs.Str.{bytes_eq}
 use Rattle.std.specs.Option.{option_or, option_map, option_map_or}
@@ -68,11 +68,11 @@ mark_of word =
     (if bytes_eq word (codes "endloop") then Some token.EndLoop else
     None))))))))
 
--- the rule word that a text is
+-- the rule word that a text spells
 unfoldable pub rule_word : List ℕ → Option Token
 rule_word word = option_or (mark_of word) (option_or (option_map token.Lead (lead_of word)) (option_map token.Command (command_of_word word)))
 
--- the token of a word, where the game has these names
+-- the token of a word in a game with these names
 unfoldable pub token_of : List (List ℕ) → List ℕ → Token
 token_of names word = option_map_or (λ t. t) (rule_word word) (token.Name (number_in names word))
 

@@ -25,7 +25,7 @@ abbrev pub cell_tokens : Cell → List Token
 cell_tokens cell.Gap = token.Gap ∷ []
 cell_tokens (cell.Items phrases) = flat_map phrase_tokens phrases
 
--- cells are parted by bars, and a row ends with a bracket
+-- bars separate cells, and a bracket ends a row
 abbrev pub cells_tokens : Cell → List Cell → List Token
 cells_tokens c [] = cell_tokens c ++ token.Close ∷ []
 cells_tokens c (next ∷ cells) = cell_tokens c ++ token.Bar ∷ cells_tokens next cells
@@ -69,7 +69,7 @@ abbrev pub has_rows : List (List Cell) → Bool
 has_rows [] = false
 has_rows (row ∷ rows) = true
 
--- the prefixes are such, there is a row on the left, and each row has a cell
+-- each prefix may stand there, the left has a row, and each row has a cell
 abbrev pub is_whole : Rule → Bool
 is_whole rule =
     list_all is_prefix rule.prefixes && (has_rows rule.left && (list_all has_cells rule.left && list_all has_cells rule.right))

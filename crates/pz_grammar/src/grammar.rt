@@ -64,7 +64,7 @@ fn command_of(token: &Token) -> Option<Command>
     }
 }
 
-/// The commands that tokens are.
+/// The tokens as commands, if all of them are commands.
 #[tactic(auto, unfolding(crate::specs::Parsed::commands_of))]
 fn commands_of(alloc: Global, tokens: &[Token]) -> Result<Option<Listed<Command>>, AllocError>
     ensures { IfOk result (λ commands. commands ≡ commands_of tokens.now) }
@@ -98,7 +98,7 @@ fn after_joined(tokens: &[Token]) -> (bool, &[Token])
     }
 }
 
-/// The rule that tokens are, if they are one.
+/// The rule that these tokens write, if they write one.
 #[tactic(auto, unfolding(crate::specs::Parsed::parsed))]
 fn read_rule(alloc: Global, tokens: &[Token]) -> Result<Option<Rule>, AllocError>
     ensures { IfOk result (λ rule. rule ≡ parsed tokens.now) }
@@ -129,7 +129,7 @@ fn read_rule(alloc: Global, tokens: &[Token]) -> Result<Option<Rule>, AllocError
     }))
 }
 
-/// The rule that is written so, if there is one.
+/// The rule that these tokens write, if they write one.
 #[tactic(auto, using(crate::proofs::Complete::exact))]
 pub fn parse(alloc: Global, tokens: &[Token]) -> Result<Option<Rule>, AllocError>
     ensures value { IfOk result (λ rule. rule ≡ parsed tokens.now) }

@@ -13,7 +13,7 @@ pub enum LoopWord {
     End,
 }
 
-/// The loop word that a line is, if it is one.
+/// The loop word of a line with no other word, if it is one.
 #[tactic(auto, unfolding(crate::specs::Loop::loop_word))]
 pub fn loop_word(words: &[Name]) -> Option<LoopWord>
     ensures { result ≡ loop_word words.now }

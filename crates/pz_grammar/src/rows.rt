@@ -11,7 +11,7 @@ use pz_base::listed::Listed;
 use pz_base::listing::pushed;
 use std::alloc::{AllocError, Global};
 
-/// The cells of a row that are ended, and the one that isn't.
+/// The finished cells of a row, and the one that is being read.
 #[derive(Drop)]
 struct OpenRow {
     cells: Listed<Cell>,

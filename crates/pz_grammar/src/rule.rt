@@ -3,7 +3,7 @@
 use crate::token::{Class, Command, Lead, Token};
 use pz_base::listed::Listed;
 
-/// A name, by its number, with the word before it; None as a name: nothing has that name.
+/// A name, by its number, with the word before it. Without a number, nothing has that name.
 #[derive(Clone, Copy)]
 pub struct Phrase {
     pub lead: Option<Lead<Class>>,

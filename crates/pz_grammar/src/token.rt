@@ -22,8 +22,8 @@ pub enum Class {
     Perpendicular,
 }
 
-/// A word that may stand before a name: `no`, or a movement word. One that stands for one of several directions has with it which:
-/// as it is written its class, and in a plan the number of the choice that gives the direction.
+/// A word that may stand before a name: `no`, or a movement word. A word for several directions comes with what says which: its
+/// class as it is written, and in a plan the number of the choice that gives the direction.
 #[derive(Clone, Copy)]
 pub enum Lead<C> {
     No,
@@ -45,7 +45,7 @@ pub enum Command {
     Message,
 }
 
-/// A word of a rule line. A name is given by its number; None: nothing has that name.
+/// A word of a rule line. A name stands as its number, and without a number nothing has that name.
 #[derive(Clone, Copy)]
 pub enum Token {
     Open,

@@ -78,7 +78,7 @@ fn mark_of(word: &str) -> Option<Token>
     }
 }
 
-/// The rule word that a text is.
+/// The rule word that a text spells, if it spells one.
 #[tactic(auto, unfolding(crate::specs::Words::rule_word))]
 fn rule_word(word: &str) -> Option<Token>
     ensures { result ≡ rule_word word.now }

@@ -31,7 +31,7 @@ within_cell a b = list_all (λ x. has_item b x) a
 unfoldable pub same_cell : List Item → List Item → Bool
 same_cell a b = within_cell a b && within_cell b a
 
--- rows that are as long, cell by cell the same
+-- rows of the same length that are the same cell by cell
 unfoldable pub same_row : RuleRow → RuleRow → Bool
 same_row a b = pointwise same_cell a.cells b.cells
 

@@ -17,15 +17,15 @@ abbrev pub is_present : Word → Bool
 is_present Present = true
 is_present _ = false
 
--- what two words say of one object doesn't go together: asked of it, that it is there and not there, or two movements; where it is
--- placed, two words, or one and none
+-- two words contradict each other on one object. Asked for, it can't be there and not there, or move in two ways. Placed, it
+-- can't have two words, or one and none
 abbrev pub at_odds : Role → Word → Word → Bool
 at_odds Asked a b =
     if is_absent a || is_absent b then not (is_absent a && is_absent b)
     else not (is_present a || is_present b || same_meaning a b)
 at_odds Placed a b = not (is_absent a || is_absent b) && not (same_meaning a b)
 
--- no cell can be as both items say: what they say of one object is at odds, or they are two objects of one layer
+-- no cell can be as both items say: they contradict each other on one object, or they are two objects of one layer
 unfoldable pub excludes : Role → Item → Item → Bool
 excludes role a b =
     if a.object == b.object then at_odds role a.word b.word

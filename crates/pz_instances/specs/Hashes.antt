@@ -24,7 +24,7 @@ word_number Present = 5
 word_number Still = 6
 word_number Absent = 7
 
--- a product as a word of 64 bits keeps it
+-- a product, as far as a word of 64 bits holds it
 abbrev pub spread_once : ℕ → ℕ
 spread_once number = number * SPREADER % 2 ^ 64
 
@@ -34,7 +34,7 @@ spread number = spread_once (bit_xor (spread_once number) (spread_once number / 
 unfoldable pub item_hash : Item → ℕ
 item_hash item = spread ((item.object * 8 % 2 ^ 64 + word_number item.word) % 2 ^ 64)
 
--- of an item that stands in a cell more than once, one counts
+-- an item that stands in a cell more than once counts once
 abbrev pub cell_hash : List Item → ℕ
 cell_hash [] = 0
 cell_hash (x ∷ xs) = if has_item xs x then cell_hash xs else bit_xor (item_hash x) (cell_hash xs)

@@ -15,7 +15,7 @@ fn has_clash(instance: &Instance) -> bool
     have_impossible(Role::Placed, instance.right.items())
 }
 
-/// Whether an instance of these has a clash.
+/// Whether one of these instances has a clash.
 pub fn have_clash(instances: &[Instance]) -> bool
     ensures { result ≡ list_any has_clash instances.now }
 {

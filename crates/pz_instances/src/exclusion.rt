@@ -26,7 +26,7 @@ fn is_present(word: Word) -> bool
     matches!(word, Word::Present)
 }
 
-/// Whether what two words say of one object doesn't go together.
+/// Whether two words contradict each other on one object.
 fn at_odds(role: Role, a: Word, b: Word) -> bool
     ensures { result ≡ at_odds role a b }
 {
@@ -61,7 +61,7 @@ fn excludes_some(role: Role, cell: &[Item], a: &Item) -> bool
     cell.iter().any(|b| excludes(role, a, b))
 }
 
-/// Whether nothing can be as a cell says.
+/// Whether no cell of a level can be as all items say.
 #[tactic(auto, unfolding(crate::specs::Exclusion::is_impossible))]
 fn is_impossible(role: Role, cell: &[Item]) -> bool
     ensures { result ≡ is_impossible role cell.now }
@@ -69,7 +69,7 @@ fn is_impossible(role: Role, cell: &[Item]) -> bool
     cell.iter().any(|a| excludes_some(role, cell, a))
 }
 
-/// Whether a row has a cell that nothing can be.
+/// Whether a row has an impossible cell.
 #[tactic(auto, unfolding(crate::specs::Exclusion::has_impossible))]
 fn has_impossible(role: Role, row: &Row) -> bool
     ensures { result ≡ has_impossible role row.now }
@@ -79,7 +79,7 @@ fn has_impossible(role: Role, row: &Row) -> bool
         .any(|cell| is_impossible(role, cell.items()))
 }
 
-/// Whether a row of these has a cell that nothing can be.
+/// Whether one of these rows has an impossible cell.
 pub fn have_impossible(role: Role, rows: &[Row]) -> bool
     ensures { result ≡ list_any (has_impossible role) rows.now }
 {

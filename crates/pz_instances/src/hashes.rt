@@ -8,7 +8,7 @@ use pz_game::direction::Dir;
 use pz_game::pattern::{Item, Pattern, Row, Word};
 use pz_program::instance::Instance;
 
-/// An odd number, by which a product spreads what it is multiplied with.
+/// An odd number. Multiplying by it spreads the bits of a number.
 const SPREADER: u64 = 0x9e37_79b9_7f4a_7c15;
 
 fn direction_number(direction: Dir) -> u64
@@ -23,7 +23,7 @@ fn direction_number(direction: Dir) -> u64
     }
 }
 
-/// A number of its own for each word, below 8.
+/// A different number for each word, below 8.
 fn word_number(word: Word) -> u64
     ensures { result ≡ word_number word }
 {
@@ -55,7 +55,7 @@ pub fn item_hash(item: &Item) -> u64
     )
 }
 
-/// The hash of a cell: it doesn't tell the order of the items, nor how often one stands there.
+/// The hash of a cell. It doesn't depend on the order of the items, nor on how often one stands there.
 fn cell_hash(items: &[Item]) -> u64
     ensures { result ≡ cell_hash items.now }
 {
@@ -70,7 +70,7 @@ fn cell_hash(items: &[Item]) -> u64
     hash
 }
 
-/// The hash of some cells, and of one more behind them.
+/// The hash of some cells, and of one more after them.
 #[tactic(auto, unfolding(crate::specs::Hashes::with_cell))]
 fn with_cell(hash: u64, cell: &Pattern) -> u64
     ensures { result ≡ with_cell hash cell.now }

@@ -30,7 +30,7 @@ plan_of source inputs recorded index order =
     or_refused (program_of game) (λ program.
     or_no_level (level_from game index) (plan_at game program inputs recorded order)))
 
--- the same, where it is known what the source gives
+-- the same, if it is known what the source gives
 abbrev pub plan_from : Result RulebookState Refusal → List Input → List (List (List ℕ)) → ℕ → Order → Result PlanState Refusal
 plan_from (Ok rulebook) inputs recorded index order =
     or_no_level (level_from rulebook.game index) (plan_at rulebook.game rulebook.program inputs recorded order)

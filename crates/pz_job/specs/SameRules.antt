@@ -4,7 +4,7 @@ use Rattle.pz_base.specs.NameSet.{number_in}
 use Rattle.pz_game.specs.declared.game.GameParts.{GameParts}
 use Rattle.pz_game.specs.declared.rule_line.RuleLine.{RuleLine}
 
--- the same words, and each of them the same name in two games, which have these names
+-- the same words, each of them the same name in two games with these names
 pub record IsSameLine (names others : List (List ℕ)) (line other : RuleLine) : Type 0 where
   pub words : line.words ≡ other.words
   pub numbers : All (λ word. number_in names word ≡ number_in others word) line.words

@@ -7,7 +7,7 @@ use Rattle.pz_job.specs.Rulebooks.{rulebook_of, IsProgramFor}
 use Rattle.pz_job.specs.declared.sources.Known.{Known}
 use Rattle.pz_job.specs.declared.sources.Known.TheVariants as known
 
--- what is known of a text is so: its game, its program, or the fault for which its sessions are refused
+-- what is known of a text is true: its game, its program, or the fault for which its sessions are refused
 abbrev pub IsKnown : List ℕ → Known → Type 0
 IsKnown text known.Nothing = Unit {0}
 IsKnown text (known.Read game) = source_of text ≡ Ok game

@@ -20,7 +20,7 @@ use pz_record::recorded::Recorded;
 use std::alloc::{AllocError, Global};
 use std::thread::Threads;
 
-/// What is needed to play a session of a source that gave this, or why it is refused.
+/// What is needed to play a session whose source gave this answer, or why it is refused.
 fn make_plan(
     answer: Answer,
     inputs: Inputs,
@@ -77,7 +77,7 @@ fn make_cases(
     Ok(cases)
 }
 
-/// Reads the sources of the entries by so many threads, and expands their rules.
+/// Reads the sources of the entries with so many threads, and expands their rules.
 fn read_all<R: Threads + Sync>(
     rt: &R,
     rulebooks: &mut Rulebooks,
@@ -103,8 +103,8 @@ pub fn prepare(alloc: Global, entries: Vec<Entry>, order: Order) -> Result<Job, 
     Ok(Job::new(cases))
 }
 
-/// The job that `prepare` makes. At most so many threads read the sources, as many as there are workers. They wait for nobody, and the call
-/// waits for them.
+/// The job that `prepare` makes. At most as many threads as there are workers read the sources. They wait for nobody, and the
+/// call waits for them.
 pub fn prepare_with<R: Threads + Sync>(
     rt: &R,
     alloc: Global,

@@ -12,7 +12,7 @@ use pz_program::instance::Program;
 use std::alloc::{AllocError, Global};
 use std::sync::Arc;
 
-/// With how many of the newest games one is compared.
+/// A game is compared with so many of the newest games.
 const NEWEST: usize = 16;
 
 /// A game that was expanded, with its program.
@@ -25,7 +25,7 @@ struct Expanded {
 }
 
 impl Expanded {
-    /// The program, if it is that of a game too.
+    /// The program, if a game has the same rules.
     fn program_for(&self, game: &Game) -> Option<&Arc<Program>>
         ensures { IfSome result (λ program. IsProgramFor game.now (arc_value program.now)) }
     {
@@ -37,7 +37,7 @@ impl Expanded {
     }
 }
 
-/// The games that were expanded: those that have the same rules, as the games of a suite do, share one program.
+/// The games that were expanded. Games with the same rules, such as those of a suite, share one program.
 #[derive(Drop)]
 pub(crate) struct Programs {
     expanded: Vec<Expanded>,

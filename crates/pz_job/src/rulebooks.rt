@@ -22,7 +22,7 @@ use std::sync::Arc;
 /// What a source gives: its rulebook, or why its sessions are refused.
 pub(crate) type Answer = Result<Arc<Rulebook>, Refusal>;
 
-/// The refusal by a fault of a source; that memory was refused is no fault of the source.
+/// The refusal for a fault of a source. Want of memory is no fault of the source.
 fn refusal_of(fault: SourceFault) -> Result<Refusal, AllocError>
     ensures refusal { IfOk result (λ refusal. (refusal ≡ Refusal.Source fault) × (fault.code ≢ Code.Memory)) }
     ensures wanted { IfErr result (λ _. fault.code ≡ Code.Memory) }
@@ -33,7 +33,7 @@ fn refusal_of(fault: SourceFault) -> Result<Refusal, AllocError>
     }
 }
 
-/// What a source gives that has a fault.
+/// What a source with a fault gives.
 fn refused(fault: SourceFault) -> Result<Answer, AllocError>
     ensures { IfOk result (λ answer. (shared_in answer ≡ Err (Refusal.Source fault)) × (fault.code ≢ Code.Memory)) }
 {
@@ -41,7 +41,7 @@ fn refused(fault: SourceFault) -> Result<Answer, AllocError>
     Ok(Err(refusal))
 }
 
-/// What a game gives whose program is known.
+/// What a game with a known program gives.
 fn with_program(alloc: Global, game: Game, program: Arc<Program>) -> Result<Answer, AllocError>
     requires { IsProgramFor game (arc_value program) }
     ensures { IfOk result (λ answer. shared_in answer ≡ Ok (record { game = game; program = arc_value program })) }
@@ -50,7 +50,7 @@ fn with_program(alloc: Global, game: Game, program: Arc<Program>) -> Result<Answ
     Ok(Ok(rulebook))
 }
 
-/// What a game gives that is expanded now; its program is kept.
+/// What a game gives when it is expanded now. Its program is kept.
 fn with_new_program(
     programs: &mut Programs,
     alloc: Global,
@@ -67,7 +67,7 @@ fn with_new_program(
     Ok(Ok(rulebook))
 }
 
-/// What a game gives whose program has to be made. A game goes out of scope by a call: it has many parts.
+/// What a game gives when its program has to be made. A call drops the game, because it has many parts.
 fn with_expansion(programs: &mut Programs, alloc: Global, game: Game) -> Result<Answer, AllocError>
     ensures { IfOk result (λ answer. shared_in answer ≡ or_refused (program_of game) (λ program. Ok (record { game = game; program = program }))) }
 {
@@ -80,7 +80,7 @@ fn with_expansion(programs: &mut Programs, alloc: Global, game: Game) -> Result<
     }
 }
 
-/// What a game gives with its rules, which are expanded where no game before it has the same.
+/// What a game gives with its rules. They are expanded unless a game before it has the same.
 fn with_rules(programs: &mut Programs, alloc: Global, game: Game) -> Result<Answer, AllocError>
     ensures { IfOk result (λ answer. shared_in answer ≡ or_refused (program_of game) (λ program. Ok (record { game = game; program = program }))) }
 {
@@ -96,7 +96,7 @@ fn with_rules(programs: &mut Programs, alloc: Global, game: Game) -> Result<Answ
     }
 }
 
-/// What a source gives that is read now.
+/// What a source gives when it is read now.
 #[tactic(auto, unfolding(crate::specs::Rulebooks::rulebook_of))]
 fn read_rulebook(programs: &mut Programs, alloc: Global, source: &str) -> Result<Answer, AllocError>
     ensures { IfOk result (λ answer. shared_in answer ≡ rulebook_of source.now) }
@@ -107,7 +107,7 @@ fn read_rulebook(programs: &mut Programs, alloc: Global, source: &str) -> Result
     }
 }
 
-/// What a source gives of which this is known.
+/// What a source gives when this is known of it.
 #[tactic(auto, unfolding(crate::specs::Rulebooks::rulebook_of))]
 fn answer_from(
     programs: &mut Programs,
@@ -139,7 +139,7 @@ fn again(answer: &Answer) -> Result<Answer, AllocError>
     }
 }
 
-/// What each source gave that was read: a source that comes again is not read again, and its sessions share one rulebook.
+/// What each source gave when it was read. A source that comes again is not read again, and its sessions share one rulebook.
 #[derive(Drop)]
 pub(crate) struct Rulebooks {
     answers: HashMap<String, Answer>,
@@ -192,7 +192,7 @@ impl Rulebooks {
         self.keep(alloc, text, &answer)
     }
 
-    /// What a source gives that is new; it is kept.
+    /// What a new source gives. It is kept.
     fn read(
         &mut self,
         programs: &mut Programs,

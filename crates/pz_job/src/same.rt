@@ -1,4 +1,4 @@
-//! Games whose rules are the same: they differ only in their levels, or in where their lines stand, as those of a suite do.
+//! Games whose rules are the same. Like the games of a suite, they differ only in their levels, or in where their lines stand.
 
 ghost use Rattle.std.specs.Prelude.{◌≡◌, true, All};
 ghost use Rattle.pz_base.specs.NameSet.{number_in};
@@ -10,7 +10,7 @@ use pz_game::denotation::Denotation;
 use pz_game::game::Game;
 use pz_game::rule_line::RuleLine;
 
-/// What parts of two games are compared by.
+/// How parts of two games are compared.
 trait Same {
     /// Whether another one is the same.
     fn same(&self, other: &Self) -> bool
@@ -56,7 +56,7 @@ impl Same for Denotation {
     }
 }
 
-/// Whether two numbers are the same, where there are two.
+/// Whether two numbers are the same, or both are missing.
 fn same_number(number: Option<usize>, other: Option<usize>) -> bool
     ensures { result ≡ true → number ≡ other }
 {

@@ -17,10 +17,10 @@ use std::mem::replace;
 use std::thread;
 use std::thread::Threads;
 
-/// With how many games of the kinds that were met last one is compared.
+/// A game is compared with so many games, one of each kind that was met last.
 const NEWEST: usize = 16;
 
-/// For so many sources a further thread is worth its start.
+/// One more thread is worth its start for so many sources.
 const SOURCES_A_THREAD: usize = 4;
 
 /// What is known of a source.
@@ -31,7 +31,7 @@ pub(crate) enum Known {
     Read(Game),
     /// Its game with its program.
     Expanded(Game, Program),
-    /// Its fault, or the fault of its rules; or that memory was refused.
+    /// Its fault or the fault of its rules, or want of memory.
     Fault(SourceFault),
 }
 
@@ -63,7 +63,7 @@ fn read(alloc: Global, text: &str) -> Known
     }
 }
 
-/// What is known after expanding the rules of a game, where that alone is known.
+/// What is known after expanding the rules of a game, if only the game was known.
 #[tactic(auto, unfolding(crate::specs::Rulebooks::rulebook_of))]
 fn expanded(alloc: Global, known: Known) -> Known
     ensures { (text : List ℕ) → IsKnown text known → IsKnown text result }
@@ -159,7 +159,7 @@ fn bring_forward(sources: &mut [Source<'_>]) -> usize
     count
 }
 
-/// The different sources of the entries, which so many threads read. Of those that have the same rules one is expanded.
+/// The different sources of the entries, read by so many threads. Of those with the same rules one is expanded.
 pub(crate) fn read_sources<'a, R: Threads + Sync>(
     rt: &R,
     alloc: Global,

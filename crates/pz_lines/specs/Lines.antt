@@ -26,7 +26,7 @@ verdict_line session name frames cause close =
     codes "{" ++ with_cause cause ++ codes "\"close\":" ++ quoted close ++ codes ",\"frames\":" ++ decimal frames
     ++ codes ",\"name\":" ++ quoted name ++ codes ",\"session\":" ++ decimal session ++ codes "}\n"
 
--- a close: its cause where it has one, how many frames were shown, the session's name
+-- a close: its cause if it has one, how many frames were shown, the session's name
 unfoldable pub close_line : ℕ → List ℕ → ℕ → Verdict → List ℕ
 close_line session name frames verdict = verdict_line session name frames (cause_name verdict) (close_name verdict)
 
@@ -45,12 +45,12 @@ item_line session name frames (item.Close verdict) = close_line session name fra
 abbrev pub lines_of : ℕ → Record → List ℕ
 lines_of session shown = flat_map (item_line session shown.name (frame_count shown.items)) shown.items
 
--- whether an item is shown from an input on: a frame that is shown after so many inputs or more, and the close
+-- whether an item is shown from an input on: the close is, and so is a frame that is shown after so many inputs or more
 abbrev pub is_from : ℕ → Item → Bool
 is_from from (item.Frame number at frame) = nat_le from at
 is_from from (item.Close verdict) = true
 
--- of the lines of what a session showed those of the items from an input on
+-- the lines of what a session showed, only those of the items from an input on
 abbrev pub lines_from : ℕ → ℕ → Record → List ℕ
 lines_from from session shown = flat_map (item_line session shown.name (frame_count shown.items)) (filter (is_from from) shown.items)
 
@@ -62,6 +62,6 @@ numbered lines session (shown ∷ later) = lines session shown ++ numbered lines
 unfoldable pub text_of : List Record → List ℕ
 text_of recording = numbered lines_of 0 recording
 
--- of the text of a recording the lines of the items from an input on
+-- the text of a recording, only the lines of the items from an input on
 unfoldable pub text_from : ℕ → List Record → List ℕ
 text_from from recording = numbered (lines_from from) 0 recording

@@ -11,7 +11,7 @@ taken (Ok zero) = Err Zero
 taken (Ok (suc more)) = Ok (suc more)
 taken (Err error) = Err Device
 
--- what contracts see of a writer: the bytes that it holds, where they are known, and why a write failed, if one did
+-- what contracts see of a writer: the bytes that it holds, if they are known, and why a write failed, if one did
 pub record Writes : Type 0 where
   pub contents : Option (List ℕ)
   pub failure : Option Cause
@@ -21,7 +21,7 @@ pub record HasWritten (text : List ℕ) (old new : Writes) : Type 0 where
   pub sent : Appends old.contents new.contents text
   pub sound : new.failure ≡ old.failure
 
--- a text went out, and then a write failed, which is kept in mind; want of memory is no failure of a write
+-- a text went out, and then a write failed, which the writer remembers; want of memory is no failure of a write
 pub record HasFailed (cause : Cause) (text : List ℕ) (old new : Writes) : Type 0 where
   pub sent : Appends old.contents new.contents text
   pub failed : new.failure ≡ Some cause
@@ -41,7 +41,8 @@ pub record IsSentInPart (text : List ℕ) (before after : ℕ) (old new : Writes
   pub why : cause ≢ Memory → (new.failure ≡ Some cause) ⊎ (2 ^ 64 ≤ before + length text)
   pub sound : cause ≡ Memory → new.failure ≡ old.failure
 
--- the writing of a text ended for a fault, which tells how many first bytes went out: a write failed for the very cause that is told, or none failed and memory was refused
+-- the writing of a text ended with a fault that tells how many first bytes went out: a write failed for the cause that it tells,
+-- or none failed and memory was refused
 pub record EndsFor (fault : WriteFault) (text : List ℕ) (old new : Writes) : Type 0 where
   pub within : fault.written ≤ length text
   pub sent : Appends old.contents new.contents (take fault.written text)

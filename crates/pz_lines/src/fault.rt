@@ -13,7 +13,7 @@ pub enum Cause {
     Zero,
 }
 
-/// The end of a writing that is not whole: how many bytes of the text went out, and why no more did.
+/// How an incomplete writing ended: how many bytes of the text went out, and why no more did.
 #[derive(Clone, Copy, Debug, PartialEq, Eq, Error)]
 #[error("writing ended after {written} bytes")]
 pub struct WriteFault {

@@ -1,4 +1,5 @@
-//! The line of an item: compact JSON, its keys in the order of their bytes, and a line feed. It is written behind the lines before it.
+//! The line of an item: compact JSON, its keys in the order of their bytes, and a line feed. It is written after the lines before
+//! it.
 
 ghost use Rattle.std.specs.Prelude.{◌≡◌, ◌++◌, IfOk, OnOk, decimal};
 ghost use Rattle.json.specs.Print.{quoted};
@@ -26,8 +27,8 @@ fn put_quoted(lines: &mut Vec<u8>, key: &[u8], text: &QuotedText) -> Result<(), 
     put_json(lines, key, text.as_json())
 }
 
-/// Writes a key, with what stands before it, and its text, which is quoted in room of its own: a writer of JSON clears what room it has
-/// before it writes, and lines have much.
+/// Writes a key, with what stands before it, and its text. The text is quoted in its own room, because a writer of JSON first
+/// clears all the room that it has, and lines have much.
 fn put_text(lines: &mut Vec<u8>, key: &[u8], text: &str) -> Result<(), AllocError>
     ensures { OnOk result (lines.new.items ≡ lines.old.items ++ (key.now ++ quoted text.now)) }
 {
@@ -65,7 +66,7 @@ fn write_frame(
     Ok(lines)
 }
 
-/// Writes the cause of a close, where it has one.
+/// Writes the cause of a close, if it has one.
 fn put_cause(alloc: Global, lines: &mut Vec<u8>, verdict: Verdict) -> Result<(), AllocError>
     ensures { OnOk result (lines.new.items ≡ lines.old.items ++ with_cause (cause_name verdict)) }
 {
@@ -127,7 +128,7 @@ pub fn write_item(
     }
 }
 
-/// Whether an item is shown from an input on: a frame that is shown after so many inputs or more, and the close.
+/// Whether an item is shown from an input on. The close is, and so is a frame that is shown after so many inputs or more.
 pub fn is_from(from: u64, item: &Item) -> bool
     ensures { result ≡ is_from from item.now }
 {

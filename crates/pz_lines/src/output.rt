@@ -1,4 +1,4 @@
-//! A writer whose failures are kept in mind.
+//! A writer that remembers its failure.
 
 ghost use Rattle.std.specs.Prelude.{◌≡◌, ◌≤◌, ◌<◌, None, [], length, take, IfErr, IfOk, OnOk};
 ghost use Rattle.pz_lines.specs.Writing.{HasFailed, HasWritten, taken};
@@ -18,7 +18,7 @@ fn taken(answer: io::Result<usize>) -> Result<usize, Cause>
     }
 }
 
-/// A writer, and why a write of some bytes failed, if one did. It is called by `write` alone, since no other module sees it.
+/// A writer, and why a write of some bytes failed, if one did. Only `write` calls it, since no other module sees it.
 #[derive(Drop)]
 pub struct Output<W: Write> {
     writer: W,
@@ -54,7 +54,7 @@ impl<W: Write> Output<W> {
         writer
     }
 
-    /// Hands bytes to the writer once, and says how many it took: one at least. A writer that has failed is not called again.
+    /// Hands bytes to the writer once, and says how many it took: at least one. A writer that has failed is not called again.
     fn write(&mut self, bytes: &[u8]) -> Result<usize, Cause>
         requires sound { self.old.failure ≡ None }
         requires some { 1 ≤ length bytes.now }
@@ -69,7 +69,8 @@ impl<W: Write> Output<W> {
         answer
     }
 
-    /// Writes bytes to the last, or up to a write that fails, which ends the writing for good. Each write is handed all that is left.
+    /// Writes all bytes, or those before a write that fails. After that nothing more is written. Each write is handed all that is
+    /// left.
     pub fn write_whole(&mut self, bytes: &[u8]) -> Result<(), WriteFault>
         requires { self.old.failure ≡ None }
         ensures ok { OnOk result (HasWritten bytes.now self.old self.new) }

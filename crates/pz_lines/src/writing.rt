@@ -11,11 +11,11 @@ use pz_case::recording::{Record, Recording};
 use std::alloc::Global;
 use std::io::Write;
 
-/// Lines of so many bytes go out together, of however many sessions they are.
+/// Lines go out together once they have so many bytes, however many sessions they are of.
 const PIECE: usize = 65_536;
 
-/// Writes lines and counts their bytes, those written before them included.
-/// A count that no u64 holds ends the writing as a device's fault: no recording is so long.
+/// Writes lines and counts their bytes, those written before them included. If no u64 holds the count, the writing ends as at a
+/// device's fault; no recording is so long.
 fn write_lines<W: Write>(
     lines: &[u8],
     written: &mut u64,
@@ -40,7 +40,7 @@ fn write_lines<W: Write>(
     }
 }
 
-/// Writes lines where they are many enough to go out together, and answers those that are left.
+/// Writes lines if there are enough to go out together, and answers those that are left.
 fn write_full<W: Write>(
     lines: Vec<u8>,
     written: &mut u64,
@@ -58,7 +58,7 @@ fn write_full<W: Write>(
     Ok(lines)
 }
 
-/// Puts the lines of what a session showed behind others, writes them where they are many enough, and answers those that are left.
+/// Puts the lines of what a session showed after others, writes them if there are enough, and answers those that are left.
 fn write_session<W: Write>(
     alloc: Global,
     before: Vec<u8>,
@@ -84,7 +84,8 @@ fn write_session<W: Write>(
     Ok(lines)
 }
 
-/// Writes the text of a recording: all of it, or its first bytes, as many as the fault tells. The first write that fails is the last.
+/// Writes the text of a recording: all of it, or as many first bytes as the fault tells. After a failed write nothing more is
+/// written.
 #[tactic(auto, unfolding(crate::specs::Lines::text_of))]
 pub fn write_recording<W: Write>(
     alloc: Global,

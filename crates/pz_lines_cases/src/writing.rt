@@ -13,7 +13,7 @@ use std::io;
 use std::io::Write;
 use std::test::Fail;
 
-/// Takes seven bytes a call, but for the fourth, which fails. It counts its calls, those after the fourth too.
+/// Takes seven bytes a call, except for the fourth call, which fails. It counts its calls, those after the fourth too.
 #[derive(Drop)]
 struct Failing {
     bytes: Vec<u8>,

@@ -28,7 +28,7 @@ is_long row = nat_lt MAX_ROW_CELLS (length row)
 unfoldable pub is_large : List (List Cell) → Bool
 is_large rows = nat_lt MAX_ROWS (length rows) || list_any is_long rows
 
--- a name that nothing is called
+-- a name that nothing has
 unfoldable pub is_unknown : List Denotation → Phrase → Bool
 is_unknown table phrase = is_none (denoted table phrase.name)
 
@@ -56,11 +56,11 @@ in_cell is (cell.Items phrases) = list_any is phrases
 unfoldable pub in_row : (Phrase → Bool) → List Cell → Bool
 in_row is row = list_any (in_cell is) row
 
--- some phrase of these rows is such
+-- some phrase of these rows passes the test
 unfoldable pub in_rows : (Phrase → Bool) → List (List Cell) → Bool
 in_rows is rows = list_any (in_row is) rows
 
--- some phrase of a rule is such
+-- some phrase of a rule passes the test
 unfoldable pub in_rule : (Phrase → Bool) → Rule → Bool
 in_rule is rule = in_rows is rule.left || in_rows is rule.right
 
@@ -79,20 +79,19 @@ same_place _ _ = false
 unfoldable pub same_shape : List Cell → List Cell → Bool
 same_shape a b = (length a == length b) && same_place (gap_of a) (gap_of b)
 
--- as far as both sides go
+-- the rows of the sides agree, as far as both sides go
 unfoldable pub shapes_agree : List (List Cell) → List (List Cell) → Bool
 shapes_agree left right = list_all (λ p. same_shape p.0 p.1) (zip left right)
 
--- the right has rows, and they are not as many, as long and with gaps at the same places
+-- the right has rows, and they differ from the left's in number, in length or in the place of a gap
 unfoldable pub is_other_shape : List (List Cell) → List (List Cell) → Bool
 is_other_shape left right = not (length right == 0) && not ((length left == length right) && shapes_agree left right)
 
 unfoldable pub is_misshapen : Rule → Bool
 is_misshapen rule = list_any has_loose_gap rule.left || list_any has_loose_gap rule.right || is_other_shape rule.left rule.right
 
--- the first fault of a rule by what is written, in the order of the checks: more than one `...` in a row, more rows or longer
--- ones than a rule may have, a name that nothing has, `no` before an aggregate, sides of other shapes, a movement word in a
--- late rule
+-- the first fault in what a rule says, in the order of the checks: more than one `...` in a row, more rows or longer ones than a
+-- rule may have, a name that nothing has, `no` before an aggregate, sides of other shapes, a movement word in a late rule
 unfoldable pub fault_of : List Denotation → Bool → Rule → Option RuleFault
 fault_of table is_late rule =
     if list_any has_more_gaps rule.left || list_any has_more_gaps rule.right then Some fault.OutsideProfile

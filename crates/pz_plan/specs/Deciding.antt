@@ -35,7 +35,7 @@ is_direction class choice = elim choice.asked [ asked.Member own ↦ false | ask
 unfoldable pub is_direction_on : Class → Subject → Choice → Bool
 is_direction_on class name choice = elim choice.asked [ asked.Member own ↦ false | asked.Direction other on ↦ same_class other class && same_subject on name ]
 
--- the choice stands in this cell and is such
+-- the choice stands in this cell and passes the test
 unfoldable pub is_here : Spot → (Choice → Bool) → Choice → Bool
 is_here spot is choice = same_spot choice.spot spot && is choice
 
@@ -49,7 +49,7 @@ abbrev pub fits_within : Wanted → Option Spot → Choice → Bool
 fits_within what (Some spot) = is_here spot (fits what)
 fits_within what None = fits what
 
--- of numbered choices, the numbers of those that are such
+-- the numbers of those numbered choices that pass the test
 abbrev pub numbers_of : (Choice → Bool) → List (ℕ × Choice) → List ℕ
 numbers_of is numbered = map (λ choice. choice.0) (filter (λ choice. is choice.1) numbered)
 
@@ -59,7 +59,7 @@ lone [] = None
 lone (k ∷ []) = Some k
 lone (k ∷ next ∷ more) = None
 
--- the number of the choice that alone is such
+-- the number of the only choice that passes the test
 unfoldable pub the_only : (Choice → Bool) → List Choice → Option ℕ
 the_only is choices = lone (numbers_of is (enumerate_from 0 choices))
 
@@ -87,7 +87,7 @@ with_lead (Some lead) (Some name) = Some (record { lead = lead; name = name })
 with_lead (Some lead) None = None
 with_lead None name = None
 
--- the term of an item of the right; None: which choice decides it is ambiguous
+-- the term of an item of the right. None: it is ambiguous which choice decides it
 unfoldable pub decided_term : List Choice → Spot → Mention → Option Term
 decided_term choices spot mention =
     with_lead (decided_lead choices spot mention.lead mention.subject) (decided_name choices spot mention.subject)

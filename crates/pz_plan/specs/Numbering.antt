@@ -34,7 +34,7 @@ asked_by mention = asked_by_mark mention.lead mention.subject ++ asked_by_subjec
 unfoldable pub choices_at : Spot → List Mention → List Choice
 choices_at spot mentions = map (λ what. record { spot = spot; asked = what }) (flat_map asked_by mentions)
 
--- what a cell asks for that has this number in its row
+-- what the cell of this number in a row asks for
 abbrev pub choices_of_cell : ℕ → ℕ × List Mention → List Choice
 choices_of_cell row numbered = choices_at (record { row = row; cell = numbered.0 }) numbered.1
 

@@ -16,7 +16,7 @@ use Rattle.pz_plan.specs.Numbering.{choices_in_rows, rows_of}
 use Rattle.pz_plan.specs.Prefix.{directions_of}
 use Rattle.pz_plan.specs.Spelling.{rows_spelled_out}
 
--- the plan of a rule whose left is spelled out; None: which choice decides an item of its right is ambiguous
+-- the plan of a rule whose left is spelled out. None: it is ambiguous which choice decides an item of its right
 unfoldable pub with_right : Rule → List (PlanRow Mention) → Option (List (PlanRow Term)) → Result Plan RuleFault
 with_right rule left None = Err fault.AmbiguousRight
 with_right rule left (Some right) =

@@ -59,8 +59,8 @@ abbrev pub is_some_member : Subject → Bool
 is_some_member (subject.Property property) = true
 is_some_member (subject.Object object) = false
 
--- Whether a mention says no more than one before it in its cell. Each mention of the left that has a choice has a choice of
--- its own.
+-- Whether a mention repeats one before it in its cell. On the left a mention with a choice never does, because each has a choice
+-- of its own.
 unfoldable pub says_the_same : Side → Mention → Mention → Bool
 says_the_same side.Left a b = not (is_class a.lead || is_some_member a.subject) && same_mention a b
 says_the_same side.Right a b = same_mention a b

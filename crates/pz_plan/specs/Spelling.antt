@@ -26,7 +26,7 @@ abbrev pub is_property : Kind → Bool
 is_property kind.Property = true
 is_property _ = false
 
--- a property of several members stands for one of them, but under `no` for each
+-- a property of several members stands for one of them, and under `no` for each
 abbrev pub is_chosen : Option (Lead Class) → Denotation → Bool
 is_chosen word denotation = is_property denotation.kind && not (is_no word) && not (length denotation.members == 1)
 

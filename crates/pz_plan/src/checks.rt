@@ -45,7 +45,7 @@ fn has_many_gaps(rows: &[Listed<Cell>]) -> bool
     rows.iter().any(|row| has_more_gaps(row.items()))
 }
 
-/// What a phrase may be found by.
+/// What phrases are looked through for.
 #[derive(Clone, Copy)]
 enum Found {
     Unknown,
@@ -118,7 +118,7 @@ fn in_rows(table: &[Denotation], by: Found, rows: &[Listed<Cell>]) -> bool
     rows.iter().any(|row| in_row(table, by, row.items()))
 }
 
-/// Whether some phrase of a rule is such.
+/// Whether some phrase of a rule is found by this.
 #[tactic(auto, unfolding(crate::specs::Checks::in_rule))]
 fn in_rule(table: &[Denotation], by: Found, rule: &Rule) -> bool
     ensures { result ≡ in_rule (found_by table.now by) rule.now }
@@ -190,7 +190,7 @@ fn is_misshapen(rule: &Rule) -> bool
         || is_other_shape(rule.left.items(), rule.right.items())
 }
 
-/// The first fault of a rule by what is written.
+/// The first fault in what a rule says.
 #[tactic(auto, unfolding(crate::specs::Checks::fault_of))]
 pub fn fault_of(table: &[Denotation], is_late: bool, rule: &Rule) -> Option<RuleFault>
     ensures { result ≡ fault_of table.now is_late rule.now }

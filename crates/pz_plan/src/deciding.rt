@@ -9,7 +9,7 @@ use pz_base::listed::Listed;
 use pz_grammar::token::{Class, Lead};
 use std::alloc::{AllocError, Global};
 
-/// What choice is looked for.
+/// Which choice is looked for.
 #[derive(Clone, Copy)]
 enum Wanted {
     Member(usize),
@@ -42,7 +42,7 @@ fn fits_within(wanted: Wanted, within: Option<Spot>, choice: &Choice) -> bool
     }
 }
 
-/// The number of the choice that alone is looked for.
+/// The number of the choice that is looked for, if there is exactly one.
 #[tactic(auto, unfolding(crate::specs::Deciding::the_only))]
 fn the_only(wanted: Wanted, within: Option<Spot>, choices: &[Choice]) -> Option<usize>
     ensures { result ≡ the_only (fits_within wanted within) choices.now }

@@ -24,7 +24,7 @@ pub enum RuleFault {
 }
 
 impl RuleFault {
-    /// The code by which a source is refused that has a line with this fault.
+    /// The code with which a source is refused if one of its lines has this fault.
     pub fn code(self) -> Code
         ensures { result ≡ code_of self }
     {

@@ -1,4 +1,4 @@
-//! A law of sets of commands, proved as what a function without a body ensures.
+//! A law of sets of commands, which a function without a body ensures.
 
 ghost use Rattle.pz_plan.specs.Laws.{UnionsHoldEither};
 

@@ -64,7 +64,7 @@ fn has_choice(mention: &Mention) -> bool
     matches!(mention.lead, Some(Lead::OneOf(_))) || matches!(mention.subject, Subject::Property(_))
 }
 
-/// Whether a mention says no more than one before it.
+/// Whether a mention repeats one before it.
 #[tactic(auto, unfolding(crate::specs::Same::says_the_same))]
 fn says_the_same(side: Side, a: &Mention, b: &Mention) -> bool
     ensures { result ≡ says_the_same side a.now b.now }
@@ -83,7 +83,7 @@ fn is_said(side: Side, mentions: &[Mention], mention: &Mention) -> bool
         .any(|other| says_the_same(side, other, mention))
 }
 
-/// Adds a mention, unless the same is said already.
+/// Adds a mention, unless it repeats one that is there.
 fn add_mention(side: Side, mention: Mention, mentions: &mut Vec<Mention>) -> Result<(), AllocError>
     ensures { OnOk result (mentions.new.items ≡ added (says_the_same side) mentions.old.items mention) }
 {
@@ -238,7 +238,7 @@ pub fn gap_of(row: &[Cell]) -> Option<usize>
     row.iter().position(|cell| is_gap(cell))
 }
 
-/// The same of a row that isn't too long.
+/// The same for a row that isn't too long.
 fn gap_at(row: &[Cell]) -> Option<u32>
     requires { length row.now ≤ MAX_ROW_CELLS }
     ensures { result ≡ gap_of row.now }

@@ -17,18 +17,18 @@ pub record IsIdle (instance : Instance) : Type 0 where
   pub left : instance.left ≡ row ∷ []
   pub gapless : row.gap_at ≡ None
 
--- the first row of an instance asks so, if its items are within the limits of games
+-- the first row of an instance asks for a direction of the set, if its items are within the limits of games
 pub record IsMoving (set : List ℕ) (instance : Instance) : Type 0 where
   pub row : RuleRow
   pub rows : List RuleRow
   pub left : instance.left ≡ row ∷ rows
   pub asks : All (All IsLow) row.cells → AsksAmong set row.cells
 
--- it asks for a direction of each set that has this number
+-- an instance asks for a direction of each set that has this number
 abbrev pub AsksFor : ℕ → Instance → Type 0
 AsksFor number instance = (set : List ℕ) → member set number ≡ true → IsMoving set instance
 
--- an instance that does nothing where nothing heads in a direction of a set
+-- an instance that does nothing if nothing heads in a direction of a set
 abbrev pub IsLeftOut : List ℕ → Instance → Type 0
 IsLeftOut set instance = IsIdle instance ⊎ IsMoving set instance
 
@@ -36,7 +36,7 @@ abbrev pub instances_in : Parts → List Instance
 instances_in (Single instance) = instance ∷ []
 instances_in (Run asked instances) = instances
 
--- what is told of the instances of a segment
+-- what is known of the instances of a segment
 abbrev pub AreAsTold : Parts → Type 0
 AreAsTold (Single instance) = ⊤
 AreAsTold (Run asked instances) = All (IsLeftOut asked.items) instances

@@ -15,7 +15,8 @@ use std::marker::Model;
 use std::mem::replace;
 use std::slice::from_ref;
 
-/// The instances of a segment: one of which nothing is told, or some that do nothing where nothing heads in a direction of a set.
+/// The instances of a segment: either one about which nothing is known, or some that do nothing if nothing heads in a direction
+/// of a set.
 #[derive(Drop)]
 enum Parts {
     Single(Instance),
@@ -59,7 +60,7 @@ impl Segment {
         })
     }
 
-    /// A set of directions of layers: where nothing heads in any of them, none of the segment's instances does anything.
+    /// A set of directions of layers. If nothing heads in any of them, no instance of the segment does anything.
     pub fn asked(&self) -> Option<&[u128]>
         ensures { IfSome result (λ asked. All (IsLeftOut asked.now) self.now) }
     {
@@ -116,8 +117,8 @@ impl Group {
     }
 }
 
-/// Instances that are being cut: the segments that are done, and the run behind them, whose instances are all idle, or all scanned in one
-/// direction.
+/// Instances while they are cut: the finished segments, and the run after them. The instances of the run are all idle, or are all
+/// scanned in one direction.
 #[derive(Drop)]
 struct Cut {
     done: Vec<Segment>,
@@ -150,7 +151,7 @@ impl Cut {
         }
     }
 
-    /// Adds an instance behind the others.
+    /// Adds an instance after the others.
     fn add(&mut self, instance: Instance) -> Result<(), AllocError>
         ensures { OnOk result (self.new ≡ self.old ++ instance ∷ []) }
     {
@@ -175,7 +176,7 @@ impl Cut {
         Ok(())
     }
 
-    /// Ends the run, if it is of another direction.
+    /// Ends the run if it has another direction.
     fn begin_unless(&mut self, scan: Option<Dir>) -> Result<(), AllocError>
         ensures { OnOk result (self.new ≡ self.old) }
     {
@@ -242,7 +243,7 @@ fn close(done: &mut Vec<Segment>, asked: &NumberSet, run: Vec<Instance>) -> Resu
     Ok(())
 }
 
-/// Whether an instance does nothing on any level, as a rule that only plays a sound.
+/// Whether an instance does nothing on any level, like a rule that only plays a sound.
 fn is_idle(instance: &Instance) -> bool
     ensures { result ≡ true → IsIdle instance.now }
 {

@@ -17,7 +17,7 @@ pub struct Instance {
     pub commands: Commands,
 }
 
-/// Written out, so that each place where one goes out of scope is one call.
+/// Written out, so that dropping one is a single call everywhere.
 impl Drop for Instance {
     fn drop(self) {
         let Instance {
@@ -50,7 +50,7 @@ pub struct Program {
     pub late: Blocks,
 }
 
-/// Written out, so that each place where one goes out of scope is one call.
+/// Written out, so that dropping one is a single call everywhere.
 impl Drop for Program {
     fn drop(self) {
         let Program { early, late } = self;

@@ -22,9 +22,9 @@ use std::thread::Threads;
 /// How many messages a lane of `replay` holds at once.
 pub const CAPACITY: usize = 64;
 
-/// The recording of a job, played by at most so many workers, each over a lane that holds `capacity` messages. Err: `Workers`, where their
-/// number is not from 1 to 64, which is tested first; else `Memory`, where a growth or the start of a thread was refused; `GateClosed`, where
-/// the gate answered false; or `LaneLost`. Of several the one that is named first.
+/// The recording of a job, played by at most so many workers, each over a lane that holds `capacity` messages. Err: `Workers`, if
+/// their number is not from 1 to 64, which is tested first; else `Memory`, if a growth or the start of a thread was refused;
+/// `GateClosed`, if the gate answered false; or `LaneLost`. Of several the one named first is answered.
 pub fn replay_with<'a, R: Threads + Wait + Sync, G: Gate + Sync>(
     rt: &'a R,
     alloc: Global,

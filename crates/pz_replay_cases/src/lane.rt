@@ -13,14 +13,14 @@ fn end_in(message: Message) -> Option<End> {
     }
 }
 
-/// How a worker ended, where a last message is there.
+/// How a worker ended, if a last message is there.
 fn take_end(taker: &mut Taker) -> Option<End>
     ensures { taker.new.lane ≡ taker.old.lane }
 {
     end_in(taker.try_take()?)
 }
 
-/// The message that comes back where a lane is full.
+/// The message that comes back if a lane is full.
 fn come_back(sent: Result<(), Message>) -> Option<End> {
     end_in(sent.err()?)
 }

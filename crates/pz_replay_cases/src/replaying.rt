@@ -61,7 +61,7 @@ fn records_the_same_with_any_number_of_workers(rt: HostRuntime) -> Result<(), Fa
     Ok(())
 }
 
-/// What a file of many sources shows, where so many threads read them.
+/// What a file of many sources shows if so many threads read them.
 fn bytes_of_many<R: Threads + Sync>(
     rt: &R,
     alloc: Global,
@@ -151,7 +151,7 @@ fn end_of(answer: Result<Recording, ReplayFault>) -> Result<(), ReplayFault> {
     }
 }
 
-/// How a replay ends whose session 0 waits for another, over lanes of one message and of 64.
+/// How a replay ends if session 0 waits for another, over lanes of one message and of 64.
 fn ends<R: Threads + Wait + Sync>(
     rt: &R,
     alloc: Global,
@@ -193,7 +193,7 @@ fn plays_one_session_at_a_time_with_one_worker(rt: HostRuntime) -> Result<(), Fa
     Ok(())
 }
 
-/// Whether every item of a session is missed, where the gate is closed to it.
+/// Whether a replay ends at each item of a session if the gate is closed to that item.
 fn misses_each_item<R: Threads + Wait + Sync>(
     rt: &R,
     alloc: Global,

@@ -23,7 +23,8 @@ pub(crate) const LONG: &str =
 /// A source that is refused.
 pub(crate) const REFUSED: &str = r#"["refused",["",[3],"background:0,\n"]]"#;
 
-/// The job of a file of sessions, whose sources so many threads read. It promises nothing, so that what calls it needn't prove over the meaning of a source.
+/// The job of a file of sessions, whose sources so many threads read. It promises nothing, so that its callers' proofs needn't
+/// speak of the meaning of a source.
 pub(crate) fn job_of<R: Threads + Sync>(
     rt: &R,
     alloc: Global,

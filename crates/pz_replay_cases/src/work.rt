@@ -32,7 +32,7 @@ fn take_next(taker: &mut Taker) -> Taken {
     }
 }
 
-/// All that was taken from a lane behind which nothing is sent any more.
+/// All that was taken from a lane on which nothing more is sent.
 fn take_all(alloc: Global, taker: &mut Taker, all: &mut SentAll) -> Result<Vec<Taken>, AllocError>
     requires { all.old.lane ≡ taker.old.lane }
 {
@@ -43,7 +43,7 @@ fn take_all(alloc: Global, taker: &mut Taker, all: &mut SentAll) -> Result<Vec<T
     Ok(taken)
 }
 
-/// How a worker ends that plays two walks, and what it sends; another may have claimed the first.
+/// How a worker that plays two walks ends, and what it sends. Another worker may have claimed the first.
 fn played<R: Threads + Wait + Sync, G: Gate>(
     rt: &R,
     alloc: Global,

@@ -10,7 +10,7 @@ use std::env::Env;
 use std::io::ErrorKind;
 use std::process::ExitCode;
 
-/// The words of the command line. A word that isn't UTF-8 is no good word.
+/// The words of the command line. A word that isn't UTF-8 makes it bad.
 fn words<R: Env + AllocGlobal>(rt: &R) -> Result<Vec<String>, Failure> {
     match env::args(rt) {
         Ok(words) => Ok(words.collect(rt.alloc())?),

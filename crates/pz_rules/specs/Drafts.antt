@@ -24,7 +24,7 @@ use Rattle.pz_plan.specs.Prefix.{is_late_rule}
 use Rattle.pz_rules.specs.Sides.{side_added}
 use Rattle.pz_grammar.specs.Words.{tokens_of}
 
--- a group takes its place: in the loop that is open, else as a block of its own
+-- a group takes its place: in the open loop, or else as a block of its own
 unfoldable pub placed : Draft → OpenGroup → Draft
 placed draft group =
     elim draft.repeated [
@@ -40,7 +40,7 @@ settled draft = elim draft.group [ None ↦ draft | Some group ↦ placed draft 
 unfoldable pub opened : Draft → Draft
 opened draft = let d = settled draft in record { done = d.done; repeated = Some (record { early = []; late = [] }); group = None; pairs = d.pairs }
 
--- the block of a part of a loop, where it has groups
+-- the block of a part of a loop, if it has groups
 abbrev pub loop_of : List (List Instance) → List Block
 loop_of [] = []
 loop_of (group ∷ groups) = Loop (group ∷ groups) ∷ []
@@ -48,7 +48,7 @@ loop_of (group ∷ groups) = Loop (group ∷ groups) ∷ []
 abbrev pub with_loop : Sides Block → Sides (List Instance) → Sides Block
 with_loop done groups = record { early = done.early ++ loop_of groups.early; late = done.late ++ loop_of groups.late }
 
--- the loop that is open ends
+-- the open loop ends
 unfoldable pub closed : Draft → Draft
 closed draft =
     let d = settled draft in
@@ -57,7 +57,7 @@ closed draft =
       | Some groups ↦ record { done = with_loop d.done groups; repeated = None; group = None; pairs = d.pairs }
     ]
 
--- a `+` rule without a rule right above it, or with `late` where its group isn't
+-- a `+` rule without a rule right above it, or with `late` in a group that isn't late
 unfoldable pub is_misplaced : Draft → Rule → Bool
 is_misplaced draft rule =
     rule.is_joined && elim draft.group [ None ↦ true | Some group ↦ is_late_rule rule && not group.is_late ]
@@ -66,11 +66,11 @@ is_misplaced draft rule =
 unfoldable pub lateness : Draft → Rule → Bool
 lateness draft rule = if rule.is_joined then elim draft.group [ None ↦ is_late_rule rule | Some group ↦ group.is_late ] else is_late_rule rule
 
--- the instances that stand in the group of a rule before its own
+-- the instances that stand before a rule's own in its group
 unfoldable pub joins : Draft → Rule → List Instance
 joins draft rule = if rule.is_joined then elim draft.group [ None ↦ [] | Some group ↦ group.instances ] else []
 
--- the draft that the rule's group stands after
+-- the draft before the rule's group
 unfoldable pub before : Draft → Rule → Draft
 before draft rule = if rule.is_joined then draft else settled draft
 
@@ -104,7 +104,7 @@ abbrev pub parsed_added : GameParts → Draft → Option Rule → Result Draft R
 parsed_added game draft None = Err fault.BadRule
 parsed_added game draft (Some rule) = rule_added game draft rule
 
--- a loop line: the next loop line below one that begins a loop ends it; above one that ends it a loop has begun
+-- a loop line. If it begins a loop, the next loop line below ends that; if it ends a loop, one was begun above
 unfoldable pub loop_added : Draft → List RuleLine → LoopWord → Result Draft RuleFault
 loop_added draft below loop_words.Start = if is_end (next_loop below) then Ok (opened draft) else Err fault.BadRule
 loop_added draft below loop_words.End = if is_some draft.repeated then Ok (closed draft) else Err fault.BadRule
@@ -121,11 +121,11 @@ abbrev pub going_on : ℕ → (Draft → Result Program SourceFault) → Result 
 going_on number later (Ok draft) = later draft
 going_on number later (Err fault) = Err (record { code = code_of fault; line = number })
 
--- the program of what is done where no line is left
+-- the program of a draft after the last line
 unfoldable pub finished : Draft → Program
 finished draft = let done = (settled draft).done in record { early = done.early; late = done.late }
 
--- the program of lines, of which a draft stands above; or the first fault of the first line that has one
+-- the program of lines that stand below a draft, or the first fault of the first line that has one
 unfoldable pub program_from : GameParts → Draft → List RuleLine → Result Program SourceFault
 program_from game draft [] = Ok (finished draft)
 program_from game draft (line ∷ lines) = going_on line.number (λ d. program_from game d lines) (line_added game draft lines line.words)

@@ -14,12 +14,12 @@ use Rattle.pz_rules.specs.Counting.{pair_count}
 use Rattle.pz_rules.specs.Instances.{instances_of}
 use Rattle.pz_plan.specs.Planning.{plan_of}
 
--- the instances that are kept, where the right of none has a clash
+-- the kept instances, if the right of none has a clash
 unfoldable pub unless_clash : ℕ → List Instance → Result Expansion RuleFault
 unless_clash total instances =
     if list_any has_clash instances then Err fault.RightClash else Ok (record { instances = instances; pairs = total })
 
--- the instances of a plan, where all rules up to it have no more pairs than rules may have
+-- the instances of a plan, if all rules up to it have no more pairs than rules may have
 unfoldable pub expansion_within : List Denotation → List ℕ → ℕ → Plan → Result Expansion RuleFault
 expansion_within table layers total plan =
     if nat_lt PAIRS total then Err fault.TooManyRules else unless_clash total (instances_of table layers plan)
@@ -28,6 +28,6 @@ abbrev pub expanded_plan : List Denotation → List ℕ → ℕ → Result Plan 
 expanded_plan table layers pairs (Err fault) = Err fault
 expanded_plan table layers pairs (Ok plan) = expansion_within table layers (pairs + pair_count table plan) plan
 
--- the instances of a rule, late or not, where the rules above it have so many pairs
+-- the instances of a rule, late or not; the rules above it have so many pairs
 unfoldable pub expanded : List Denotation → List ℕ → ℕ → Bool → Rule → Result Expansion RuleFault
 expanded table layers pairs is_late rule = expanded_plan table layers pairs (plan_of table is_late rule)

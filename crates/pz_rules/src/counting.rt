@@ -57,7 +57,7 @@ fn product_within(start: u64, table: &[Denotation], choices: &[Choice], limit: u
     if count > limit { None } else { Some(count) }
 }
 
-/// The product of the start and the sizes, if it is at most the limit, also where a choice is empty.
+/// The product of the start and the sizes, if it is at most the limit, even if a choice is empty.
 fn pairs_within(table: &[Denotation], start: u64, choices: &[Choice], limit: u64) -> Option<u64>
     ensures { SomeIff result (start * product_of (map (size_of table.now) choices.now) ≤ limit) (start * product_of (map (size_of table.now) choices.now)) }
 {

@@ -32,7 +32,7 @@ pub struct OpenGroup {
     pub instances: Listed<Instance>,
 }
 
-/// The blocks that are done, the groups of the loop that is open, and the last group.
+/// The finished blocks, the groups of the open loop, and the last group.
 pub struct Draft {
     pub done: Sides<Block>,
     pub repeated: Option<Sides<Group>>,
@@ -40,7 +40,7 @@ pub struct Draft {
     pub pairs: u64,
 }
 
-// (written out, so that to drop a draft is one call wherever it is dropped)
+// (written out, so that dropping a draft is a single call everywhere)
 impl Drop for Draft {
     fn drop(self) {
         let Draft {
@@ -53,7 +53,7 @@ impl Drop for Draft {
 }
 
 impl Draft {
-    /// The blocks that are done.
+    /// The finished blocks.
     pub fn into_done(self) -> Sides<Block>
         ensures { result ≡ self.done }
     {
@@ -67,7 +67,7 @@ impl Draft {
     }
 }
 
-/// Cuts a group into segments, and puts it in its place: in the loop that is open, else as a block of its own.
+/// Cuts a group into segments, and puts it in its place: into the open loop, or else as a block of its own.
 #[tactic(auto, unfolding(crate::specs::Drafts::placed))]
 fn place(draft: &mut Draft, group: OpenGroup) -> Result<(), AllocError>
     requires { draft.now.group ≡ None }
@@ -93,7 +93,7 @@ fn settle(draft: &mut Draft) -> Result<(), AllocError>
     }
 }
 
-/// The draft where no rule can join the last group any more.
+/// The draft once no rule can join the last group any more.
 pub fn settled(mut draft: Draft) -> Result<Draft, AllocError>
     ensures draft { IfOk result (λ out. out ≡ settled draft) }
     ensures group { IfOk result (λ out. out.group ≡ None) }
@@ -113,7 +113,7 @@ fn open(alloc: Global, draft: &mut Draft) -> Result<(), RuleFault>
     Ok(())
 }
 
-/// Adds the block of a part of a loop, where it has groups.
+/// Adds the block of a part of a loop, if it has groups.
 fn add_part(blocks: &mut Growing<Block>, groups: Growing<Group>) -> Result<(), AllocError>
     ensures { OnOk result (blocks.new ≡ blocks.old ++ loop_of groups) }
 {
@@ -133,7 +133,7 @@ fn add_loop(done: &mut Sides<Block>, groups: Sides<Group>) -> Result<(), AllocEr
     add_part(&mut done.late, late)
 }
 
-/// Ends the loop that is open.
+/// Ends the open loop.
 #[tactic(auto, unfolding(crate::specs::Drafts::closed))]
 fn close(draft: &mut Draft) -> Result<(), RuleFault>
     ensures draft { OnOk result (draft.new ≡ closed draft.old) }
@@ -146,7 +146,7 @@ fn close(draft: &mut Draft) -> Result<(), RuleFault>
     }
 }
 
-/// Whether a rule joins a group that it can't join.
+/// Whether a rule asks to join a group but can't.
 #[tactic(auto, unfolding(crate::specs::Drafts::is_misplaced))]
 fn is_misplaced(draft: &Draft, rule: &Rule) -> bool
     ensures { result ≡ is_misplaced draft.now rule.now }
@@ -158,7 +158,7 @@ fn is_misplaced(draft: &Draft, rule: &Rule) -> bool
         }
 }
 
-/// Whether a rule is late: one that joins a group is as its group.
+/// Whether a rule is late. A rule that joins a group is late if the group is.
 #[tactic(auto, unfolding(crate::specs::Drafts::lateness))]
 fn lateness(draft: &Draft, rule: &Rule) -> bool
     ensures { result ≡ lateness draft.now rule.now }

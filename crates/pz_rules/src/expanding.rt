@@ -16,7 +16,7 @@ use pz_plan::fault::RuleFault;
 use pz_program::instance::Program;
 use std::alloc::{AllocError, Global};
 
-/// The refusal of a source one of whose rule lines has a fault. Want of memory is no line's.
+/// The refusal of a source for a fault of a rule line. Want of memory belongs to no line.
 fn refusal(fault: RuleFault, line: u32) -> SourceFault
     ensures named { result.code ≢ Memory → fault ≢ rule_faults.Memory }
     ensures at { result.code ≢ Memory → result ≡ record { code = code_of fault; line = line } }
@@ -47,7 +47,7 @@ fn nothing(alloc: Global) -> Draft
     }
 }
 
-/// The program of what is done where no line is left.
+/// The program of a draft after the last line.
 #[tactic(auto, unfolding(crate::specs::Drafts::finished))]
 fn finished(draft: Draft) -> Result<Program, AllocError>
     ensures { IfOk result (λ program. program ≡ finished draft) }
@@ -79,8 +79,8 @@ fn read_program(alloc: Global, game: &Game) -> Result<Program, SourceFault>
     Ok(finished(draft)?)
 }
 
-/// The program of a game, or its first fault: the first check that names a rule line, of the first line that it names. Memory,
-/// with line 0, may come in place of either.
+/// The program of a game, or its first fault: the first fault of the first rule line that has one. `Memory`, with line 0, may
+/// come in place of either.
 pub fn expand(alloc: Global, game: &Game) -> Result<Program, SourceFault>
     ensures program { IfOk result (λ program. program_of game.now ≡ Ok program) }
     ensures owned { IfOk result (λ program. IsProgramOf game.now.layers program) }

@@ -23,7 +23,7 @@ use pz_program::instance::Instance;
 /// How many pairs of a direction and a list of picks all rules of a game may have together.
 pub const PAIRS: u64 = 65_536;
 
-/// The limit as a number: a promise, which the constant can't change by itself.
+/// Promises the limit as a number, so that changing the constant alone breaks a proof.
 pub fn pairs_are_limited()
     ensures { PAIRS ≡ 65_536 }
 {}
@@ -35,7 +35,7 @@ pub struct Expansion {
     pub pairs: u64,
 }
 
-/// How many pairs there are with those of a plan, if no more than are allowed.
+/// How many pairs there are with those of a plan, if that is allowed.
 fn total_within(table: &[Denotation], pairs: u64, plan: &Plan) -> Option<u64>
     ensures { SomeIff result (pairs + pair_count table.now plan.now ≤ PAIRS) (pairs + pair_count table.now plan.now) }
 {
@@ -44,7 +44,7 @@ fn total_within(table: &[Denotation], pairs: u64, plan: &Plan) -> Option<u64>
     if total > PAIRS { None } else { Some(total) }
 }
 
-/// The instances that are kept, where the right of none has a clash.
+/// The kept instances, if the right of none has a clash.
 #[tactic(auto, unfolding(crate::specs::Expansion::unless_clash))]
 fn unless_clash(total: u64, instances: Vec<Instance>) -> Result<Expansion, RuleFault>
     ensures { result ≡ unless_clash total instances.items }
@@ -58,7 +58,7 @@ fn unless_clash(total: u64, instances: Vec<Instance>) -> Result<Expansion, RuleF
     })
 }
 
-/// The instances of a plan, where all rules up to it have no more pairs than are allowed.
+/// The instances of a plan, if all rules up to it have no more pairs than are allowed.
 #[tactic(auto, unfolding(crate::specs::Expansion::expansion_within))]
 fn expansion_within(
     patterns: &mut Patterns,
@@ -78,7 +78,7 @@ fn expansion_within(
     unless_clash(total, instances_of(patterns, table, layers, plan)?)
 }
 
-/// The instances of a rule, late or not, where the rules above it have so many pairs; or its first fault.
+/// The instances of a rule, late or not, or its first fault. The rules above it have so many pairs.
 #[tactic(auto, unfolding(crate::specs::Expansion::expanded))]
 pub fn expanded(
     patterns: &mut Patterns,

@@ -226,7 +226,7 @@ fn scan_of(plan: &Plan, direction: Dir) -> Dir
     }
 }
 
-/// Adds the instance of these picks, unless it is impossible or there already. The right of one that no level can be like isn't made.
+/// Adds the instance of these picks, unless it is impossible or already there. The right of an impossible instance isn't made.
 #[tactic(auto, unfolding(crate::specs::Instances::considered, crate::specs::Instances::instance_of, crate::specs::Instances::is_possible))]
 fn consider(
     patterns: &mut Patterns,

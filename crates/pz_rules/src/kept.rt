@@ -12,7 +12,7 @@ use std::alloc::{AllocError, Global};
 use std::hash::{Hash, Hasher};
 use std::marker::Model;
 
-/// An instance of a rule, which equals others of that rule.
+/// An instance of a rule, as it is compared with others of that rule.
 #[derive(Drop)]
 struct Form {
     instance: Instance,
@@ -104,7 +104,7 @@ impl Kept {
         Ok(instances)
     }
 
-    /// Adds an instance, unless one is there already that equals it.
+    /// Adds an instance, unless an equal one is already there.
     pub fn add(&mut self, instance: Instance) -> Result<(), AllocError>
         ensures { OnOk result (self.new ≡ added same_instance self.old instance) }
     {

@@ -10,7 +10,7 @@ use std::mem::replace;
 /// How many drawers there are: a pattern is looked for in one of them only.
 const DRAWERS: u64 = 1_024;
 
-/// How many patterns a drawer keeps. What else falls into it is made each time.
+/// How many patterns a drawer keeps. Any other that falls into it is made each time.
 const ROOM: usize = 8;
 
 /// The number of the drawer in which a pattern of these items is looked for.
@@ -28,7 +28,7 @@ fn has_items(pattern: &Pattern, items: &[Item]) -> bool
     pattern.items() == items
 }
 
-/// The first patterns whose items give one number.
+/// The first patterns that fall into one drawer.
 #[derive(Drop)]
 struct Drawer {
     patterns: Vec<Pattern>,
@@ -62,8 +62,8 @@ impl Drawer {
     }
 }
 
-/// A table of patterns that were made. What it holds saves memory and decides nothing: a pattern is compared before it is shared.
-/// The room of items whose pattern was there already is kept for the next ones.
+/// A table of the patterns that were made. It saves memory and decides nothing: a pattern is compared before it is shared. If the
+/// pattern was already there, the room of its items is kept for the next ones.
 #[derive(Drop)]
 pub struct Patterns {
     alloc: Global,
@@ -117,7 +117,7 @@ impl Patterns {
         Ok(pattern)
     }
 
-    /// The pattern of these items, which shares its contents with an equal one that is kept.
+    /// The pattern of these items. It shares its contents with an equal one, if one is kept.
     pub fn pattern_of(&mut self, items: Vec<Item>) -> Result<Pattern, AllocError>
         ensures { IfOk result (λ pattern. pattern ≡ items.items) }
     {

@@ -13,13 +13,13 @@ use Rattle.pz_console.specs.declared.failure.Failure.TheVariants.{Memory, BadLin
 abbrev pub IsFresh : {F : Type 0} → (F → Option (List ℕ)) → Reads → Type 0
 IsFresh {F = F} remaining reads = (file : F) × (reads ≡ record { remaining = remaining file; calls = 0; has_failed = false })
 
--- who reads the sessions: the input's reader where the words name no FILE, and else the reader of a file, not called before
+-- who reads the sessions: the input's reader if the words name no FILE, and else the reader of a file, not called before
 abbrev pub IsReader : {F : Type 0} → (F → Option (List ℕ)) → Chosen → Reads → Reads → Reads → Reads → Type 0
 IsReader remaining chosen input input_after before after =
     (IsNone chosen.file × (before ≡ input) × (after ≡ input_after))
     ⊎ (IsSome chosen.file × IsFresh remaining before)
 
--- the sessions are those of the input where the words name no FILE, and else those of a file that was opened
+-- the sessions are those of the input if the words name no FILE, and else those of a file that was opened
 pub record ServesChosen {F : Type 0} (remaining : F → Option (List ℕ)) (words : List Text) (input input_after : Reads) (old new : Writes) (end : Result Bool Failure) : Type 0 where
   pub chosen : Chosen
   pub said : options_of words ≡ Some chosen
@@ -35,7 +35,7 @@ pub record NamesFile (words : List Text) : Type 0 where
   pub said : options_of words ≡ Some chosen
   pub named : IsSome chosen.file
 
--- what a run over these words leaves in its output, where it ends so
+-- what a run over these words leaves in its output, if it ends so
 abbrev pub Obeys : {F : Type 0} → (F → Option (List ℕ)) → List Text → Reads → Reads → Writes → Writes → Result Bool Failure → Type 0
 Obeys remaining words input input_after old new (Err Memory) = new ≡ old
 Obeys remaining words input input_after old new (Err BadLine) = (new ≡ old) × (options_of words ≡ None)

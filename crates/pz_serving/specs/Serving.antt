@@ -17,26 +17,26 @@ use Rattle.pz_console.specs.declared.failure.Failure.TheVariants as failure
 use Rattle.pz_console.specs.Failures.{IsReported, failure_line}
 use Rattle.pz_console.specs.Reading.{Reads}
 
--- all lines went out, and whether every session passed is told
+-- all lines went out, and the answer tells whether every session passed
 pub record WritesAll (order : Order) (bytes : List ℕ) (passed : Bool) (old new : Writes) : Type 0 where
   pub entries : List Entry
   pub read : sessions_in bytes ≡ Ok entries
   pub told : passed ≡ all_passed (shown_of order entries)
   pub written : HasWritten (text_of (shown_of order entries)) old new
 
--- of the lines, as many first bytes went out as the fault tells
+-- as many first bytes of the lines went out as the fault tells
 pub record WritesPart (order : Order) (bytes : List ℕ) (cut : WriteFault) (old new : Writes) : Type 0 where
   pub entries : List Entry
   pub read : sessions_in bytes ≡ Ok entries
   pub ended : EndsFor cut (text_of (shown_of order entries)) old new
 
--- these are the bytes of the input, where its bytes are known
+-- these are the bytes of the input, if its bytes are known
 abbrev pub AreOf : Option (List ℕ) → List ℕ → Type 0
 AreOf input bytes = IfSome input (λ all. bytes ≡ all)
 
--- what a run over this input leaves in its output, where it ends so: nothing but for sessions that were read and replayed. The
--- file's fault, the lines and whether all passed are those of one list of bytes, also where nobody knows the input's bytes before.
--- The command line and the opening of FILE come before it. A lane can be lost only where the entries of the file were read
+-- what a run over this input leaves in its output, if it ends so: nothing, unless sessions were read and replayed. The file's
+-- fault, the lines and whether all passed are those of one list of bytes, even if nobody knows the input's bytes before. The
+-- command line and the opening of FILE come before it. A lane can be lost only if the entries of the file were read
 abbrev pub Serves : Order → Option (List ℕ) → Writes → Writes → Result Bool Failure → Type 0
 Serves order input old new (Ok passed) = (bytes : List ℕ) × AreOf input bytes × WritesAll order bytes passed old new
 Serves order input old new (Err (failure.WriteFault cut)) = (bytes : List ℕ) × AreOf input bytes × WritesPart order bytes cut old new
@@ -46,7 +46,7 @@ Serves order input old new (Err failure.BadLine) = ⊥
 Serves order input old new (Err failure.OpenFault) = ⊥
 Serves order input old new (Err other) = new ≡ old
 
--- a run ends with a failed read exactly where a call of the reader answered an error; the calls are bounded
+-- a run ends with a failed read exactly if a call of the reader answered an error; the calls are bounded
 pub record ReadsFor (end : Result Bool Failure) (reads : Reads) : Type 0 where
   pub called : reads.calls ≤ MOST_BYTES + 1
   pub failed : (end ≡ Err failure.ReadFault) ↔ (reads.has_failed ≡ true)
@@ -59,7 +59,7 @@ is_want_of_memory _ = false
 abbrev pub failure_at : ErrorKind → Failure
 failure_at kind = if is_want_of_memory kind then failure.Memory else failure.OpenFault
 
--- what a run over FILE leaves in its output: where FILE was opened, what a run over its bytes leaves, and else nothing
+-- what a run over FILE leaves in its output: what a run over its bytes leaves if FILE was opened, and else nothing
 abbrev pub ServesOpened : Order → Result Reads Error → Result Reads Error → Writes → Writes → Result Bool Failure → Type 0
 ServesOpened order (Ok before) (Ok after) old new end = ReadsFor end after × Serves order before.remaining old new end
 ServesOpened order (Err error) (Err same) old new end = (new ≡ old) × (end ≡ Err (failure_at (error_kind error)))

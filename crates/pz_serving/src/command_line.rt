@@ -27,9 +27,9 @@ fn open<R: Files>(rt: &R, name: &str) -> io::Result<Counted<R::File>>
     }
 }
 
-/// Serves what the words of a command line choose, the program's name before them: the sessions of FILE where they name one, else those of
-/// the input, which is not read where FILE is named. Answers the exit status; at 2 one line says why there is no whole recording. The input's
-/// reader, or FILE's, is called at most 16,777,217 times.
+/// Serves what the words of a command line choose, the program's name before them: the sessions of FILE if they name one, and
+/// else those of the input. The input is not read if FILE is named. Answers the exit status; at 2 one line says why there is no
+/// whole recording. The input's reader, or FILE's, is called at most 16,777,217 times.
 pub fn serve_words<T: Files + Threads + Wait + Sync + AllocGlobal, R: Read, W: Write, E: Write>(
     rt: &T,
     words: &[String],

@@ -39,7 +39,7 @@ fn failure_of(fault: ReplayFault) -> Failure
     }
 }
 
-/// What the sessions of the entries show, which the workers play.
+/// What the sessions of the entries show when the workers play them.
 fn record<T: Threads + Wait + Sync>(
     rt: &T,
     alloc: Global,
@@ -91,10 +91,11 @@ fn run<T: Threads + Wait + Sync, R: Read, W: Write>(
     }
 }
 
-/// Reads a file of sessions to its end, replays them on as many threads as there are workers, writes the lines of their recording,
-/// and answers the exit status: 0 where every session passed, 1 where some didn't, 2 where there is no whole recording. In that case
-/// one line says why, and nothing is written to the output but, where the writing itself failed, the first bytes of the recording.
-/// The reader was not called yet, and is called at most 16,777,217 times. A failed read is the end exactly where a call of it answered an error.
+/// Reads a file of sessions to its end, replays them on as many threads as there are workers, writes the lines of their
+/// recording, and answers the exit status: 0 if every session passed, 1 if some didn't, 2 if there is no whole recording. At 2
+/// one line says why, and nothing is written to the output. Only if the writing itself failed does the output have the first
+/// bytes of the recording. The reader was not called yet, and is called at most 16,777,217 times. The run ends with a failed read
+/// exactly if a call of the reader answered an error.
 pub fn serve<T: Threads + Wait + Sync, R: Read, W: Write, E: Write>(
     rt: &T,
     alloc: Global,
@@ -128,8 +129,8 @@ fn failure_at(error: &io::Error) -> Failure
     }
 }
 
-/// Serves a file of sessions that was opened, and not read yet, as `serve` does. Where it was not opened nothing is written to the output, and
-/// one line says why: want of memory, or that it can't be opened.
+/// Serves a file of sessions that was opened, and not read yet, as `serve` does. If it was not opened, nothing is written to the
+/// output, and one line says why: want of memory, or that it can't be opened.
 pub fn serve_opened<T: Threads + Wait + Sync, R: Read, W: Write, E: Write>(
     rt: &T,
     alloc: Global,

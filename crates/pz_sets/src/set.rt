@@ -10,8 +10,8 @@ use std::marker::Model;
 /// The numbers of a set are below this one.
 pub const CAPACITY: usize = 512;
 
-/// A set of numbers: four words of 128 bits, the least numbers first. Contracts see it as the list of these words, and read it by `member`
-/// alone.
+/// A set of numbers: four words of 128 bits, the least numbers first. Contracts see it as the list of these words, and read it
+/// only by `member`.
 #[derive(Clone, Copy, PartialEq, Eq, Hash, Debug)]
 pub struct NumberSet {
     words: [u128; 4],

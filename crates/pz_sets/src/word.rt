@@ -63,18 +63,19 @@ pub fn is_empty(word: u128) -> bool
     word == 0
 }
 
-/// The bits that one word alone of two has.
+/// The bits that exactly one of two words has.
 pub fn differing(word: u128, other: u128) -> u128
     ensures { (bit : ℕ) → in_word result bit ≡ (if in_word word bit then not (in_word other bit) else in_word other bit) }
 {
     word ^ other
 }
 
-/// Whether a word has each bit of a second, and none of a third: a bit that it has must not be unwanted, one that it lacks not wanted.
+/// Whether a word has each bit of a second and none of a third: no bit that it has is unwanted, and no bit that it lacks is
+/// wanted.
 pub fn meets(word: u128, wanted: u128, unwanted: u128) -> bool
     ensures { IsTrue result ↔ (((bit : ℕ) → bit < 128 → in_word wanted bit ≡ true → in_word word bit ≡ true) × ((bit : ℕ) → bit < 128 → in_word unwanted bit ≡ true → in_word word bit ≡ false)) }
 {
-    // (picks of each bit the one of the two that must be 0; written so that a loop computes `apart` once)
+    // (picks for each bit which of the two must be 0; written so that a loop computes `apart` once)
     let apart = differing(wanted, unwanted);
     let picked = common(word, apart);
     is_empty(differing(wanted, picked))
@@ -86,7 +87,7 @@ pub fn same(word: u128, other: u128) -> bool
     word == other
 }
 
-/// Whether two words are the same, and two others too: one test of all four.
+/// Whether two words are the same and two others are the same, in one test of all four.
 pub fn both_same(word: u128, other: u128, second: u128, second_other: u128) -> bool
     ensures { IsTrue result ↔ (((bit : ℕ) → bit < 128 → in_word word bit ≡ in_word other bit) × ((bit : ℕ) → bit < 128 → in_word second bit ≡ in_word second_other bit)) }
 {

@@ -6,7 +6,7 @@ ghost use Rattle.pz_sets.specs.declared.set.TheConstants.{CAPACITY};
 
 use crate::word;
 
-/// The word of a number, 0 where the slice has none.
+/// The word of a number, or 0 if the slice has none.
 pub(crate) fn word_at(words: &[u128], index: usize) -> u128
     ensures { result ≡ slice_index words.now index }
 {
@@ -73,7 +73,7 @@ pub fn is_empty(words: &[u128]) -> bool
     true
 }
 
-/// Whether a set has each number of a second and none of a third, which have no number beyond the words of the first.
+/// Whether a set has each number of a second and none of a third. Neither of these has a number beyond the words of the first.
 pub fn meets(words: &[u128], wanted: &[u128], unwanted: &[u128]) -> bool
     requires wanted { (number : ℕ) → member wanted.now number ≡ true → number / 128 < length words.now }
     requires unwanted { (number : ℕ) → member unwanted.now number ≡ true → number / 128 < length words.now }
@@ -102,7 +102,8 @@ pub fn same(words: &[u128], others: &[u128]) -> bool
     true
 }
 
-/// Whether two sets have the same numbers, and two others too, all in as many words: they are looked at side by side.
+/// Whether two sets have the same numbers and two others have the same numbers. All four have as many words, and are read side by
+/// side.
 pub fn both_same(words: &[u128], others: &[u128], second: &[u128], second_others: &[u128]) -> bool
     requires others { length others.now ≡ length words.now }
     requires second { length second.now ≡ length words.now }
@@ -166,7 +167,7 @@ pub fn first_common(words: &[u128], others: &[u128]) -> Option<usize>
     None
 }
 
-/// Takes numbers of one word away and adds others, and says whether that gave another set.
+/// Takes numbers of one word away, adds others, and says whether the set changed.
 fn replace_word(words: &mut [u128], index: usize, removed: u128, added: u128) -> bool
     requires within { index < length words.old }
     ensures others { (number : ℕ) → number / 128 ≢ index → member words.new number ≡ member words.old number }
@@ -180,7 +181,7 @@ fn replace_word(words: &mut [u128], index: usize, removed: u128, added: u128) ->
     !word::same(new, old)
 }
 
-/// Takes numbers away and adds others, and says whether that gave another set.
+/// Takes numbers away, adds others, and says whether the set changed.
 pub fn replace(words: &mut [u128], removed: &[u128], added: &[u128]) -> bool
     requires { (number : ℕ) → member added.now number ≡ true → number / 128 < length words.old }
     ensures members { (number : ℕ) → member words.new number ≡ ((member words.old number && not (member removed.now number)) || member added.now number) }
