@@ -25,8 +25,8 @@ def section(source, heading):
 
 
 class Documents(unittest.TestCase):
-    def test_nine_examples_are_there(self):
-        self.assertEqual(len(list(examples())), 9)
+    def test_ten_examples_are_there(self):
+        self.assertEqual(len(list(examples())), 10)
 
     def test_rules_levels_and_inputs_are_those_of_the_case(self):
         for name, lines in examples():
