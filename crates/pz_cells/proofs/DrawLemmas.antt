@@ -1,6 +1,6 @@
 -- Cells that are drawn and filled.
-use Rattle.std.proofs.Common.{◌≡◌, ℕ, ◌+◌, ◌<◌, List, [], ◌∷◌, ◌++◌, map, take, Option, Some, None, Bool, true, false, set, length, get_or, ap, sym, ◌∙◌, subst}
-use Rattle.std.specs.Prelude.{unwrap_or, replicate}
+use Rattle.std.proofs.Common.{◌≡◌, ℕ, ◌+◌, ◌<◌, List, [], ◌∷◌, ◌++◌, map, take, Option, None, Bool, true, false, length, get_or, ap, sym, ◌∙◌, subst}
+use Rattle.std.specs.Prelude.{replicate}
 use Rattle.std.proofs.Common.{arith}
 use Rattle.std.proofs.lemmas.Grind.{common_steps}
 use Rattle.std.specs.List.{All}
@@ -11,11 +11,8 @@ use Rattle.pz_game.specs.Headings.{heads, flag}
 use Rattle.pz_cells.specs.declared.cell.Cell.{Cell}
 use Rattle.pz_cells.specs.declared.piece.Piece.{Piece}
 use Rattle.pz_cells.specs.Cell.{empty_cell}
-use Rattle.pz_cells.specs.Shown.{place_of, cell_of, Shows, AreLawful, Changes}
-use Rattle.pz_cells.proofs.HoldLemmas.{place_seen}
+use Rattle.pz_cells.specs.Shown.{cell_of, Shows, AreLawful}
 use Rattle.pz_cells.proofs.ShowLemmas.{lawful_from_shows, cell_from_shows}
-use Rattle.pz_cells.proofs.PlaceLemmas.{cell_changed}
-use Rattle.pz_cells.specs.Drawing.{filled_cell}
 use Rattle.pz_cells.specs.Layering.{Layering}
 use Rattle.pz_cells.specs.Lists.{seen, IsSound}
 

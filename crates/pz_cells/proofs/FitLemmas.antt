@@ -42,16 +42,12 @@ pub record FitWords (masks : Masks) (count : ℕ) : Type 0 where
   pub forbidden : (number : ℕ) → member masks.forbidden number ≡ true → number / 128 < count
 
 pub masks_fit : (depth : ℕ) (layers : List ℕ) (items : List Item) (masks : Masks) (count : ℕ) → AreMasksOf items masks → All (λ layer. layer < depth) layers → AreOf layers items → length layers ≤ 128 * count → depth ≤ 25 * count → FitWords masks count
-masks_fit depth layers items masks count m low are room movement_room = record {
-  present = λ object here. (let in_game = asked_by (λ (n : ℕ). n < length layers) (λ item. names item.word) (λ item. item.object) items object of_game (sym (m.present object) ∙ here) in omega (arith, in_game, room));
-  absent = λ object here. (let in_game = asked_by (λ (n : ℕ). n < length layers) (λ item. not (names item.word)) (λ item. item.object) items object of_game (sym (m.absent object) ∙ here) in omega (arith, in_game, room));
-  required = directions_fit masks.required depth count (λ layer dir. asks_toward layer dir items) m.proper_required m.required (λ layer dir e. asked_by (λ (n : ℕ). n < depth) (λ item. is_toward (toward true item.word) dir) (λ item. item.layer) items layer on_layers e) movement_room;
-  forbidden = directions_fit masks.forbidden depth count (λ layer dir. asks_still layer items) m.proper_forbidden m.forbidden (λ layer dir e. asked_by (λ (n : ℕ). n < depth) (λ item. is_still item.word) (λ item. item.layer) items layer on_layers e) movement_room;
-} where
-  of_game : All (λ item. item.object < length layers) items
-  of_game k d within = (are k d within).object
-
-  on_layers : All (λ item. item.layer < depth) items
-  on_layers k d within =
-      let is = are k d within in
-      subst (λ (layer : ℕ). layer < depth) is.layer (low (get_or items k d).object 0 is.object)
+masks_fit depth layers items masks count m low are room movement_room =
+    let of_game : All (λ item. item.object < length layers) items = λ k d within. (are k d within).object in
+    let on_layers : All (λ item. item.layer < depth) items = λ k d within. subst (λ (layer : ℕ). layer < depth) (are k d within).layer (low (get_or items k d).object 0 (are k d within).object) in
+    record {
+      present = λ object here. (let in_game = asked_by (λ (n : ℕ). n < length layers) (λ item. names item.word) (λ item. item.object) items object of_game (sym (m.present object) ∙ here) in omega (arith, in_game, room));
+      absent = λ object here. (let in_game = asked_by (λ (n : ℕ). n < length layers) (λ item. not (names item.word)) (λ item. item.object) items object of_game (sym (m.absent object) ∙ here) in omega (arith, in_game, room));
+      required = directions_fit masks.required depth count (λ layer dir. asks_toward layer dir items) m.proper_required m.required (λ layer dir e. asked_by (λ (n : ℕ). n < depth) (λ item. is_toward (toward true item.word) dir) (λ item. item.layer) items layer on_layers e) movement_room;
+      forbidden = directions_fit masks.forbidden depth count (λ layer dir. asks_still layer items) m.proper_forbidden m.forbidden (λ layer dir e. asked_by (λ (n : ℕ). n < depth) (λ item. is_still item.word) (λ item. item.layer) items layer on_layers e) movement_room;
+    }

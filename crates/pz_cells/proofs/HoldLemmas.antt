@@ -46,9 +46,6 @@ standing_by there heading = cond there (Some heading) None
 
 pub standing_seen : (depth : ℕ) (layers objects movement : List ℕ) (object : ℕ) → All (λ layer. layer < depth) layers → AreLawful layers objects movement → standing (cell_of depth layers objects movement) object ≡ standing_by (member objects object) (heading_in movement (get_or layers object 0))
 standing_seen depth layers objects movement object low lawful = by_member (member objects object) refl where
-  cell : List (Option Piece)
-  cell = cell_of depth layers objects movement
-
   all : OnItsLayer layers (cell_of depth layers objects movement)
   all = on_its_layer depth layers objects movement lawful
 

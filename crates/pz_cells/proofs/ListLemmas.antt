@@ -1,8 +1,8 @@
 -- Lists of cells in words, changed one by one.
-use Rattle.std.proofs.Common.{inl, inr, zero, suc, ◌^◌, get_or-set_same, get_or-set_other, ◌≡◌, ℕ, ◌+◌, ◌*◌, ◌<◌, ◌≤◌, List, [], ◌∷◌, ◌++◌, Option, Some, None, Bool, true, false, map, set, take, drop, length, get_or, ap, sym, ◌∙◌, refl, subst, arith, length-append, length-drop, length-take}
+use Rattle.std.proofs.Common.{inl, inr, zero, suc, ◌^◌, get_or-set_same, get_or-set_other, ◌≡◌, ℕ, ◌+◌, ◌*◌, ◌<◌, ◌≤◌, List, [], ◌++◌, Option, Some, None, Bool, true, false, map, set, take, drop, length, get_or, ap, sym, ◌∙◌, refl, subst, arith, length-append, length-drop, length-take}
 use Rattle.std.proofs.lemmas.Bool.{cases_eq}
 use prog.Memory.{up}
-use Rattle.std.proofs.lemmas.List.{get_or_default, length-map, get_or-map, map-set, take_all, drop_all}
+use Rattle.std.proofs.lemmas.List.{append-nil, get_or_default, length-map, get_or-map, map-set, take_all, drop_all}
 use Rattle.std.proofs.lemmas.List.Edits.{map_over_more}
 use Rattle.std.proofs.lemmas.List.Elements.{All-set}
 use Rattle.std.specs.List.{All}
@@ -86,17 +86,13 @@ mapped_more layering f old now index cell new within m is sound e =
           ∙ map_over_more f xs ys index (seen layering cell) (omega (arith, within, mapped_long layering f old now index m, length-map old (seen layering))) m.cells here);
     }
 
-append_nothing : (xs : List (List (Option Piece))) → xs ++ [] ≡ xs
-append_nothing [] = refl
-append_nothing (x ∷ xs) = ap (λ (ys : List (List (Option Piece))). x ∷ ys) (append_nothing xs)
-
 pub mapped_all : {N : ℕ} (layering : Layering) (f : List (Option Piece) → List (Option Piece)) (old now : List (Cell N)) (index : ℕ) → length old ≤ index → IsMappedTo layering f old now index → AreMapped layering f old now
 mapped_all layering f old now index past m =
     let xs = map (seen layering) old in
     let long : length xs ≤ index = omega (arith, past, length-map old (seen layering)) in
     record {
       sound = m.sound;
-      cells = m.cells ∙ (ap (λ (ys : List (List (Option Piece))). map f (take index xs) ++ ys) (drop_all index xs long) ∙ (append_nothing (map f (take index xs)) ∙ ap (map f) (take_all index xs long)));
+      cells = m.cells ∙ (ap (λ (ys : List (List (Option Piece))). map f (take index xs) ++ ys) (drop_all index xs long) ∙ (append-nil (map f (take index xs)) ∙ ap (map f) (take_all index xs long)));
     }
 
 -- one more cell heads nowhere

@@ -65,15 +65,13 @@ changes_lifted layers objects movement objects_new movement_new layer object law
   of_game = λ other new. lawful.of_game other (and_parts _ _ (sym (objects_are other) ∙ new)).1;
   here = (
     λ other new at. (let parts = and_parts (not (nat_eq other object)) (member objects other) (sym (objects_are other) ∙ new) in
-        let same : other ≡ object = only other parts.1 at in
+        let same : other ≡ object = one_object layers objects movement layer other object lawful parts.1 at here on in
         let e : false ≡ true = sym (ap not (eq-eqb other object same)) ∙ parts.0 in cc),
     λ dir. movement_is layer dir ∙ ap (λ b. not b && heads movement layer dir) (eq-eqb layer layer refl),
   );
   same_objects = λ other apart. objects_are other ∙ ap (λ b. not b && member objects other) (ne_eqb other object (λ e. apart (ap (λ (k : ℕ). get_or layers k 0) e ∙ on)));
   same_movement = λ other dir apart. movement_is other dir ∙ ap (λ b. not b && heads movement other dir) (ne_eqb other layer apart);
-} where
-  only : (other : ℕ) → member objects other ≡ true → get_or layers other 0 ≡ layer → other ≡ object
-  only other there at = one_object layers objects movement layer other object lawful there at here on
+}
 
 -- a piece is put on its layer
 pub changes_landed : (layers objects movement objects_new movement_new : List ℕ) (layer : ℕ) (piece : Piece) → AreLawful layers objects movement → place_of layers objects movement layer ≡ None → piece.object < length layers → get_or layers piece.object 0 ≡ layer → ((other : ℕ) → member objects_new other ≡ (nat_eq other piece.object || member objects other)) → ((other : ℕ) (dir : Dir) → heads movement_new other dir ≡ ((nat_eq other layer && is_toward piece.heading dir) || heads movement other dir)) → IsProper movement_new → Changes layers objects movement objects_new movement_new layer (Some piece)

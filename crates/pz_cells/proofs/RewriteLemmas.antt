@@ -1,7 +1,7 @@
 -- What a rewriting does to the sets of a cell.
-use Rattle.std.proofs.Common.{◌≡◌, ◌≢◌, ◌⊎◌, nat_lt, inl, inr, ℕ, suc, ◌+◌, ◌*◌, ◌/◌, ◌%◌, ◌<◌, ◌≤◌, List, [], ◌∷◌, Option, Some, None, Bool, true, false, cond, not, ◌&&◌, ◌||◌, length, get_or, arith, ap, sym, ◌∙◌, refl, subst, nat_eq, eq-eqb}
+use Rattle.std.proofs.Common.{◌≡◌, ◌≢◌, ◌⊎◌, nat_lt, inl, inr, ℕ, suc, ◌+◌, ◌*◌, ◌/◌, ◌%◌, ◌<◌, ◌≤◌, List, [], ◌∷◌, Option, Some, None, Bool, true, false, cond, not, ◌&&◌, ◌||◌, length, get_or, arith, ap, sym, ◌∙◌, refl, subst, nat_eq}
 use Rattle.std.specs.Prelude.{All, find, is_some, ◌↔◌}
-use Rattle.std.proofs.lemmas.Bool.{cases_lt, cases_eq, ne_eqb, eqb-true, and_parts, or_cases, or_left, or_right, and_from}
+use Rattle.std.proofs.lemmas.Bool.{cases_lt, cases_eq, eqb-true, and_parts, or_cases, or_left, or_right, and_from}
 use Rattle.std.proofs.lemmas.List.FromFn.{get_or-map-range_with_len, length-map-range_with_len}
 use Rattle.pz_sets.specs.Sets.{member}
 use Rattle.pz_cells.specs.declared.piece.Piece.{Piece}
@@ -186,35 +186,31 @@ or_parts true b e = cc
 or_parts false b e = (refl, e)
 
 pub rewrites_from : (layers : List ℕ) (left right : List Item) (l r : Masks) (objects movement objects_new mid movement_new : List ℕ) → AreOf layers right → AreMasksOf left l → AreMasksOf right r → ((object : ℕ) → member objects object ≡ true → object < length layers) → AreRewritten layers l r objects movement objects_new mid movement_new → Rewrites layers left right (member objects) (heads movement) (member objects_new) (heads movement_new)
-rewrites_from layers left right l r objects movement objects_new mid movement_new are ml mr of_game w = record {
-  gives = λ object new. elim (or_cases (member objects object && not (gone_by layers l r object)) (member r.placed object) (sym (w.is_new object (w.of_game object new)) ∙ new)) [
-    | inl h ↦ (let here = (and_parts (member objects object) (not (gone_by layers l r object)) h).0 in
-        let none = or_parts (member r.layers (get_or layers object 0)) (member l.present object || member r.absent object) (not_no (member objects object) (gone_by layers l r object) h) in
-        inl (record { here = here; free = none_from (placed_on (get_or layers object 0) right) (sym (mr.layers (get_or layers object 0)) ∙ none.0); left_alone = sym (removable object) ∙ none.1 }))
-    | inr h ↦ (let p = mr.placed_only object h in
-        let is = placed_is layers p.0 right p.1 are p.2 in
-        let on : get_or layers object 0 ≡ p.0 = ap (λ (k : ℕ). get_or layers k 0) (sym p.3) ∙ is.1 in
-        inr (p.1, ap (λ (k : ℕ). placed_on k right) on ∙ p.2, p.3))
-  ];
-  keeps = λ object stays. w.is_new object (of_game object stays.here) ∙ or_left _ _ (not_yes (member objects object) (gone_by layers l r object) stays.here (ap (λ b. b || (member l.present object || member r.absent object)) (mr.layers (get_or layers object 0) ∙ ap is_some stays.free) ∙ removable object ∙ stays.left_alone));
-  puts = λ layer item e. w.is_new item.object (placed_is layers layer right item are e).0 ∙ or_right _ _ (mr.placed layer item e);
-  ended = λ object dir goes. w.ended object dir (leaves object goes);
-  others = λ layer dir none. w.others layer dir (λ object g on. none object (goes object g) on)
-      ∙ w.is_mid (flag layer dir)
-      ∙ ap (λ b. (heads movement layer dir && not (b || (heads l.told layer dir && heads r.covered layer dir))) || heads r.headed layer dir) (mr.settled layer dir)
-      ∙ ap (λ b. (heads movement layer dir && not (settles (placed_on layer right) || (b && heads r.covered layer dir))) || heads r.headed layer dir) (ml.told layer dir)
-      ∙ ap (λ b. (heads movement layer dir && not (settles (placed_on layer right) || (tells_of layer left && b))) || heads r.headed layer dir) (mr.covered layer dir)
-      ∙ ap (λ b. (heads movement layer dir && not b) || heads r.headed layer dir) (ends_by (tells_of layer left) (placed_on layer right))
-      ∙ ap (λ b. (heads movement layer dir && not (ends (tells_of layer left) (placed_on layer right))) || b) (mr.headed layer dir);
-} where
-  removable : (object : ℕ) → (member l.present object || member r.absent object) ≡ is_removable left right object
-  removable object = ap (λ b. b || member r.absent object) (ml.present object) ∙ ap (λ b. names_object object left || b) (mr.absent object)
-
-  leaves : (object : ℕ) → Goes layers left right (member objects) object → Leaves layers objects r.layers (removed_by l r) object
-  leaves object goes = record { here = goes.here; removed = removable object ∙ goes.removed; free = mr.layers (get_or layers object 0) ∙ ap is_some goes.free }
-
-  goes : (object : ℕ) → Leaves layers objects r.layers (removed_by l r) object → Goes layers left right (member objects) object
-  goes object g = record { here = g.here; free = none_from (placed_on (get_or layers object 0) right) (sym (mr.layers (get_or layers object 0)) ∙ g.free); removed = sym (removable object) ∙ g.removed }
+rewrites_from layers left right l r objects movement objects_new mid movement_new are ml mr of_game w =
+    let removable : (object : ℕ) → (member l.present object || member r.absent object) ≡ is_removable left right object = λ object. ap (λ b. b || member r.absent object) (ml.present object) ∙ ap (λ b. names_object object left || b) (mr.absent object) in
+    let leaves : (object : ℕ) → Goes layers left right (member objects) object → Leaves layers objects r.layers (removed_by l r) object = λ object goes. record { here = goes.here; removed = removable object ∙ goes.removed; free = mr.layers (get_or layers object 0) ∙ ap is_some goes.free } in
+    let goes : (object : ℕ) → Leaves layers objects r.layers (removed_by l r) object → Goes layers left right (member objects) object = λ object g. record { here = g.here; free = none_from (placed_on (get_or layers object 0) right) (sym (mr.layers (get_or layers object 0)) ∙ g.free); removed = sym (removable object) ∙ g.removed } in
+    record {
+      gives = λ object new. elim (or_cases (member objects object && not (gone_by layers l r object)) (member r.placed object) (sym (w.is_new object (w.of_game object new)) ∙ new)) [
+        | inl h ↦ (let here = (and_parts (member objects object) (not (gone_by layers l r object)) h).0 in
+            let none = or_parts (member r.layers (get_or layers object 0)) (member l.present object || member r.absent object) (not_no (member objects object) (gone_by layers l r object) h) in
+            inl (record { here = here; free = none_from (placed_on (get_or layers object 0) right) (sym (mr.layers (get_or layers object 0)) ∙ none.0); left_alone = sym (removable object) ∙ none.1 }))
+        | inr h ↦ (let p = mr.placed_only object h in
+            let is = placed_is layers p.0 right p.1 are p.2 in
+            let on : get_or layers object 0 ≡ p.0 = ap (λ (k : ℕ). get_or layers k 0) (sym p.3) ∙ is.1 in
+            inr (p.1, ap (λ (k : ℕ). placed_on k right) on ∙ p.2, p.3))
+      ];
+      keeps = λ object stays. w.is_new object (of_game object stays.here) ∙ or_left _ _ (not_yes (member objects object) (gone_by layers l r object) stays.here (ap (λ b. b || (member l.present object || member r.absent object)) (mr.layers (get_or layers object 0) ∙ ap is_some stays.free) ∙ removable object ∙ stays.left_alone));
+      puts = λ layer item e. w.is_new item.object (placed_is layers layer right item are e).0 ∙ or_right _ _ (mr.placed layer item e);
+      ended = λ object dir goes. w.ended object dir (leaves object goes);
+      others = λ layer dir none. w.others layer dir (λ object g on. none object (goes object g) on)
+          ∙ w.is_mid (flag layer dir)
+          ∙ ap (λ b. (heads movement layer dir && not (b || (heads l.told layer dir && heads r.covered layer dir))) || heads r.headed layer dir) (mr.settled layer dir)
+          ∙ ap (λ b. (heads movement layer dir && not (settles (placed_on layer right) || (b && heads r.covered layer dir))) || heads r.headed layer dir) (ml.told layer dir)
+          ∙ ap (λ b. (heads movement layer dir && not (settles (placed_on layer right) || (tells_of layer left && b))) || heads r.headed layer dir) (mr.covered layer dir)
+          ∙ ap (λ b. (heads movement layer dir && not b) || heads r.headed layer dir) (ends_by (tells_of layer left) (placed_on layer right))
+          ∙ ap (λ b. (heads movement layer dir && not (ends (tells_of layer left) (placed_on layer right))) || b) (mr.headed layer dir);
+    }
 
 -- objects of the new cell are the game's
 pub rewritten_of_game : (layers : List ℕ) (left right : List Item) (has : ℕ → Bool) (toward : ℕ → Dir → Bool) (has_new : ℕ → Bool) (toward_new : ℕ → Dir → Bool) → AreOf layers right → Rewrites layers left right has toward has_new toward_new → ((object : ℕ) → has object ≡ true → object < length layers) → (object : ℕ) → has_new object ≡ true → object < length layers
@@ -309,21 +305,10 @@ none_leaves layers right l r objects movement objects_new mid movement_new are m
     let placed : member r.placed object ≡ true = sym (and_never (member objects object) (member r.placed object)) ∙ sym (ap (λ b. (member objects object && not b) || member r.placed object) gone) ∙ sym (w.is_new object (of_game object g.here)) ∙ same object ∙ g.here in
     let p = mr.placed_only object placed in
     let on : get_or layers object 0 ≡ p.0 = ap (λ (k : ℕ). get_or layers k 0) (sym p.3) ∙ (placed_is layers p.0 right p.1 are p.2).1 in
-    let e : false ≡ true = sym g.free ∙ mr.layers (get_or layers object 0) ∙ ap (λ (k : ℕ). is_some (placed_on k right)) on ∙ ap is_some p.2 in
-    absurd (never e) where
+    absurd (let e : false ≡ true = sym g.free ∙ mr.layers (get_or layers object 0) ∙ ap (λ (k : ℕ). is_some (placed_on k right)) on ∙ ap is_some p.2 in cc) where
       and_never : (a b : Bool) → ((a && not true) || b) ≡ b
       and_never true b = refl
       and_never false b = refl
-
-      never : false ≡ true → ⊥
-      never e = cc
-
-neither : (a b : Bool) → (a || b) ≡ false → (a ≡ false) × (b ≡ false)
-neither true b e = cc
-neither false b e = (refl, e)
-
-both_false : (a b : Bool) → a ≡ false → b ≡ false → (a || b) ≡ false
-both_false a b e f = ap (λ x. x || b) e ∙ f
 
 decided : (b : Bool) (x y : List (Option Piece)) → (b ≡ false → x ≡ y) → (x ≡ y → b ≡ false) → b ≡ not (same_cell x y)
 decided false x y f g = sym (ap not (ap (λ (z : List (Option Piece)). same_cell x z) (sym (f refl)) ∙ same_cell_self x))
@@ -340,7 +325,7 @@ changed_by depth layers right l r objects movement objects_new mid movement_new 
 
       forth : (moved || replaced) ≡ false → new_cell ≡ cell_of depth layers objects movement
       forth n =
-          let parts = neither moved replaced n in
+          let parts = or_parts moved replaced n in
           let same = is_replaced.0 parts.1 in
           sym e ∙ cell_alike depth layers objects movement objects_new movement_new lawful lawful_new same (λ layer dir. settled same layer dir ∙ is_moved.0 parts.0 (flag layer dir))
 
@@ -348,30 +333,15 @@ changed_by depth layers right l r objects movement objects_new mid movement_new 
       back h =
           let same = objects_alike depth layers objects movement objects_new movement_new low lawful lawful_new (e ∙ h) in
           let heads_same = heads_alike depth layers objects movement objects_new movement_new low lawful lawful_new (e ∙ h) in
-          both_false moved replaced
-          (is_moved.1 (each_number (λ mine theirs. mine ≡ theirs) mid movement proper lawful.proper refl (λ layer dir. sym (settled same layer dir) ∙ heads_same layer dir)))
-          (is_replaced.1 same)
+          ap (λ b. b || replaced) (is_moved.1 (each_number (λ mine theirs. mine ≡ theirs) mid movement proper lawful.proper refl (λ layer dir. sym (settled same layer dir) ∙ heads_same layer dir))) ∙ is_replaced.1 same
 
 -- ---- the loops
 -- the layers up to one, and that one
 pub chosen_more : (at layer : ℕ) (chosen : List ℕ) → ((nat_lt at layer && member chosen at) || (member chosen layer && nat_eq at layer)) ≡ (nat_lt at (layer + 1) && member chosen at)
 chosen_more at layer chosen = elim (cases_lt at layer) [
-  | inl below ↦ ap (λ b. (b && member chosen at) || (member chosen layer && nat_eq at layer)) (ltb-yes at layer below) ∙ ap (λ b. member chosen at || (member chosen layer && b)) (ne_eqb at layer (λ e. absurd (omega (arith, e, below)))) ∙ or_nothing (member chosen at) (member chosen layer) ∙ sym (ap (λ b. b && member chosen at) (ltb-yes at (layer + 1) (omega (arith, below))))
-  | inr above ↦ elim (cases_eq at layer) [
-    | inl same ↦ ap (λ b. (b && member chosen at) || (member chosen layer && nat_eq at layer)) (ltb-no at layer above) ∙ ap (λ b. member chosen layer && b) (eq-eqb at layer same) ∙ and_yes (member chosen layer) ∙ ap (member chosen) (sym same) ∙ sym (ap (λ b. b && member chosen at) (ltb-yes at (layer + 1) (omega (arith, same))))
-    | inr other ↦ ap (λ b. (b && member chosen at) || (member chosen layer && nat_eq at layer)) (ltb-no at layer above) ∙ ap (λ b. member chosen layer && b) (ne_eqb at layer other) ∙ and_no (member chosen layer) ∙ sym (ap (λ b. b && member chosen at) (ltb-no at (layer + 1) (omega (arith, above, other))))
-  ]
-] where
-  ltb-yes : (a b : ℕ) → a < b → nat_lt a b ≡ true
-  ltb-yes a b h = grind (arith, h)
-
-  ltb-no : (a b : ℕ) → b ≤ a → nat_lt a b ≡ false
-  ltb-no a b h = grind (arith, h)
-
-  or_nothing : (a b : Bool) → (a || (b && false)) ≡ a
-  or_nothing true b = refl
-  or_nothing false true = refl
-  or_nothing false false = refl
+  | inl below ↦ grind (arith, below)
+  | inr above ↦ elim (cases_eq at layer) [ inl same ↦ grind (arith, same) | inr other ↦ grind (arith, above, other) ]
+]
 
 -- the movement after the objects below one that leave
 pub record AreEnded (layers objects cleared : List ℕ) (is_removed : ℕ → Bool) (before now : List ℕ) (start : ℕ) : Type 0 where

@@ -33,14 +33,11 @@ along_in grid Vertical number Back pattern at k line_in at_in room = up_in grid 
 -- a run for which there is no room
 pub run_past : (grid : Grid) (line : Line) (way : Way) (at : ℕ) (patterns : List (List Item)) → 0 < length patterns → at < line_length grid line.axis → room_from (line_length grid line.axis) way at < length patterns → runs_in grid line way patterns at ≡ false
 run_past grid line way at patterns some at_in past = by_axis line.axis way at_in past where
-  number : ℕ
-  number = line.number
-
-  by_axis : (axis : Axis) (way : Way) → at < line_length grid axis → room_from (line_length grid axis) way at < length patterns → runs_in grid (record { axis = axis; number = number }) way patterns at ≡ false
-  by_axis Horizontal Ahead at_in past = right_past grid at number patterns some (omega (arith, at_in, past))
-  by_axis Horizontal Back at_in past = left_past grid at number patterns some past
-  by_axis Vertical Ahead at_in past = down_past grid number at patterns some (omega (arith, at_in, past))
-  by_axis Vertical Back at_in past = up_past grid number at patterns some past
+  by_axis : (axis : Axis) (way : Way) → at < line_length grid axis → room_from (line_length grid axis) way at < length patterns → runs_in grid (record { axis = axis; number = line.number }) way patterns at ≡ false
+  by_axis Horizontal Ahead at_in past = right_past grid at line.number patterns some (omega (arith, at_in, past))
+  by_axis Horizontal Back at_in past = left_past grid at line.number patterns some past
+  by_axis Vertical Ahead at_in past = down_past grid line.number at patterns some (omega (arith, at_in, past))
+  by_axis Vertical Back at_in past = up_past grid line.number at patterns some past
 
 -- lines are short
 pub short_line : (grid : Grid) (axis : Axis) → IsLawful grid → line_length grid axis ≤ MAX_SIDE

@@ -155,13 +155,11 @@ module _ (N : ℕ) (layering : Layering) (cells older : List (Cell N)) (p : AreP
         low = omega (arith, within);
       }
 
-  left_none : left (length cells) ≡ []
-  left_none = ap (λ (xs : List (Cell N)). changed_from (length cells) (map (seen layering) xs) (map (seen layering) (drop (length cells) older))) (drop-length cells)
-
   -- all are found
   pub all_found : (changes : List (Change N)) (from : ℕ) → AreAlikeBetween cells older from (length cells) → AreFound N layering cells older changes from
       → map (change_seen layering) changes ≡ changed_from 0 (map (seen layering) cells) (map (seen layering) older)
   all_found changes from same f =
+      let left_none : left (length cells) ≡ [] = ap (λ (xs : List (Cell N)). changed_from (length cells) (map (seen layering) xs) (map (seen layering) (drop (length cells) older))) (drop-length cells) in
       sym (append-nil (map (change_seen layering) changes))
       ∙ (ap (λ (l : List CellChange). map (change_seen layering) changes ++ l) (sym (left_behind from (length cells) f.low (omega arith) same ∙ left_none)) ∙ f.changes_are)
 
@@ -227,10 +225,6 @@ module _ (N wa ha : ℕ) (la : Layering) (ca : List (Cell N)) (wb hb : ℕ) (lb 
   alike_same : (index : ℕ) → index < length ca → AreAlike (get_or ca index (no_cell N)) (get_or cb index (no_cell N)) → differ_in grid other index ≡ false
   alike_same index within same = ap not (sym (same_there index true within (λ _. same, λ _. refl)))
 
-  other_differs : (index : ℕ) → index < length ca → Differ ca cb index → differ_in grid other index ≡ true
-  other_differs index within differ =
-      ap not (sym (same_there index false within (λ (e : false ≡ true). cc, λ same. absurd (differ (no_cell N) (no_cell N) same))))
-
   -- the next cell whose words differ is the next that is seen to differ
   pub next_is : (from : ℕ) (found : Option ℕ) → IsNextDiffering ca cb from found → IsNext (differ_in grid other) from (length grid.cells) found
   next_is from None same =
@@ -238,6 +232,6 @@ module _ (N wa ha : ℕ) (la : Layering) (ca : List (Cell N)) (wb hb : ℕ) (lb 
   next_is from (Some found) n = (
     n.0,
     omega (arith, n.1, many),
-    other_differs found n.1 n.2,
+    ap not (sym (same_there found false n.1 (λ (e : false ≡ true). cc, λ same. absurd (n.2 (no_cell N) (no_cell N) same)))),
     λ number low high. alike_same number (omega (arith, high, n.1)) (n.3 number (no_cell N) (no_cell N) low high),
   )

@@ -48,16 +48,13 @@ placed_set N objects width height planes next cells at x y new s number x_in y_i
   };
   there = each;
 } where
-  there_new : AreThere next x y (member new.objects)
-  there_new = record { row = changed.rows.here; column = changed.columns.here }
-
   each : AreAllThere N width height next (set cells at new)
   each p q cell p_in q_in = elim (cases_eq (q * width + p) at) [
     | inl same ↦
         let place = same_from_place q p y x width p_in x_in (same ∙ number) in
         let is : get_or (set cells at new) (q * width + p) cell ≡ new = ap (λ (k : ℕ). get_or (set cells at new) k cell) same ∙ get_or-set_same cells at new cell within in
         subst (λ (it : Cell N). AreThere next p q (member it.objects)) (sym is)
-        (subst (λ (k : ℕ). AreThere next k q (member new.objects)) (sym place.1) (subst (λ (k : ℕ). AreThere next x k (member new.objects)) (sym place.0) there_new))
+        (subst (λ (k : ℕ). AreThere next k q (member new.objects)) (sym place.1) (subst (λ (k : ℕ). AreThere next x k (member new.objects)) (sym place.0) (record { row = changed.rows.here; column = changed.columns.here })))
     | inr other ↦
         let is : get_or (set cells at new) (q * width + p) cell ≡ get_or cells (q * width + p) cell = get_or-set_other cells at (q * width + p) new cell other in
         subst (λ (it : Cell N). AreThere next p q (member it.objects)) (sym is)

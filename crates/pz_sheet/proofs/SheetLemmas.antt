@@ -18,7 +18,7 @@ use Rattle.pz_cells.specs.Cell.{IsCell, IsOnLayer}
 use Rattle.pz_cells.specs.Standing.{standing}
 use Rattle.pz_cells.specs.Shown.{place_of}
 use Rattle.pz_cells.proofs.HoldLemmas.{on_its_layer, standing_by}
-use Rattle.pz_sheet.specs.Grid.{Grid, IsLawful, cell_at, place_at, with_place}
+use Rattle.pz_sheet.specs.Grid.{Grid, BareState, IsLawful, cell_at, place_at, with_place}
 use Rattle.pz_sheet.specs.Standing.{standing_at}
 use Rattle.pz_sheet.specs.Rewriting.{with_rewritten}
 use Rattle.pz_planes.specs.Notes.{HeadingSets, IsWider}
@@ -52,6 +52,10 @@ lawful_seen N width height layering cells headings s = record {
   layered = s.law.layered;
   stacked = All-map (IsCell layering.depth layering.layers) (seen layering) cells (λ k d within. cell_seen N layering (get_or cells k d) (s.sound k d within));
 }
+
+-- and so is the level whose value that is
+pub lawful_here : (N width height : ℕ) (layering : Layering) (cells : List (Cell N)) (notes : HeadingSets) (level : BareState) → IsStored N width height layering cells notes → record { grid = grid_of width height layering cells } ≡ level → IsLawful level.grid
+lawful_here N width height layering cells notes level s is = subst IsLawful (ap (λ (l : BareState). l.grid) is) (lawful_seen N width height layering cells notes s)
 
 pub low_place : (layers : List ℕ) (layer : ℕ) (place : Option Piece) → length layers ≤ MAX_OBJECTS → IsOnLayer layers layer place → IfSome place (λ piece. piece.object < MAX_OBJECTS)
 low_place layers layer None few on = tt

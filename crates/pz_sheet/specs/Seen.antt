@@ -1,5 +1,5 @@
 -- A level in words, seen by layers.
-use Rattle.std.specs.Prelude.{◌≡◌, ℕ, ◌*◌, ◌/◌, ◌%◌, ◌<◌, ◌≤◌, List, [], map, length, slice_index_or, All}
+use Rattle.std.specs.Prelude.{◌≡◌, ℕ, ◌*◌, ◌/◌, ◌%◌, ◌<◌, List, [], map, length, slice_index_or, All}
 use Rattle.pz_sets.specs.Sets.{IsWithin}
 use Rattle.pz_game.specs.Size.{IsSize}
 use Rattle.pz_planes.specs.Notes.{HeadingSets}

@@ -13,6 +13,3 @@ loop-number-preserved g c =
 
 pub glyph_cell-requires : goal.glyph_cell-requires
 glyph_cell-requires g c = (omega arith, (small_cell _ c.depth.ensures.law.short, (c.requires.of_game, c.requires.numbers c.loop-number.number-index 0 c.loop-number-test.true)))
-
-pub returns-clause-sound : goal.returns-clause-sound
-returns-clause-sound g c = c.loop-number.invariant.sound

@@ -1,10 +1,10 @@
 use Rattle.std.proofs.Common.{◌≡◌, rules, arith, All, length, ap, sym, ◌∙◌, subst}
 use Rattle.std.proofs.lemmas.Result.{IfOk-weaker}
 use Rattle.pz_sheet.specs.Changes.{changed_cells, changes_seen, restored}
-use Rattle.pz_sheet.specs.Grid.{BareState, IsLawful}
+use Rattle.pz_sheet.specs.Grid.{BareState}
 use Rattle.pz_cells.specs.Lists.{IsSound}
 use Rattle.pz_cells.proofs.ListLemmas.{small_cell}
-use Rattle.pz_sheet.proofs.SheetLemmas.{lawful_seen}
+use Rattle.pz_sheet.proofs.SheetLemmas.{lawful_here}
 use Rattle.pz_cells.specs.Layering.{Layering}
 use Rattle.pz_sheet.proofs.StillLemmas.{nowhere_read}
 use Rattle.pz_sheet.proofs.ChangeLemmas.{AreBoth, as_many, small_change, way_back_by, over_layers}
@@ -33,7 +33,7 @@ pub returns-clause-way_back : goal.returns-clause-way_back
 returns-clause-way_back g c =
     let grid = c.args.self.now.grid in
     let older = c.args.older.now.grid in
-    let lawful = subst IsLawful (ap (λ (s : BareState). s.grid) c.self.view_is) (lawful_seen _ _ _ _ _ _ c.self.invariant.stored) in
-    let lawful_older = subst IsLawful (ap (λ (s : BareState). s.grid) c.older.view_is) (lawful_seen _ _ _ _ _ _ c.older.invariant.stored) in
+    let lawful = lawful_here _ _ _ _ _ _ _ c.self.invariant.stored c.self.view_is in
+    let lawful_older = lawful_here _ _ _ _ _ _ _ c.older.invariant.stored c.older.view_is in
     IfOk-weaker c.changes_between.result (λ changes. changes_seen grid changes.items ≡ changed_cells grid older) (λ changes. restored (changes_seen grid changes.items) grid ≡ older)
     (λ changes e. way_back_by grid older (changes_seen grid changes.items) c.requires.size lawful lawful_older e) (returns-clause-changes g c)

@@ -1,10 +1,10 @@
-use Rattle.std.proofs.Common.{◌≡◌, ℕ, List, Option, false, ap, sym, ◌∙◌, subst}
+use Rattle.std.proofs.Common.{◌≡◌, ℕ, List, Option, false, ap, sym, ◌∙◌}
 use Rattle.pz_sets.specs.Sets.{member}
 use Rattle.pz_cells.specs.declared.piece.Piece.{Piece}
-use Rattle.pz_sheet.specs.Grid.{BareState, IsLawful}
+use Rattle.pz_sheet.specs.Grid.{BareState}
 use Rattle.pz_sheet.specs.Seen.{grid_of}
 use Rattle.pz_sheet.specs.Movement.{stilled}
-use Rattle.pz_sheet.proofs.SheetLemmas.{lawful_seen}
+use Rattle.pz_sheet.proofs.SheetLemmas.{lawful_here}
 use Rattle.pz_sheet.proofs.StillLemmas.{all_are_still}
 use Rattle.pz_sheet.proofs.Sheet.still_all.Goals as goal
 
@@ -18,4 +18,4 @@ returns-then-is_empty-clause-stilled g c =
     sym e ∙ still ∙ ap stilled e
 
 pub returns-then-is_empty-clause-lawful : goal.returns-then-is_empty-clause-lawful
-returns-then-is_empty-clause-lawful g c = subst IsLawful (ap (λ (s : BareState). s.grid) c.self.view_is) (lawful_seen _ _ _ _ _ _ c.self.invariant.stored)
+returns-then-is_empty-clause-lawful g c = lawful_here _ _ _ _ _ _ _ c.self.invariant.stored c.self.view_is
