@@ -1,15 +1,12 @@
 -- Steps through the lines of LEVELS.
 use Rattle.std.proofs.Common.{◌≡◌, ℕ, ◌<◌, ◌≤◌, ◌+◌, ◌-◌, zero, suc, true, false, List, [], ◌∷◌, ◌++◌, length, take, drop, get_or, refl, ap, sym, ◌∙◌, arith, length-drop, Bool, true≢false}
 use Rattle.std.specs.List.{slice_range, list_all}
-use Rattle.std.specs.Prelude.{if◌then◌else◌, Option, Some, None, Result, Ok, Err}
-use Rattle.pz_base.specs.Fault.{and_then}
-use Rattle.pz_base.proofs.EachLemmas.{behind, behind_at, some_behind}
-use Rattle.pz_base.specs.declared.fault.SourceFault.{SourceFault}
+use Rattle.std.specs.Prelude.{if◌then◌else◌}
 use Rattle.std.proofs.lemmas.List.Folds.{list_all-append, list_all_at}
 use Rattle.std.proofs.lemmas.List.{get_or-drop}
-use Rattle.pz_source.specs.Levels.{entries_of, closed, is_message, is_entry, filled, glyphs_of, row_of}
+use Rattle.pz_source.specs.Levels.{entries_of, closed, is_message, is_entry, filled}
 use Rattle.pz_names.specs.Objects.{is_blank}
-use Rattle.pz_base.proofs.ListLemmas.{drop-next, take-next}
+use Rattle.pz_base.proofs.ListLemmas.{take-next}
 use Rattle.pz_text.specs.declared.line.Line.{Line}
 
 drop-one : {A : Type 0} (i : ℕ) (xs : List A) → drop 1 (drop i xs) ≡ drop (i + 1) xs
@@ -62,28 +59,3 @@ entry-drawn lines k x lt is = by (is_entry x) refl
     by : (b : Bool) → is_entry x ≡ b → is_entry x ≡ true
     by true e = e
     by false e = absurd (true≢false (sym (entries-drawn [] lines refl) ∙ list_all_at is_entry (entries_of [] lines) k x lt (ap is_entry (sym is) ∙ e)))
-
--- one thing more that is read by the number of those above it
-module _ {A B : Type 0} (f : ℕ → A → Result B SourceFault) (done : List B) (n : ℕ) (counted : n ≡ length done) (x : A) (rest : List A) where
-  pub behind_at-read : (y : B) → f n x ≡ Ok y → behind_at f (done ++ y ∷ []) rest ≡ behind_at f done (x ∷ rest)
-  behind_at-read y read = let here : f (length done) x ≡ Ok y = ap (λ m. f m x) (sym counted) ∙ read in rw here refl
-
-  pub behind_at-refused : (fault : SourceFault) → f n x ≡ Err fault → behind_at f done (x ∷ rest) ≡ Err fault
-  behind_at-refused fault refused = let here : f (length done) x ≡ Err fault = ap (λ m. f m x) (sym counted) ∙ refused in rw here refl
-
--- one glyph more, which draws something
-pub some_behind-next : (f : ℕ → Option ℕ) (done row : List ℕ) (i c y : ℕ) → i < length row → c ≡ get_or row i c → f c ≡ Some y
-    → some_behind f (done ++ y ∷ []) (drop (i + 1) row) ≡ some_behind f done (drop i row)
-some_behind-next f done row i c y lt is draws = rw (drop-next row i c lt is, draws) refl
-
-pub some_behind-stop : (f : ℕ → Option ℕ) (done row : List ℕ) (i c : ℕ) → i < length row → c ≡ get_or row i c → f c ≡ None → some_behind f done (drop i row) ≡ None
-some_behind-stop f done row i c lt is blank = rw (drop-next row i c lt is, blank) refl
-
--- one row more
-module _ (glyph : ℕ → Option ℕ) (width : ℕ) (cells : List ℕ) (lines : List Line) (i : ℕ) (line : Line) (lt : i < length lines) (is : line ≡ get_or lines i line) where
-  pub rows-next : (row : List ℕ) → glyphs_of glyph (take width line.text) ≡ Some row
-      → behind (λ r. r) (row_of glyph width) (cells ++ filled width 0 row) (drop (i + 1) lines) ≡ behind (λ r. r) (row_of glyph width) cells (drop i lines)
-  rows-next row read = rw (drop-next lines i line lt is, read) refl
-
-  pub rows-refused : (fault : SourceFault) → row_of glyph width line ≡ Err fault → behind (λ r. r) (row_of glyph width) cells (drop i lines) ≡ Err fault
-  rows-refused fault refused = ap (behind (λ r. r) (row_of glyph width) cells) (drop-next lines i line lt is) ∙ ap (λ r. and_then (λ y. behind (λ r. r) (row_of glyph width) (cells ++ y) (drop (i + 1) lines)) r) refused

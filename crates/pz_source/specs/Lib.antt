@@ -3,6 +3,7 @@ pub mod Layers
 pub mod Rules
 pub mod Wins
 pub mod Levels
+pub mod Glyphs
 pub mod Profile
 pub mod Reading
 pub use Rattle.pz_base.specs.Fault

@@ -1,16 +1,16 @@
 //! The lines of LEVELS.
 
-ghost use Rattle.std.specs.Prelude.{◌≡◌, ◌≢◌, ◌≤◌, ◌<◌, ◌+◌, ◌*◌, length, drop, [], IfOk, IfErr, OnOk, Ok, Err, ◌++◌, map, take, option_map, option_and_then, slice_get, get_or, true, if◌then◌else◌, Some, None};
+ghost use Rattle.std.specs.Prelude.{◌≡◌, ◌≢◌, ◌≤◌, ◌<◌, ◌+◌, ◌*◌, ◌^◌, length, drop, [], IfOk, IfErr, OnOk, Ok, Err, ◌++◌, map, take, option_map, get_or, true, Some};
 ghost use Rattle.std.specs.List.{list_any, slice_range};
 ghost use Rattle.pz_base.specs.declared.fault.Code.TheVariants as code;
 ghost use Rattle.pz_game.specs.Level.{is_playable};
-ghost use Rattle.pz_source.specs.Levels.{is_message, closed, entries_of, is_entry, draws, glyph_of, glyphs_of, filled, is_too_large, row_of, rows_of, entry_of, levels_of};
+ghost use Rattle.pz_source.specs.Levels.{is_message, closed, entries_of, is_entry, glyph_of, glyphs_of, filled, is_too_large, row_of, rows_of, entry_of, levels_of};
 
+use crate::glyphs::Glyphs;
 use pz_base::fault::{Code, SourceFault};
 use pz_base::listed::Listed;
-use pz_base::name::Name;
 use pz_base::name_set::NameSet;
-use pz_game::denotation::{Denotation, Kind};
+use pz_game::denotation::Denotation;
 use pz_game::level::{DrawnLevel, LevelEntry};
 use pz_game::limits::{MAX_CELLS, MAX_SIDE};
 use pz_names::objects::is_blank;
@@ -80,49 +80,19 @@ fn close<'a>(entries: &mut Vec<&'a [Line]>, rows: &'a [Line]) -> Result<(), Allo
     Ok(())
 }
 
-/// The number of a name, if the name draws something.
-fn drawing(values: &[Denotation], number: usize) -> Option<usize>
-    ensures { result ≡ option_and_then (λ d. if draws d.kind then Some number else None) (slice_get values.now number) }
-{
-    match values.get(number) {
-        Some(
-            Denotation {
-                kind: Kind::Object | Kind::Aggregate,
-                ..
-            },
-        ) => Some(number),
-        _ => None,
-    }
-}
-
-/// The number of the name that a glyph is, if it draws something.
-fn glyph(
-    alloc: Global,
-    names: &NameSet,
-    values: &[Denotation],
-    character: char,
-) -> Result<Option<usize>, AllocError>
-    ensures { IfOk result (λ r. r ≡ glyph_of names.now values.now character) }
-{
-    let name = Name::of_word(alloc, &[character])?;
-    match names.number_of(name.as_str()) {
-        Some(number) => Ok(drawing(values, number)),
-        None => Ok(None),
-    }
-}
-
 /// The numbers of the glyphs, if each draws something.
-fn glyphs(
+fn numbers_of(
     alloc: Global,
-    names: &NameSet,
-    values: &[Denotation],
+    glyphs: &mut Glyphs,
     row: &[char],
 ) -> Result<Option<Vec<usize>>, AllocError>
-    ensures { IfOk result (λ r. option_map (λ found. found.items) r ≡ glyphs_of (glyph_of names.now values.now) row.now) }
+    ensures numbers { IfOk result (λ r. option_map (λ found. found.items) r ≡ glyphs_of (glyph_of glyphs.old.names glyphs.old.values) row.now) }
+    ensures same { glyphs.new ≡ glyphs.old }
 {
     let mut found = Vec::new(alloc);
+    found.reserve(row.len())?;
     for character in row {
-        let Some(number) = glyph(alloc, names, values, *character)? else {
+        let Some(number) = glyphs.number_of(alloc, *character)? else {
             return Ok(None);
         };
         found.push(number)?;
@@ -152,16 +122,16 @@ fn next_glyph(row: &[usize], column: usize, last: usize) -> usize
 /// The numbers of the glyphs of a row that is cut to a width, or its fault where one draws nothing.
 fn read_row(
     alloc: Global,
-    names: &NameSet,
-    values: &[Denotation],
+    glyphs: &mut Glyphs,
     width: usize,
     line: &Line,
 ) -> Result<Vec<usize>, SourceFault>
-    ensures read { IfOk result (λ row. glyphs_of (glyph_of names.now values.now) (take width line.now.text) ≡ Some row.items) }
-    ensures refused { IfErr result (λ fault. fault.code ≢ code.Memory → row_of (glyph_of names.now values.now) width line.now ≡ Err fault) }
+    ensures read { IfOk result (λ row. glyphs_of (glyph_of glyphs.old.names glyphs.old.values) (take width line.now.text) ≡ Some row.items) }
+    ensures refused { IfErr result (λ fault. fault.code ≢ code.Memory → row_of (glyph_of glyphs.old.names glyphs.old.values) width line.now ≡ Err fault) }
     ensures whole { IfErr result (λ fault. fault.code ≡ code.Memory → fault.line ≡ 0) }
+    ensures same { glyphs.new ≡ glyphs.old }
 {
-    match glyphs(alloc, names, values, cut_to(line.text.items(), width))? {
+    match numbers_of(alloc, glyphs, cut_to(line.text.items(), width))? {
         Some(row) => Ok(row),
         None => Err(SourceFault {
             code: Code::BadGlyph,
@@ -173,19 +143,21 @@ fn read_row(
 /// The cells of the rows of a level, or the first row with a glyph that draws nothing.
 fn rows(
     alloc: Global,
-    names: &NameSet,
-    values: &[Denotation],
+    glyphs: &mut Glyphs,
     width: usize,
     lines: &[Line],
 ) -> Result<Vec<usize>, SourceFault>
-    ensures read { IfOk result (λ cells. rows_of (glyph_of names.now values.now) width lines.now ≡ Ok cells.items) }
+    requires { width * length lines.now < 2 ^ 64 }
+    ensures read { IfOk result (λ cells. rows_of (glyph_of glyphs.old.names glyphs.old.values) width lines.now ≡ Ok cells.items) }
     ensures count { IfOk result (λ cells. length cells.items ≡ width * length lines.now) }
-    ensures refused { IfErr result (λ fault. fault.code ≢ code.Memory → rows_of (glyph_of names.now values.now) width lines.now ≡ Err fault) }
+    ensures refused { IfErr result (λ fault. fault.code ≢ code.Memory → rows_of (glyph_of glyphs.old.names glyphs.old.values) width lines.now ≡ Err fault) }
     ensures whole { IfErr result (λ fault. fault.code ≡ code.Memory → fault.line ≡ 0) }
+    ensures same { glyphs.new ≡ glyphs.old }
 {
     let mut cells = Vec::new(alloc);
+    cells.reserve(width * lines.len())?;
     for line in lines {
-        let row = read_row(alloc, names, values, width, line)?;
+        let row = read_row(alloc, glyphs, width, line)?;
         add_row(&mut cells, width, row.as_slice())?;
     }
     Ok(cells)
@@ -210,15 +182,15 @@ fn is_too_large(width: usize, height: usize) -> bool
 /// An entry below so many others, or its first fault.
 fn read_entry(
     alloc: Global,
-    names: &NameSet,
-    values: &[Denotation],
+    glyphs: &mut Glyphs,
     above: usize,
     lines: &[Line],
 ) -> Result<LevelEntry, SourceFault>
     requires { is_entry lines.now ≡ true }
-    ensures read { IfOk result (λ entry. entry_of (glyph_of names.now values.now) above lines.now ≡ Ok entry) }
-    ensures refused { IfErr result (λ fault. fault.code ≢ code.Memory → entry_of (glyph_of names.now values.now) above lines.now ≡ Err fault) }
+    ensures read { IfOk result (λ entry. entry_of (glyph_of glyphs.old.names glyphs.old.values) above lines.now ≡ Ok entry) }
+    ensures refused { IfErr result (λ fault. fault.code ≢ code.Memory → entry_of (glyph_of glyphs.old.names glyphs.old.values) above lines.now ≡ Err fault) }
     ensures whole { IfErr result (λ fault. fault.code ≡ code.Memory → fault.line ≡ 0) }
+    ensures same { glyphs.new ≡ glyphs.old }
 {
     let Some((first, _)) = lines.split_first() else {
         return Ok(LevelEntry::Message);
@@ -240,7 +212,7 @@ fn read_entry(
             line: first.number,
         });
     }
-    let cells = rows(alloc, names, values, width, lines)?;
+    let cells = rows(alloc, glyphs, width, lines)?;
     Ok(LevelEntry::Level(DrawnLevel::new(width as u32, height as u32, Listed::new(cells))))
 }
 
@@ -256,9 +228,10 @@ pub fn read_levels(
     ensures whole { IfErr result (λ fault. fault.code ≡ code.Memory → fault.line ≡ 0) }
 {
     let blocks = entries(alloc, lines)?;
+    let mut glyphs = Glyphs::new(names, values);
     let mut read = Vec::new(alloc);
     for block in &blocks {
-        let entry = read_entry(alloc, names, values, read.len(), block)?;
+        let entry = read_entry(alloc, &mut glyphs, read.len(), block)?;
         read.push(entry)?;
     }
     if !any_playable(read.as_slice()) {

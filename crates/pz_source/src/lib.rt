@@ -2,6 +2,7 @@
 //! alone.
 #![tactic(auto)]
 
+mod glyphs;
 pub mod layers;
 pub mod levels;
 pub mod missing;

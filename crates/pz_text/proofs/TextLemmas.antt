@@ -1,6 +1,6 @@
 -- Laws of the words on texts.
-use Rattle.std.proofs.Common.{◌≡◌, ℕ, Bool, true, false, cond, ◌&&◌, ◌==◌, List, [], ◌∷◌, ◌++◌, length, length-append, rules, sym, suc, ◌+◌, ◌≤◌, map, Bor, refl, ap, ◌∙◌, arith}
-use Rattle.std.specs.List.{sum_by, slice_split, onto_first}
+use Rattle.std.proofs.Common.{◌≡◌, ℕ, Bool, true, false, cond, if◌then◌else◌, ◌&&◌, ◌||◌, ◌==◌, List, [], ◌∷◌, ◌++◌, length, length-append, rules, sym, suc, ◌+◌, ◌≤◌, map, Bor, refl, ap, ◌∙◌, arith}
+use Rattle.std.specs.List.{list_any, sum_by, slice_split, onto_first}
 use Rattle.std.proofs.lemmas.List.Sums.{sum_by-cons}
 use Rattle.std.specs.Str.{drop_trailing_whitespace}
 use Rattle.std.specs.Char.{is_whitespace}
@@ -41,6 +41,31 @@ module _ (s : Section) (first : Bool) (word : List ℕ) (d c : ℕ) (cs : List �
 
   pub depth_after-kept : depth_after s first word d (c ∷ cs) ≡ depth_after s (is_first_after s first word c) (word_after s first word c) d cs
   depth_after-kept = rw none (rw (other, kept) refl)
+
+-- a line without an opening bracket has no comment, where none is open before it
+pub outside-plain : (s : Section) (first : Bool) (word line : List ℕ) → list_any (λ c. c == 40) line ≡ false → outside s first word 0 line ≡ line
+outside-plain s first word [] none = refl
+outside-plain s first word (c ∷ cs) none =
+    by (c == 40) (is_plain_from s first word c) none (outside-plain s (is_first_after s first word c) (word_after s first word c) cs)
+  where
+    by : (b p : Bool) → (b || list_any (λ c. c == 40) cs) ≡ false
+        → (list_any (λ c. c == 40) cs ≡ false → outside s (is_first_after s first word c) (word_after s first word c) 0 cs ≡ cs)
+        → (if b then outside s first word 1 cs else (if p then c ∷ cs else c ∷ outside s (is_first_after s first word c) (word_after s first word c) 0 cs)) ≡ c ∷ cs
+    by true p none next = cc
+    by false true none next = refl
+    by false false none next = ap (λ t. c ∷ t) (next none)
+
+pub depth_after-plain : (s : Section) (first : Bool) (word line : List ℕ) → list_any (λ c. c == 40) line ≡ false → depth_after s first word 0 line ≡ 0
+depth_after-plain s first word [] none = refl
+depth_after-plain s first word (c ∷ cs) none =
+    by (c == 40) (is_plain_from s first word c) none (depth_after-plain s (is_first_after s first word c) (word_after s first word c) cs)
+  where
+    by : (b p : Bool) → (b || list_any (λ c. c == 40) cs) ≡ false
+        → (list_any (λ c. c == 40) cs ≡ false → depth_after s (is_first_after s first word c) (word_after s first word c) 0 cs ≡ 0)
+        → (if b then depth_after s first word 1 cs else (if p then 0 else depth_after s (is_first_after s first word c) (word_after s first word c) 0 cs)) ≡ 0
+    by true p none next = cc
+    by false true none next = refl
+    by false false none next = next none
 
 -- the parts of a text hold no more characters than the text
 length-onto_first : (x : ℕ) (parts : List (List ℕ)) → sum_by length (onto_first x parts) ≡ suc (sum_by length parts)

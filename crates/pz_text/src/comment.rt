@@ -1,6 +1,7 @@
 //! Comments: they stand in round brackets, nest, and may span lines.
 
-ghost use Rattle.std.specs.Prelude.{◌≡◌, ◌≤◌, ◌<◌, ◌+◌, ◌^◌, length, IfOk, OnOk, [], true};
+ghost use Rattle.std.specs.Prelude.{◌≡◌, ◌≤◌, ◌<◌, ◌+◌, ◌^◌, ◌==◌, length, IfOk, OnOk, [], true};
+ghost use Rattle.std.specs.List.{list_any};
 ghost use Rattle.pz_text.specs.Comment.{is_bracket, ends_arrow, is_first_plus, ends_word, word_after, is_first_after, ends_message, is_plain_from, depth_past, outside, depth_after};
 
 use crate::characters::{ends_in, is_word};
@@ -106,6 +107,13 @@ fn depth_past(depth: usize, c: char) -> usize
         ')' => depth.saturating_sub(1),
         _ => depth,
     }
+}
+
+/// Whether a comment may begin on a line: a line without an opening bracket has none, where none is open before it.
+pub fn opens_bracket(line: &[char]) -> bool
+    ensures { result ≡ list_any (λ c. c == 40) line.now }
+{
+    line.iter().any(|c| *c == '(')
 }
 
 /// What is left of a line without its comments, and how many brackets are open behind it, where so many are open before it.

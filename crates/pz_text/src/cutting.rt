@@ -1,11 +1,13 @@
 //! The lines of a source.
 
-ghost use Rattle.std.specs.Prelude.{◌≡◌, ◌≤◌, ◌<◌, ◌+◌, ◌++◌, ◌∷◌, ◌^◌, ◌==◌, ℕ, List, length, map, IfOk, option_to_list};
+ghost use Rattle.std.specs.Prelude.{◌≡◌, ◌≤◌, ◌<◌, ◌+◌, ◌++◌, ◌∷◌, ◌^◌, ◌==◌, ℕ, List, [], length, map, true, IfOk, option_to_list};
 ghost use Rattle.std.specs.List.{slice_split};
+ghost use Rattle.pz_text.specs.Characters.{trimmed};
+ghost use Rattle.pz_text.specs.Comment.{outside, depth_after};
 ghost use Rattle.pz_text.specs.Cutting.{holds_only, is_left_out, lines_from, cut};
 
 use crate::characters::trimmed;
-use crate::comment::outside;
+use crate::comment::{opens_bracket, outside};
 use crate::heading::heading_in;
 use crate::line::{Line, Section};
 use pz_base::listed::Listed;
@@ -47,6 +49,36 @@ struct Standing {
     depth: usize,
 }
 
+/// The line, if it isn't left out, of which `left` is left without comments, and where a reader stands behind it.
+fn line_of(
+    alloc: Global,
+    before: Standing,
+    number: u32,
+    line: &[char],
+    left: &[char],
+    depth: usize,
+) -> Result<(Option<Line>, Standing), AllocError>
+    requires left { left.now ≡ outside before.section true [] before.depth line.now }
+    requires depth { depth ≡ depth_after before.section true [] before.depth line.now }
+    ensures lines { IfOk result (λ r. (raw : List ℕ) (more : List (List ℕ)) → line.now ≡ trimmed raw → lines_from before.section before.depth number (raw ∷ more) ≡ option_to_list r.0 ++ lines_from r.1.section r.1.depth (number + 1) more) }
+    ensures behind { IfOk result (λ r. r.1.depth ≡ depth) }
+{
+    let text = trimmed(left);
+    let heading = heading_in(before.section, text);
+    let section = heading.unwrap_or(before.section);
+    let after = Standing { section, depth };
+    if is_left_out(before.depth, line, left, text) {
+        return Ok((None, after));
+    }
+    let line = Line {
+        number,
+        section,
+        is_heading: heading.is_some(),
+        text: Listed::new(text.to_vec(alloc)?),
+    };
+    Ok((Some(line), after))
+}
+
 fn read_line(
     alloc: Global,
     before: Standing,
@@ -58,21 +90,11 @@ fn read_line(
     ensures bound { IfOk result (λ r. r.1.depth ≤ before.depth + length raw.now) }
 {
     let line = trimmed(raw);
-    let (left, depth) = outside(alloc, before.section, before.depth, line)?;
-    let text = trimmed(left.as_slice());
-    let heading = heading_in(before.section, text);
-    let section = heading.unwrap_or(before.section);
-    let after = Standing { section, depth };
-    if is_left_out(before.depth, line, left.as_slice(), text) {
-        return Ok((None, after));
+    if before.depth == 0 && !opens_bracket(line) {
+        return line_of(alloc, before, number, line, line, 0);
     }
-    let line = Line {
-        number,
-        section,
-        is_heading: heading.is_some(),
-        text: Listed::new(text.to_vec(alloc)?),
-    };
-    Ok((Some(line), after))
+    let (left, depth) = outside(alloc, before.section, before.depth, line)?;
+    line_of(alloc, before, number, line, left.as_slice(), depth)
 }
 
 /// The lines of a text that are not left out, without comments: blank lines stand, void lines and lines of `=` don't.

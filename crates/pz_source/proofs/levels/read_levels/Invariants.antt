@@ -5,4 +5,9 @@ use Rattle.pz_source.proofs.levels.read_levels.Given as goal
 
 abbrev pub invariant-loop-block : goal.invariant-loop-block
 invariant-loop-block l =
-    behind_at (entry_of (glyph_of l.names l.values)) l.read.items (map (λ block. block.now) (drop l.block-index l.block-items)) ≡ read_entries (glyph_of l.names l.values) (entries_of [] l.lines)
+    let glyph = glyph_of l.names l.values in
+    record {
+      read : behind_at (entry_of glyph) l.read.items (map (λ block. block.now) (drop l.block-index l.block-items)) ≡ read_entries glyph (entries_of [] l.lines);
+      names : l.glyphs.names ≡ l.names;
+      values : l.glyphs.values ≡ l.values;
+    }
