@@ -1,3 +1,3 @@
-pub mod Sized
+pub mod AnySheet
 pub mod Loading
 pub mod Past

@@ -5,7 +5,7 @@ ghost use Rattle.pz_sheet.specs.Changes.{with_cell, differ_in, cell_there};
 ghost use Rattle.pz_sheet.specs.Grid.{IsLawful, SameSize};
 ghost use Rattle.pz_sets.specs.Next.{IsNext};
 
-use crate::{BareLevel, Sized};
+use crate::{AnySheet, BareLevel};
 
 impl BareLevel {
     /// Whether both are of one size and over the same layers.
@@ -13,9 +13,9 @@ impl BareLevel {
         ensures { IsTrue result ↔ SameSize self.now.grid other.now.grid }
     {
         match (&self.sheet, &other.sheet) {
-            (Sized::Small(sheet), Sized::Small(other)) => sheet.same_size(other),
-            (Sized::Middle(sheet), Sized::Middle(other)) => sheet.same_size(other),
-            (Sized::Large(sheet), Sized::Large(other)) => sheet.same_size(other),
+            (AnySheet::Small(sheet), AnySheet::Small(other)) => sheet.same_size(other),
+            (AnySheet::Middle(sheet), AnySheet::Middle(other)) => sheet.same_size(other),
+            (AnySheet::Large(sheet), AnySheet::Large(other)) => sheet.same_size(other),
             _ => false,
         }
     }
@@ -29,9 +29,9 @@ impl BareLevel {
         // (brings the proof the law of the level)
         let _ = self.width();
         match (&self.sheet, &other.sheet) {
-            (Sized::Small(sheet), Sized::Small(other)) => sheet.next_change(other, from),
-            (Sized::Middle(sheet), Sized::Middle(other)) => sheet.next_change(other, from),
-            (Sized::Large(sheet), Sized::Large(other)) => sheet.next_change(other, from),
+            (AnySheet::Small(sheet), AnySheet::Small(other)) => sheet.next_change(other, from),
+            (AnySheet::Middle(sheet), AnySheet::Middle(other)) => sheet.next_change(other, from),
+            (AnySheet::Large(sheet), AnySheet::Large(other)) => sheet.next_change(other, from),
             _ => unreachable!(),
         }
     }
@@ -43,9 +43,9 @@ impl BareLevel {
         ensures { self.new.grid ≡ with_cell self.old.grid (cell_there other.now.grid index) }
     {
         match (&mut self.sheet, &other.sheet) {
-            (Sized::Small(sheet), Sized::Small(other)) => sheet.take_cell(other, index),
-            (Sized::Middle(sheet), Sized::Middle(other)) => sheet.take_cell(other, index),
-            (Sized::Large(sheet), Sized::Large(other)) => sheet.take_cell(other, index),
+            (AnySheet::Small(sheet), AnySheet::Small(other)) => sheet.take_cell(other, index),
+            (AnySheet::Middle(sheet), AnySheet::Middle(other)) => sheet.take_cell(other, index),
+            (AnySheet::Large(sheet), AnySheet::Large(other)) => sheet.take_cell(other, index),
             _ => unreachable!(),
         }
     }

@@ -16,7 +16,7 @@ ghost use Rattle.pz_sheet.specs.Pushing.{pushed};
 ghost use Rattle.pz_sheet.specs.Rewriting.{with_rewritten, changes};
 ghost use Rattle.pz_sheet.specs.Searching.{HoldsSomewhere};
 ghost use Rattle.pz_sheet.specs.Standing.{standing_at, stands};
-ghost use Rattle.pz_bare.specs.Sized.{state_in};
+ghost use Rattle.pz_bare.specs.AnySheet.{state_in};
 
 use pz_cells::piece::Piece;
 use pz_game::direction::Dir;
@@ -33,19 +33,19 @@ mod older;
 pub mod past;
 
 /// The cells of a level: of a game of up to 128 objects and 25 layers, of up to 256 and 50, or of more.
-pub enum Sized {
+pub enum AnySheet {
     Small(Sheet<1>),
     Middle(Sheet<2>),
     Large(Sheet<4>),
 }
 
 /// Written out, as for a sheet.
-impl Drop for Sized {
+impl Drop for AnySheet {
     fn drop(self) {
         match self {
-            Sized::Small(sheet) => drop(sheet),
-            Sized::Middle(sheet) => drop(sheet),
-            Sized::Large(sheet) => drop(sheet),
+            AnySheet::Small(sheet) => drop(sheet),
+            AnySheet::Middle(sheet) => drop(sheet),
+            AnySheet::Large(sheet) => drop(sheet),
         }
     }
 }
@@ -53,12 +53,12 @@ impl Drop for Sized {
 /// A level without its marks: what stands in its cells, and where it heads.
 #[derive(Drop)]
 pub struct BareLevel {
-    sheet: Sized,
+    sheet: AnySheet,
 }
 
 impl Model for BareLevel {
     ghost use Rattle.pz_sheet.specs.Grid.{BareState};
-    ghost use Rattle.pz_bare.specs.Sized.{state_in, IsFitting};
+    ghost use Rattle.pz_bare.specs.AnySheet.{state_in, IsFitting};
 
     ghost Value = { BareState };
 
@@ -69,7 +69,7 @@ impl Model for BareLevel {
 
 impl BareLevel {
     /// The sheet that it has.
-    pub fn sheet(&self) -> &Sized
+    pub fn sheet(&self) -> &AnySheet
         ensures { state_in result.now ≡ self.now }
     {
         &self.sheet
@@ -80,9 +80,9 @@ impl BareLevel {
         ensures copied { IfOk result (λ bare. bare.grid ≡ self.now.grid) }
     {
         let sheet = match &self.sheet {
-            Sized::Small(sheet) => Sized::Small(sheet.copy()?),
-            Sized::Middle(sheet) => Sized::Middle(sheet.copy()?),
-            Sized::Large(sheet) => Sized::Large(sheet.copy()?),
+            AnySheet::Small(sheet) => AnySheet::Small(sheet.copy()?),
+            AnySheet::Middle(sheet) => AnySheet::Middle(sheet.copy()?),
+            AnySheet::Large(sheet) => AnySheet::Large(sheet.copy()?),
         };
         Ok(BareLevel { sheet })
     }
@@ -93,9 +93,9 @@ impl BareLevel {
         ensures kept { OnErr result (self.new.grid ≡ self.old.grid) }
     {
         match (&mut self.sheet, &other.sheet) {
-            (Sized::Small(sheet), Sized::Small(other)) => sheet.copy_from(other),
-            (Sized::Middle(sheet), Sized::Middle(other)) => sheet.copy_from(other),
-            (Sized::Large(sheet), Sized::Large(other)) => sheet.copy_from(other),
+            (AnySheet::Small(sheet), AnySheet::Small(other)) => sheet.copy_from(other),
+            (AnySheet::Middle(sheet), AnySheet::Middle(other)) => sheet.copy_from(other),
+            (AnySheet::Large(sheet), AnySheet::Large(other)) => sheet.copy_from(other),
             _ => {
                 *self = other.copy()?;
                 Ok(())
@@ -108,9 +108,9 @@ impl BareLevel {
         ensures { IsTrue result ↔ (self.now.grid ≡ other.now.grid) }
     {
         match (&self.sheet, &other.sheet) {
-            (Sized::Small(sheet), Sized::Small(other)) => sheet.equals(other),
-            (Sized::Middle(sheet), Sized::Middle(other)) => sheet.equals(other),
-            (Sized::Large(sheet), Sized::Large(other)) => sheet.equals(other),
+            (AnySheet::Small(sheet), AnySheet::Small(other)) => sheet.equals(other),
+            (AnySheet::Middle(sheet), AnySheet::Middle(other)) => sheet.equals(other),
+            (AnySheet::Large(sheet), AnySheet::Large(other)) => sheet.equals(other),
             _ => false,
         }
     }
@@ -121,9 +121,9 @@ impl BareLevel {
         ensures lawful { IsLawful self.now.grid }
     {
         match &self.sheet {
-            Sized::Small(sheet) => sheet.width(),
-            Sized::Middle(sheet) => sheet.width(),
-            Sized::Large(sheet) => sheet.width(),
+            AnySheet::Small(sheet) => sheet.width(),
+            AnySheet::Middle(sheet) => sheet.width(),
+            AnySheet::Large(sheet) => sheet.width(),
         }
     }
 
@@ -133,9 +133,9 @@ impl BareLevel {
         ensures lawful { IsLawful self.now.grid }
     {
         match &self.sheet {
-            Sized::Small(sheet) => sheet.height(),
-            Sized::Middle(sheet) => sheet.height(),
-            Sized::Large(sheet) => sheet.height(),
+            AnySheet::Small(sheet) => sheet.height(),
+            AnySheet::Middle(sheet) => sheet.height(),
+            AnySheet::Large(sheet) => sheet.height(),
         }
     }
 
@@ -144,9 +144,9 @@ impl BareLevel {
         ensures { result ≡ self.now.grid.depth }
     {
         match &self.sheet {
-            Sized::Small(sheet) => sheet.depth(),
-            Sized::Middle(sheet) => sheet.depth(),
-            Sized::Large(sheet) => sheet.depth(),
+            AnySheet::Small(sheet) => sheet.depth(),
+            AnySheet::Middle(sheet) => sheet.depth(),
+            AnySheet::Large(sheet) => sheet.depth(),
         }
     }
 
@@ -155,9 +155,9 @@ impl BareLevel {
         ensures { result ≡ length self.now.grid.cells }
     {
         match &self.sheet {
-            Sized::Small(sheet) => sheet.cell_count(),
-            Sized::Middle(sheet) => sheet.cell_count(),
-            Sized::Large(sheet) => sheet.cell_count(),
+            AnySheet::Small(sheet) => sheet.cell_count(),
+            AnySheet::Middle(sheet) => sheet.cell_count(),
+            AnySheet::Large(sheet) => sheet.cell_count(),
         }
     }
 
@@ -167,9 +167,9 @@ impl BareLevel {
         ensures { result ≡ is_in (cell_of self.now.grid index) object }
     {
         match &self.sheet {
-            Sized::Small(sheet) => sheet.is_in(index, object),
-            Sized::Middle(sheet) => sheet.is_in(index, object),
-            Sized::Large(sheet) => sheet.is_in(index, object),
+            AnySheet::Small(sheet) => sheet.is_in(index, object),
+            AnySheet::Middle(sheet) => sheet.is_in(index, object),
+            AnySheet::Large(sheet) => sheet.is_in(index, object),
         }
     }
 
@@ -178,9 +178,9 @@ impl BareLevel {
         ensures { (object : ℕ) → member result object ≡ stands self.now.grid x y object }
     {
         match &self.sheet {
-            Sized::Small(sheet) => sheet.objects_at(x, y),
-            Sized::Middle(sheet) => sheet.objects_at(x, y),
-            Sized::Large(sheet) => sheet.objects_at(x, y),
+            AnySheet::Small(sheet) => sheet.objects_at(x, y),
+            AnySheet::Middle(sheet) => sheet.objects_at(x, y),
+            AnySheet::Large(sheet) => sheet.objects_at(x, y),
         }
     }
 
@@ -189,9 +189,9 @@ impl BareLevel {
         ensures { MatchOption result (standing_at self.now.grid x y object ≡ None) (λ piece. standing_at self.now.grid x y object ≡ Some piece.heading) }
     {
         match &self.sheet {
-            Sized::Small(sheet) => sheet.piece(x, y, object),
-            Sized::Middle(sheet) => sheet.piece(x, y, object),
-            Sized::Large(sheet) => sheet.piece(x, y, object),
+            AnySheet::Small(sheet) => sheet.piece(x, y, object),
+            AnySheet::Middle(sheet) => sheet.piece(x, y, object),
+            AnySheet::Large(sheet) => sheet.piece(x, y, object),
         }
     }
 
@@ -205,9 +205,9 @@ impl BareLevel {
         ensures there { place_at self.new.grid x y layer ≡ place }
     {
         match &mut self.sheet {
-            Sized::Small(sheet) => sheet.put(x, y, layer, place),
-            Sized::Middle(sheet) => sheet.put(x, y, layer, place),
-            Sized::Large(sheet) => sheet.put(x, y, layer, place),
+            AnySheet::Small(sheet) => sheet.put(x, y, layer, place),
+            AnySheet::Middle(sheet) => sheet.put(x, y, layer, place),
+            AnySheet::Large(sheet) => sheet.put(x, y, layer, place),
         }
     }
 
@@ -217,9 +217,9 @@ impl BareLevel {
         ensures { All (HoldsSomewhere self.now.grid) row.now.cells → result ≡ true }
     {
         match &self.sheet {
-            Sized::Small(sheet) => sheet.may_hold(row),
-            Sized::Middle(sheet) => sheet.may_hold(row),
-            Sized::Large(sheet) => sheet.may_hold(row),
+            AnySheet::Small(sheet) => sheet.may_hold(row),
+            AnySheet::Middle(sheet) => sheet.may_hold(row),
+            AnySheet::Large(sheet) => sheet.may_hold(row),
         }
     }
 
@@ -228,9 +228,9 @@ impl BareLevel {
         ensures { (cells : List (List Item)) → All (AreOf self.now.grid.layers) cells → AsksAmong asked.now cells → All (HoldsSomewhere self.now.grid) cells → result ≡ true }
     {
         match &self.sheet {
-            Sized::Small(sheet) => sheet.may_head_in(asked),
-            Sized::Middle(sheet) => sheet.may_head_in(asked),
-            Sized::Large(sheet) => sheet.may_head_in(asked),
+            AnySheet::Small(sheet) => sheet.may_head_in(asked),
+            AnySheet::Middle(sheet) => sheet.may_head_in(asked),
+            AnySheet::Large(sheet) => sheet.may_head_in(asked),
         }
     }
 
@@ -244,9 +244,9 @@ impl BareLevel {
         ensures changed { result ≡ changes self.old.grid x y left.now right.now }
     {
         match &mut self.sheet {
-            Sized::Small(sheet) => sheet.rewrite(x, y, left, right),
-            Sized::Middle(sheet) => sheet.rewrite(x, y, left, right),
-            Sized::Large(sheet) => sheet.rewrite(x, y, left, right),
+            AnySheet::Small(sheet) => sheet.rewrite(x, y, left, right),
+            AnySheet::Middle(sheet) => sheet.rewrite(x, y, left, right),
+            AnySheet::Large(sheet) => sheet.rewrite(x, y, left, right),
         }
     }
 
@@ -256,9 +256,9 @@ impl BareLevel {
         ensures lawful { IsLawful self.new.grid }
     {
         match &mut self.sheet {
-            Sized::Small(sheet) => sheet.push_all(players, dir),
-            Sized::Middle(sheet) => sheet.push_all(players, dir),
-            Sized::Large(sheet) => sheet.push_all(players, dir),
+            AnySheet::Small(sheet) => sheet.push_all(players, dir),
+            AnySheet::Middle(sheet) => sheet.push_all(players, dir),
+            AnySheet::Large(sheet) => sheet.push_all(players, dir),
         }
     }
 
@@ -269,9 +269,9 @@ impl BareLevel {
         ensures { result ≡ true → cell_at self.now.grid x y ≡ map still_place (cell_at self.now.grid x y) }
     {
         match &self.sheet {
-            Sized::Small(sheet) => sheet.is_still(x, y),
-            Sized::Middle(sheet) => sheet.is_still(x, y),
-            Sized::Large(sheet) => sheet.is_still(x, y),
+            AnySheet::Small(sheet) => sheet.is_still(x, y),
+            AnySheet::Middle(sheet) => sheet.is_still(x, y),
+            AnySheet::Large(sheet) => sheet.is_still(x, y),
         }
     }
 
@@ -281,9 +281,9 @@ impl BareLevel {
         ensures lawful { IsLawful self.new.grid }
     {
         match &mut self.sheet {
-            Sized::Small(sheet) => sheet.still_all(),
-            Sized::Middle(sheet) => sheet.still_all(),
-            Sized::Large(sheet) => sheet.still_all(),
+            AnySheet::Small(sheet) => sheet.still_all(),
+            AnySheet::Middle(sheet) => sheet.still_all(),
+            AnySheet::Large(sheet) => sheet.still_all(),
         }
     }
 
@@ -293,9 +293,9 @@ impl BareLevel {
         ensures { (object : ℕ) → member result object ≡ in_line self.now.grid line object }
     {
         match &self.sheet {
-            Sized::Small(sheet) => sheet.line_objects(line),
-            Sized::Middle(sheet) => sheet.line_objects(line),
-            Sized::Large(sheet) => sheet.line_objects(line),
+            AnySheet::Small(sheet) => sheet.line_objects(line),
+            AnySheet::Middle(sheet) => sheet.line_objects(line),
+            AnySheet::Large(sheet) => sheet.line_objects(line),
         }
     }
 
@@ -305,9 +305,9 @@ impl BareLevel {
         ensures { result ≡ true → (y : ℕ) → y < self.now.grid.height → cell_at self.now.grid x y ≡ map still_place (cell_at self.now.grid x y) }
     {
         match &self.sheet {
-            Sized::Small(sheet) => sheet.is_column_still(x),
-            Sized::Middle(sheet) => sheet.is_column_still(x),
-            Sized::Large(sheet) => sheet.is_column_still(x),
+            AnySheet::Small(sheet) => sheet.is_column_still(x),
+            AnySheet::Middle(sheet) => sheet.is_column_still(x),
+            AnySheet::Large(sheet) => sheet.is_column_still(x),
         }
     }
 
@@ -316,9 +316,9 @@ impl BareLevel {
         ensures { result ≡ list_any (holds_both objects.now others.now) self.now.grid.cells }
     {
         match &self.sheet {
-            Sized::Small(sheet) => sheet.some_holds(objects, others),
-            Sized::Middle(sheet) => sheet.some_holds(objects, others),
-            Sized::Large(sheet) => sheet.some_holds(objects, others),
+            AnySheet::Small(sheet) => sheet.some_holds(objects, others),
+            AnySheet::Middle(sheet) => sheet.some_holds(objects, others),
+            AnySheet::Large(sheet) => sheet.some_holds(objects, others),
         }
     }
 
@@ -327,9 +327,9 @@ impl BareLevel {
         ensures { result ≡ list_all (holds_if objects.now others.now) self.now.grid.cells }
     {
         match &self.sheet {
-            Sized::Small(sheet) => sheet.all_hold(objects, others),
-            Sized::Middle(sheet) => sheet.all_hold(objects, others),
-            Sized::Large(sheet) => sheet.all_hold(objects, others),
+            AnySheet::Small(sheet) => sheet.all_hold(objects, others),
+            AnySheet::Middle(sheet) => sheet.all_hold(objects, others),
+            AnySheet::Large(sheet) => sheet.all_hold(objects, others),
         }
     }
 }

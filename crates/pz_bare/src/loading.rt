@@ -8,7 +8,7 @@ ghost use Rattle.pz_sheet.specs.Grid.{IsLawful};
 ghost use Rattle.pz_sheet.specs.Loading.{drawn};
 ghost use Rattle.pz_bare.specs.Loading.{first_in_column, first_on, with_background, loaded_from, loaded};
 
-use crate::{BareLevel, Sized};
+use crate::{AnySheet, BareLevel};
 use pz_cells::piece::Piece;
 use pz_game::game::Game;
 use pz_game::level::{DrawnLevel, LevelEntry};
@@ -36,14 +36,14 @@ impl BareLevel {
         let objects = game.layers().len();
         let depth = game.depth();
         if objects <= 128 && depth <= 25 {
-            let sheet = Sized::Small(sheet_from(alloc, game, drawing)?);
+            let sheet = AnySheet::Small(sheet_from(alloc, game, drawing)?);
             return Ok(BareLevel { sheet });
         }
         if objects <= 256 && depth <= 50 {
-            let sheet = Sized::Middle(sheet_from(alloc, game, drawing)?);
+            let sheet = AnySheet::Middle(sheet_from(alloc, game, drawing)?);
             return Ok(BareLevel { sheet });
         }
-        let sheet = Sized::Large(sheet_from(alloc, game, drawing)?);
+        let sheet = AnySheet::Large(sheet_from(alloc, game, drawing)?);
         Ok(BareLevel { sheet })
     }
 }

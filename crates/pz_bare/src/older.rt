@@ -5,7 +5,7 @@ ghost use Rattle.pz_bare.specs.Past.{given_back, Leads, IsFor};
 ghost use Rattle.pz_sheet.specs.Changes.{changes_seen, IsChangeOf, restored};
 ghost use Rattle.pz_sheet.specs.Grid.{SameSize};
 
-use crate::{BareLevel, Sized};
+use crate::{AnySheet, BareLevel};
 use pz_sheet::changes::Change;
 use std::alloc::{AllocError, Global};
 
@@ -44,9 +44,15 @@ impl BareLevel {
         ensures given { IfOk result (λ way. given_back way newer.now.grid ≡ self.old.grid) }
     {
         match (&mut self.sheet, &newer.sheet) {
-            (Sized::Small(sheet), Sized::Small(newer)) => sheet.go_on(newer).map(Older::Small),
-            (Sized::Middle(sheet), Sized::Middle(newer)) => sheet.go_on(newer).map(Older::Middle),
-            (Sized::Large(sheet), Sized::Large(newer)) => sheet.go_on(newer).map(Older::Large),
+            (AnySheet::Small(sheet), AnySheet::Small(newer)) => sheet
+                .go_on(newer)
+                .map(Older::Small),
+            (AnySheet::Middle(sheet), AnySheet::Middle(newer)) => sheet
+                .go_on(newer)
+                .map(Older::Middle),
+            (AnySheet::Large(sheet), AnySheet::Large(newer)) => sheet
+                .go_on(newer)
+                .map(Older::Large),
             _ => unreachable!(),
         }
     }
@@ -70,7 +76,7 @@ impl BareLevel {
         ensures { self.new.grid ≡ restored (changes_seen self.old.grid changes.now) self.old.grid }
     {
         match &mut self.sheet {
-            Sized::Small(sheet) => sheet.take_changes(changes),
+            AnySheet::Small(sheet) => sheet.take_changes(changes),
             _ => unreachable!(),
         }
     }
@@ -81,7 +87,7 @@ impl BareLevel {
         ensures { self.new.grid ≡ restored (changes_seen self.old.grid changes.now) self.old.grid }
     {
         match &mut self.sheet {
-            Sized::Middle(sheet) => sheet.take_changes(changes),
+            AnySheet::Middle(sheet) => sheet.take_changes(changes),
             _ => unreachable!(),
         }
     }
@@ -92,7 +98,7 @@ impl BareLevel {
         ensures { self.new.grid ≡ restored (changes_seen self.old.grid changes.now) self.old.grid }
     {
         match &mut self.sheet {
-            Sized::Large(sheet) => sheet.take_changes(changes),
+            AnySheet::Large(sheet) => sheet.take_changes(changes),
             _ => unreachable!(),
         }
     }

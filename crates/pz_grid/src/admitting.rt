@@ -9,7 +9,7 @@ ghost use Rattle.pz_grid.specs.Places.{line_count, places};
 ghost use Rattle.pz_game.specs.declared.direction.Dir.{Dir};
 
 use crate::Level;
-use pz_bare::{BareLevel, Sized};
+use pz_bare::{AnySheet, BareLevel};
 use pz_game::direction::Dir;
 use pz_game::masks::names;
 use pz_game::pattern::{Item, Pattern, Row};
@@ -125,9 +125,9 @@ fn may_head(bare: &BareLevel, row: &Row, dir: Dir, line: u32) -> bool
     ensures none { result ≡ false → StartsNowhere bare.now.grid row.now dir line }
 {
     match bare.sheet() {
-        Sized::Small(sheet) => line_may_head(sheet, row, dir, line),
-        Sized::Middle(sheet) => line_may_head(sheet, row, dir, line),
-        Sized::Large(sheet) => line_may_head(sheet, row, dir, line),
+        AnySheet::Small(sheet) => line_may_head(sheet, row, dir, line),
+        AnySheet::Middle(sheet) => line_may_head(sheet, row, dir, line),
+        AnySheet::Large(sheet) => line_may_head(sheet, row, dir, line),
     }
 }
 

@@ -10,7 +10,7 @@ ghost use Rattle.pz_grid.specs.Movement.{neighbour, heading_goal, spot, in_pass,
 ghost use Rattle.pz_sheet.specs.Movement.{stilled};
 
 use crate::Level;
-use pz_bare::Sized;
+use pz_bare::AnySheet;
 use pz_cells::piece::Piece;
 use pz_game::direction::Dir;
 use pz_game::game::Game;
@@ -113,9 +113,9 @@ impl Level {
         ensures { MatchOption result (Stays self.now.grid (spot x y layer)) (λ leaves. Leaves self.now.grid (spot x y layer) leaves.0 leaves.1) }
     {
         match self.bare.sheet() {
-            Sized::Small(sheet) => leaving(sheet, x, y, layer),
-            Sized::Middle(sheet) => leaving(sheet, x, y, layer),
-            Sized::Large(sheet) => leaving(sheet, x, y, layer),
+            AnySheet::Small(sheet) => leaving(sheet, x, y, layer),
+            AnySheet::Middle(sheet) => leaving(sheet, x, y, layer),
+            AnySheet::Large(sheet) => leaving(sheet, x, y, layer),
         }
     }
 

@@ -9,7 +9,7 @@ ghost use Rattle.pz_grid.specs.Places.{on_map, along, position_of, distance, cel
 ghost use Rattle.pz_sets.specs.Next.{IsNext};
 
 use crate::Level;
-use pz_bare::{BareLevel, Sized};
+use pz_bare::{AnySheet, BareLevel};
 use pz_game::direction::Dir;
 use pz_game::pattern::{Pattern, Row};
 use pz_program::instance::Instance;
@@ -145,9 +145,9 @@ fn row_holds(bare: &BareLevel, row: &Row, dir: Dir, place: Place) -> bool
     ensures { result ≡ row_holds bare.now.grid row.now dir place }
 {
     match bare.sheet() {
-        Sized::Small(sheet) => holds_in(sheet, row, dir, place),
-        Sized::Middle(sheet) => holds_in(sheet, row, dir, place),
-        Sized::Large(sheet) => holds_in(sheet, row, dir, place),
+        AnySheet::Small(sheet) => holds_in(sheet, row, dir, place),
+        AnySheet::Middle(sheet) => holds_in(sheet, row, dir, place),
+        AnySheet::Large(sheet) => holds_in(sheet, row, dir, place),
     }
 }
 
@@ -481,9 +481,9 @@ fn search_line(
     ensures limit { result ≡ Err GridFault.MatchLimit → MATCH_LIMIT < length (found.old.items ++ filter (row_holds bare.now.grid row.now line.dir) (pairs_in bare.now.grid row.now line.dir line.number)) }
 {
     match bare.sheet() {
-        Sized::Small(sheet) => add_places_in(sheet, row, line, found),
-        Sized::Middle(sheet) => add_places_in(sheet, row, line, found),
-        Sized::Large(sheet) => add_places_in(sheet, row, line, found),
+        AnySheet::Small(sheet) => add_places_in(sheet, row, line, found),
+        AnySheet::Middle(sheet) => add_places_in(sheet, row, line, found),
+        AnySheet::Large(sheet) => add_places_in(sheet, row, line, found),
     }
 }
 
@@ -497,9 +497,9 @@ fn tested_for(bare: &BareLevel, row: &Row, line: Line) -> u32
 {
     let head = head_of(row);
     match bare.sheet() {
-        Sized::Small(sheet) => tested_in(sheet, line, head),
-        Sized::Middle(sheet) => tested_in(sheet, line, head),
-        Sized::Large(sheet) => tested_in(sheet, line, head),
+        AnySheet::Small(sheet) => tested_in(sheet, line, head),
+        AnySheet::Middle(sheet) => tested_in(sheet, line, head),
+        AnySheet::Large(sheet) => tested_in(sheet, line, head),
     }
 }
 

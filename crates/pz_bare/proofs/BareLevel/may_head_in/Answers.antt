@@ -5,7 +5,7 @@ use Rattle.pz_game.specs.Pattern.{AreOf}
 use Rattle.pz_game.specs.Pattern.{AsksAmong}
 use Rattle.pz_sheet.specs.Grid.{BareState}
 use Rattle.pz_sheet.specs.Searching.{HoldsSomewhere}
-use Rattle.pz_bare.specs.Sized.{state_in}
+use Rattle.pz_bare.specs.AnySheet.{state_in}
 use Rattle.pz_bare.proofs.BareLevel.may_head_in.Goals as goal
 
 abbrev Tells : List ℕ → Bool → BareState → Type 0

@@ -4,7 +4,7 @@ use Rattle.pz_game.specs.declared.direction.Dir.{Dir}
 use Rattle.pz_game.specs.declared.pattern.Item.{Item}
 use Rattle.pz_game.specs.Pattern.{RuleRow}
 use Rattle.pz_sheet.specs.Grid.{Grid, BareState}
-use Rattle.pz_bare.specs.Sized.{state_in}
+use Rattle.pz_bare.specs.AnySheet.{state_in}
 use Rattle.pz_grid.specs.Admitted.{starts_in}
 use Rattle.pz_grid.specs.Places.{head_of, line_length, places, starts_with}
 use Rattle.pz_grid.proofs.SkipLemmas.{starts_fewer}
