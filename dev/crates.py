@@ -14,6 +14,21 @@ def read_uses(top):
     return named
 
 
+def read_towers(top):
+    """The towers of crates.txt, lowest first: a comment before an empty line names one. Each has its crates with the comment above them, or ""."""
+    towers, comment = [], ""
+    for line in (top / "crates.txt").read_text(encoding="utf-8").splitlines():
+        if line.startswith("#"):
+            comment = line.lstrip("# ")
+            continue
+        if line:
+            towers[-1][1].append((line.partition(":")[0].split()[0], comment))
+        elif comment:
+            towers.append((comment, []))
+        comment = ""
+    return [(name, crates) for name, crates in towers if crates]
+
+
 def read_crates(top):
     """The crates of crates.txt, each with those of them that it names."""
     named = read_uses(top)

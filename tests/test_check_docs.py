@@ -10,7 +10,11 @@ For whoever tests.
 ## The crates
 
 <!-- crates -->
-- `pz_one`: A crate of one function.
+
+**A tower**
+
+- `pz_one`: a crate of one function
+
 <!-- end of the crates -->
 
 ## Rules
@@ -29,7 +33,7 @@ See [the crates](#the-crates), [the front](../README.md#front) and `crates/pz_on
 class OfDocuments(OnSmallCrates):
     def setUp(self):
         super().setUp()
-        self.found("check-docs", "pz_one:\n")
+        self.found("check-docs", "# A tower\n\n# a crate of one function\npz_one:\n")
         self.write("README.md", "# Front\n\n| a | b |\n|---|---|\n| c | d |\n")
         self.write("conformance/README.md", "# Cases\n")
 
@@ -47,13 +51,13 @@ class OfDocuments(OnSmallCrates):
 
     def test_each_fault_is_told_with_its_line(self):
         for old, new, told in (
-            ("`pz_one/src/lib.rt`\n  `same`", "`pz_one/src/lib.rt`\n  `other`", "13: other does not stand in the file named before it"),
-            ("`pz_one/src/lib.rt` `same` |", "`pz_one/src/lib.rt` `other` |", "18: other does not stand in the file named before it"),
-            ("`pz_one/src/lib.rt`\n  `same`", "`pz_one/src/gone.rt`\n  `same`", "13: pz_one/src/gone.rt is not there"),
-            ("`crates/pz_one`", "`crates/pz_two`", "20: crates/pz_two is not there"),
-            ("../README.md#front", "../GONE.md", "20: ../GONE.md is not there"),
-            ("(#the-crates)", "(#the-rules)", "20: architecture.md has no heading the-rules"),
-            ("README.md#front", "README.md#back", "20: README.md has no heading back"),
+            ("`pz_one/src/lib.rt`\n  `same`", "`pz_one/src/lib.rt`\n  `other`", "17: other does not stand in the file named before it"),
+            ("`pz_one/src/lib.rt` `same` |", "`pz_one/src/lib.rt` `other` |", "22: other does not stand in the file named before it"),
+            ("`pz_one/src/lib.rt`\n  `same`", "`pz_one/src/gone.rt`\n  `same`", "17: pz_one/src/gone.rt is not there"),
+            ("`crates/pz_one`", "`crates/pz_two`", "24: crates/pz_two is not there"),
+            ("../README.md#front", "../GONE.md", "24: ../GONE.md is not there"),
+            ("(#the-crates)", "(#the-rules)", "24: architecture.md has no heading the-rules"),
+            ("README.md#front", "README.md#back", "24: README.md has no heading back"),
             ("For whoever tests.", "For whoever " + "tests " * 20 + "much.", "3: 137 columns"),
         ):
             with self.subTest(told):
@@ -67,16 +71,21 @@ class OfDocuments(OnSmallCrates):
         self.write("README.md", f"# Front\n\n| a | {'word ' * 31}|\n")
         self.assertEqual(self.told(PAGE), (1, ["README.md:3: a cell of more than 30 words"]))
 
-    def test_the_crates_are_told_as_they_tell_themselves(self):
-        page = PAGE.replace("A crate of one function.", "A crate of two functions.")
-        self.assertEqual(self.told(page), (1, ["docs/architecture.md: the crates tell otherwise of themselves; dev/check-docs --write puts it there"]))
+    def test_the_crates_are_told_as_in_crates_txt(self):
+        page = PAGE.replace("a crate of one function", "a crate of two functions")
+        self.assertEqual(self.told(page), (1, ["docs/architecture.md: crates.txt says otherwise of the crates; dev/check-docs --write puts it there"]))
         self.assertEqual(self.told(page, "--write"), (0, []))
         self.assertEqual((self.room / "docs/architecture.md").read_text(encoding="utf-8"), PAGE)
 
-    def test_a_crate_is_told_up_to_a_colon_and_one_of_tests_is_not_told(self):
-        self.write("crates.txt", "pz_one:\npz_one_cases: pz_one\n")
-        self.write("crates/pz_one/src/lib.rt", "//! A crate of one\n//! function: the same number. It has no more.\n#![tactic(auto)]\n")
-        self.assertEqual(self.told(PAGE), (0, []))
+    def test_a_crate_without_a_line_above_it(self):
+        self.write("crates.txt", "# A tower\n\npz_one:\n")
+        page = PAGE.replace(": a crate of one function", ":")
+        self.assertEqual(self.told(page), (1, ["crates.txt: no line above pz_one says what it is"]))
+
+    def test_a_tower_begins_at_a_comment_before_an_empty_line(self):
+        self.write("crates.txt", "# Of no crate\n\n# A tower\n\n# a crate of one function\npz_one:\n\n# Another\n\n# tests\npz_two: pz_one\n")
+        page = PAGE.replace("\n\n<!-- end", "\n\n**Another**\n\n- `pz_two`: tests\n\n<!-- end")
+        self.assertEqual(self.told(page), (0, []))
 
 
 if __name__ == "__main__":
