@@ -1,4 +1,5 @@
 //! An entry of a file of sessions.
+#![tactic(auto, unfolding(crate::specs::Entry::written_of, crate::specs::Entry::entry_of))]
 
 ghost use Rattle.std.specs.Prelude.{◌≡◌, ◌≢◌, IfOk, IfErr, Ok, Err, option_map, option_and_then};
 ghost use Rattle.serde_json.specs.Find.{at, as_str};
@@ -57,7 +58,6 @@ fn read_index(value: Option<&Value>) -> Option<u64>
 }
 
 /// What an entry says, its level as text; None: it is no entry.
-#[tactic(auto, unfolding(crate::specs::Entry::written_of))]
 fn read_written(alloc: Global, value: &Value) -> Result<Option<Written>, AllocError>
     ensures { IfOk result (λ written. written ≡ written_of (data_of value.now)) }
 {
@@ -92,7 +92,6 @@ fn read_written(alloc: Global, value: &Value) -> Result<Option<Written>, AllocEr
 }
 
 /// The entry of a number, or its fault. The text of its level is read last.
-#[tactic(auto, unfolding(crate::specs::Entry::entry_of))]
 pub(crate) fn read_entry(alloc: Global, number: u64, value: &Value) -> Result<Entry, FileFault>
     ensures read { IfOk result (λ entry. entry_of number (data_of value.now) ≡ Ok entry) }
     ensures refused { IfErr result (λ fault. fault ≢ Memory → entry_of number (data_of value.now) ≡ Err fault) }

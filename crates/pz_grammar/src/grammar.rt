@@ -1,4 +1,5 @@
 //! The rule of a line.
+#![tactic(auto, unfolding(crate::specs::Parsed::prefixes_of, crate::specs::Parsed::after_prefixes, crate::specs::Parsed::commands_of, crate::specs::Parsed::parsed))]
 
 ghost use Rattle.std.specs.Prelude.{◌≡◌, Option, Some, None, IfOk, MatchOption};
 ghost use Rattle.pz_grammar.specs.Parsed.{parsed, command_of, commands_of, begins_joined, after_joined, prefixes_of, after_prefixes, after_arrow};
@@ -35,7 +36,6 @@ fn is_prefix(token: &Token) -> bool
 }
 
 /// The prefixes that tokens begin with, and what follows them.
-#[tactic(auto, unfolding(crate::specs::Parsed::prefixes_of, crate::specs::Parsed::after_prefixes))]
 fn read_prefixes<'a>(
     alloc: Global,
     tokens: &'a [Token],
@@ -65,7 +65,6 @@ fn command_of(token: &Token) -> Option<Command>
 }
 
 /// The tokens as commands, if all of them are commands.
-#[tactic(auto, unfolding(crate::specs::Parsed::commands_of))]
 fn commands_of(alloc: Global, tokens: &[Token]) -> Result<Option<Listed<Command>>, AllocError>
     ensures { IfOk result (λ commands. commands ≡ commands_of tokens.now) }
 {
@@ -99,7 +98,6 @@ fn after_joined(tokens: &[Token]) -> (bool, &[Token])
 }
 
 /// The rule that these tokens write, if they write one.
-#[tactic(auto, unfolding(crate::specs::Parsed::parsed))]
 fn read_rule(alloc: Global, tokens: &[Token]) -> Result<Option<Rule>, AllocError>
     ensures { IfOk result (λ rule. rule ≡ parsed tokens.now) }
 {

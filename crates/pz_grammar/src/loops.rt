@@ -1,4 +1,5 @@
 //! The lines of loops.
+#![tactic(auto, unfolding(crate::specs::Loop::loop_word, crate::specs::Loop::next_loop))]
 
 ghost use Rattle.std.specs.Prelude.{◌≡◌};
 ghost use Rattle.pz_grammar.specs.Loop.{loop_word, next_loop};
@@ -14,7 +15,6 @@ pub enum LoopWord {
 }
 
 /// The loop word of a line with no other word, if it is one.
-#[tactic(auto, unfolding(crate::specs::Loop::loop_word))]
 pub fn loop_word(words: &[Name]) -> Option<LoopWord>
     ensures { result ≡ loop_word words.now }
 {
@@ -29,7 +29,6 @@ pub fn loop_word(words: &[Name]) -> Option<LoopWord>
 }
 
 /// The first loop word of lines.
-#[tactic(auto, unfolding(crate::specs::Loop::next_loop))]
 pub fn next_loop(lines: &[RuleLine]) -> Option<LoopWord>
     ensures { result ≡ next_loop lines.now }
 {

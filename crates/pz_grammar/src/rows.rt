@@ -1,4 +1,5 @@
 //! Rows, token by token.
+#![tactic(auto, unfolding(crate::specs::Parsed::led, crate::specs::Parsed::inside))]
 
 ghost use Rattle.std.specs.Prelude.{◌≡◌, ◌≤◌, ◌<◌, ◌∷◌, [], Option, Some, None, true, IfOk, IfSome, MatchOption, length};
 ghost use Rattle.pz_grammar.specs.Parsed.{inside, led, outside, with_phrase, with_gap, with_bar, with_close};
@@ -91,7 +92,6 @@ fn close_added<'a>(row: OpenRow, rest: &'a [Token]) -> Result<Step<'a>, AllocErr
 }
 
 /// A name, after the word before it.
-#[tactic(auto, unfolding(crate::specs::Parsed::led))]
 fn lead_added<'a>(
     row: OpenRow,
     lead: Lead<Class>,
@@ -114,7 +114,6 @@ fn lead_added<'a>(
 }
 
 /// What a token does inside a row.
-#[tactic(auto, unfolding(crate::specs::Parsed::inside))]
 fn token_added<'a>(
     alloc: Global,
     row: OpenRow,

@@ -1,4 +1,5 @@
 //! The words of a rule line, as rule words and names.
+#![tactic(auto, unfolding(crate::specs::Words::lead_of, crate::specs::Words::command_of_word, crate::specs::Words::mark_of, crate::specs::Words::rule_word, crate::specs::Words::token_of, crate::specs::Words::tokens_from, crate::specs::Words::tokens_of))]
 
 ghost use Rattle.std.specs.Prelude.{◌≡◌, ◌++◌, OnOk, IfOk, codes};
 ghost use Rattle.std.specs.Str.{bytes_eq};
@@ -10,7 +11,6 @@ use pz_game::direction::Dir;
 use pz_game::game::Game;
 use std::alloc::{AllocError, Global};
 
-#[tactic(auto, unfolding(crate::specs::Words::lead_of))]
 fn lead_of(word: &str) -> Option<Lead<Class>>
     ensures { result ≡ lead_of word.now }
 {
@@ -36,7 +36,6 @@ fn lead_of(word: &str) -> Option<Lead<Class>>
     }
 }
 
-#[tactic(auto, unfolding(crate::specs::Words::command_of_word))]
 fn command_of_word(word: &str) -> Option<Command>
     ensures { result ≡ command_of_word word.now }
 {
@@ -61,7 +60,6 @@ fn command_of_word(word: &str) -> Option<Command>
     }
 }
 
-#[tactic(auto, unfolding(crate::specs::Words::mark_of))]
 fn mark_of(word: &str) -> Option<Token>
     ensures { result ≡ mark_of word.now }
 {
@@ -79,7 +77,6 @@ fn mark_of(word: &str) -> Option<Token>
 }
 
 /// The rule word that a text spells, if it spells one.
-#[tactic(auto, unfolding(crate::specs::Words::rule_word))]
 fn rule_word(word: &str) -> Option<Token>
     ensures { result ≡ rule_word word.now }
 {
@@ -96,7 +93,6 @@ fn rule_word(word: &str) -> Option<Token>
 }
 
 /// The token of a word.
-#[tactic(auto, unfolding(crate::specs::Words::token_of))]
 fn token_of(game: &Game, word: &str) -> Token
     ensures { result ≡ token_of game.now.names word.now }
 {
@@ -119,7 +115,6 @@ fn is_plus(word: &str) -> bool
 }
 
 /// Adds the tokens of words.
-#[tactic(auto, unfolding(crate::specs::Words::tokens_from))]
 fn add_tokens(game: &Game, words: &[Name], tokens: &mut Vec<Token>) -> Result<(), AllocError>
     ensures { OnOk result (tokens.new.items ≡ tokens.old.items ++ tokens_from game.now.names words.now) }
 {
@@ -134,7 +129,6 @@ fn add_tokens(game: &Game, words: &[Name], tokens: &mut Vec<Token>) -> Result<()
 }
 
 /// The tokens of a line.
-#[tactic(auto, unfolding(crate::specs::Words::tokens_of))]
 pub fn tokens_of(alloc: Global, game: &Game, words: &[Name]) -> Result<Vec<Token>, AllocError>
     ensures { IfOk result (λ tokens. tokens.items ≡ tokens_of game.now.names words.now) }
 {

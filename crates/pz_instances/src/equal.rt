@@ -1,4 +1,5 @@
 //! Equal instances of a rule.
+#![tactic(auto, unfolding(crate::specs::Equal::same_item, crate::specs::Equal::has_item, crate::specs::Equal::within_cell, crate::specs::Equal::same_cell, crate::specs::Equal::same_row, crate::specs::Equal::same_instance))]
 
 ghost use Rattle.std.specs.Prelude.{◌≡◌};
 ghost use Rattle.std.specs.List.{list_all, zip};
@@ -16,7 +17,6 @@ pub fn same_meaning(a: Word, b: Word) -> bool
 }
 
 /// Whether two items are the same.
-#[tactic(auto, unfolding(crate::specs::Equal::same_item))]
 fn same_item(a: &Item, b: &Item) -> bool
     ensures { result ≡ same_item a.now b.now }
 {
@@ -24,7 +24,6 @@ fn same_item(a: &Item, b: &Item) -> bool
 }
 
 /// Whether an item is among those of a cell.
-#[tactic(auto, unfolding(crate::specs::Equal::has_item))]
 pub fn has_item(items: &[Item], item: &Item) -> bool
     ensures { result ≡ has_item items.now item.now }
 {
@@ -32,7 +31,6 @@ pub fn has_item(items: &[Item], item: &Item) -> bool
 }
 
 /// Whether a cell has each item of another.
-#[tactic(auto, unfolding(crate::specs::Equal::within_cell))]
 fn within_cell(a: &Pattern, b: &Pattern) -> bool
     ensures { result ≡ within_cell a.now b.now }
 {
@@ -40,7 +38,6 @@ fn within_cell(a: &Pattern, b: &Pattern) -> bool
 }
 
 /// Whether two cells have the same set of items.
-#[tactic(auto, unfolding(crate::specs::Equal::same_cell))]
 fn same_cell(a: &Pattern, b: &Pattern) -> bool
     ensures { result ≡ same_cell a.now b.now }
 {
@@ -55,7 +52,6 @@ fn cells_agree(a: &[Pattern], b: &[Pattern]) -> bool
 }
 
 /// Whether two rows have the same cells.
-#[tactic(auto, unfolding(crate::specs::Equal::same_row))]
 fn same_row(a: &Row, b: &Row) -> bool
     ensures { result ≡ same_row a.now b.now }
 {
@@ -77,7 +73,6 @@ fn same_rows(a: &[Row], b: &[Row]) -> bool
 }
 
 /// Whether two instances of one rule are equal.
-#[tactic(auto, unfolding(crate::specs::Equal::same_instance))]
 pub fn same_instance(a: &Instance, b: &Instance) -> bool
     ensures { result ≡ same_instance a.now b.now }
 {

@@ -1,4 +1,5 @@
 //! Items that can't stand in one cell.
+#![tactic(auto, unfolding(crate::specs::Exclusion::excludes, crate::specs::Exclusion::excludes_some, crate::specs::Exclusion::is_impossible, crate::specs::Exclusion::has_impossible))]
 
 ghost use Rattle.std.specs.Prelude.{◌≡◌};
 ghost use Rattle.std.specs.List.{list_any};
@@ -43,7 +44,6 @@ fn at_odds(role: Role, a: Word, b: Word) -> bool
 }
 
 /// Whether no cell can be as both items say.
-#[tactic(auto, unfolding(crate::specs::Exclusion::excludes))]
 fn excludes(role: Role, a: &Item, b: &Item) -> bool
     ensures { result ≡ excludes role a.now b.now }
 {
@@ -54,7 +54,6 @@ fn excludes(role: Role, a: &Item, b: &Item) -> bool
     }
 }
 
-#[tactic(auto, unfolding(crate::specs::Exclusion::excludes_some))]
 fn excludes_some(role: Role, cell: &[Item], a: &Item) -> bool
     ensures { result ≡ excludes_some role cell.now a.now }
 {
@@ -62,7 +61,6 @@ fn excludes_some(role: Role, cell: &[Item], a: &Item) -> bool
 }
 
 /// Whether no cell of a level can be as all items say.
-#[tactic(auto, unfolding(crate::specs::Exclusion::is_impossible))]
 fn is_impossible(role: Role, cell: &[Item]) -> bool
     ensures { result ≡ is_impossible role cell.now }
 {
@@ -70,7 +68,6 @@ fn is_impossible(role: Role, cell: &[Item]) -> bool
 }
 
 /// Whether a row has an impossible cell.
-#[tactic(auto, unfolding(crate::specs::Exclusion::has_impossible))]
 fn has_impossible(role: Role, row: &Row) -> bool
     ensures { result ≡ has_impossible role row.now }
 {

@@ -1,4 +1,5 @@
 //! Hashes of instances: equal instances have the same hash, and few unequal ones do.
+#![tactic(auto, unfolding(crate::specs::Hashes::item_hash, crate::specs::Hashes::with_cell, crate::specs::Hashes::with_row, crate::specs::Hashes::hash_of))]
 
 ghost use Rattle.std.specs.Prelude.{◌≡◌, fold};
 ghost use Rattle.pz_instances.specs.Hashes.{direction_number, word_number, spread, item_hash, cell_hash, with_cell, with_row, hash_of};
@@ -44,7 +45,6 @@ pub fn spread(number: u64) -> u64
 }
 
 /// The hash of an item.
-#[tactic(auto, unfolding(crate::specs::Hashes::item_hash))]
 pub fn item_hash(item: &Item) -> u64
     ensures { result ≡ item_hash item.now }
 {
@@ -71,14 +71,12 @@ fn cell_hash(items: &[Item]) -> u64
 }
 
 /// The hash of some cells, and of one more after them.
-#[tactic(auto, unfolding(crate::specs::Hashes::with_cell))]
 fn with_cell(hash: u64, cell: &Pattern) -> u64
     ensures { result ≡ with_cell hash cell.now }
 {
     (hash ^ cell_hash(cell.items())).wrapping_mul(SPREADER)
 }
 
-#[tactic(auto, unfolding(crate::specs::Hashes::with_row))]
 fn with_row(hash: u64, row: &Row) -> u64
     ensures { result ≡ with_row hash row.now }
 {
@@ -94,7 +92,6 @@ fn with_rows(hash: u64, rows: &[Row]) -> u64
 }
 
 /// The hash of an instance.
-#[tactic(auto, unfolding(crate::specs::Hashes::hash_of))]
 pub fn hash_of(instance: &Instance) -> u64
     ensures { result ≡ hash_of instance.now }
 {

@@ -1,4 +1,5 @@
 //! The rulebooks of sources.
+#![tactic(auto, unfolding(crate::specs::Rulebooks::rulebook_of))]
 
 ghost use Rattle.std.specs.Prelude.{◌≡◌, ◌≢◌, IfOk, IfErr, Ok, Err};
 ghost use Rattle.pz_rules.specs.Drafts.{program_of};
@@ -97,7 +98,6 @@ fn with_rules(programs: &mut Programs, alloc: Global, game: Game) -> Result<Answ
 }
 
 /// What a source gives when it is read now.
-#[tactic(auto, unfolding(crate::specs::Rulebooks::rulebook_of))]
 fn read_rulebook(programs: &mut Programs, alloc: Global, source: &str) -> Result<Answer, AllocError>
     ensures { IfOk result (λ answer. shared_in answer ≡ rulebook_of source.now) }
 {
@@ -108,7 +108,6 @@ fn read_rulebook(programs: &mut Programs, alloc: Global, source: &str) -> Result
 }
 
 /// What a source gives when this is known of it.
-#[tactic(auto, unfolding(crate::specs::Rulebooks::rulebook_of))]
 fn answer_from(
     programs: &mut Programs,
     alloc: Global,

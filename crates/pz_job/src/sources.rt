@@ -1,4 +1,5 @@
 //! The sources of a file, read and their rules expanded by several threads.
+#![tactic(auto, unfolding(crate::specs::Rulebooks::rulebook_of))]
 
 ghost use Rattle.std.specs.Prelude.{◌≤◌, ◌<◌, ℕ, List, length};
 ghost use Rattle.pz_job.specs.Sources.{IsKnown};
@@ -53,7 +54,6 @@ impl<'a> Model for Source<'a> {
 }
 
 /// What is known after reading a text.
-#[tactic(auto, unfolding(crate::specs::Rulebooks::rulebook_of))]
 fn read(alloc: Global, text: &str) -> Known
     ensures { IsKnown text.now result }
 {
@@ -64,7 +64,6 @@ fn read(alloc: Global, text: &str) -> Known
 }
 
 /// What is known after expanding the rules of a game, if only the game was known.
-#[tactic(auto, unfolding(crate::specs::Rulebooks::rulebook_of))]
 fn expanded(alloc: Global, known: Known) -> Known
     ensures { (text : List ℕ) → IsKnown text known → IsKnown text result }
 {

@@ -1,4 +1,5 @@
 //! Compares a level with a recorded one.
+#![tactic(auto, unfolding(crate::specs::LevelNames::standing_names))]
 
 ghost use Rattle.std.specs.Prelude.{◌≡◌};
 ghost use Rattle.std.specs.List.{list_all};
@@ -23,7 +24,6 @@ fn is_named(object: &Name, name: &[u8]) -> bool
 }
 
 /// Whether an object of this name stands at the position.
-#[tactic(auto, unfolding(crate::specs::LevelNames::standing_names))]
 fn has_named(objects: &[Name], level: &Level, x: u32, y: u32, name: &[u8]) -> bool
     ensures { result ≡ has_name (standing_names objects.now level.now.grid (x, y)) name.now }
 {
@@ -36,7 +36,6 @@ fn has_named(objects: &[Name], level: &Level, x: u32, y: u32, name: &[u8]) -> bo
 }
 
 /// Whether each object at the position has a name of the set.
-#[tactic(auto, unfolding(crate::specs::LevelNames::standing_names))]
 fn is_within(objects: &[Name], level: &Level, x: u32, y: u32, set: &CellNames) -> bool
     ensures { result ≡ list_all (has_name set.now) (standing_names objects.now level.now.grid (x, y)) }
 {

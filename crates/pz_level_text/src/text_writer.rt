@@ -1,4 +1,5 @@
 //! Writes the texts of the levels of a game.
+#![tactic(auto, unfolding(crate::specs::LevelText::text_of_level))]
 
 ghost use Rattle.std.specs.Prelude.{◌≡◌, ◌<◌, [], IfOk, IfSome, OnOk};
 ghost use Rattle.pz_sheet.specs.Grid.{SameSize};
@@ -149,7 +150,6 @@ impl<'a> TextWriter<'a> {
 
     /// The text of a level, quoted: for each cell, in this order, the names of its objects, sorted by their bytes, and the next number from
     /// 0, or where an earlier cell has the same names that number; a line break after as many cells as the level is wide.
-    #[tactic(auto, unfolding(crate::specs::LevelText::text_of_level))]
     pub fn write(&mut self, level: &Level) -> Result<QuotedText, AllocError>
         ensures text { IfOk result (λ text. text ≡ text_of_level self.old.table.game self.old.order level.now.grid) }
         ensures game { self.new.table.game ≡ self.old.table.game }
@@ -162,7 +162,6 @@ impl<'a> TextWriter<'a> {
     }
 
     /// The same text, not quoted, for who reads it again.
-    #[tactic(auto, unfolding(crate::specs::LevelText::text_of_level))]
     pub fn write_plain(&mut self, level: &Level) -> Result<Text, AllocError>
         ensures text { IfOk result (λ text. text ≡ text_of_level self.old.table.game self.old.order level.now.grid) }
         ensures game { self.new.table.game ≡ self.old.table.game }

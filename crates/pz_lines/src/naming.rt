@@ -1,4 +1,5 @@
 //! What the lines of a recording call the kinds of frames, the closes and their causes.
+#![tactic(auto, unfolding(crate::specs::Naming::kind_name, json::specs::Print::escape_byte, crate::specs::Naming::code_name, crate::specs::Naming::stop_name, crate::specs::Naming::refusal_name, crate::specs::Naming::close_name, crate::specs::Naming::cause_name))]
 
 ghost use Rattle.std.specs.Prelude.{◌≡◌, ◌++◌, IfOk, codes, decimal, option_map, string_bytes};
 ghost use Rattle.json.specs.Print.{quoted};
@@ -9,7 +10,6 @@ use pz_case::item::{FrameKind, Refusal, Stop, Verdict};
 use std::alloc::{AllocError, Global};
 
 /// The name of a kind of frames as a JSON string, as it is written: there is one in each line.
-#[tactic(auto, unfolding(crate::specs::Naming::kind_name, json::specs::Print::escape_byte))]
 pub(crate) fn quoted_kind(kind: FrameKind) -> &'static [u8]
     ensures { result.now ≡ quoted (kind_name kind) }
 {
@@ -24,7 +24,6 @@ pub(crate) fn quoted_kind(kind: FrameKind) -> &'static [u8]
     }
 }
 
-#[tactic(auto, unfolding(crate::specs::Naming::code_name))]
 fn code_name(code: Code) -> &'static str
     ensures { result.now ≡ code_name code }
 {
@@ -53,7 +52,6 @@ fn code_name(code: Code) -> &'static str
     }
 }
 
-#[tactic(auto, unfolding(crate::specs::Naming::stop_name))]
 fn stop_name(stop: Stop) -> &'static str
     ensures { result.now ≡ stop_name stop }
 {
@@ -70,7 +68,6 @@ fn located(alloc: Global, name: &str, line: u32) -> Result<String, AllocError>
     format!(in alloc; "{name}:{line}")
 }
 
-#[tactic(auto, unfolding(crate::specs::Naming::refusal_name))]
 fn refusal_name(alloc: Global, refusal: Refusal) -> Result<String, AllocError>
     ensures { IfOk result (λ text. string_bytes text ≡ refusal_name refusal) }
 {
@@ -80,7 +77,6 @@ fn refusal_name(alloc: Global, refusal: Refusal) -> Result<String, AllocError>
     }
 }
 
-#[tactic(auto, unfolding(crate::specs::Naming::close_name))]
 pub(crate) fn close_name(verdict: Verdict) -> &'static str
     ensures { result.now ≡ close_name verdict }
 {
@@ -93,7 +89,6 @@ pub(crate) fn close_name(verdict: Verdict) -> &'static str
 }
 
 /// The cause of a stop or a refusal; a session that was played to its end has none.
-#[tactic(auto, unfolding(crate::specs::Naming::cause_name))]
 pub(crate) fn cause_name(alloc: Global, verdict: Verdict) -> Result<Option<String>, AllocError>
     ensures { IfOk result (λ cause. option_map string_bytes cause ≡ cause_name verdict) }
 {

@@ -1,4 +1,5 @@
 //! What may be wrong with what is written in a rule.
+#![tactic(auto, unfolding(crate::specs::Checks::has_more_gaps, crate::specs::Checks::is_long, crate::specs::Checks::is_large, crate::specs::Checks::is_unknown, crate::specs::Checks::is_mixed, crate::specs::Checks::is_moving, crate::specs::Checks::in_cell, crate::specs::Checks::in_row, crate::specs::Checks::in_rows, crate::specs::Checks::in_rule, crate::specs::Checks::has_loose_gap, crate::specs::Checks::same_shape, crate::specs::Checks::shapes_agree, crate::specs::Checks::is_other_shape, crate::specs::Checks::is_misshapen, crate::specs::Checks::fault_of))]
 
 ghost use Rattle.std.specs.Prelude.{◌≡◌};
 ghost use Rattle.std.specs.List.{list_any};
@@ -12,14 +13,12 @@ use pz_game::limits::{MAX_ROW_CELLS, MAX_ROWS};
 use pz_grammar::rule::{Cell, Phrase, Rule};
 use pz_grammar::token::Lead;
 
-#[tactic(auto, unfolding(crate::specs::Checks::has_more_gaps))]
 fn has_more_gaps(row: &[Cell]) -> bool
     ensures { result ≡ has_more_gaps row.now }
 {
     row.iter().filter(|cell| is_gap(cell)).count() > 1
 }
 
-#[tactic(auto, unfolding(crate::specs::Checks::is_long))]
 fn is_long(row: &[Cell]) -> bool
     ensures { result ≡ is_long row.now }
 {
@@ -32,7 +31,6 @@ fn has_long(rows: &[Listed<Cell>]) -> bool
     rows.iter().any(|row| is_long(row.items()))
 }
 
-#[tactic(auto, unfolding(crate::specs::Checks::is_large))]
 fn is_large(rows: &[Listed<Cell>]) -> bool
     ensures { result ≡ is_large rows.now }
 {
@@ -53,14 +51,12 @@ enum Found {
     Moving,
 }
 
-#[tactic(auto, unfolding(crate::specs::Checks::is_unknown))]
 fn is_unknown(table: &[Denotation], phrase: &Phrase) -> bool
     ensures { result ≡ is_unknown table.now phrase.now }
 {
     denoted(table, phrase.name).is_none()
 }
 
-#[tactic(auto, unfolding(crate::specs::Checks::is_mixed))]
 fn is_mixed(table: &[Denotation], phrase: &Phrase) -> bool
     ensures { result ≡ is_mixed table.now phrase.now }
 {
@@ -71,7 +67,6 @@ fn is_mixed(table: &[Denotation], phrase: &Phrase) -> bool
     }
 }
 
-#[tactic(auto, unfolding(crate::specs::Checks::is_moving))]
 fn is_moving(phrase: &Phrase) -> bool
     ensures { result ≡ is_moving phrase.now }
 {
@@ -94,7 +89,6 @@ fn among(table: &[Denotation], by: Found, phrases: &[Phrase]) -> bool
     phrases.iter().any(|phrase| is_found(table, by, phrase))
 }
 
-#[tactic(auto, unfolding(crate::specs::Checks::in_cell))]
 fn in_cell(table: &[Denotation], by: Found, cell: &Cell) -> bool
     ensures { result ≡ in_cell (found_by table.now by) cell.now }
 {
@@ -104,14 +98,12 @@ fn in_cell(table: &[Denotation], by: Found, cell: &Cell) -> bool
     }
 }
 
-#[tactic(auto, unfolding(crate::specs::Checks::in_row))]
 fn in_row(table: &[Denotation], by: Found, row: &[Cell]) -> bool
     ensures { result ≡ in_row (found_by table.now by) row.now }
 {
     row.iter().any(|cell| in_cell(table, by, cell))
 }
 
-#[tactic(auto, unfolding(crate::specs::Checks::in_rows))]
 fn in_rows(table: &[Denotation], by: Found, rows: &[Listed<Cell>]) -> bool
     ensures { result ≡ in_rows (found_by table.now by) rows.now }
 {
@@ -119,7 +111,6 @@ fn in_rows(table: &[Denotation], by: Found, rows: &[Listed<Cell>]) -> bool
 }
 
 /// Whether some phrase of a rule is found by this.
-#[tactic(auto, unfolding(crate::specs::Checks::in_rule))]
 fn in_rule(table: &[Denotation], by: Found, rule: &Rule) -> bool
     ensures { result ≡ in_rule (found_by table.now by) rule.now }
 {
@@ -135,7 +126,6 @@ fn has_gap_at(row: &[Cell], place: usize) -> bool
     }
 }
 
-#[tactic(auto, unfolding(crate::specs::Checks::has_loose_gap))]
 fn has_loose_gap(row: &[Cell]) -> bool
     ensures { result ≡ has_loose_gap row.now }
 {
@@ -158,14 +148,12 @@ fn same_place(a: Option<usize>, b: Option<usize>) -> bool
     }
 }
 
-#[tactic(auto, unfolding(crate::specs::Checks::same_shape))]
 fn same_shape(a: &[Cell], b: &[Cell]) -> bool
     ensures { result ≡ same_shape a.now b.now }
 {
     a.len() == b.len() && same_place(gap_of(a), gap_of(b))
 }
 
-#[tactic(auto, unfolding(crate::specs::Checks::shapes_agree))]
 fn shapes_agree(left: &[Listed<Cell>], right: &[Listed<Cell>]) -> bool
     ensures { result ≡ shapes_agree left.now right.now }
 {
@@ -174,14 +162,12 @@ fn shapes_agree(left: &[Listed<Cell>], right: &[Listed<Cell>]) -> bool
         .all(|(a, b)| same_shape(a.items(), b.items()))
 }
 
-#[tactic(auto, unfolding(crate::specs::Checks::is_other_shape))]
 fn is_other_shape(left: &[Listed<Cell>], right: &[Listed<Cell>]) -> bool
     ensures { result ≡ is_other_shape left.now right.now }
 {
     right.len() != 0 && !(left.len() == right.len() && shapes_agree(left, right))
 }
 
-#[tactic(auto, unfolding(crate::specs::Checks::is_misshapen))]
 fn is_misshapen(rule: &Rule) -> bool
     ensures { result ≡ is_misshapen rule.now }
 {
@@ -191,7 +177,6 @@ fn is_misshapen(rule: &Rule) -> bool
 }
 
 /// The first fault in what a rule says.
-#[tactic(auto, unfolding(crate::specs::Checks::fault_of))]
 pub fn fault_of(table: &[Denotation], is_late: bool, rule: &Rule) -> Option<RuleFault>
     ensures { result ≡ fault_of table.now is_late rule.now }
 {

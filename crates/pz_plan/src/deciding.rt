@@ -1,4 +1,5 @@
 //! Which choice of the left decides an item of the right.
+#![tactic(auto, unfolding(crate::specs::Deciding::is_member, crate::specs::Deciding::is_direction, crate::specs::Deciding::is_direction_on, crate::specs::Deciding::is_here, crate::specs::Deciding::the_only, crate::specs::Deciding::member_choice, crate::specs::Deciding::direction_choice, crate::specs::Deciding::decided_lead, crate::specs::Deciding::decided_name, crate::specs::Deciding::decided_term, crate::specs::Deciding::decided_terms, crate::specs::Deciding::decided_cells, crate::specs::Deciding::decided_row, crate::specs::Deciding::decided_rows))]
 
 ghost use Rattle.std.specs.Prelude.{◌≡◌, Option, IfOk};
 ghost use Rattle.pz_plan.specs.Deciding.{is_member, is_direction, is_direction_on, is_here, the_only, member_choice, direction_choice, decided_lead, decided_name, decided_term, decided_terms, decided_cells, decided_row, decided_rows, fits, fits_within};
@@ -18,7 +19,6 @@ enum Wanted {
 }
 
 /// Whether a choice is the one looked for.
-#[tactic(auto, unfolding(crate::specs::Deciding::is_member, crate::specs::Deciding::is_direction, crate::specs::Deciding::is_direction_on))]
 fn fits(wanted: Wanted, choice: &Choice) -> bool
     ensures { result ≡ fits wanted choice.now }
 {
@@ -32,7 +32,6 @@ fn fits(wanted: Wanted, choice: &Choice) -> bool
 }
 
 /// Whether a choice is the one looked for and stands in the cell, if one is given.
-#[tactic(auto, unfolding(crate::specs::Deciding::is_here))]
 fn fits_within(wanted: Wanted, within: Option<Spot>, choice: &Choice) -> bool
     ensures { result ≡ fits_within wanted within choice.now }
 {
@@ -43,7 +42,6 @@ fn fits_within(wanted: Wanted, within: Option<Spot>, choice: &Choice) -> bool
 }
 
 /// The number of the choice that is looked for, if there is exactly one.
-#[tactic(auto, unfolding(crate::specs::Deciding::the_only))]
 fn the_only(wanted: Wanted, within: Option<Spot>, choices: &[Choice]) -> Option<usize>
     ensures { result ≡ the_only (fits_within wanted within) choices.now }
 {
@@ -60,7 +58,6 @@ fn the_only(wanted: Wanted, within: Option<Spot>, choices: &[Choice]) -> Option<
 }
 
 /// The choice that decides a property of the right.
-#[tactic(auto, unfolding(crate::specs::Deciding::member_choice))]
 fn member_choice(choices: &[Choice], spot: Spot, property: usize) -> Option<usize>
     ensures { result ≡ member_choice choices.now spot property }
 {
@@ -69,7 +66,6 @@ fn member_choice(choices: &[Choice], spot: Spot, property: usize) -> Option<usiz
 }
 
 /// The choice that decides a word of the right.
-#[tactic(auto, unfolding(crate::specs::Deciding::direction_choice))]
 fn direction_choice(choices: &[Choice], spot: Spot, class: Class, on: Subject) -> Option<usize>
     ensures { result ≡ direction_choice choices.now spot class on }
 {
@@ -79,7 +75,6 @@ fn direction_choice(choices: &[Choice], spot: Spot, class: Class, on: Subject) -
         .or(the_only(wanted, None, choices))
 }
 
-#[tactic(auto, unfolding(crate::specs::Deciding::decided_lead))]
 fn decided_lead(
     choices: &[Choice],
     spot: Spot,
@@ -97,7 +92,6 @@ fn decided_lead(
     }
 }
 
-#[tactic(auto, unfolding(crate::specs::Deciding::decided_name))]
 fn decided_name(choices: &[Choice], spot: Spot, subject: Subject) -> Option<TermName>
     ensures { result ≡ decided_name choices.now spot subject }
 {
@@ -111,7 +105,6 @@ fn decided_name(choices: &[Choice], spot: Spot, subject: Subject) -> Option<Term
 }
 
 /// The term of an item of the right, if it isn't ambiguous.
-#[tactic(auto, unfolding(crate::specs::Deciding::decided_term))]
 fn decided_term(choices: &[Choice], spot: Spot, mention: &Mention) -> Option<Term>
     ensures { result ≡ decided_term choices.now spot mention.now }
 {
@@ -121,7 +114,6 @@ fn decided_term(choices: &[Choice], spot: Spot, mention: &Mention) -> Option<Ter
 }
 
 /// The terms of a cell of the right, if none is ambiguous.
-#[tactic(auto, unfolding(crate::specs::Deciding::decided_terms))]
 fn decided_terms(
     alloc: Global,
     choices: &[Choice],
@@ -140,7 +132,6 @@ fn decided_terms(
     Ok(Some(Listed::new(terms)))
 }
 
-#[tactic(auto, unfolding(crate::specs::Deciding::decided_cells))]
 fn decided_cells(
     alloc: Global,
     choices: &[Choice],
@@ -160,7 +151,6 @@ fn decided_cells(
     Ok(Some(Listed::new(out)))
 }
 
-#[tactic(auto, unfolding(crate::specs::Deciding::decided_row))]
 fn decided_row(
     alloc: Global,
     choices: &[Choice],
@@ -179,7 +169,6 @@ fn decided_row(
 }
 
 /// The rows of terms of a right side, if nothing in it is ambiguous.
-#[tactic(auto, unfolding(crate::specs::Deciding::decided_rows))]
 pub fn decided_rows(
     alloc: Global,
     choices: &[Choice],

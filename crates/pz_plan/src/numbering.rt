@@ -1,4 +1,5 @@
 //! The choices of a left side, numbered in the order of its text.
+#![tactic(auto, unfolding(crate::specs::Numbering::term_of, crate::specs::Numbering::asked_by, crate::specs::Numbering::terms_of, crate::specs::Numbering::asked_in, crate::specs::Numbering::choices_at, crate::specs::Numbering::cells_of, crate::specs::Numbering::asked_count, crate::specs::Numbering::choices_in_row, crate::specs::Numbering::rows_of, crate::specs::Numbering::choices_in_rows))]
 
 ghost use Rattle.std.specs.Prelude.{◌≡◌, ◌++◌, ◌+◌, OnOk, IfOk, map, length};
 ghost use Rattle.pz_plan.specs.Numbering.{asked_by_mark, asked_by_subject, asked_by, choices_at, choices_in_row, choices_in_rows, lead_of, name_of, term_of, terms_of, cells_of, asked_in, asked_count, rows_of};
@@ -64,7 +65,6 @@ fn add_subject(spot: Spot, subject: Subject, choices: &mut Vec<Choice>) -> Resul
 }
 
 /// The term of a mention, whose choices are added.
-#[tactic(auto, unfolding(crate::specs::Numbering::term_of, crate::specs::Numbering::asked_by))]
 fn number_term(spot: Spot, mention: &Mention, choices: &mut Vec<Choice>) -> Result<Term, AllocError>
     ensures term { IfOk result (λ term. term ≡ term_of (length choices.old.items) mention.now) }
     ensures choices { OnOk result (choices.new.items ≡ choices.old.items ++ map (λ what. record { spot = spot; asked = what }) (asked_by mention.now)) }
@@ -77,7 +77,6 @@ fn number_term(spot: Spot, mention: &Mention, choices: &mut Vec<Choice>) -> Resu
 }
 
 /// The terms of a cell, whose choices are added.
-#[tactic(auto, unfolding(crate::specs::Numbering::terms_of, crate::specs::Numbering::asked_in, crate::specs::Numbering::choices_at))]
 fn number_terms(
     alloc: Global,
     spot: Spot,
@@ -96,7 +95,6 @@ fn number_terms(
 }
 
 /// The terms of the cells of a row, whose choices are added.
-#[tactic(auto, unfolding(crate::specs::Numbering::cells_of, crate::specs::Numbering::asked_count, crate::specs::Numbering::choices_in_row))]
 fn number_cells(
     alloc: Global,
     row: usize,
@@ -115,7 +113,6 @@ fn number_cells(
 }
 
 /// The rows of terms of a left side, whose choices are added.
-#[tactic(auto, unfolding(crate::specs::Numbering::rows_of, crate::specs::Numbering::choices_in_rows))]
 pub fn number_rows(
     alloc: Global,
     rows: &[PlanRow<Mention>],

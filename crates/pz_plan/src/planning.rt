@@ -1,4 +1,5 @@
 //! The plan of a rule, or its first fault.
+#![tactic(auto, unfolding(crate::specs::Planning::planned, crate::specs::Planning::with_right, crate::specs::Planning::plan_of))]
 
 ghost use Rattle.std.specs.Prelude.{◌≡◌, ◌≢◌, true, Ok, Err, IfOk, IfErr};
 ghost use Rattle.pz_plan.specs.declared.fault.RuleFault.TheVariants.{Memory};
@@ -20,7 +21,6 @@ use pz_grammar::rule::Rule;
 use std::alloc::Global;
 
 /// The plan of a rule whose names are spelled out.
-#[tactic(auto, unfolding(crate::specs::Planning::planned, crate::specs::Planning::with_right))]
 fn planned(
     alloc: Global,
     rule: &Rule,
@@ -45,7 +45,6 @@ fn planned(
 }
 
 /// The plan of a rule, late or not, or its first fault.
-#[tactic(auto, unfolding(crate::specs::Planning::plan_of))]
 fn read_plan(
     alloc: Global,
     table: &[Denotation],

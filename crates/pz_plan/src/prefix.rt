@@ -1,4 +1,5 @@
 //! The prefixes of a rule.
+#![tactic(auto, unfolding(crate::specs::Prefix::is_late_rule, crate::specs::Prefix::directions_of))]
 
 ghost use Rattle.std.specs.Prelude.{◌≡◌, IfOk, OnOk};
 ghost use Rattle.std.specs.List.{list_any};
@@ -19,7 +20,6 @@ fn is_late_word(token: &Token) -> bool
 }
 
 /// Whether `late` stands before a rule.
-#[tactic(auto, unfolding(crate::specs::Prefix::is_late_rule))]
 pub fn is_late_rule(rule: &Rule) -> bool
     ensures { result ≡ is_late_rule rule.now }
 {
@@ -83,7 +83,6 @@ fn mentioned_directions(alloc: Global, prefixes: &[Token]) -> Result<Vec<Dir>, A
 }
 
 /// The directions of a rule: all four if its prefixes mention none.
-#[tactic(auto, unfolding(crate::specs::Prefix::directions_of))]
 pub fn directions_of(alloc: Global, rule: &Rule) -> Result<Listed<Dir>, AllocError>
     ensures { IfOk result (λ directions. directions ≡ directions_of rule.now) }
 {

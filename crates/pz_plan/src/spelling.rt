@@ -1,4 +1,5 @@
 //! What the names of a rule stand for: aggregates and synonyms are replaced, and what a cell says twice counts once.
+#![tactic(auto, unfolding(crate::specs::Same::same_mention, crate::specs::Same::says_the_same, crate::specs::Spelling::mentions_of, crate::specs::Spelling::denoted, crate::specs::Spelling::mentions_at, crate::specs::Spelling::cell_of, crate::specs::Spelling::is_gap, crate::specs::Spelling::gap_of, crate::specs::Spelling::row_spelled_out, crate::specs::Spelling::rows_spelled_out))]
 
 ghost use Rattle.std.specs.Prelude.{◌≡◌, ◌<◌, ◌≤◌, ◌||◌, ◌++◌, OnOk, IfOk, IfSome, option_copied, slice_get, length};
 ghost use Rattle.std.specs.List.{flat_map, list_any};
@@ -50,7 +51,6 @@ fn same_subject(a: Subject, b: Subject) -> bool
     a == b
 }
 
-#[tactic(auto, unfolding(crate::specs::Same::same_mention))]
 fn same_mention(a: &Mention, b: &Mention) -> bool
     ensures { result ≡ same_mention a.now b.now }
 {
@@ -65,7 +65,6 @@ fn has_choice(mention: &Mention) -> bool
 }
 
 /// Whether a mention repeats one before it.
-#[tactic(auto, unfolding(crate::specs::Same::says_the_same))]
 fn says_the_same(side: Side, a: &Mention, b: &Mention) -> bool
     ensures { result ≡ says_the_same side a.now b.now }
 {
@@ -103,7 +102,6 @@ fn is_chosen(lead: Option<Lead<Class>>, denotation: &Denotation) -> bool
 }
 
 /// Adds what a name stands for, with the word before it.
-#[tactic(auto, unfolding(crate::specs::Spelling::mentions_of))]
 fn add_mentions(
     side: Side,
     lead: Option<Lead<Class>>,
@@ -143,7 +141,6 @@ fn denotation_at(table: &[Denotation], number: usize) -> Option<&Denotation>
 }
 
 /// What a name denotes, if there is such a name.
-#[tactic(auto, unfolding(crate::specs::Spelling::denoted))]
 pub fn denoted(table: &[Denotation], name: Option<usize>) -> Option<&Denotation>
     ensures { option_copied result ≡ denoted table.now name }
 {
@@ -153,7 +150,6 @@ pub fn denoted(table: &[Denotation], name: Option<usize>) -> Option<&Denotation>
     }
 }
 
-#[tactic(auto, unfolding(crate::specs::Spelling::mentions_at))]
 fn add_phrase(
     side: Side,
     table: &[Denotation],
@@ -186,7 +182,6 @@ fn spelled_out(
 }
 
 /// Adds what a cell says; a gap is no cell.
-#[tactic(auto, unfolding(crate::specs::Spelling::cell_of))]
 fn add_cell(
     alloc: Global,
     side: Side,
@@ -222,7 +217,6 @@ fn cells_spelled_out(
 }
 
 /// Whether this is the gap.
-#[tactic(auto, unfolding(crate::specs::Spelling::is_gap))]
 pub fn is_gap(cell: &Cell) -> bool
     ensures { result ≡ is_gap cell.now }
 {
@@ -230,7 +224,6 @@ pub fn is_gap(cell: &Cell) -> bool
 }
 
 /// How many cells stand before the gap of a row.
-#[tactic(auto, unfolding(crate::specs::Spelling::gap_of))]
 pub fn gap_of(row: &[Cell]) -> Option<usize>
     ensures gap { result ≡ gap_of row.now }
     ensures within { IfSome result (λ at. at < length row.now) }
@@ -249,7 +242,6 @@ fn gap_at(row: &[Cell]) -> Option<u32>
     }
 }
 
-#[tactic(auto, unfolding(crate::specs::Spelling::row_spelled_out))]
 fn row_spelled_out(
     alloc: Global,
     side: Side,
@@ -266,7 +258,6 @@ fn row_spelled_out(
 }
 
 /// The rows with each name replaced by what it stands for.
-#[tactic(auto, unfolding(crate::specs::Spelling::rows_spelled_out))]
 pub(crate) fn rows_spelled_out(
     alloc: Global,
     side: Side,

@@ -1,4 +1,5 @@
 //! How many pairs of a direction and a list of picks a plan has.
+#![tactic(auto, unfolding(crate::specs::Counting::size_of, crate::specs::Counting::pair_count))]
 
 ghost use Rattle.std.specs.Prelude.{◌≡◌, ◌≤◌, ◌*◌, ◌==◌, All, map};
 ghost use Rattle.std.specs.List.{list_any};
@@ -20,7 +21,6 @@ fn class_size(class: Class) -> u64
     }
 }
 
-#[tactic(auto, unfolding(crate::specs::Counting::size_of))]
 fn size_of(table: &[Denotation], choice: &Choice) -> u64
     ensures { result ≡ size_of table.now choice.now }
 {
@@ -68,7 +68,6 @@ fn pairs_within(table: &[Denotation], start: u64, choices: &[Choice], limit: u64
 }
 
 /// How many pairs a plan has, if that is at most the limit.
-#[tactic(auto, unfolding(crate::specs::Counting::pair_count))]
 pub fn count_within(table: &[Denotation], plan: &Plan, limit: u64) -> Option<u64>
     ensures { SomeIff result (pair_count table.now plan.now ≤ limit) (pair_count table.now plan.now) }
 {

@@ -1,4 +1,5 @@
 //! A program while its lines are read.
+#![tactic(auto, unfolding(crate::specs::Drafts::placed, crate::specs::Drafts::settled, crate::specs::Drafts::opened, crate::specs::Drafts::closed, crate::specs::Drafts::is_misplaced, crate::specs::Drafts::lateness, crate::specs::Drafts::before, crate::specs::Drafts::extended, crate::specs::Drafts::joins, crate::specs::Drafts::rule_added, crate::specs::Drafts::loop_added, crate::specs::Drafts::line_added))]
 
 ghost use Rattle.std.specs.Prelude.{◌≡◌, ◌≢◌, ◌++◌, true, None, Ok, Err, IfOk, IfErr, IfSome, OnOk, if◌then◌else◌};
 ghost use Rattle.pz_plan.specs.declared.fault.RuleFault.TheVariants.{Memory};
@@ -68,7 +69,6 @@ impl Draft {
 }
 
 /// Cuts a group into segments, and puts it in its place: into the open loop, or else as a block of its own.
-#[tactic(auto, unfolding(crate::specs::Drafts::placed))]
 fn place(draft: &mut Draft, group: OpenGroup) -> Result<(), AllocError>
     requires { draft.now.group ≡ None }
     ensures { OnOk result (draft.new ≡ placed draft.old group) }
@@ -82,7 +82,6 @@ fn place(draft: &mut Draft, group: OpenGroup) -> Result<(), AllocError>
 }
 
 /// Puts the last group in its place, so that no rule can join it any more.
-#[tactic(auto, unfolding(crate::specs::Drafts::settled, crate::specs::Drafts::placed))]
 fn settle(draft: &mut Draft) -> Result<(), AllocError>
     ensures draft { OnOk result (draft.new ≡ settled draft.old) }
     ensures group { OnOk result (draft.new.group ≡ None) }
@@ -103,7 +102,6 @@ pub fn settled(mut draft: Draft) -> Result<Draft, AllocError>
 }
 
 /// Begins a loop.
-#[tactic(auto, unfolding(crate::specs::Drafts::opened))]
 fn open(alloc: Global, draft: &mut Draft) -> Result<(), RuleFault>
     ensures draft { OnOk result (draft.new ≡ opened draft.old) }
     ensures fault { IfErr result (λ fault. fault ≡ Memory) }
@@ -134,7 +132,6 @@ fn add_loop(done: &mut Sides<Block>, groups: Sides<Group>) -> Result<(), AllocEr
 }
 
 /// Ends the open loop.
-#[tactic(auto, unfolding(crate::specs::Drafts::closed))]
 fn close(draft: &mut Draft) -> Result<(), RuleFault>
     ensures draft { OnOk result (draft.new ≡ closed draft.old) }
     ensures fault { IfErr result (λ fault. fault ≡ Memory) }
@@ -147,7 +144,6 @@ fn close(draft: &mut Draft) -> Result<(), RuleFault>
 }
 
 /// Whether a rule asks to join a group but can't.
-#[tactic(auto, unfolding(crate::specs::Drafts::is_misplaced))]
 fn is_misplaced(draft: &Draft, rule: &Rule) -> bool
     ensures { result ≡ is_misplaced draft.now rule.now }
 {
@@ -159,7 +155,6 @@ fn is_misplaced(draft: &Draft, rule: &Rule) -> bool
 }
 
 /// Whether a rule is late. A rule that joins a group is late if the group is.
-#[tactic(auto, unfolding(crate::specs::Drafts::lateness))]
 fn lateness(draft: &Draft, rule: &Rule) -> bool
     ensures { result ≡ lateness draft.now rule.now }
 {
@@ -190,7 +185,6 @@ fn with_instances(
 }
 
 /// Settles a draft, unless the rule joins its last group.
-#[tactic(auto, unfolding(crate::specs::Drafts::before))]
 fn settle_before(draft: &mut Draft, rule: &Rule) -> Result<(), AllocError>
     ensures draft { OnOk result (draft.new ≡ before draft.old rule.now) }
     ensures group { OnOk result (draft.new.group ≡ (if rule.now.is_joined then draft.old.group else None)) }
@@ -203,7 +197,6 @@ fn settle_before(draft: &mut Draft, rule: &Rule) -> Result<(), AllocError>
 }
 
 /// Adds the instances of a rule.
-#[tactic(auto, unfolding(crate::specs::Drafts::extended, crate::specs::Drafts::joins, crate::specs::Drafts::lateness))]
 fn extend(draft: &mut Draft, rule: &Rule, more: Expansion) -> Result<(), RuleFault>
     ensures draft { OnOk result (draft.new ≡ extended draft.old rule.now more) }
     ensures fault { IfErr result (λ fault. fault ≡ Memory) }
@@ -216,7 +209,6 @@ fn extend(draft: &mut Draft, rule: &Rule, more: Expansion) -> Result<(), RuleFau
 }
 
 /// Adds a rule, or names its first fault.
-#[tactic(auto, unfolding(crate::specs::Drafts::rule_added))]
 fn add_rule(
     patterns: &mut Patterns,
     game: &Game,
@@ -242,7 +234,6 @@ fn add_rule(
 }
 
 /// Adds a loop line, or names its fault.
-#[tactic(auto, unfolding(crate::specs::Drafts::loop_added))]
 fn add_loop_line(
     alloc: Global,
     draft: &mut Draft,
@@ -274,7 +265,6 @@ fn rule_of(alloc: Global, game: &Game, words: &[Name]) -> Result<Option<Rule>, A
 }
 
 /// Adds a line, or names its first fault.
-#[tactic(auto, unfolding(crate::specs::Drafts::line_added))]
 fn add_line(
     patterns: &mut Patterns,
     game: &Game,

@@ -1,4 +1,5 @@
 //! The program of a game.
+#![tactic(auto, unfolding(crate::specs::Drafts::nothing, crate::specs::Drafts::finished, crate::specs::Drafts::program_of, crate::specs::Drafts::program_from))]
 
 ghost use Rattle.std.specs.Prelude.{◌≡◌, ◌≢◌, Ok, Err, IfOk, IfErr, map, Contains};
 ghost use Rattle.pz_base.specs.declared.fault.Code.TheVariants.{Memory};
@@ -35,7 +36,6 @@ fn refusal(fault: RuleFault, line: u32) -> SourceFault
 }
 
 /// The draft before the first line.
-#[tactic(auto, unfolding(crate::specs::Drafts::nothing))]
 fn nothing(alloc: Global) -> Draft
     ensures { result ≡ nothing }
 {
@@ -48,7 +48,6 @@ fn nothing(alloc: Global) -> Draft
 }
 
 /// The program of a draft after the last line.
-#[tactic(auto, unfolding(crate::specs::Drafts::finished))]
 fn finished(draft: Draft) -> Result<Program, AllocError>
     ensures { IfOk result (λ program. program ≡ finished draft) }
 {
@@ -60,7 +59,6 @@ fn finished(draft: Draft) -> Result<Program, AllocError>
 }
 
 /// The program of the lines of a game, or the first fault of one.
-#[tactic(auto, unfolding(crate::specs::Drafts::program_of, crate::specs::Drafts::program_from))]
 fn read_program(alloc: Global, game: &Game) -> Result<Program, SourceFault>
     ensures program { IfOk result (λ program. program_of game.now ≡ Ok program) }
     ensures refused { IfErr result (λ fault. fault.code ≢ Memory → program_of game.now ≡ Err fault) }

@@ -1,4 +1,5 @@
 //! The instances of a rule, or its first fault.
+#![tactic(auto, unfolding(crate::specs::Expansion::unless_clash, crate::specs::Expansion::expansion_within, crate::specs::Expansion::expanded))]
 
 ghost use Rattle.std.specs.Prelude.{◌≡◌, ◌≢◌, ◌≤◌, ◌+◌, true, Ok, Err, IfOk, IfErr};
 ghost use Rattle.std.specs.Option.{SomeIff};
@@ -45,7 +46,6 @@ fn total_within(table: &[Denotation], pairs: u64, plan: &Plan) -> Option<u64>
 }
 
 /// The kept instances, if the right of none has a clash.
-#[tactic(auto, unfolding(crate::specs::Expansion::unless_clash))]
 fn unless_clash(total: u64, instances: Vec<Instance>) -> Result<Expansion, RuleFault>
     ensures { result ≡ unless_clash total instances.items }
 {
@@ -59,7 +59,6 @@ fn unless_clash(total: u64, instances: Vec<Instance>) -> Result<Expansion, RuleF
 }
 
 /// The instances of a plan, if all rules up to it have no more pairs than are allowed.
-#[tactic(auto, unfolding(crate::specs::Expansion::expansion_within))]
 fn expansion_within(
     patterns: &mut Patterns,
     table: &[Denotation],
@@ -79,7 +78,6 @@ fn expansion_within(
 }
 
 /// The instances of a rule, late or not, or its first fault. The rules above it have so many pairs.
-#[tactic(auto, unfolding(crate::specs::Expansion::expanded))]
 pub fn expanded(
     patterns: &mut Patterns,
     table: &[Denotation],

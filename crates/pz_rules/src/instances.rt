@@ -1,4 +1,5 @@
 //! The instances of a plan.
+#![tactic(auto, unfolding(crate::specs::Instances::options_of, crate::specs::Instances::item_of, crate::specs::Instances::cell_of, crate::specs::Instances::row_of, crate::specs::Instances::rows_of, crate::specs::Instances::scan_of, crate::specs::Instances::considered, crate::specs::Instances::instance_of, crate::specs::Instances::is_possible, crate::specs::Instances::picks_of, crate::specs::Instances::instances_of))]
 
 ghost use Rattle.std.specs.Prelude.{◌≡◌, ◌++◌, [], IfOk, OnOk, map, fold};
 ghost use Rattle.std.specs.List.{list_all};
@@ -63,7 +64,6 @@ fn direction_picks(alloc: Global, directions: &[Dir]) -> Result<Vec<Pick>, Alloc
 }
 
 /// What may be picked at a choice.
-#[tactic(auto, unfolding(crate::specs::Instances::options_of))]
 fn options_of(
     alloc: Global,
     table: &[Denotation],
@@ -114,7 +114,6 @@ fn layer_of(layers: &[usize], object: usize) -> usize
     layers.get(object).copied().unwrap_or(0)
 }
 
-#[tactic(auto, unfolding(crate::specs::Instances::item_of))]
 fn item_of(directed: &DirectedPlan, picks: &[Pick], term: &Term) -> Item
     ensures { result ≡ item_of directed.now.layers.now directed.now.direction picks.now term.now }
 {
@@ -142,7 +141,6 @@ fn add_items(
     Ok(())
 }
 
-#[tactic(auto, unfolding(crate::specs::Instances::cell_of))]
 fn cell_of(
     patterns: &mut Patterns,
     directed: &DirectedPlan,
@@ -171,7 +169,6 @@ fn cells_of(
     Ok(out)
 }
 
-#[tactic(auto, unfolding(crate::specs::Instances::row_of))]
 fn row_of(
     patterns: &mut Patterns,
     directed: &DirectedPlan,
@@ -185,7 +182,6 @@ fn row_of(
     Ok(Row::new(cells, row.gap_at))
 }
 
-#[tactic(auto, unfolding(crate::specs::Instances::rows_of))]
 fn rows_of(
     patterns: &mut Patterns,
     directed: &DirectedPlan,
@@ -215,7 +211,6 @@ fn all_one_cell(rows: &[PlanRow<Term>]) -> bool
 }
 
 /// The direction in which an instance is looked for: a rule whose rows all have one cell is scanned upwards.
-#[tactic(auto, unfolding(crate::specs::Instances::scan_of))]
 fn scan_of(plan: &Plan, direction: Dir) -> Dir
     ensures { result ≡ scan_of plan.now direction }
 {
@@ -227,7 +222,6 @@ fn scan_of(plan: &Plan, direction: Dir) -> Dir
 }
 
 /// Adds the instance of these picks, unless it is impossible or already there. The right of an impossible instance isn't made.
-#[tactic(auto, unfolding(crate::specs::Instances::considered, crate::specs::Instances::instance_of, crate::specs::Instances::is_possible))]
 fn consider(
     patterns: &mut Patterns,
     directed: &DirectedPlan,
@@ -294,7 +288,6 @@ fn all_options(
 }
 
 /// Considers every list of picks for one direction.
-#[tactic(auto, unfolding(crate::specs::Instances::picks_of))]
 fn consider_direction(
     patterns: &mut Patterns,
     table: &[Denotation],
@@ -316,7 +309,6 @@ fn consider_direction(
 }
 
 /// Considers every direction of a plan.
-#[tactic(auto, unfolding(crate::specs::Instances::instances_of))]
 fn consider_directions(
     patterns: &mut Patterns,
     table: &[Denotation],

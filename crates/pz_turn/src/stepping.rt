@@ -1,4 +1,5 @@
 //! A step: the input, the early blocks, the movement, the late blocks.
+#![tactic(auto, unfolding(crate::specs::Step::block_runs, crate::specs::Step::blocks_run, crate::specs::Step::rules_run))]
 
 ghost use Rattle.std.specs.Prelude.{◌≡◌, ◌≢◌, ◌<◌, IfOk, IfErr, Ok, Err, length};
 ghost use Rattle.std.specs.List.{list_any, list_all, zip};
@@ -35,7 +36,6 @@ impl Runnable for Block {
     ghost runs = { block_runs };
 
     /// Runs a group or a loop of groups to rest.
-    #[tactic(auto, unfolding(crate::specs::Step::block_runs))]
     fn run(&self, alloc: Global, level: &mut Level) -> Result<Given, StepFault> {
         match self {
             Block::One(group) => rest_group(alloc, level, group),
@@ -45,7 +45,6 @@ impl Runnable for Block {
 }
 
 /// Runs blocks, one after another.
-#[tactic(auto, unfolding(crate::specs::Step::blocks_run))]
 fn run_blocks(alloc: Global, level: &mut Level, blocks: &[Block]) -> Result<Given, StepFault>
     requires of_game { AreBlocksOf level.old.grid.layers blocks.now }
     ensures outcome { GivesOutcome (blocks_run blocks.now level.old.grid) level.new.grid result }
@@ -55,7 +54,6 @@ fn run_blocks(alloc: Global, level: &mut Level, blocks: &[Block]) -> Result<Give
 }
 
 /// Runs the early blocks, the movement and the late blocks.
-#[tactic(auto, unfolding(crate::specs::Step::rules_run))]
 fn run_rules(
     alloc: Global,
     game: &Game,
