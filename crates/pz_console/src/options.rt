@@ -48,12 +48,10 @@ fn command<'a>(alloc: Global) -> Result<Command<'a>, AllocError>
     let workers = Arg::new(alloc, "workers")
         .long("workers")
         .value_parser(ValueParser::unsigned(1, MOST_WORKERS as u64));
-    let order = Arg::new(alloc, "order").long("order");
-    let file = Arg::new(alloc, "file");
     Command::new(alloc, "pz_replayer")
         .arg(workers)?
-        .arg(order)?
-        .arg(file)
+        .arg(Arg::new(alloc, "order").long("order"))?
+        .arg(Arg::new(alloc, "file"))
 }
 
 fn refused(error: &Error) -> OptionsFault

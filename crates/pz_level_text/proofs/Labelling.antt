@@ -1,7 +1,9 @@
 -- The labels of sets of objects.
 use Rattle.std.proofs.Common.{◌≡◌, ℕ, suc, Bool, List, [], ◌∷◌, length, take, get_or, refl, ap, sym, ◌∙◌, arith}
+use Rattle.std.specs.Prelude.{All}
 use Rattle.std.proofs.lemmas.List.{get_or-take, length-take}
 use Rattle.pz_level_text.specs.LevelNames.{chosen_from}
+use Rattle.pz_level_text.specs.declared.labelled_set.LabelledSet.{LabelledSet}
 use Rattle.pz_level_text.specs.Labels.{IsLabelOf}
 
 -- tests that agree choose the same names
@@ -15,3 +17,8 @@ label_kept names texts more objects label e is =
     let at : get_or (take (length texts) more) label [] ≡ get_or more label [] = get_or-take (length texts) more label [] is.0 in
     let long : length (take (length texts) more) ≡ length texts = ap length e in
     (omega (arith, is.0, long, length-take (length texts) more), sym at ∙ ap (λ l. get_or l label []) e ∙ is.1)
+
+pub labels_kept : (names texts more : List (List ℕ)) (known : List LabelledSet) → take (length texts) more ≡ texts → All (λ k. IsLabelOf names texts k.objects k.label) known → All (λ k. IsLabelOf names more k.objects k.label) known
+labels_kept names texts more known kept each k d within =
+    let set : LabelledSet = get_or known k d in
+    label_kept names texts more set.objects set.label kept (each k d within)

@@ -17,3 +17,11 @@ fold_stops {L} {I} applied o xs i x fault whole so_far in_range at stops =
     let e : fold step (Ok o) (drop i xs) ≡ fold step (joined o (applied (get_or xs i x) o.level)) (drop (i + 1) xs) = at_drop_more (fold step (Ok o)) xs i x in_range in
     let a : applied (get_or xs i x) o.level ≡ Err fault = rw (← at) stops in
     sym so_far ∙ e ∙ ap (λ r. fold step (joined o r) (drop (i + 1) xs)) a ∙ fold_stopped applied fault (drop (i + 1) xs)
+
+-- one more instance
+pub fold_more : {L I : Type 0} (applied : I → Runs L) (o p : Outcome L) (xs : List I) (i : ℕ) (x : I) → i < length xs → x ≡ get_or xs i x → applied x o.level ≡ Ok p → fold (λ so_far y. followed_by so_far (applied y)) (joined o (Ok p)) (drop (i + 1) xs) ≡ fold (λ so_far y. followed_by so_far (applied y)) (Ok o) (drop i xs)
+fold_more {L} {I} applied o p xs i x in_range at gives =
+    let step : Result (Outcome L) StepFault → I → Result (Outcome L) StepFault = λ s y. followed_by s (applied y) in
+    let e : fold step (Ok o) (drop i xs) ≡ fold step (joined o (applied (get_or xs i x) o.level)) (drop (i + 1) xs) = at_drop_more (fold step (Ok o)) xs i x in_range in
+    let a : applied (get_or xs i x) o.level ≡ Ok p = rw (← at) gives in
+    sym (e ∙ ap (λ r. fold step (joined o r) (drop (i + 1) xs)) a)

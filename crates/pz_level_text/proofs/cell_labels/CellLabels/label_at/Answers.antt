@@ -1,8 +1,14 @@
 use Rattle.std.proofs.Common.{ap, ◌∙◌}
 use Rattle.pz_game.specs.declared.game.GameParts.{GameParts}
 use Rattle.pz_level_text.specs.Labels.{WriterView, set_text}
-use Rattle.pz_level_text.proofs.Changing.{labels_still, set_standing}
+use Rattle.pz_level_text.proofs.Changing.{known_still, labels_still, set_standing}
 use Rattle.pz_level_text.proofs.cell_labels.CellLabels.label_at.Goals as goal
+
+pub invariant_of-self : goal.invariant_of-self
+invariant_of-self c = known_still c.self.inside.table.texts c.label_at.new.self.texts c.self.inside.labels.items c.self.invariant c.label_at.ensures.kept
+
+pub invariant_of-self-2 : goal.invariant_of-self-2
+invariant_of-self-2 c = known_still c.self.inside.table.texts c.label_at.new.self.texts c.self.inside.labels.items c.self.invariant c.label_at.ensures.kept
 
 pub returns-in_err-label-clause-cells : goal.returns-in_err-label-clause-cells
 returns-in_err-label-clause-cells c =

@@ -4,8 +4,14 @@ use Rattle.pz_sheet.specs.Standing.{stands}
 use Rattle.pz_record.specs.CellNames.{set_of}
 use Rattle.pz_level_text.specs.LevelNames.{chosen_from, standing_names}
 use Rattle.pz_record.specs.CellTexts.{joined}
-use Rattle.pz_level_text.proofs.Labelling.{chosen_same}
+use Rattle.pz_level_text.proofs.Labelling.{chosen_same, labels_kept}
 use Rattle.pz_level_text.proofs.label_table.LabelTable.label_of.Goals as goal
+
+pub invariant_of-self : goal.invariant_of-self
+invariant_of-self c = labels_kept c.self.inside.game.now.objects c.self.inside.texts c.label_of.new.self c.self.inside.known.items c.label_of.ensures.kept c.self.invariant
+
+pub invariant_of-self-2 : goal.invariant_of-self-2
+invariant_of-self-2 c = labels_kept c.self.inside.game.now.objects c.self.inside.texts c.label_of.new.self c.self.inside.known.items c.label_of.ensures.kept c.self.invariant
 
 pub returns-clause-label : goal.returns-clause-label
 unfolding standing_names
