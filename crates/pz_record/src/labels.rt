@@ -10,10 +10,18 @@ use std::alloc::{AllocError, Global};
 use std::marker::Model;
 
 /// Different texts of cells, by their numbers; and the same texts quoted, since a text is written again and again.
-#[derive(Drop)]
 pub struct KnownTexts {
     texts: IndexSet<String>,
     quoted: Vec<QuotedText>,
+}
+
+/// Written out, so that each place where they go out of scope is one call, in other crates too.
+impl Drop for KnownTexts {
+    fn drop(self) {
+        let KnownTexts { texts, quoted } = self;
+        drop(texts);
+        drop(quoted);
+    }
 }
 
 impl Model for KnownTexts {

@@ -12,11 +12,23 @@ use std::marker::Model;
 
 /// The room for the text of a level, and for the numbers that it gives to the sets of its cells. It is kept from text to text, so that a
 /// text is written without asking for memory: it stands in front, with the escapes that JSON asks for, and ends where `end` says.
-#[derive(Drop)]
 pub struct TextRoom {
     json: Vec<u8>,
     end: usize,
     numbers: Vec<Option<usize>>,
+}
+
+/// Written out, as for the known texts.
+impl Drop for TextRoom {
+    fn drop(self) {
+        let TextRoom {
+            json,
+            end: _,
+            numbers,
+        } = self;
+        drop(json);
+        drop(numbers);
+    }
 }
 
 impl Model for TextRoom {
