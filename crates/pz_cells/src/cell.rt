@@ -77,7 +77,6 @@ impl<const N: usize> Cell<N> {
         requires here { here ≡ place_in layers.now self.old layer }
         ensures { Becomes layers.now self.old self.new layer None }
     {
-        let _ = layers;
         match here {
             None => {}
             Some(piece) => {

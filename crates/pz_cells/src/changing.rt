@@ -18,7 +18,6 @@ impl<const N: usize> Cell<N> {
         ensures sound { IsSound layers.now result }
         ensures cell { seen layers.now result ≡ empty_cell layers.now.depth }
     {
-        let _ = layers;
         Cell {
             objects: [0; N],
             movement: [0; N],
@@ -33,7 +32,6 @@ impl<const N: usize> Cell<N> {
         ensures none { (number : ℕ) → member self.new.movement number ≡ false }
         ensures objects { self.new.objects ≡ self.old.objects }
     {
-        let _ = layers;
         let still = [0; N];
         self.movement = still;
     }

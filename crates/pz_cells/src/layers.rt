@@ -165,7 +165,6 @@ fn union_of(layers: &[usize], sets: &[NumberSet], chosen: &NumberSet) -> NumberS
     requires layered { All (λ layer. layer < length sets.now) layers.now }
     ensures { (object : ℕ) → object < length layers.now → member result object ≡ member chosen.now (slice_index layers.now object) }
 {
-    let _ = layers;
     let mut objects = NumberSet::empty();
     for layer in 0..sets.len() {
         objects = union_if(&objects, chosen.contains(layer), &sets[layer]);

@@ -25,8 +25,6 @@ pub fn resolve(game: &Game, level: &mut Level)
     ensures marked { IsMarked level.new }
     ensures widened { IsWidened level.old level.new (in_row level.new.grid) (in_column level.new.grid) }
 {
-    // (the contract alone speaks of the game)
-    let _ = game;
     level.settle();
     level.still_all();
 }

@@ -168,8 +168,6 @@ pub fn rewrite(game: &Game, level: &mut Level, instance: &Instance, places: &[Pl
     ensures lawful { IsLawful level.new.grid }
     ensures marked { IsMarked level.new }
 {
-    // (the contract alone speaks of the game)
-    let _ = game;
     let changed = level.rewrite_all(instance, places, false);
     // (brings the proof the law of levels)
     let _ = level.width();

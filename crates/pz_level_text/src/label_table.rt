@@ -96,7 +96,6 @@ impl<'a> LabelTable<'a> {
         ensures kept { take (length self.old.texts) self.new.texts ≡ self.old.texts }
         ensures game { self.new.game ≡ self.old.game }
     {
-        let _ = objects;
         let text = text_at(alloc, self.game.objects(), level, x, y)?;
         let label = self.texts.label_of(alloc, text)?;
         Ok(label)

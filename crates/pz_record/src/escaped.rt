@@ -127,8 +127,6 @@ fn write_known(
     ensures written { AreWritten width (map (text_at texts.now) labels.now) texts.now result json.new numbers.now }
     ensures onward { from.cells ≤ result.cells }
 {
-    // (the proof alone speaks of the texts)
-    let _ = texts;
     let mut at = from;
     'cells: while at.cells < labels.len() {
         let given = numbers[labels[at.cells]];

@@ -46,8 +46,6 @@ impl<const N: usize> Sheet<N> {
         requires set { IsSetFor objects.now set.now }
         ensures { result ≡ holds_one objects.now (cell_of self.now.grid index) }
     {
-        // (the contract alone speaks of the list)
-        let _ = objects;
         !is_disjoint(set.words(), self.objects_in(index))
     }
 }

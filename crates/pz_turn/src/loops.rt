@@ -29,8 +29,6 @@ pub fn rest_loop(
     ensures size { SameSize level.old.grid level.new.grid }
     ensures lawful { IsLawful level.new.grid }
 {
-    // (the contract alone speaks of the game)
-    let _ = game;
     let given = to_rest(alloc, level, groups.items());
     // (brings the proof the law of levels)
     let _ = level.width();

@@ -133,8 +133,6 @@ pub fn rest(
     ensures size { SameSize level.old.grid level.new.grid }
     ensures lawful { IsLawful level.new.grid }
 {
-    // (the contract alone speaks of the game)
-    let _ = game;
     let given = rest_group(alloc, level, group);
     // (brings the proof the law of levels)
     let _ = level.width();

@@ -125,8 +125,6 @@ fn line_holds_of(
     requires { AreAsked game.now line objects.now others.now }
     ensures { result ≡ line_holds game.now level.now.grid line }
 {
-    // (the contract alone speaks of the game)
-    let _ = game;
     match line.quantifier {
         Quantifier::All => level.all_hold(objects, others),
         Quantifier::Some => level.some_holds(objects, others),
