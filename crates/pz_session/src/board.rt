@@ -1,4 +1,5 @@
 //! The levels of a session between two links, and the links that lead on from them.
+#![tactic(auto, unfolding(crate::specs::Board::frame_of, crate::specs::Board::start_link, crate::specs::Board::restarted, crate::specs::Board::won_link, crate::specs::Board::kept_link, crate::specs::Board::reached_link, crate::specs::Board::effect, crate::specs::Board::press_link, crate::specs::Board::tick_link, crate::specs::Board::undo_link, crate::specs::Board::begun, crate::specs::Board::settled))]
 
 ghost use Rattle.std.specs.Prelude.{◌≡◌, ◌≢◌, ◌<◌, ◌+◌, true, if◌then◌else◌, length, IfOk, IfErr, OnOk, Ok, Err};
 ghost use Rattle.pz_program.specs.Commands.{has, cancel, checkpoint};
@@ -148,7 +149,6 @@ impl<'a> Board<'a> {
     }
 
     /// The level, shown.
-    #[tactic(auto, unfolding(crate::specs::Board::frame_of))]
     fn frame(&mut self, kind: FrameKind) -> Result<Frame, AllocError>
         ensures frame { IfOk result (λ frame. frame ≡ frame_of self.old kind) }
         ensures same { self.new ≡ self.old }
@@ -170,7 +170,6 @@ impl<'a> Board<'a> {
     }
 
     /// The start of a session shows its level.
-    #[tactic(auto, unfolding(crate::specs::Board::start_link))]
     pub fn start(&mut self) -> Result<Shown, PlayFault>
         ensures { GivesLink (Ok (start_link self.old)) self.new result }
     {
@@ -179,7 +178,6 @@ impl<'a> Board<'a> {
     }
 
     /// The level is the target again.
-    #[tactic(auto, unfolding(crate::specs::Board::restarted))]
     fn restart(&mut self) -> Result<Shown, PlayFault>
         ensures { GivesLink (Ok (restarted self.old)) self.new result }
     {
@@ -205,7 +203,6 @@ impl<'a> Board<'a> {
     }
 
     /// Behind the frame of the step that wins, the next level is loaded, or play is over.
-    #[tactic(auto, unfolding(crate::specs::Board::won_link))]
     fn win(&mut self, won: Frame) -> Result<Shown, PlayFault>
         ensures { GivesLink (Ok (won_link won self.old (level_from self.old.game (self.old.entry + 1)))) self.new result }
     {
@@ -241,7 +238,6 @@ impl<'a> Board<'a> {
     }
 
     /// The end of a step that doesn't win: at a checkpoint it is the target.
-    #[tactic(auto, unfolding(crate::specs::Board::kept_link, crate::specs::Board::frame_of))]
     fn keep(
         &mut self,
         kind: FrameKind,
@@ -256,7 +252,6 @@ impl<'a> Board<'a> {
     }
 
     /// The level where a step ends that is neither cancelled nor a restart.
-    #[tactic(auto, unfolding(crate::specs::Board::reached_link))]
     fn reach(
         &mut self,
         kind: FrameKind,
@@ -273,7 +268,6 @@ impl<'a> Board<'a> {
     }
 
     /// The effect of a step that led to the level.
-    #[tactic(auto, unfolding(crate::specs::Board::effect))]
     fn take(
         &mut self,
         kind: FrameKind,
@@ -312,7 +306,6 @@ impl<'a> Board<'a> {
     }
 
     /// A press plays a step.
-    #[tactic(auto, unfolding(crate::specs::Board::press_link))]
     fn press(&mut self, dir: Dir) -> Result<Shown, PlayFault>
         ensures { GivesLink (press_link dir self.old) self.new result }
     {
@@ -327,7 +320,6 @@ impl<'a> Board<'a> {
     }
 
     /// A tick plays a step without a direction.
-    #[tactic(auto, unfolding(crate::specs::Board::tick_link))]
     pub fn tick(&mut self) -> Result<Shown, PlayFault>
         ensures { GivesLink (tick_link self.old) self.new result }
     {
@@ -360,7 +352,6 @@ impl<'a> Board<'a> {
         Ok(())
     }
 
-    #[tactic(auto, unfolding(crate::specs::Board::undo_link))]
     fn undo(&mut self) -> Result<Shown, PlayFault>
         ensures { GivesLink (Ok (undo_link self.old)) self.new result }
     {
@@ -369,7 +360,6 @@ impl<'a> Board<'a> {
     }
 
     /// A restart input.
-    #[tactic(auto, unfolding(crate::specs::Board::restarted))]
     fn start_again(&mut self) -> Result<Shown, PlayFault>
         ensures { GivesLink (Ok (restarted (keeping self.old))) self.new result }
     {
@@ -385,7 +375,6 @@ impl<'a> Board<'a> {
     ghost use Rattle.pz_session.specs.Board.{begun, settled, verdict_of};
 
     /// The first link of an input.
-    #[tactic(auto, unfolding(crate::specs::Board::begun))]
     pub fn begin(&mut self, input: Input) -> Result<Shown, PlayFault>
         ensures { GivesLink (begun input self.old) self.new result }
     {
@@ -401,7 +390,6 @@ impl<'a> Board<'a> {
     }
 
     /// What is done once an input with its whole chain is over.
-    #[tactic(auto, unfolding(crate::specs::Board::settled))]
     pub fn settle(&mut self) -> Result<(), AllocError>
         ensures { OnOk result (self.new ≡ settled self.old) }
     {
