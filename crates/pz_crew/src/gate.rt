@@ -27,7 +27,6 @@ impl Gate for Always {
     ghost may_stop = { λ _ session item. ⊥ };
 
     fn pass(&self, session: usize, item: u64) -> bool {
-        let _ = (session, item);
         true
     }
 }

@@ -101,7 +101,6 @@ fn found_for(
     requires level_of { IsOfGame game.now level.now.grid }
     requires instance_of { IsInstanceOf game.now.layers instance.now }
 {
-    let _ = game;
     match instance.left.items() {
         [row, ..] => places(alloc, level, row, dir).map_err(|_| Fail::new("no places")),
         _ => Err(Fail::new("no row")),

@@ -28,7 +28,6 @@ fn first_block<'a>(game: &Game, program: &'a Program) -> Result<&'a Block, Fail>
     requires { IsProgramOf game.now.layers program.now }
     ensures { IfOk result (λ block. IsBlockOf game.now.layers block.now) }
 {
-    let _ = game;
     match program.early() {
         [block, ..] => Ok(block),
         _ => Err(Fail::new("no block")),

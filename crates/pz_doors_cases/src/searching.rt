@@ -70,7 +70,6 @@ fn search_for(
     requires level_of { IsOfGame game.now level.now.grid }
     requires instance_of { IsInstanceOf game.now.layers instance.now }
 {
-    let _ = game;
     let [row, ..] = instance.left.items() else {
         return Err(Fail::new("no row"));
     };
