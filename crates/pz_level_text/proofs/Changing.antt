@@ -24,7 +24,7 @@ use Rattle.pz_record.specs.CellTexts.{joined}
 use Rattle.pz_record.specs.Labels.{text_at}
 use Rattle.pz_level_text.specs.Labels.{set_text, texts_in}
 use Rattle.pz_level_text.specs.CellOrder.{column_of, row_of, number_of}
-use Rattle.pz_level_text.proofs.Labelling.{chosen_same}
+use Rattle.pz_level_text.proofs.Labelling.{chosen_same, named_at}
 use Rattle.pz_level_text.proofs.Ordered.{text_at_number, length-texts_in}
 use Rattle.pz_level_text.proofs.Walking.{on_map}
 
@@ -48,8 +48,7 @@ known_still texts more labels all e = λ k other h. (text_still texts more (get_
 
 -- the text of the objects that stand at a position
 pub set_standing : (names : List (List ℕ)) (grid : Grid) (x y : ℕ) (objects : List ℕ) → ((object : ℕ) → member objects object ≡ stands grid x y object) → set_text names objects ≡ joined (set_of (standing_names names grid (x, y)))
-unfolding standing_names
-set_standing names grid x y objects same = ap (λ (l : List (List ℕ)). joined (set_of l)) (chosen_same (member objects) (stands grid x y) same 0 names)
+set_standing names grid x y objects same = ap (λ (l : List (List ℕ)). joined (set_of l)) (named_at names objects grid x y same)
 
 -- ---- numbers and positions
 pub number_back : (order : Order) (grid : Grid) (k : ℕ) → number_of order grid (column_of order grid k) (row_of order grid k) ≡ k

@@ -3,7 +3,9 @@ use Rattle.std.proofs.Common.{◌≡◌, ℕ, Bool, suc, ◌+◌, ◌*◌, ◌<�
 use Rattle.std.proofs.lemmas.List.{length-map, get_or-map, drop_more, drop_all}
 use Rattle.std.proofs.lemmas.List.FromFn.{length-map-range_with_len, get_or-map-range_with_len}
 use Rattle.pz_game.specs.declared.game.GameParts.{GameParts}
+use Rattle.pz_sets.specs.Sets.{member}
 use Rattle.pz_sheet.specs.Grid.{Grid}
+use Rattle.pz_sheet.specs.Standing.{stands}
 use Rattle.pz_record.specs.declared.order.Order.{Order}
 use Rattle.pz_record.specs.CellNames.{set_of, same_set}
 use Rattle.pz_level_text.specs.Labels.{texts_in}
@@ -11,6 +13,8 @@ use Rattle.pz_level_text.specs.CellOrder.{position_of, column_of, row_of, cells_
 use Rattle.pz_level_text.specs.LevelNames.{standing_names, sets_in}
 use Rattle.pz_record.specs.CellTexts.{joined}
 use Rattle.pz_level_text.specs.Equality.{same_sets, equals_recorded}
+use Rattle.pz_level_text.specs.Naming.{has_names}
+use Rattle.pz_level_text.proofs.Labelling.{named_at}
 
 pub length-sets_in : (game : GameParts) (order : Order) (grid : Grid) → length (sets_in game order grid) ≡ grid.width * grid.height
 length-sets_in game order grid =
@@ -55,6 +59,14 @@ same_step game order grid recorded k x y h size e f =
     let here : k < length (sets_in game order grid) = rw (length-sets_in game order grid) h in
     let there : k < length recorded = rw size h in
     rw (drop_more (sets_in game order grid) k [] here, drop_more recorded k [] there, set_at game order grid k x y h e f) refl
+
+-- the next cell, by the set of the objects that stand there
+pub named_step : (game : GameParts) (order : Order) (grid : Grid) (recorded : List (List (List ℕ))) (k x y : ℕ) (objects : List ℕ) → k < grid.width * grid.height → length recorded ≡ grid.width * grid.height
+    → x ≡ column_of order grid k → y ≡ row_of order grid k → ((object : ℕ) → member objects object ≡ stands grid x y object)
+    → same_from game order grid recorded k ≡ (has_names game.objects objects (get_or recorded k []) && same_from game order grid recorded (k + 1))
+named_step game order grid recorded k x y objects h size e f same =
+    same_step game order grid recorded k x y h size e f
+    ∙ ap (λ (names : List (List ℕ)). same_set (set_of names) (get_or recorded k []) && same_from game order grid recorded (k + 1)) (sym (named_at game.objects objects grid x y same))
 
 pub same_end : (game : GameParts) (order : Order) (grid : Grid) (recorded : List (List (List ℕ))) (k : ℕ) → grid.width * grid.height ≤ k → length recorded ≡ grid.width * grid.height → same_from game order grid recorded k ≡ true
 same_end game order grid recorded k h size =

@@ -13,6 +13,7 @@ use Rattle.pz_level_text.specs.LevelNames.{standing_names}
 use Rattle.pz_record.specs.CellTexts.{with_cell, piece}
 use Rattle.pz_level_text.specs.LevelText.{text_of_level}
 use Rattle.pz_level_text.specs.CellOrder.{cells_in}
+use Rattle.pz_level_text.specs.Naming.{has_names}
 
 -- the texts of sets of objects
 
@@ -24,6 +25,19 @@ two_objects = refl
 no_objects : set_text (codes "player" ∷ codes "crate" ∷ []) (0 ∷ []) ≡ []
 unfolding with_name
 no_objects = refl
+
+-- sets of objects beside recorded names
+
+-- the order of the names doesn't matter
+named_so : has_names (codes "player" ∷ codes "crate" ∷ codes "background" ∷ []) (5 ∷ []) (codes "background" ∷ codes "player" ∷ []) ≡ true
+unfolding with_name same_set
+named_so = refl
+
+-- a name less, and a name more
+not_all_named : map (has_names (codes "player" ∷ codes "crate" ∷ codes "background" ∷ []) (5 ∷ []))
+    ((codes "background" ∷ []) ∷ (codes "background" ∷ codes "crate" ∷ codes "player" ∷ []) ∷ []) ≡ false ∷ false ∷ []
+unfolding with_name same_set
+not_all_named = refl
 
 -- the text of a level
 

@@ -3,3 +3,4 @@ pub mod LevelNames
 pub mod LevelText
 pub mod Equality
 pub mod Labels
+pub mod Naming

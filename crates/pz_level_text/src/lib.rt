@@ -7,5 +7,6 @@ pub mod equality;
 mod label_table;
 mod labelled_set;
 mod level_names;
+mod naming;
 pub mod reading_back;
 pub mod text_writer;

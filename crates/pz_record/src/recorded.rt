@@ -1,6 +1,6 @@
 //! The level of a recorded session.
 
-ghost use Rattle.std.specs.Prelude.{◌≡◌, ◌<◌, [], length, slice_index_or, map, All};
+ghost use Rattle.std.specs.Prelude.{◌≡◌, ◌<◌, [], length, slice_index_or, map, true, All};
 
 use crate::cell_names::CellNames;
 use std::marker::Model;
@@ -37,6 +37,15 @@ impl Recorded {
         ensures { result ≡ length self.now }
     {
         self.cells.len()
+    }
+
+    /// Whether two cells share their names. Cells that don't may still have the same.
+    pub fn share_names(&self, number: usize, other: usize) -> bool
+        requires number { number < length self.now }
+        requires other { other < length self.now }
+        ensures { (result ≡ true) → slice_index_or self.now number [] ≡ slice_index_or self.now other [] }
+    {
+        self.cells[number] == self.cells[other]
     }
 
     /// The names of the cell of a number.

@@ -1,9 +1,0 @@
-use Rattle.std.proofs.Common.{◌≡◌, drop}
-use Rattle.std.specs.List.{list_all}
-use Rattle.pz_sheet.specs.Standing.{stands}
-use Rattle.pz_record.specs.CellNames.{has_name}
-use Rattle.pz_level_text.specs.LevelNames.{chosen_from, standing_names}
-use Rattle.pz_level_text.proofs.equality.is_within.Given as goal
-
-abbrev pub invariant-loop-object : goal.invariant-loop-object
-invariant-loop-object l = list_all (has_name l.set) (chosen_from (stands l.level.grid l.x l.y) l.object (drop l.object l.objects)) ≡ list_all (has_name l.set) (standing_names l.objects l.level.grid (l.x, l.y))

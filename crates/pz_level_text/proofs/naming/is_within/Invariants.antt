@@ -1,0 +1,10 @@
+use Rattle.std.proofs.Common.{◌≡◌, drop}
+use Rattle.std.specs.List.{list_all}
+use Rattle.pz_sets.specs.Sets.{member}
+use Rattle.pz_record.specs.CellNames.{has_name}
+use Rattle.pz_level_text.specs.LevelNames.{chosen_from}
+use Rattle.pz_level_text.proofs.naming.is_within.Given as goal
+
+abbrev pub invariant-loop-object : goal.invariant-loop-object
+invariant-loop-object l =
+    list_all (has_name l.names) (chosen_from (member l.standing) l.object (drop l.object l.objects)) ≡ list_all (has_name l.names) (chosen_from (member l.standing) 0 l.objects)
