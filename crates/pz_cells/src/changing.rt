@@ -1,6 +1,6 @@
 //! Changes of cells that a level is loaded by, or that a step begins or ends with.
 
-ghost use Rattle.std.specs.Prelude.{◌≡◌, ℕ, ◌<◌, true, false, length, map, slice_index, unwrap_or, Some};
+ghost use Rattle.std.specs.Prelude.{◌≡◌, ℕ, ◌<◌, true, false, length, map, slice_index, Some};
 ghost use Rattle.pz_sets.specs.Sets.{member};
 ghost use Rattle.pz_cells.specs.Cell.{IsOnLayer, empty_cell, still_place};
 ghost use Rattle.pz_cells.specs.Drawing.{with_object, filled_cell};
@@ -60,8 +60,7 @@ impl<const N: usize> Cell<N> {
         ensures cell { seen layers.now self.new ≡ filled_cell layer piece (seen layers.now self.old) }
     {
         let here = self.piece_on(layers, layer);
-        let place = piece_or(here, piece);
-        self.exchange(layers, layer, here, Some(place));
+        self.exchange(layers, layer, here, Some(here.unwrap_or(piece)));
     }
 
     /// Puts an object on its layer, in the place of what stands there.
@@ -73,15 +72,5 @@ impl<const N: usize> Cell<N> {
     {
         let layer = layers.layer_of(object);
         self.put(layers, layer, Some(Piece::still(object as u16)));
-    }
-}
-
-/// What stands somewhere, else a piece.
-fn piece_or(here: Option<Piece>, piece: Piece) -> Piece
-    ensures { result ≡ unwrap_or here piece }
-{
-    match here {
-        Some(there) => there,
-        None => piece,
     }
 }

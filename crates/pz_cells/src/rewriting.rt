@@ -1,6 +1,6 @@
 //! The rewriting of cells.
 
-ghost use Rattle.std.specs.Prelude.{◌≡◌, ◌≢◌, ℕ, ◌<◌, ◌≤◌, true, false, not, ◌||◌, length, slice_index};
+ghost use Rattle.std.specs.Prelude.{◌≡◌, ◌≢◌, ℕ, ◌<◌, ◌≤◌, true, false, not, length, slice_index};
 ghost use Rattle.pz_game.specs.declared.limits.TheConstants.{MAX_LAYERS};
 ghost use Rattle.pz_sets.specs.Sets.{member};
 ghost use Rattle.pz_game.specs.declared.direction.Dir.{Dir};
@@ -17,12 +17,6 @@ use pz_game::headings;
 use pz_game::pattern::Pattern;
 use pz_sets::set::NumberSet;
 use pz_sets::words::{next_common, replace};
-
-fn either(first: bool, second: bool) -> bool
-    ensures { result ≡ (first || second) }
-{
-    first || second
-}
 
 /// Ends the movement of a layer, unless it is one of some.
 fn end_unless(movement: &mut [u128], spared: &NumberSet, layer: usize)
@@ -85,6 +79,6 @@ impl<const N: usize> Cell<N> {
             &removed,
         );
         let replaced = replace(&mut self.objects, gone.words(), is.placed.words());
-        either(moved, replaced)
+        moved | replaced
     }
 }

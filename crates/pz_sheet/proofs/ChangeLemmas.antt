@@ -1,10 +1,9 @@
 -- The cells in which an older level differs are found one by one, and give it back.
 use Rattle.pz_cells.specs.Layering.{Layering}
-use Rattle.std.proofs.Common.{◌≡◌, inl, inr, ℕ, zero, suc, ◌+◌, ◌*◌, ◌^◌, ◌<◌, ◌≤◌, List, [], ◌∷◌, ◌++◌, Option, Some, None, Bool, true, false, not, cond, map, set, drop, length, get_or, ap, sym, ◌∙◌, refl, subst, arith}
+use Rattle.std.proofs.Common.{◌≡◌, inl, inr, ℕ, zero, suc, ◌+◌, ◌*◌, ◌^◌, ◌<◌, ◌≤◌, List, [], ◌∷◌, ◌++◌, Option, Some, None, Bool, true, false, not, cond, set, drop, length, get_or, ap, sym, ◌∙◌, refl, subst, arith}
 use Rattle.std.specs.Prelude.{IsTrue, ◌↔◌, fold}
 use Rattle.std.proofs.lemmas.List.{append-nil, length-append, length-map, get_or_default}
 use Rattle.std.proofs.lemmas.Bool.{cases_eq}
-use Rattle.std.proofs.lemmas.List.Elements.{All-append, All-cons, All-nil}
 use Rattle.std.proofs.Math.Seq.{set-append_seam, drop-length}
 use Rattle.std.specs.List.{All}
 use prog.Memory.{up}
@@ -13,9 +12,8 @@ use Rattle.pz_cells.specs.declared.cell.Cell.{Cell}
 use Rattle.pz_cells.specs.declared.piece.Piece.{Piece}
 use Rattle.pz_cells.specs.Sameness.{same_cell}
 use Rattle.pz_cells.proofs.SameLemmas.{same_cell_is, same_cell_self}
-use Rattle.pz_sheet.specs.declared.changes.Change.{Change}
-use Rattle.pz_sheet.specs.Changes.{CellChange, changed_from, changed_cells, change_seen, with_cell, restored, differ_in}
-use Rattle.pz_cells.specs.Differing.{AreAlikeBetween, Differ, IsNextDiffering}
+use Rattle.pz_sheet.specs.Changes.{CellChange, changed_from, changed_cells, with_cell, restored, differ_in, cell_there}
+use Rattle.pz_cells.specs.Differing.{IsNextDiffering}
 use Rattle.pz_sheet.specs.Grid.{Grid, IsLawful, SameSize}
 use Rattle.pz_sheet.specs.Presence.{cell_of}
 use Rattle.pz_sets.specs.Next.{IsNext}
@@ -69,99 +67,51 @@ way_back_by grid older changes size lawful lawful_older e =
     ap (λ (l : List CellChange). restored l grid) e ∙ way_back grid older size long
 
 -- ---- a loop over the cells of both
-only_false : (b : Bool) → (b ≡ true → false ≡ true) → b ≡ false
-only_false true h = sym (h refl)
-only_false false h = refl
-
-seen_more : (N : ℕ) (layering : Layering) (changes now : List (Change N)) (change : Change N) (rest : List CellChange) → now ≡ changes ++ change ∷ [] → map (change_seen layering) now ++ rest ≡ map (change_seen layering) changes ++ change_seen layering change ∷ rest
-seen_more N layering changes now change rest e = ap (λ (all : List (Change N)). map (change_seen layering) all ++ rest) e ∙ more changes where
-  more : (all : List (Change N)) → map (change_seen layering) (all ++ change ∷ []) ++ rest ≡ map (change_seen layering) all ++ change_seen layering change ∷ rest
-  more [] = refl
-  more (x ∷ xs) = ap (λ (l : List CellChange). change_seen layering x ∷ l) (more xs)
-
 -- what is left from a cell on
-abbrev pub left_from : (N : ℕ) → Layering → List (Cell N) → List (Cell N) → ℕ → List CellChange
-left_from N layering cells older index = changed_from index (map (seen layering) (drop index cells)) (map (seen layering) (drop index older))
+abbrev pub left_from : Grid → Grid → ℕ → List CellChange
+left_from grid older index = changed_from index (drop index grid.cells) (drop index older.cells)
 
-module _ (N : ℕ) (layering : Layering) (low : All (λ l. l < layering.depth) layering.layers) where
-  -- the words tell what is seen
-  pub test_is : (cell other : Cell N) (r : Bool) → IsSound layering cell → IsSound layering other → (IsTrue r ↔ AreAlike cell other) → same_cell (seen layering cell) (seen layering other) ≡ r
-  test_is cell other true sound sound_other decides =
-      ap (same_cell (seen layering cell)) (sym (seen_alike N layering cell other sound sound_other (decides.0 refl))) ∙ same_cell_self (seen layering cell)
-  test_is cell other false sound sound_other decides =
-      only_false (same_cell (seen layering cell) (seen layering other)) (λ t. decides.1 (alike_seen N layering cell other low sound sound_other (same_cell_is _ _ t)))
+are_same : (b : Bool) → not b ≡ false → b ≡ true
+are_same true h = refl
+are_same false h = cc
 
-  left_more : (cells older : List (Cell N)) (index : ℕ) (x y : Cell N) (r : Bool) → index < length cells → length cells ≡ length older → x ≡ get_or cells index x → y ≡ get_or older index y → All (IsSound layering) cells → All (IsSound layering) older → (IsTrue r ↔ AreAlike x y)
-      → left_from N layering cells older index ≡ cond r (left_from N layering cells older (index + 1)) (record { number = index; cell = seen layering y } ∷ left_from N layering cells older (index + 1))
-  left_more cells older index x y r within long is_x is_y sound sound_older decides =
-      let f = seen layering in
-      let within_older : index < length older = omega (arith, within, long) in
-      let sound_x : IsSound layering x = subst (IsSound layering) (sym is_x) (sound index x within) in
-      let sound_y : IsSound layering y = subst (IsSound layering) (sym is_y) (sound_older index y within_older) in
-      let rest = left_from N layering cells older (index + 1) in
-      ap (λ (xs : List (Cell N)). changed_from index (map f xs) (map f (drop index older))) (drop-next cells index x within is_x)
-      ∙ (ap (λ (ys : List (Cell N)). changed_from index (map f (x ∷ drop (index + 1) cells)) (map f ys)) (drop-next older index y within_older is_y)
-      ∙ ap (λ (b : Bool). cond b rest (record { number = index; cell = f y } ∷ rest)) (test_is x y r sound_x sound_y decides))
+are_other : (b : Bool) → not b ≡ true → b ≡ false
+are_other true h = cc
+are_other false h = refl
 
--- the changes that are found among the first cells, and what is left
-pub record AreFound (N : ℕ) (layering : Layering) (cells older : List (Cell N)) (changes : List (Change N)) (index : ℕ) : Type 0 where
-  pub changes_are : map (change_seen layering) changes ++ left_from N layering cells older index ≡ changed_from 0 (map (seen layering) cells) (map (seen layering) older)
-  pub within : All (λ change. (change.index < length cells) × IsSound layering change.cell) changes
-  pub low : index ≤ length cells
+module _ (grid older : Grid) (long : length grid.cells ≡ length older.cells) where
+  left_more : (index : ℕ) (same : Bool) → index < length grid.cells → same_cell (cell_of grid index) (cell_of older index) ≡ same → left_from grid older index ≡ cond same (left_from grid older (index + 1)) (cell_there older index ∷ left_from grid older (index + 1))
+  left_more index same within is =
+      let x = cell_of grid index in
+      let y = cell_of older index in
+      let within_older : index < length older.cells = omega (arith, within, long) in
+      let rest = left_from grid older (index + 1) in
+      ap (λ xs. changed_from index xs (drop index older.cells)) (drop-next grid.cells index x within (get_or_default grid.cells index [] x within))
+      ∙ (ap (λ ys. changed_from index (x ∷ drop (index + 1) grid.cells) ys) (drop-next older.cells index y within_older (get_or_default older.cells index [] y within_older))
+      ∙ ap (λ b. cond b rest (cell_there older index ∷ rest)) is)
 
--- as many cells of one game
-pub record ArePaired (N : ℕ) (layering : Layering) (cells older : List (Cell N)) : Type 0 where
-  pub low : All (λ l. l < layering.depth) layering.layers
-  pub long : length cells ≡ length older
-  pub sound : All (IsSound layering) cells
-  pub sound_older : All (IsSound layering) older
-
-module _ (N : ℕ) (layering : Layering) (cells older : List (Cell N)) (p : ArePaired N layering cells older) where
-  abbrev left : ℕ → List CellChange
-  left = left_from N layering cells older
-
-  left_alike : (index : ℕ) → index < length cells → AreAlike (get_or cells index (no_cell N)) (get_or older index (no_cell N)) → left index ≡ left (index + 1)
-  left_alike index within same =
-      let x = get_or cells index (no_cell N) in
-      let y = get_or older index (no_cell N) in
-      left_more N layering p.low cells older index x y true within p.long (get_or_default cells index (no_cell N) x within) (get_or_default older index (no_cell N) y (omega (arith, within, p.long))) p.sound p.sound_older (λ _. same, λ _. refl)
-
-  -- cells that are alike leave nothing
-  left_behind : (from index : ℕ) → from ≤ index → index ≤ length cells → AreAlikeBetween cells older from index → left from ≡ left index
-  left_behind from zero low high same = let here : from ≡ zero = omega (arith, low) in ap left here
+  -- cells that are the same leave nothing
+  left_behind : (from index : ℕ) → from ≤ index → index ≤ length grid.cells → ((k : ℕ) → from ≤ k → k < index → differ_in grid older k ≡ false) → left_from grid older from ≡ left_from grid older index
+  left_behind from zero low high same = let here : from ≡ zero = omega (arith, low) in ap (left_from grid older) here
   left_behind from (suc index) low high same = elim (cases_eq from (suc index)) [
-    | inl here ↦ ap left here
+    | inl here ↦ ap (left_from grid older) here
     | inr apart ↦
-        left_behind from index (omega (arith, low, apart)) (omega (arith, high)) (λ k cell other from_k below. same k cell other from_k (omega (arith, below)))
-        ∙ (left_alike index (omega (arith, high)) (same index (no_cell N) (no_cell N) (omega (arith, low, apart)) (omega arith)) ∙ (let next : index + 1 ≡ suc index = omega arith in ap left next))
+        left_behind from index (omega (arith, low, apart)) (omega (arith, high)) (λ k from_k below. same k from_k (omega (arith, below)))
+        ∙ (left_more index true (omega (arith, high)) (are_same _ (same index (omega (arith, low, apart)) (omega arith))) ∙ (let next : index + 1 ≡ suc index = omega arith in ap (left_from grid older) next))
   ]
 
   -- one more is found
-  pub found_more : (changes now : List (Change N)) (from index : ℕ) (cell : Cell N) → from ≤ index → index < length cells → AreAlikeBetween cells older from index → Differ cells older index → cell ≡ get_or older index cell → now ≡ changes ++ record { index = index; cell = cell } ∷ []
-      → AreFound N layering cells older changes from → AreFound N layering cells older now (index + 1)
-  found_more changes now from index cell low within same differ is more f =
-      let new : Change N = record { index = index; cell = cell } in
-      let P : Change N → Type 0 = λ change. (change.index < length cells) × IsSound layering change.cell in
-      let within_older : index < length older = omega (arith, within, p.long) in
-      let sound : IsSound layering cell = subst (IsSound layering) (sym is) (p.sound_older index cell within_older) in
-      let x = get_or cells index cell in
-      let decides : IsTrue false ↔ AreAlike x cell = (λ (e : false ≡ true). cc, λ alike. absurd (differ cell cell (subst (λ (c : Cell N). AreAlike x c) is alike))) in
-      let here : left index ≡ change_seen layering new ∷ left (index + 1) =
-      left_more N layering p.low cells older index x cell false within p.long (get_or_default cells index cell x within) is p.sound p.sound_older decides in
-      record {
-        changes_are = seen_more N layering changes now new (left (index + 1)) more
-            ∙ (ap (λ (l : List CellChange). map (change_seen layering) changes ++ l) (sym (left_behind from index low (omega (arith, within)) same ∙ here)) ∙ f.changes_are);
-        within = subst (All P) (sym more) (All-append P changes (new ∷ []) f.within (All-cons P new [] (within, sound) (All-nil P)));
-        low = omega (arith, within);
-      }
+  pub found_more : (found all : List CellChange) (from index : ℕ) → IsNext (differ_in grid older) from (length grid.cells) (Some index) → found ++ left_from grid older from ≡ all → (found ++ cell_there older index ∷ []) ++ left_from grid older (index + 1) ≡ all
+  found_more found all from index next e =
+      let other : same_cell (cell_of grid index) (cell_of older index) ≡ false = are_other _ next.2 in
+      shift found (cell_there older index) (left_from grid older (index + 1))
+      ∙ (ap (λ l. found ++ l) (sym (left_behind from index next.0 (omega (arith, next.1)) next.3 ∙ left_more index false next.1 other)) ∙ e)
 
   -- all are found
-  pub all_found : (changes : List (Change N)) (from : ℕ) → AreAlikeBetween cells older from (length cells) → AreFound N layering cells older changes from
-      → map (change_seen layering) changes ≡ changed_from 0 (map (seen layering) cells) (map (seen layering) older)
-  all_found changes from same f =
-      let left_none : left (length cells) ≡ [] = ap (λ (xs : List (Cell N)). changed_from (length cells) (map (seen layering) xs) (map (seen layering) (drop (length cells) older))) (drop-length cells) in
-      sym (append-nil (map (change_seen layering) changes))
-      ∙ (ap (λ (l : List CellChange). map (change_seen layering) changes ++ l) (sym (left_behind from (length cells) f.low (omega arith) same ∙ left_none)) ∙ f.changes_are)
+  pub all_found : (found all : List CellChange) (from : ℕ) → from ≤ length grid.cells → IsNext (differ_in grid older) from (length grid.cells) None → found ++ left_from grid older from ≡ all → found ≡ all
+  all_found found all from low none e =
+      let left_none : left_from grid older (length grid.cells) ≡ [] = ap (λ xs. changed_from (length grid.cells) xs (drop (length grid.cells) older.cells)) (drop-length grid.cells) in
+      sym (append-nil found) ∙ (ap (λ l. found ++ l) (sym (left_behind from (length grid.cells) low (omega arith) none ∙ left_none)) ∙ e)
 
 -- a change of a cell of up to four words is no larger than memory
 pub small_change : (n : ℕ) → n ≤ 4 → up 16 (16 + up 16 (up 16 (0 + n * 16) + n * 16)) < 2 ^ 63
@@ -173,6 +123,18 @@ small_change (suc (suc (suc (suc zero)))) h = omega arith
 small_change (suc (suc (suc (suc (suc n))))) h = absurd (omega (arith, h))
 
 -- ---- one cell of two levels of one size
+only_false : (b : Bool) → (b ≡ true → false ≡ true) → b ≡ false
+only_false true h = sym (h refl)
+only_false false h = refl
+
+-- the words tell what is seen
+module _ (N : ℕ) (layering : Layering) (low : All (λ l. l < layering.depth) layering.layers) where
+  pub test_is : (cell other : Cell N) (r : Bool) → IsSound layering cell → IsSound layering other → (IsTrue r ↔ AreAlike cell other) → same_cell (seen layering cell) (seen layering other) ≡ r
+  test_is cell other true sound sound_other decides =
+      ap (same_cell (seen layering cell)) (sym (seen_alike N layering cell other sound sound_other (decides.0 refl))) ∙ same_cell_self (seen layering cell)
+  test_is cell other false sound sound_other decides =
+      only_false (same_cell (seen layering cell) (seen layering other)) (λ t. decides.1 (alike_seen N layering cell other low sound sound_other (same_cell_is _ _ t)))
+
 pub as_long : (wa ha wb hb na nb : ℕ) → wa ≡ wb → ha ≡ hb → na ≡ wa * ha → nb ≡ wb * hb → na ≡ nb
 as_long wa ha wb hb na nb width height a b = a ∙ (ap (λ (w : ℕ). w * ha) width ∙ (ap (λ (h : ℕ). wb * h) height ∙ sym b))
 

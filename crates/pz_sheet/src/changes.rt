@@ -1,17 +1,15 @@
 //! The cells in which a level differs from an older one, and the way back to that.
 
-ghost use Rattle.std.specs.Prelude.{◌≡◌, true, ◌<◌, ◌+◌, All, IfOk, OnOk, OnErr, length, map};
-ghost use Rattle.pz_sheet.specs.Changes.{changed_from, changed_cells, change_seen, changes_seen, IsChangeOf, with_cell, restored, differ_in, cell_there};
-ghost use Rattle.pz_sheet.specs.Grid.{SameSize, layers_in};
+ghost use Rattle.std.specs.Prelude.{◌≡◌, true, ◌<◌, ◌+◌, All, IfOk, OnOk, OnErr, length};
+ghost use Rattle.pz_sheet.specs.Changes.{changed_cells, changes_seen, IsChangeOf, with_cell, restored, differ_in, cell_there};
+ghost use Rattle.pz_sheet.specs.Grid.{SameSize};
 ghost use Rattle.pz_sets.specs.Next.{IsNext};
-ghost use Rattle.pz_cells.specs.Lists.{seen, IsSound, HeadNowhere};
 
 use crate::Sheet;
 use pz_cells::cell::Cell;
 use pz_cells::differing::next_differing;
-use pz_cells::layers::Layers;
 use pz_planes::notes::are_empty;
-use std::alloc::{AllocError, Global};
+use std::alloc::AllocError;
 
 /// A cell of an older level, by its number: what stood there.
 #[derive(Clone, Copy)]
@@ -57,9 +55,16 @@ impl<const N: usize> Sheet<N> {
         ensures of_level { IfOk result (λ changes. All (IsChangeOf self.now.grid) changes.items) }
         ensures way_back { IfOk result (λ changes. restored (changes_seen self.now.grid changes.items) self.now.grid ≡ older.now.grid) }
     {
-        let alloc = *self.cells.allocator();
-        let are_still = are_empty(&self.notes, &older.notes);
-        changes_between(alloc, &self.layers, &self.cells, &older.cells, are_still)
+        // (brings the proof the law of the older level)
+        let _ = older.width();
+        let mut changes = Vec::new(*self.cells.allocator());
+        let mut from = 0;
+        'changes: while let Some(index) = self.next_change(older, from) {
+            let cell = *older.cell(index);
+            changes.push(Change { index, cell })?;
+            from = index + 1;
+        }
+        Ok(changes)
     }
 
     /// Puts the cells of an older level back.
@@ -92,32 +97,4 @@ impl<const N: usize> Sheet<N> {
         let _ = (self.width(), other.width(), other.layers().depth());
         self.set_cell(index, *other.cell(index));
     }
-}
-
-/// The cells in which an older level differs. Where no cell of either heads anywhere, the objects alone are looked at.
-fn changes_between<const N: usize>(
-    alloc: Global,
-    layers: &Layers<N>,
-    cells: &[Cell<N>],
-    older: &[Cell<N>],
-    are_still: bool,
-) -> Result<Vec<Change<N>>, AllocError>
-    requires sound { All (IsSound layers.now) cells.now }
-    requires older_sound { All (IsSound layers.now) older.now }
-    requires long { length cells.now ≡ length older.now }
-    requires still { are_still ≡ true → HeadNowhere cells.now }
-    requires older_still { are_still ≡ true → HeadNowhere older.now }
-    ensures changes { IfOk result (λ changes. map (change_seen layers.now) changes.items ≡ changed_from 0 (map (seen layers.now) cells.now) (map (seen layers.now) older.now)) }
-    ensures within { IfOk result (λ changes. All (λ change. (change.index < length cells.now) × IsSound layers.now change.cell) changes.items) }
-{
-    // (brings the proof the law of the layers)
-    let _ = layers.depth();
-    let mut changes = Vec::new(alloc);
-    let mut from = 0;
-    'changes: while let Some(index) = next_differing(cells, older, are_still, from) {
-        let cell = older[index];
-        changes.push(Change { index, cell })?;
-        from = index + 1;
-    }
-    Ok(changes)
 }

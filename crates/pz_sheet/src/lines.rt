@@ -2,8 +2,8 @@
 
 ghost use Rattle.std.specs.Prelude.{◌≡◌, ◌<◌, ℕ};
 ghost use Rattle.pz_sets.specs.Sets.{member};
-ghost use Rattle.pz_sheet.specs.Line.{line_length, line_count};
-ghost use Rattle.pz_sheet.specs.Presence.{stands_in_line, in_line};
+ghost use Rattle.pz_sheet.specs.Line.{line_count};
+ghost use Rattle.pz_sheet.specs.Presence.{in_line};
 
 use crate::Sheet;
 use crate::line::Line;
@@ -17,17 +17,9 @@ impl<const N: usize> Sheet<N> {
     {
         let mut set = NumberSet::empty();
         for at in 0..self.line_length(line.axis) {
-            set = set.union(&self.objects_on(line, at));
+            let objects = NumberSet::from_words(self.objects_in(self.index_in(line, at)));
+            set = set.union(&objects);
         }
         set
-    }
-
-    /// The objects that stand at a position of a line.
-    fn objects_on(&self, line: Line, at: u32) -> NumberSet
-        requires line_in { line.number < line_count self.now.grid line.axis }
-        requires at_in { at < line_length self.now.grid line.axis }
-        ensures { (object : ℕ) → member result object ≡ stands_in_line self.now.grid line object at }
-    {
-        NumberSet::from_words(self.objects_in(self.index_in(line, at)))
     }
 }

@@ -48,14 +48,6 @@ impl<const N: usize> Sheet<N> {
         if is_empty(self.notes.whole()) {
             return;
         }
-        self.still_each();
-    }
-
-    /// Stills every piece, cell by cell.
-    fn still_each(&mut self)
-        ensures stilled { self.new.grid ≡ stilled self.old.grid }
-        ensures lawful { IsLawful self.new.grid }
-    {
         still_cells(&mut self.cells, &self.layers);
         self.notes.clear();
     }

@@ -1,6 +1,6 @@
 //! The direction of an input, given to the player.
 
-ghost use Rattle.std.specs.Prelude.{◌≡◌, ℕ, ◌<◌, [], ◌∷◌, false, length, map};
+ghost use Rattle.std.specs.Prelude.{◌≡◌, ℕ, ◌<◌, false, length, map};
 ghost use Rattle.pz_cells.specs.Lists.{seen, IsSound};
 ghost use Rattle.pz_sheet.specs.Grid.{IsLawful, cell_at};
 ghost use Rattle.pz_sheet.specs.Holding.{IsSetFor};
@@ -75,15 +75,6 @@ fn push_cell<const N: usize>(cell: &mut Cell<N>, layers: &Layers<N>, players: &[
     ensures cell { seen layers.now cell.new ≡ map (pushed_place players.now dir) (seen layers.now cell.old) }
 {
     for player in players {
-        turn(cell, layers, *player, dir);
+        cell.turn(layers, *player, dir);
     }
-}
-
-/// Lets one object head in a direction, if it stands in the cell.
-fn turn<const N: usize>(cell: &mut Cell<N>, layers: &Layers<N>, player: usize, dir: Dir)
-    requires sound { IsSound layers.now cell.old }
-    ensures sound { IsSound layers.now cell.new }
-    ensures cell { seen layers.now cell.new ≡ map (pushed_place (player ∷ []) dir) (seen layers.now cell.old) }
-{
-    cell.turn(layers, player, dir);
 }

@@ -1,39 +1,44 @@
-use Rattle.std.proofs.Common.{◌≡◌, rules, arith, All, length, ap, sym, ◌∙◌, subst}
-use Rattle.std.proofs.lemmas.Result.{IfOk-weaker}
-use Rattle.pz_sheet.specs.Changes.{changed_cells, changes_seen, restored}
-use Rattle.pz_sheet.specs.Grid.{BareState}
-use Rattle.pz_cells.specs.Lists.{IsSound}
-use Rattle.pz_cells.proofs.ListLemmas.{small_cell}
-use Rattle.pz_sheet.proofs.SheetLemmas.{lawful_here}
+use Rattle.std.proofs.Common.{◌≡◌, ◌+◌, ◌++◌, [], ◌∷◌, All, List, Option, arith, ap, sym, ◌∙◌, subst}
+use Rattle.std.proofs.lemmas.List.{map-append}
+use Rattle.std.proofs.lemmas.List.Elements.{All-append, All-cons, All-nil}
+use Rattle.pz_cells.specs.declared.piece.Piece.{Piece}
 use Rattle.pz_cells.specs.Layering.{Layering}
-use Rattle.pz_sheet.proofs.StillLemmas.{nowhere_read}
-use Rattle.pz_sheet.proofs.ChangeLemmas.{AreBoth, as_many, small_change, way_back_by, over_layers}
+use Rattle.pz_cells.specs.Lists.{seen, IsSound}
+use Rattle.pz_sheet.specs.declared.changes.Change.{Change}
+use Rattle.pz_sheet.specs.Changes.{CellChange, changed_cells, changes_seen, change_seen, IsChangeOf, cell_there}
+use Rattle.pz_sheet.specs.Grid.{layers_in}
+use Rattle.pz_sheet.proofs.SheetLemmas.{lawful_here}
+use Rattle.pz_sheet.proofs.ChangeLemmas.{found_more, all_found, left_from, way_back_by}
+use Rattle.pz_sheet.proofs.NewerLemmas.{as_many}
 use Rattle.pz_sheet.proofs.Sheet.changes_to.Goals as goal
 
-pub changes_between-requires : goal.changes_between-requires
-changes_between-requires g c =
-    let a = c.self.inside in
-    let b = c.older.inside in
-    let e = ap (λ (s : BareState). s.grid) c.self.view_is in
-    let f = ap (λ (s : BareState). s.grid) c.older.view_is in
-    let both : AreBoth g.row.N a.width a.height a.layers a.cells.items b.width b.height b.layers b.cells.items c.args.self.now.grid c.args.older.now.grid = record { size = c.requires.size; is = e; is_other = f; notes = a.notes; notes_other = b.notes; stored = c.self.invariant.stored; stored_other = c.older.invariant.stored } in
-    let layers : a.layers ≡ b.layers = over_layers _ _ _ _ _ _ _ _ _ _ _ both in
-    let many = as_many _ _ _ _ _ _ _ _ _ _ _ both in
-    let sound = subst (All (IsSound a.layers)) (sym c.deref.ensures.value) c.self.invariant.stored.sound in
-    let sound_there = subst (All (IsSound a.layers)) (sym c.deref-2.ensures.value) (subst (λ (l : Layering). All (IsSound l) b.cells.items) (sym layers) c.older.invariant.stored.sound) in
-    let long = ap length c.deref.ensures.value ∙ (many ∙ sym (ap length c.deref-2.ensures.value)) in
-    let nowhere = nowhere_read _ _ _ _ _ _ _ _ c.self.invariant.stored c.deref.ensures.value c.are_empty-are_still.ensures.first in
-    let nowhere_there = nowhere_read _ _ _ _ _ _ _ _ c.older.invariant.stored c.deref-2.ensures.value c.are_empty-are_still.ensures.second in
-    (omega arith, (small_cell _ c.self.invariant.stored.law.short, (small_change _ c.self.invariant.stored.law.short, (sound, (sound_there, (long, (nowhere, nowhere_there)))))))
+pub changes-preserved : goal.changes-preserved
+changes-preserved g c =
+    let grid = c.args.self.now.grid in
+    let older = c.args.older.now.grid in
+    let index = c.in-Some.index in
+    let next = c.in-Some.ensures in
+    let new : Change g.row.N = record { index = index; cell = c.cell-cell.result.now } in
+    let old = c.changes.changes.items in
+    let over : layers_in older ≡ layers_in grid = λ i. record { depth = c.requires.size.depth i; layers = c.requires.size.layers i } in
+    let there = ap (λ (layering : Layering). seen layering new.cell) (sym over) ∙ c.cell-cell.ensures.cell in
+    let more : changes_seen grid c.push.new.self.items ≡ changes_seen grid old ++ cell_there older index ∷ [] =
+    ap (changes_seen grid) c.in_ok-push.ensures.items ∙ map-append (change_seen (layers_in grid)) old (new ∷ []) ∙ ap (λ (cell : List (Option Piece)). changes_seen grid old ++ record { number = index; cell = cell } ∷ []) there in
+    let long = as_many grid older c.requires.size (lawful_here _ _ _ _ _ _ _ c.self.invariant.stored c.self.view_is) c.width.ensures.lawful in
+    record {
+      found = ap (λ (found : List CellChange). found ++ left_from grid older (index + 1)) more ∙ found_more grid older long (changes_seen grid old) (changed_cells grid older) c.changes.from index next c.changes.invariant.found;
+      of_level = subst (All (IsChangeOf grid)) (sym c.in_ok-push.ensures.items) (All-append (IsChangeOf grid) old (new ∷ []) c.changes.invariant.of_level (All-cons (IsChangeOf grid) new [] (record { within = next.1; sound = subst (λ (layering : Layering). IsSound layering new.cell) over c.cell-cell.ensures.sound }) (All-nil (IsChangeOf grid))));
+      low = omega (arith, next.1);
+    }
 
 pub returns-clause-changes : goal.returns-clause-changes
-returns-clause-changes g c = search rules
+returns-clause-changes g c =
+    let grid = c.args.self.now.grid in
+    let older = c.args.older.now.grid in
+    let long = as_many grid older c.requires.size (lawful_here _ _ _ _ _ _ _ c.self.invariant.stored c.self.view_is) c.width.ensures.lawful in
+    all_found grid older long (changes_seen grid c.changes.changes.items) (changed_cells grid older) c.changes.from c.changes.invariant.low c.in_default.ensures c.changes.invariant.found
 
 pub returns-clause-way_back : goal.returns-clause-way_back
 returns-clause-way_back g c =
-    let grid = c.args.self.now.grid in
-    let older = c.args.older.now.grid in
     let lawful = lawful_here _ _ _ _ _ _ _ c.self.invariant.stored c.self.view_is in
-    let lawful_older = lawful_here _ _ _ _ _ _ _ c.older.invariant.stored c.older.view_is in
-    IfOk-weaker c.changes_between.result (λ changes. changes_seen grid changes.items ≡ changed_cells grid older) (λ changes. restored (changes_seen grid changes.items) grid ≡ older)
-    (λ changes e. way_back_by grid older (changes_seen grid changes.items) c.requires.size lawful lawful_older e) (returns-clause-changes g c)
+    way_back_by c.args.self.now.grid c.args.older.now.grid (changes_seen c.args.self.now.grid c.changes.changes.items) c.requires.size lawful c.width.ensures.lawful (returns-clause-changes g c)

@@ -1,4 +1,4 @@
-use Rattle.std.proofs.Common.{◌≡◌, ℕ, List, Option, false, ap, sym, ◌∙◌}
+use Rattle.std.proofs.Common.{◌≡◌, ℕ, List, Option, false, length, map, arith, ap, sym, ◌∙◌}
 use Rattle.pz_sets.specs.Sets.{member}
 use Rattle.pz_cells.specs.declared.piece.Piece.{Piece}
 use Rattle.pz_sheet.specs.Grid.{BareState}
@@ -6,6 +6,12 @@ use Rattle.pz_sheet.specs.Seen.{grid_of}
 use Rattle.pz_sheet.specs.Movement.{stilled}
 use Rattle.pz_sheet.proofs.SheetLemmas.{lawful_here}
 use Rattle.pz_sheet.proofs.StillLemmas.{all_are_still}
+use Rattle.pz_cells.specs.Cell.{still_place}
+use Rattle.pz_sheet.proofs.PlacedLemmas.{placed_same}
+use Rattle.pz_cells.proofs.ListLemmas.{small_cell}
+use Rattle.pz_sheet.proofs.SheetLemmas.{lawful_seen}
+use Rattle.pz_sheet.proofs.MapLemmas.{stored_mapped}
+use Rattle.pz_sheet.proofs.StillLemmas.{noted_nowhere}
 use Rattle.pz_sheet.proofs.Sheet.still_all.Goals as goal
 
 pub returns-then-is_empty-clause-stilled : goal.returns-then-is_empty-clause-stilled
@@ -19,3 +25,18 @@ returns-then-is_empty-clause-stilled g c =
 
 pub returns-then-is_empty-clause-lawful : goal.returns-then-is_empty-clause-lawful
 returns-then-is_empty-clause-lawful g c = lawful_here _ _ _ _ _ _ _ c.self.invariant.stored c.self.view_is
+
+pub still_cells-requires : goal.still_cells-requires
+still_cells-requires g c = (small_cell _ c.self.invariant.stored.law.short, (omega arith, c.self.invariant.stored.sound))
+
+pub invariant_of-self : goal.invariant_of-self
+invariant_of-self g c =
+    let a = c.self.inside in
+    record {
+      stored = stored_mapped _ a.width a.height a.layers (map still_place) a.cells.items c.still_cells.new.cells.items a.notes c.clear.new.self c.self.invariant.stored c.still_cells.ensures.mapped
+          (noted_nowhere _ a.width a.height c.clear.new.self c.still_cells.new.cells.items (c.clear.ensures.rows ∙ c.self.invariant.stored.noted.row_count) (c.clear.ensures.columns ∙ c.self.invariant.stored.noted.column_count) c.still_cells.ensures.nowhere);
+      placed = placed_same _ (length a.layers.layers) a.width a.height a.planes a.cells.items c.still_cells.new.cells.items c.still_cells.ensures.objects c.self.invariant.placed;
+    }
+
+pub returns-clause-lawful : goal.returns-clause-lawful
+returns-clause-lawful g c = lawful_seen _ _ _ _ _ _ (invariant_of-self g c).stored

@@ -8,4 +8,4 @@ use Rattle.pz_cells.proofs.cell.Cell.fill.Goals as goal
 pub returns-clause-cell : goal.returns-clause-cell
 returns-clause-cell g c =
     let there = c.piece_on-here.ensures ∙ sym (place_seen c.args.layers.now.depth c.args.layers.now.layers c.args.self.now.objects c.args.self.now.movement c.args.layer c.requires.low) in
-    c.exchange.ensures.cell ∙ ap (λ (p : Piece). set (seen c.args.layers.now c.args.self.now) c.args.layer (Some p)) (c.piece_or-place.ensures ∙ ap (λ (p : Option Piece). unwrap_or p c.args.piece) there)
+    c.exchange.ensures.cell ∙ ap (λ (p : Piece). set (seen c.args.layers.now c.args.self.now) c.args.layer (Some p)) (c.unwrap_or.ensures ∙ ap (λ (p : Option Piece). unwrap_or p c.args.piece) there)

@@ -9,7 +9,7 @@ use Rattle.pz_cells.specs.Shown.{cell_of}
 use Rattle.pz_cells.proofs.HoldLemmas.{low_of_game}
 use Rattle.pz_cells.proofs.RewriteLemmas.{AreRewritten, Rewrites, rewrites_from, lawful_rewritten, cell_rewritten, placed_within, headed_within, mid_proper, changed_by}
 use Rattle.pz_cells.proofs.cell.Cell.rewrite.Given.{Over}
-use Rattle.pz_cells.proofs.cell.Cell.rewrite.Goals.{After-either}
+use Rattle.pz_cells.proofs.cell.Cell.rewrite.Goals.{After-self-3-1}
 use Rattle.pz_cells.proofs.cell.Cell.rewrite.Goals as goal
 
 pub replace-moved-requires : goal.replace-moved-requires
@@ -28,14 +28,14 @@ replace-replaced-requires g c object here =
     let within = placed_within layers right c.masks-is.result.now c.requires.right_of m object (ap (λ (ws : List ℕ). member ws object) (sym c.words-4.ensures.words) ∙ here) in
     omega (arith, within, c.objects_on.ensures.law.room, c.word_count.ensures.objects)
 
-masks_of : (g : Over) (c : After-either g) → AreMasksOf c.args.left.now c.masks-was.result.now × AreMasksOf c.args.right.now c.masks-is.result.now
+masks_of : (g : Over) (c : After-self-3-1 g) → AreMasksOf c.args.left.now c.masks-was.result.now × AreMasksOf c.args.right.now c.masks-is.result.now
 masks_of g c =
     let layers = c.args.layers.now.layers in (
       c.masks-was.ensures (low_of_game c.args.layers.now.depth layers c.args.left.now c.objects_on.ensures.law.layered c.objects_on.ensures.law.few c.objects_on.ensures.law.shallow c.requires.left_of),
       c.masks-is.ensures (low_of_game c.args.layers.now.depth layers c.args.right.now c.objects_on.ensures.law.layered c.objects_on.ensures.law.few c.objects_on.ensures.law.shallow c.requires.right_of),
     )
 
-are_rewritten : (g : Over) (c : After-either g) → AreRewritten c.args.layers.now.layers c.masks-was.result.now c.masks-is.result.now c.args.self.now.objects c.args.self.now.movement c.replace-replaced.new.words c.replace-moved.new.words c.end_leaving.new.movement
+are_rewritten : (g : Over) (c : After-self-3-1 g) → AreRewritten c.args.layers.now.layers c.masks-was.result.now c.masks-is.result.now c.args.self.now.objects c.args.self.now.movement c.replace-replaced.new.words c.replace-moved.new.words c.end_leaving.new.movement
 are_rewritten g c =
     let layers = c.args.layers.now.layers in
     let objects = c.args.self.now.objects in
@@ -61,11 +61,11 @@ are_rewritten g c =
       others = λ layer dir none. c.end_leaving.ensures.others layer dir (λ o g on. none o (record { here = g.here; removed = sym (c.union-removed.ensures o) ∙ g.removed; free = g.free }) on);
     }
 
-rewrites : (g : Over) (c : After-either g) → Rewrites c.args.layers.now.layers c.args.left.now c.args.right.now (member c.args.self.now.objects) (heads c.args.self.now.movement) (member c.replace-replaced.new.words) (heads c.end_leaving.new.movement)
+rewrites : (g : Over) (c : After-self-3-1 g) → Rewrites c.args.layers.now.layers c.args.left.now c.args.right.now (member c.args.self.now.objects) (heads c.args.self.now.movement) (member c.replace-replaced.new.words) (heads c.end_leaving.new.movement)
 rewrites g c = rewrites_from c.args.layers.now.layers c.args.left.now c.args.right.now c.masks-was.result.now c.masks-is.result.now c.args.self.now.objects c.args.self.now.movement c.replace-replaced.new.words c.replace-moved.new.words c.end_leaving.new.movement
     c.requires.right_of (masks_of g c).0 (masks_of g c).1 c.requires.sound.of_game (are_rewritten g c)
 
-proper_mid : (g : Over) (c : After-either g) → IsProper c.replace-moved.new.words
+proper_mid : (g : Over) (c : After-self-3-1 g) → IsProper c.replace-moved.new.words
 proper_mid g c = mid_proper c.args.layers.now.layers c.args.left.now c.args.right.now c.masks-was.result.now c.masks-is.result.now c.args.self.now.objects c.args.self.now.movement c.replace-replaced.new.words c.replace-moved.new.words c.end_leaving.new.movement
     (masks_of g c).1 c.requires.sound.proper (are_rewritten g c)
 
@@ -79,6 +79,6 @@ returns-clause-cell g c = cell_rewritten c.args.layers.now.depth c.args.layers.n
 
 pub returns-clause-changed : goal.returns-clause-changed
 returns-clause-changed g c =
-    c.either.ensures ∙ changed_by c.args.layers.now.depth c.args.layers.now.layers c.args.right.now c.masks-was.result.now c.masks-is.result.now c.args.self.now.objects c.args.self.now.movement c.replace-replaced.new.words c.replace-moved.new.words c.end_leaving.new.movement
+    changed_by c.args.layers.now.depth c.args.layers.now.layers c.args.right.now c.masks-was.result.now c.masks-is.result.now c.args.self.now.objects c.args.self.now.movement c.replace-replaced.new.words c.replace-moved.new.words c.end_leaving.new.movement
     c.replace-moved.result c.replace-replaced.result (rewritten_cell c.args.left.now c.args.right.now (cell_of c.args.layers.now.depth c.args.layers.now.layers c.args.self.now.objects c.args.self.now.movement))
     c.requires.right_of (masks_of g c).1 c.objects_on.ensures.law.layered c.requires.sound (returns-clause-sound g c) (are_rewritten g c) (proper_mid g c) c.replace-moved.ensures.changed c.replace-replaced.ensures.changed (returns-clause-cell g c)
