@@ -589,9 +589,9 @@ pub fn places(alloc: Global, level: &Level, row: &Row, dir: Dir) -> Result<Vec<P
     Ok(found)
 }
 
-/// The places of a row as `places` gives them, and in how many cells a search tests whether the row starts there. Only lines that
-/// `admitted` counts are tested, and each cell counts once. In a line of up to 128 cells, planes and notes rule out some cells untested. In
-/// a longer line all cells are tested, unless the line is skipped.
+/// The places of a row as `places` gives them, and how many cells a search tests as starts of the row. It tests only lines that `admitted`
+/// counts, and each cell at most once. In a line of up to 128 cells it tests only those that fit by the positions of the objects named
+/// before the row's gap, headings aside. In a longer line it tests all cells, unless it skips the line.
 pub fn places_counted(
     alloc: Global,
     level: &Level,
