@@ -64,8 +64,9 @@ fn is_small(level: &Level) -> bool
     level.width() * level.height() <= FEW_CELLS
 }
 
-/// Whether an instance has no effect, even if it fits: it neither rewrites, gives a command nor meets a limit. A rule that only plays a
-/// sound is so. In a small level the row isn't read: there may be thousands of such instances, each with its row elsewhere in memory.
+/// Whether an instance has no effect, even if it fits: it neither rewrites, gives a command nor meets a limit. An example is a rule that
+/// only plays a sound. In a small level the row isn't read: there may be thousands of such instances, each with its row elsewhere in
+/// memory.
 fn has_no_effect(level: &Level, instance: &Instance) -> bool
     ensures { result ≡ true → HasNoEffect level.now.grid instance.now }
 {
@@ -108,7 +109,7 @@ fn is_left_out(level: &Level, instance: &Instance) -> bool
     false
 }
 
-/// The places of each row. `None`: some row has none, and no row before it has too many. If it is the first row, as mostly, no memory was
+/// The places of each row. `None`: some row has none, and no row before it has too many. Mostly it is the first row; then no memory was
 /// asked for.
 fn take_places(
     alloc: Global,
@@ -132,7 +133,7 @@ fn take_places(
     Ok(Some(lists))
 }
 
-/// How many combinations there are, at most counted to one above the limit.
+/// How many combinations there are, counted up to one above the limit.
 fn combination_count(lists: &[Listed<Place>]) -> u64
     ensures { result ≡ min (length (combinations lists.now)) (COMBINATION_LIMIT + 1) }
 {

@@ -105,7 +105,7 @@ fn members_of(game: &Game, number: usize) -> Option<&[usize]>
 }
 
 /// The members of the name after `on`, if a cell fits that name by holding one of them. Without `on` they are those of the first name,
-/// since then each cell that fits the first name fits both.
+/// because then each cell that fits the first name fits both.
 fn others_of<'a>(game: &'a Game, line: WinLine, objects: &'a [usize]) -> Option<&'a [usize]>
     requires { (cell : List (Option Piece)) → fits game.now line.subject cell ≡ holds_one objects.now cell }
     ensures { IfSome result (λ others. AreAsked game.now line objects.now others.now) }
