@@ -14,8 +14,8 @@ from crates import lanes_for_checks, read_uses
 
 TOP = Path(__file__).resolve().parent.parent
 PROGRAM, LIBRARY = "src/main.rt", "src/lib.rt"
-# A row of the table of docs/proving.md: how many seconds the proof of a crate takes. One that has no row is taken for a middling one.
-SECONDS = re.compile(r"^\| `(\w+)` \| (\d+) \|", re.M)
+# A line of dev/proof-seconds.txt: a crate, and how many seconds its proof takes. One that has no line is taken for a middling one.
+SECONDS = re.compile(r"^(\w+) (\d+)$", re.M)
 MIDDLING = 60
 # What a check takes at most, as docs/proving.md tells, with some room.
 MEMORY_OF_A_CHECK = 4_000_000_000
@@ -70,9 +70,9 @@ def root_of(name):
 
 
 def seconds_of_proofs():
-    """How many seconds the proof of each crate takes, as docs/proving.md tells: only which crate comes first depends on it."""
-    table = TOP / "docs/proving.md"
-    return {name: int(seconds) for name, seconds in SECONDS.findall(table.read_text(encoding="utf-8"))} if table.is_file() else {}
+    """How many seconds the proof of each crate takes, as dev/proof-seconds.txt says: only which crate comes first depends on it."""
+    file = TOP / "dev/proof-seconds.txt"
+    return {name: int(seconds) for name, seconds in SECONDS.findall(file.read_text(encoding="utf-8"))} if file.is_file() else {}
 
 
 def weights(crates, names):

@@ -71,7 +71,7 @@ class Adapter(OnSessions):
             self.assertEqual(next(lines), '{"cause":"BadRule:3","close":"refused","frames":0,"name":"c","session":2}')
             self.assertEqual(next(lines), '{"close":"differs","frames":0,"name":"d","session":3}')
 
-    def test_a_wrong_use_is_told(self):
+    def test_a_wrong_use_is_reported(self):
         for words, wanted in WRONG.items():
             script = 'const { Lines } = require(process.argv[1]); const level = { width: 1, height: 1, at: () => [] }; const lines = new Lines(() => {});\n'
             self.assertIn(wanted, node("-e", script + words, ADAPTER / "lines.js").stderr.decode())

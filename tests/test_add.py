@@ -54,7 +54,7 @@ class DayOfAdding(OfAGame):
             self.assertEqual(self.suite.read_bytes(), before)
         self.assertEqual(sorted(it.name for it in self.room.iterdir()), ["example.lines", "game.txt", "recordings.json", "suite.json"])
 
-    def test_a_place_that_can_not_be_written_is_told(self):
+    def test_a_place_that_can_not_be_written_is_reported(self):
         self.assert_refused(run("add", self.room / "no/where.json", stdin=self.console(0).encode()), "can't be written")
         self.assert_refused(run("add", "-", stdin=b""), "a sessions file is wanted")
 

@@ -29,7 +29,7 @@ class Attack(OnSmallCrates):
         self.assertEqual((answer.status, answer.out), (2, ""))
         self.assertIn("stands on both shelves", answer.errors)
 
-    def test_a_crate_that_is_not_there_is_told(self):
+    def test_a_crate_that_is_not_there_is_reported(self):
         answer = run(self.tool, "large")
         self.assertEqual((answer.status, answer.out), (2, ""))
         self.assertIn("names no crate large", answer.errors)

@@ -29,14 +29,14 @@ class Build(OnSmallCrates):
         self.assertEqual(answer.errors.splitlines(), ["proving low; 2 left", "proving high; 1 left"])
         self.assertEqual(subprocess.run([self.room / "crates/high/out/high"]).returncode, 0)
 
-    def test_what_is_not_proved_is_told(self):
+    def test_what_is_not_proved_is_reported(self):
         self.write("crates/low/src/lib.rt", CRATE.replace("    number\n", "    0\n"))
         answer = run(self.tool, "high")
         self.assertEqual((answer.status, answer.out), (1, ""))
         self.assertIn("low is not proved; the log is", answer.errors)
         self.assertIn("logic=not-proved", (self.room / "crates/low/out/build.log").read_text(encoding="utf-8"))
 
-    def test_a_crate_that_is_no_program_is_told(self):
+    def test_a_crate_that_is_no_program_is_reported(self):
         for name in ("low", "none"):
             answer = run(self.tool, name)
             self.assertEqual((answer.status, answer.out), (2, ""))

@@ -49,7 +49,7 @@ class OfDocuments(OnSmallCrates):
     def test_a_page_without_a_fault(self):
         self.assertEqual(self.told(PAGE), (0, []))
 
-    def test_each_fault_is_told_with_its_line(self):
+    def test_each_fault_is_reported_with_its_line(self):
         for old, new, told in (
             ("`pz_one/src/lib.rt`\n  `same`", "`pz_one/src/lib.rt`\n  `other`", "17: other does not stand in the file named before it"),
             ("`pz_one/src/lib.rt` `same` |", "`pz_one/src/lib.rt` `other` |", "22: other does not stand in the file named before it"),
@@ -71,7 +71,7 @@ class OfDocuments(OnSmallCrates):
         self.write("README.md", f"# Front\n\n| a | {'word ' * 31}|\n")
         self.assertEqual(self.told(PAGE), (1, ["README.md:3: a cell of more than 30 words"]))
 
-    def test_the_crates_are_told_as_in_crates_txt(self):
+    def test_the_crates_are_listed_as_in_crates_txt(self):
         page = PAGE.replace("a crate of one function", "a crate of two functions")
         self.assertEqual(self.told(page), (1, ["docs/architecture.md: crates.txt says otherwise of the crates; dev/check-docs --write puts it there"]))
         self.assertEqual(self.told(page, "--write"), (0, []))

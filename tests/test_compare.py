@@ -84,7 +84,7 @@ class Compare(InARoom):
         answer = self.compare(copies, fails, self.file, "--rounds", 1)
         self.assertEqual((answer.status, self.row(answer)[1]), (1, "status differs"))
 
-    def test_a_program_without_a_whole_output_is_told(self):
+    def test_a_program_without_a_whole_output_is_reported(self):
         copies = self.program("copies", COPIES)
         refuses = self.program("refuses", "echo not-json >&2\nexit 2\n")
         answer = self.compare(copies, refuses, self.file)

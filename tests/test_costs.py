@@ -25,7 +25,7 @@ class Costs(OnSmallCrates):
         self.assertEqual(answer.status, 0)
         self.assertEqual(answer.out.split("\n")[:2], ["    8.0 s  proofs.dear  (Proof 5.0)", "   10.0 s  small"])
 
-    def test_a_crate_that_was_not_checked_is_told(self):
+    def test_a_crate_that_was_not_checked_is_reported(self):
         self.assertEqual((run(self.tool, "small").status, run(self.tool).status), (2, 2))
 
 

@@ -22,11 +22,11 @@ class DayOfCoverage(OfAGame):
     def number(self, text):
         return 1 + self.game.read_text(encoding="utf-8").partition(text)[0].count("\n")
 
-    def test_what_all_need_is_not_told(self):
+    def test_what_all_need_is_not_reported(self):
         answer = run("coverage", self.game, self.recordings)
         self.assertEqual((answer.status, answer.out, answer.errors), (0, "2 lines left out in turn: 0 that no session notices\n", ""))
 
-    def test_rules_that_no_session_needs_are_told(self):
+    def test_rules_that_no_session_needs_are_reported(self):
         # the first does what the rule of the example does too, and the second never matches
         never = "[ Wall Player ] -> [ Wall ]"
         self.with_rule(f"{RULE}\n{RULE}\n{never}")

@@ -50,16 +50,16 @@ CULPRITS = {
 
 
 class Explain(OnSessions):
-    def test_the_example_is_told_with_its_cells_and_drawn(self):
+    def test_the_example_is_reported_with_its_cells_and_drawn(self):
         answer = run("explain", EXAMPLE, self.lines)
         self.assertEqual((answer.status, answer.out, answer.errors), (0, STALE, ""))
 
-    def test_a_fault_is_told_with_its_culprit(self):
+    def test_a_fault_is_reported_with_its_culprit(self):
         for name, words in CULPRITS.items():
             with self.subTest(name):
                 self.assertIn(words, run("explain", *case(name), "--order", "rows").out)
 
-    def test_a_case_is_told_with_its_cause(self):
+    def test_a_case_is_reported_with_its_cause(self):
         for name, wanted in TOLD.items():
             with self.subTest(name):
                 answer = run("explain", *case(name), "--order", "rows")

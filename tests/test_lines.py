@@ -28,7 +28,7 @@ class Lines(OnSessions):
             answer = run("lines", *words, "--program", program, stdin=b"some\n")
             self.assertEqual((answer.status, answer.out, answer.errors), (0, "some\n", ""))
 
-    def test_a_failure_is_told_with_its_file_and_entry(self):
+    def test_a_failure_is_reported_with_its_file_and_entry(self):
         program = self.program('echo "bad-level 4" >&2\nexit 2')
         answer = run("lines", EXAMPLE, "--program", program)
         self.assert_refused(answer, "block-pushing.json was not played: the recorded level of session 4 (a recording that has gone stale) is no level text (bad-level 4)")
@@ -71,7 +71,7 @@ class WordsOfTheRunner(OnSessions):
         ran = subprocess.run([RUN, *map(str, words)], stdout=subprocess.PIPE, stderr=subprocess.PIPE)
         return ran.returncode, ran.stdout.decode(), ran.stderr.decode()
 
-    def test_help_is_told(self):
+    def test_help_is_printed(self):
         status, out, errors = self.answer("--help")
         self.assertEqual((status, errors), (0, ""))
         self.assertIn("conformance/run --both PROGRAM OTHER FILE..", out)

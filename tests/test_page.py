@@ -102,7 +102,7 @@ class Page(InARoom):
             if tag == "canvas":
                 self.assertEqual(words["role"], "img")
 
-    def test_a_module_that_is_not_there_is_told(self):
+    def test_a_module_that_is_not_there_is_reported(self):
         answer = run(TOP / "dev/page", "--module", self.room / "none", "--output", self.room / "page.html")
         self.assertEqual((answer.status, answer.errors), (1, f"dev/page: there is no module at {self.room}/none; engine/build makes it\n"))
 
@@ -154,7 +154,7 @@ class Twins(unittest.TestCase):
             with self.subTest(source[:200]):
                 self.assertEqual(found, json.loads(json.dumps(wanted)))
 
-    def test_faults_are_told_as_python_tells_them(self):
+    def test_faults_are_reported_as_by_python(self):
         told = [(line["cause"], value[1][0], value[1][1], [it["at"] for it in lines if "at" in it]) for value, lines in entries_of_cases() for line in lines if "cause" in line]
         self.assertGreater(len(told), 80)
         told += [(f"{code}:{number}", source, [0, "tick"], []) for source in STRANGE for code in CODES for number in range(source.count("\n") + 2)]

@@ -30,7 +30,7 @@ class Compare(OfAGame):
         text = json.loads(self.lines.read_text(encoding="utf-8").splitlines()[0])["level"]
         self.assertEqual(self.compare(self.changed(0, level=text.replace("background wall:", "Wall background:"))).out, SAME)
 
-    def test_the_first_frame_that_differs_is_told_with_its_input(self):
+    def test_the_first_frame_that_differs_is_reported_with_its_input(self):
         text = json.loads(self.lines.read_text(encoding="utf-8").splitlines()[2])["level"]
         answer = self.compare(self.changed(2, level=text.replace("player", "wall")), EXAMPLE)
         names = ("up", "left", "down", "right", "action")
@@ -40,12 +40,12 @@ class Compare(OfAGame):
         self.assertIn("    | one       the other\n", answer.out)
         self.assertTrue(answer.out.endswith("5 sessions: 4 the same, 1 part\n"))
 
-    def test_another_kind_and_another_close_are_told(self):
+    def test_another_kind_and_another_close_are_reported(self):
         self.assertIn("frame 1, after input 0: one shows move of 1 inputs, the other tick of 1", self.compare(self.changed(1, kind="tick")).out)
         last = len(self.lines.read_text(encoding="utf-8").splitlines()) - 1
         self.assertIn("the same 17 frames, and then one is differs, the other passed", self.compare(self.changed(last, close="passed"), EXAMPLE).out)
 
-    def test_a_run_that_ends_before_the_other_is_told(self):
+    def test_a_run_that_ends_before_the_other_is_reported(self):
         frames = [Frame(0, "start", "a:0,\n"), Frame(1, "move", "a:0,\n")]
         parting = parting_of(Run(0, "a", "passed", None, frames), Run(0, "a", "stopped", "loop-limit", frames[:1]))
         self.assertEqual((parting.frame, parting.kind, parting.other), (1, "end", None))

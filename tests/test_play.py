@@ -25,12 +25,12 @@ class DayOfPlaying(OfAGame):
         self.assertEqual(run("play", self.game, "--save", "more", suite, "--level", 2, stdin=b"").status, 0)
         self.assertEqual([(it[0], it[1][3]) for it in json.loads(suite.read_text(encoding="utf-8"))], [("mine", 0), ("more", 1)])
 
-    def test_a_level_that_is_solved_is_told(self):
+    def test_a_level_that_is_solved_is_reported(self):
         keys = "".join("wasd"[it] if it != "undo" else "z" for it in self.entries[0][1][1])
         answer = run("play", self.game, stdin=keys.encode())
         self.assertEqual(answer.out.count("the next level"), 1)
 
-    def test_a_game_that_is_refused_is_told(self):
+    def test_a_game_that_is_refused_is_reported(self):
         self.with_rule("[ > Player | Create ] -> [ ]")
         self.assert_refused(run("play", self.game), "has a name that is not there: `Create` (near: `crate`)")
         self.assert_refused(run("play", self.game, "--level", 3), "has 2 levels, and none of number 3")

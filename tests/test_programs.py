@@ -56,12 +56,12 @@ class Programs(InAFreshClone):
         self.put(self.path / "node", "#!/bin/sh\nexit 1\n")
         self.assertEqual(self.called("lines", EXAMPLE), (2, "", f"saxtegun lines: the program is not built here, and there is no Node: {HOW}"))
 
-    def test_a_node_that_is_too_old_is_told(self):
+    def test_a_node_that_is_too_old_is_reported(self):
         self.release()
         self.node("v18.20.4")
         self.assertEqual(self.called("test", EXAMPLE), (2, "", f"saxtegun test: the program is not built here, and Node 18.20.4 is too old to play: {HOW}"))
 
-    def test_a_clone_of_which_nothing_is_released_is_told(self):
+    def test_a_clone_of_which_nothing_is_released_is_reported(self):
         self.node("v22.1.0")
         self.assertEqual(self.called("lines", EXAMPLE), (2, "", f"saxtegun lines: the program is not built here, and no module is released: {HOW}"))
 
@@ -102,7 +102,7 @@ class Programs(InAFreshClone):
         self.put(self.top / "bin/pz_replayer", '#!/bin/sh\necho released "$@"\n')
         self.assertEqual(self.called("lines", EXAMPLE), (0, f"released --order columns {EXAMPLE}\n", ""))
 
-    def test_a_c_library_that_is_too_old_is_told(self):
+    def test_a_c_library_that_is_too_old_is_reported(self):
         """As the loader of Debian bullseye says it, which ends with 1."""
         said = "/x: /lib/x86_64-linux-gnu/libc.so.6: version `GLIBC_2.34' not found (required by /x)"
         self.put(self.top / "bin/pz_replayer", f'#!/bin/sh\necho "{said}" >&2\nexit 1\n'.replace("`", "\\`"))

@@ -123,7 +123,7 @@ class Release(unittest.TestCase):
         self.assertIn("commit ", (release / "PROVED.txt").read_text())
         self.assertTrue((release / "examples/day.html").is_file() and (release / "examples/day.lines").is_file())
 
-    def test_the_documents_of_an_archive_name_what_is_in_it_or_is_told_to_be_elsewhere(self):
+    def test_documents_of_an_archive_name_what_is_in_it_or_listed_as_elsewhere(self):
         release = self.unpacked()
         elsewhere = re.findall(r"^- `(.*)`$", (release / "CONTENTS.md").read_text(encoding="utf-8"), re.M)
         self.assertTrue(elsewhere)
@@ -180,7 +180,7 @@ class Release(unittest.TestCase):
             self.assertRegex(listed.stdout, rf"(?m) {path}$")
         self.assertNotRegex(listed.stdout, r"(?m)^\S+ (?!root/root)")
 
-    def test_each_file_of_this_commit_is_told_to_be_so(self):
+    def test_each_file_of_this_commit_is_reported_as_such(self):
         for file in sorted(self.release.iterdir()):
             with self.subTest(file.name):
                 self.assertEqual(differences(self.one, file, STAND_IN._replace(ends=())), [])
@@ -257,7 +257,7 @@ class Release(unittest.TestCase):
             with self.subTest(content), self.assertRaises((Broken, OSError, EOFError, tarfile.TarError)):
                 differences(self.one, Path(self.kept.name) / "none", STAND_IN)
 
-    def test_what_is_proved_is_told(self):
+    def test_what_is_proved_is_reported(self):
         text = (self.unpacked() / "PROVED.txt").read_text(encoding="utf-8")
         self.assertIn(f"commit   {self.commit}\n", text)
         self.assertRegex(text, r"(?m)^kit +\S")
@@ -339,7 +339,7 @@ class Release(unittest.TestCase):
         with self.assertRaisesRegex(Broken, "commit what is changed or new first"):
             check_version(self.one, self.version)
 
-    def test_a_command_that_fails_is_told_by_its_last_line(self):
+    def test_a_command_that_fails_is_reported_by_its_last_line(self):
         with self.assertRaises(Broken) as why:
             told(self.one, "sh", "-c", "echo first >&2; echo second >&2; exit 1")
         self.assertTrue(str(why.exception).endswith(": second"), why.exception)

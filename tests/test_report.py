@@ -130,7 +130,7 @@ class Report(OnSessions):
         self.assertIn(" at input 1 (left); it is the group of lines 13 to 14 (loop-limit)", session["told"])
         self.assertEqual([(number, is_here) for number, _, is_here in session["source"]], [(number, number in (13, 14)) for number in range(10, 18)])
 
-    def test_a_session_in_another_level_is_told_so(self):
+    def test_a_session_in_another_level_is_reported_as_such(self):
         lines = self.lines.read_text(encoding="utf-8").split("\n")
         entries = json.loads(EXAMPLE.read_text(encoding="utf-8"))
         # the first session is cut behind its first input, and is still in the first level

@@ -184,7 +184,7 @@ class Smaller(unittest.TestCase):
 
 @plays
 class DayOfShrinking(OnAYard):
-    def test_a_wrapper_that_spoils_undo_is_told_by_two_inputs(self):
+    def test_a_wrapper_that_spoils_undo_is_reported_by_two_inputs(self):
         other = self.write("spoilt", f"#!/bin/sh\n{PROGRAM} \"$@\" | sed 's/\"kind\":\"undo\"/\"kind\":\"restart\"/'\nexit 1\n")
         other.chmod(0o755)
         answer = run("shrink", PROGRAM, other, self.sessions, "a long day*", self.room / "case")

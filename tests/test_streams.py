@@ -54,14 +54,14 @@ class OnStreams(OnSessions):
             errors = ran.stderr.read().decode() if ran.stderr else ""
             return ran.wait(), errors
 
-    def test_a_full_device_is_told(self):
+    def test_a_full_device_is_reported(self):
         for words in self.calls:
             with self.subTest(words[0]), open("/dev/full", "wb") as full:
                 status, errors = self.ends(words, stdout=full)
                 self.assertEqual((status, "Traceback" in errors), (2, False), errors)
                 self.assertTrue(errors.count("\n") >= 1 or "--help" in words)
 
-    def test_files_that_cannot_be_written_are_told(self):
+    def test_files_that_cannot_be_written_are_reported(self):
         for option in ("--junit", "--report", "--markdown"):
             status, errors = self.ends(["test", EXAMPLE, "--program", self.program, option, "/dev/full"])
             self.assertEqual((status, errors), (2, "saxtegun test: /dev/full can't be written: No space left on device\n"))
@@ -92,7 +92,7 @@ class OnStreams(OnSessions):
                 os.close(writer)
                 self.assertEqual((status, "Traceback" in errors), (2, False), errors)
 
-    def test_closed_streams_are_told(self):
+    def test_closed_streams_are_reported(self):
         for words in self.calls:
             for closed, wanted in ((">&-", (2, ": standard output is closed\n")), ("2>&-", (None, ""))):
                 with self.subTest(words=words[0], closed=closed):
@@ -124,7 +124,7 @@ class OfStrangers(OnSessions):
             self.assertTrue(LINE.fullmatch(line), repr(line[:200]))
             self.assertLess(len(line), most)
 
-    def test_what_is_told_is_lines_of_a_terminal(self):
+    def test_messages_are_lines_of_a_terminal(self):
         program = ["--program", self.program]
         for words in (["explain", self.sessions, self.shown], ["compare", self.shown, self.other, self.sessions], ["test", self.sessions, *program], ["accept", self.sessions, self.shown, "--in-place"]):
             with self.subTest(words[0]):

@@ -112,36 +112,36 @@ class Suite(InARoom):
         self.assert_refused(self.split(2, "[1, 2]"), "is there already")
         self.assertEqual([*self.parts.iterdir()], [])
 
-    def test_a_missing_part_is_told(self):
+    def test_a_missing_part_is_reported(self):
         self.split_and_play(SUITES[0], 3)
         missing = self.files()[1].with_suffix(".lines")
         missing.unlink()
         self.assert_refused(run("join", self.parts), f"{missing.name} is missing")
 
-    def test_a_part_that_was_cut_off_is_told(self):
+    def test_a_part_that_was_cut_off_is_reported(self):
         self.split_and_play(SUITES[0], 3)
         part = self.files()[2]
         lines, sessions = part.with_suffix(".lines"), len(json.loads(part.read_text()))
         lines.write_text("".join(lines.read_text().splitlines(keepends=True)[:-1]))
         self.assert_refused(run("join", self.parts), f"closes {sessions - 1} of {sessions} sessions")
 
-    def test_the_lines_of_another_part_are_told(self):
+    def test_the_lines_of_another_part_are_reported(self):
         self.split_and_play(SUITES[0], 9)
         self.files()[0].with_suffix(".lines").write_text('{"close":"passed","frames":0,"name":"","session":1}\n')
         self.assert_refused(run("join", self.parts), "has no line of session 0")
 
-    def test_a_part_that_is_gone_is_told(self):
+    def test_a_part_that_is_gone_is_reported(self):
         self.split_and_play(SUITES[0], 9)
         for file in (self.files()[3].with_suffix(".lines"), self.files()[3]):
             file.unlink()
         self.assert_refused(run("join", self.parts), "00000003.lines is missing")
 
-    def test_a_part_of_another_suite_is_told(self):
+    def test_a_part_of_another_suite_is_reported(self):
         self.split_and_play(SUITES[0], 9)
         (self.parts / "00000010.lines").write_text("")
         self.assert_refused(run("join", self.parts), "is of no part")
 
-    def test_swapped_parts_are_told(self):
+    def test_swapped_parts_are_reported(self):
         names = "[" + ",".join(json.dumps([name, ["", [], ""]]) for name in "abcd") + "]"
         self.assertEqual(self.split(2, names).status, 0)
         closes = "".join(f'{{"cause":"Section:0","close":"refused","frames":0,"name":"{name}","session":{it}}}\n' for it, name in enumerate("abcd"))
@@ -153,18 +153,18 @@ class Suite(InARoom):
         other.write_bytes(text)
         self.assert_refused(run("join", self.parts), "these are lines of another part")
 
-    def test_a_manifest_that_is_cut_is_told(self):
+    def test_a_manifest_that_is_cut_is_reported(self):
         self.split_and_play(SUITES[0], 3)
         manifest = self.parts / "parts.txt"
         manifest.write_text("".join(manifest.read_text().splitlines(keepends=True)[1:]))
         self.assert_refused(run("join", self.parts), "not the part that begins with session 0")
 
-    def test_a_folder_without_parts_is_told(self):
+    def test_a_folder_without_parts_is_reported(self):
         self.parts.mkdir()
         self.assert_refused(run("join", self.parts), "has no parts")
         self.assert_refused(run("join", self.room / "nothing"), "is no folder")
 
-    def test_what_can_not_be_split_is_told_in_a_line(self):
+    def test_what_can_not_be_split_is_reported_in_a_line(self):
         for words in ((self.room / "nothing", 2, self.parts), (self.room, 2, self.parts), (self.room, 0, self.parts), (self.room, "x", self.parts)):
             answer = run("split", *words)
             self.assertEqual((answer.status, answer.errors.count("\n")), (2, 1))

@@ -79,21 +79,21 @@ class DayOfTests(OfAGame):
         self.assertEqual((answer.status, answer.out.splitlines()[:2]), (0, [ENDS[1], ENDS[3]]))
         self.assert_refused(run("test", self.game, self.recordings, "--filter", "level 9*"), "no session is named as --filter says")
 
-    def test_of_many_failures_some_are_told(self):
+    def test_of_many_failures_some_are_reported(self):
         answer = run("test", self.game, self.write_entries(self.entries[4:] * 3), "--max-fail", 1)
         self.assertEqual((answer.out.count(": differs: "), answer.out.splitlines()[-2]), (1, "and 2 more failures"))
 
-    def test_a_name_that_is_not_there_is_told_with_the_nearest(self):
+    def test_a_name_that_is_not_there_is_reported_with_the_nearest(self):
         self.with_rule("[ > Player | Create ] -> [ > Player | > Crate ]")
         answer = run("test", self.game, self.recordings, "--max-fail", 1)
         self.assertIn("has a name that is not there: `Create` (near: `crate`) (Unknown:", answer.out)
         self.assertIn(f"    {self.game}:{1 + self.source[: self.source.index(RULE)].count(chr(10))}: [ > Player | Create ]", answer.out)
 
-    def test_a_keyword_outside_the_profile_is_told(self):
+    def test_a_keyword_outside_the_profile_is_reported(self):
         self.with_rule("random [ > Player | Crate ] -> [ > Player | > Crate ]")
         self.assertIn("; here it is `random` (OutsideProfile:", run("test", self.game, self.recordings).out)
 
-    def test_a_loop_is_told_with_the_input_that_hung(self):
+    def test_a_loop_is_reported_with_the_input_that_hung(self):
         self.with_rule(f"startloop\n{RULE}\n[ > Player ] -> [ < Player ]\n[ < Player ] -> [ > Player ]\nendloop")
         number = 1 + self.source[: self.source.index(RULE)].count("\n")
         answer = run("test", self.game, self.write_entries(self.entries[:1]))
@@ -158,17 +158,17 @@ class DayOfTests(OfAGame):
 
 
 class Words(OfAGame):
-    def test_the_names_near_a_name_are_told(self):
+    def test_the_names_near_a_name_are_reported(self):
         source = self.source.replace(RULE, "[ > Player | Create ] -> [ zzz | > Crate ]")
         number = 1 + source[: source.index("[ > Player | Create")].count("\n")
         self.assertEqual(unknown_told(source, Game(source), number), ": `Create` (near: `crate`), `zzz`")
         self.assertEqual(unknown_told(source, Game(source), 10_000), "")
 
-    def test_keywords_and_rows_outside_the_profile_are_told(self):
+    def test_keywords_and_rows_outside_the_profile_are_reported(self):
         for rule, told in (("late RIGID [ a ] -> [ ]", "`rigid`"), ("[ a | ... | b | ... | c ] -> [ ]", "a row with two `...`"), ("[ randomize ] -> [ ]", "")):
             self.assertEqual(outside_told(f"RULES\n{rule}", 2), told)
 
-    def test_loops_and_groups_are_told_by_their_lines(self):
+    def test_loops_and_groups_are_reported_by_their_lines(self):
         source = "RULES\n[ a ] -> [ b ]\n+ [ b ] -> [ a ]\nstartloop\n[ a ] -> [ b ]\nendloop\n[ c ] -> [ ]\n+ [ d ] -> [ ]\n+ [ e ] -> [ ]\n"
         told = ["the group of lines 2 to 3", "the rule on line 5", "the loop of lines 4 to 6", "the group of lines 7 to 9"]
         self.assertEqual([str(it) for it in repeated_in(source)], told)

@@ -91,7 +91,7 @@ class TestData(InARoom):
                 self.assertEqual((answer.status, answer.out, answer.errors.count("\n")), (2, "", 1))
                 self.assertIn(why, answer.errors)
 
-    def test_what_can_not_be_read_is_told_in_a_line(self):
+    def test_what_can_not_be_read_is_reported_in_a_line(self):
         (self.room / "latin").write_bytes(b"['\xe4']")
         for words in ((self.room / "nothing",), (self.room,), (self.room / "latin",), ("-",), ()):
             answer = run("testdata", *words)

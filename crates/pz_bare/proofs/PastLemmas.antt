@@ -5,7 +5,7 @@ use Rattle.pz_sheet.specs.Grid.{BareState}
 use Rattle.pz_bare.specs.declared.older.Older.{Older}
 use Rattle.pz_bare.specs.Past.{given_back, Leads, AreWays, IsPast}
 
--- what was put last comes first
+-- what was added last comes first
 newest_first : (before now : List Older) (way : Older) → now ≡ before ++ way ∷ [] → reverse now ≡ way ∷ reverse before
 newest_first before now way e = ap reverse e ∙ reverse-append before (way ∷ [])
 

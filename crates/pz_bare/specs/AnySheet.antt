@@ -1,4 +1,4 @@
--- A level without its marks, in as many words a cell as its game needs.
+-- A level without its marks, with as many words a cell as its game needs.
 use Rattle.std.specs.Prelude.{◌≤◌, ◌<◌, ◌⊎◌, length}
 use Rattle.pz_sheet.specs.Grid.{BareState}
 use Rattle.pz_bare.specs.declared.AnySheet.{AnySheet}
@@ -10,7 +10,7 @@ state_in (Small sheet) = sheet
 state_in (Middle sheet) = sheet
 state_in (Large sheet) = sheet
 
--- it has no more words than its game needs
+-- it has as many words a cell as its game needs, and no more
 abbrev pub IsFitting : AnySheet → Type 0
 IsFitting (Small sheet) = (length sheet.grid.layers ≤ 128) × (sheet.grid.depth ≤ 25)
 IsFitting (Middle sheet) = ((128 < length sheet.grid.layers) ⊎ (25 < sheet.grid.depth)) × (length sheet.grid.layers ≤ 256) × (sheet.grid.depth ≤ 50)

@@ -1,4 +1,4 @@
--- The levels that were: what gives each back from the one after it, and what a past is to its callers.
+-- The past: the way back from each level to the one before it, and what a past is to its callers.
 use Rattle.std.specs.Prelude.{◌≡◌, ℕ, ◌≤◌, List, [], ◌∷◌, Option, Some, None, All, ⊤, length}
 use Rattle.pz_sheet.specs.declared.changes.Change.{Change}
 use Rattle.pz_sheet.specs.Changes.{changed_cells, changes_seen, IsChangeOf, restored}
@@ -6,24 +6,24 @@ use Rattle.pz_sheet.specs.Grid.{Grid, BareState, SameSize}
 use Rattle.pz_bare.specs.declared.older.Older.{Older}
 use Rattle.pz_bare.specs.declared.older.Older.TheVariants.{Small, Middle, Large, Whole}
 
--- the older level that is given back from the one after it
+-- the level to which a way leads back from this one
 abbrev pub given_back : Older → Grid → Grid
 given_back (Small changes) grid = restored (changes_seen grid changes.items) grid
 given_back (Middle changes) grid = restored (changes_seen grid changes.items) grid
 given_back (Large changes) grid = restored (changes_seen grid changes.items) grid
 given_back (Whole level) grid = level.value.grid
 
--- changes are those to an older level of the same size: the cells in which it differs, and no other
+-- the changes are exactly the cells in which an older level of the same size differs
 pub record AreChangesTo (N : ℕ) (grid older : Grid) (changes : List (Change N)) : Type 0 where
   pub size : SameSize grid older
   pub all : changes_seen grid changes ≡ changed_cells grid older
   pub of_level : All (IsChangeOf grid) changes
 
--- a level has so many objects and layers at most
+-- a level has at most this many objects and layers
 abbrev pub IsFor : ℕ → ℕ → Grid → Type 0
 IsFor objects layers grid = (length grid.layers ≤ objects) × (grid.depth ≤ layers)
 
--- what gives an older level back from another is no more than their difference: it is the older one whole only where their sizes differ
+-- a way keeps no more than the difference of two levels: it keeps the whole older one only if their sizes differ
 abbrev pub Leads : Older → Grid → Grid → Type 0
 Leads (Small changes) grid older = IsFor 128 25 grid × AreChangesTo 1 grid older changes.items
 Leads (Middle changes) grid older = (IsFor 128 25 grid → ⊥) × IsFor 256 50 grid × AreChangesTo 2 grid older changes.items
@@ -35,7 +35,7 @@ abbrev pub grids_before : List Older → Grid → List Grid
 grids_before [] grid = []
 grids_before (way ∷ ways) grid = given_back way grid ∷ grids_before ways (given_back way grid)
 
--- each leads to the level that it gives back
+-- each way leads to the level that it gives back
 abbrev pub AreWays : List Older → Grid → Type 0
 AreWays [] grid = ⊤
 AreWays (way ∷ ways) grid = Leads way grid (given_back way grid) × AreWays ways (given_back way grid)
@@ -45,7 +45,7 @@ abbrev pub grids_of : Option BareState → List Older → List Grid
 grids_of None ways = []
 grids_of (Some newest) ways = newest.grid ∷ grids_before ways newest.grid
 
--- what holds of a past
+-- what holds of every past
 abbrev pub IsPast : Option BareState → List Older → Type 0
 IsPast None ways = ways ≡ []
 IsPast (Some newest) ways = AreWays ways newest.grid

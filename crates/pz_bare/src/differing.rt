@@ -8,7 +8,7 @@ ghost use Rattle.pz_sets.specs.Next.{IsNext};
 use crate::{AnySheet, BareLevel};
 
 impl BareLevel {
-    /// Whether both are of one size and over the same layers.
+    /// Whether both have the same size and the same layers.
     pub fn same_size(&self, other: &BareLevel) -> bool
         ensures { IsTrue result ↔ SameSize self.now.grid other.now.grid }
     {
@@ -20,7 +20,7 @@ impl BareLevel {
         }
     }
 
-    /// The number of the first cell from one on, counted row by row, in which a level of the same size is another.
+    /// The first cell, from number `from` on, in which a level of the same size differs. Cells are numbered row by row.
     pub fn next_change(&self, other: &BareLevel, from: usize) -> Option<usize>
         requires size { SameSize self.now.grid other.now.grid }
         ensures lawful { IsLawful self.now.grid }
@@ -36,7 +36,7 @@ impl BareLevel {
         }
     }
 
-    /// Takes over what stands in the cell of a number of a level of the same size.
+    /// Copies the cell of this number from a level of the same size.
     pub fn take_cell(&mut self, other: &BareLevel, index: usize)
         requires size { SameSize self.old.grid other.now.grid }
         requires within { index < length self.old.grid.cells }

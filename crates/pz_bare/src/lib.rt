@@ -1,5 +1,5 @@
-//! Bare levels: levels without their marks, in as many words a cell as their game needs. Loaded, copied, compared, read and changed; and the past
-//! of one.
+//! Bare levels: levels without marks, with as many words a cell as their game needs. They are loaded, copied, compared, read and changed.
+//! Also the past of a level.
 #![tactic(auto)]
 
 ghost use Rattle.std.specs.Prelude.{◌≡◌, ℕ, ◌<◌, ◌↔◌, List, IsTrue, true, map, length, All, IfOk, OnOk, OnErr, Some, None, MatchOption};
@@ -32,7 +32,7 @@ mod loading;
 mod older;
 pub mod past;
 
-/// The cells of a level: of a game of up to 128 objects and 25 layers, of up to 256 and 50, or of more.
+/// The cells of a level, by the size of its game: at most 128 objects and 25 layers, at most 256 and 50, or more.
 pub enum AnySheet {
     Small(Sheet<1>),
     Middle(Sheet<2>),
@@ -68,14 +68,14 @@ impl Model for BareLevel {
 }
 
 impl BareLevel {
-    /// The sheet that it has.
+    /// The sheet of the level.
     pub fn sheet(&self) -> &AnySheet
         ensures { state_in result.now ≡ self.now }
     {
         &self.sheet
     }
 
-    /// The same cells once more. Err: memory was refused.
+    /// A copy of the level. Err: memory was refused.
     pub fn copy(&self) -> Result<BareLevel, AllocError>
         ensures copied { IfOk result (λ bare. bare.grid ≡ self.now.grid) }
     {
@@ -87,7 +87,7 @@ impl BareLevel {
         Ok(BareLevel { sheet })
     }
 
-    /// Becomes the same as another, in the memory that it has if that is enough. Err: memory was refused, and it is as it was.
+    /// Makes this level equal to another. It reuses its memory if that is enough. Err: memory was refused, and the level is unchanged.
     pub fn copy_from(&mut self, other: &BareLevel) -> Result<(), AllocError>
         ensures copied { OnOk result (self.new.grid ≡ other.now.grid) }
         ensures kept { OnErr result (self.new.grid ≡ self.old.grid) }
@@ -103,7 +103,7 @@ impl BareLevel {
         }
     }
 
-    /// Whether another is the same, cell by cell, with the headings.
+    /// Whether another level is the same, in its size, its layers and each cell, headings included.
     pub fn equals(&self, other: &BareLevel) -> bool
         ensures { IsTrue result ↔ (self.now.grid ≡ other.now.grid) }
     {
@@ -161,7 +161,7 @@ impl BareLevel {
         }
     }
 
-    /// Whether an object is in the cell of a number, counted row by row.
+    /// Whether an object is in the cell of this number. Cells are numbered row by row.
     pub fn is_in(&self, index: usize, object: usize) -> bool
         requires { index < length self.now.grid.cells }
         ensures { result ≡ is_in (cell_of self.now.grid index) object }
@@ -173,7 +173,7 @@ impl BareLevel {
         }
     }
 
-    /// The objects that stand at a position: off the map, none.
+    /// The objects that stand at a position. Off the map there are none.
     pub fn objects_at(&self, x: u32, y: u32) -> NumberSet
         ensures { (object : ℕ) → member result object ≡ stands self.now.grid x y object }
     {
@@ -184,7 +184,7 @@ impl BareLevel {
         }
     }
 
-    /// The piece of an object at a position, if it stands there: off the map, and for no object of the game, it does not.
+    /// The piece of an object at a position, if it stands there. Off the map, and for a number without an object, there is none.
     pub fn piece(&self, x: u32, y: u32, object: usize) -> Option<Piece>
         ensures { MatchOption result (standing_at self.now.grid x y object ≡ None) (λ piece. standing_at self.now.grid x y object ≡ Some piece.heading) }
     {
@@ -211,7 +211,7 @@ impl BareLevel {
         }
     }
 
-    /// Whether something may head as the cells of a row ask: true where each of them holds somewhere.
+    /// Whether the headings noted in the level allow each cell of a row to hold somewhere. If false, some cell holds nowhere.
     pub fn may_hold(&self, row: &Row) -> bool
         requires of_game { IsRowOf self.now.grid.layers row.now }
         ensures { All (HoldsSomewhere self.now.grid) row.now.cells → result ≡ true }
@@ -223,7 +223,8 @@ impl BareLevel {
         }
     }
 
-    /// Whether something may head in a direction of a set: true where cells that ask for one of them all hold somewhere.
+    /// Whether the headings noted in the level allow a heading of the set `asked`. If false, cells that ask for one of these don't all hold
+    /// somewhere.
     pub fn may_head_in(&self, asked: &[u128]) -> bool
         ensures { (cells : List (List Item)) → All (AreOf self.now.grid.layers) cells → AsksAmong asked.now cells → All (HoldsSomewhere self.now.grid) cells → result ≡ true }
     {
@@ -234,7 +235,7 @@ impl BareLevel {
         }
     }
 
-    /// Rewrites the cell at a position, and says whether that gave another one.
+    /// Rewrites the cell at a position, and says whether the cell changed.
     pub fn rewrite(&mut self, x: u32, y: u32, left: &Pattern, right: &Pattern) -> bool
         requires x_in { x < self.old.grid.width }
         requires y_in { y < self.old.grid.height }
@@ -250,7 +251,7 @@ impl BareLevel {
         }
     }
 
-    /// Lets each of some objects head in a direction.
+    /// Gives a direction to each of these objects in the level.
     pub fn push_all(&mut self, players: &[usize], dir: Dir)
         ensures pushed { self.new.grid ≡ pushed players.now dir self.old.grid }
         ensures lawful { IsLawful self.new.grid }
@@ -299,7 +300,7 @@ impl BareLevel {
         }
     }
 
-    /// Whether no heading is noted for a column of the map: where that is true, nothing in it heads anywhere.
+    /// Whether no heading is noted for a column of the map. If so, nothing in it heads anywhere.
     pub fn is_column_still(&self, x: u32) -> bool
         requires { x < self.now.grid.width }
         ensures { result ≡ true → (y : ℕ) → y < self.now.grid.height → cell_at self.now.grid x y ≡ map still_place (cell_at self.now.grid x y) }
@@ -311,7 +312,7 @@ impl BareLevel {
         }
     }
 
-    /// Whether some cell holds one of some objects, and one of others.
+    /// Whether some cell holds both one of `objects` and one of `others`.
     pub fn some_holds(&self, objects: &[usize], others: &[usize]) -> bool
         ensures { result ≡ list_any (holds_both objects.now others.now) self.now.grid.cells }
     {
@@ -322,7 +323,7 @@ impl BareLevel {
         }
     }
 
-    /// Whether each cell that holds one of some objects holds one of others.
+    /// Whether each cell that holds one of `objects` also holds one of `others`.
     pub fn all_hold(&self, objects: &[usize], others: &[usize]) -> bool
         ensures { result ≡ list_all (holds_if objects.now others.now) self.now.grid.cells }
     {

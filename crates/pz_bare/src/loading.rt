@@ -1,4 +1,4 @@
-//! Levels, loaded from their drawings.
+//! Loads levels from their drawings.
 
 ghost use Rattle.std.specs.Prelude.{◌≡◌, ◌<◌, ◌≤◌, ◌*◌, IfOk, All, length, slice_index, true};
 ghost use Rattle.pz_game.specs.Level.{is_playable, entry_at};
@@ -16,7 +16,7 @@ use pz_sheet::Sheet;
 use std::alloc::{AllocError, Global};
 
 impl BareLevel {
-    /// The level of the entry of LEVELS of a number, which is not a message. Err: memory was refused.
+    /// Loads the entry of LEVELS of this number, which must be a level. Entries are numbered from 0. Err: memory was refused.
     pub fn load(alloc: Global, game: &Game, index: usize) -> Result<BareLevel, AllocError>
         requires { is_playable (entry_at game.now index) ≡ true }
         ensures loaded { IfOk result (λ bare. bare.grid ≡ loaded game.now index) }
@@ -48,7 +48,7 @@ impl BareLevel {
     }
 }
 
-/// The level of a drawing, in words of one size.
+/// The level of a drawing, with N words a cell.
 fn sheet_from<const N: usize>(
     alloc: Global,
     game: &Game,
@@ -68,7 +68,7 @@ fn sheet_from<const N: usize>(
     Ok(sheet)
 }
 
-/// Puts a piece on its layer in each cell where nothing stands there: what the first cell has that has something on it, else
+/// Fills the background layer in each cell that has nothing on it. Such a cell gets what the first cell with something there has, or else
 /// the background's first object.
 fn lay_background<const N: usize>(sheet: &mut Sheet<N>, layer: usize, object: u16)
     requires layer_in { layer < sheet.old.grid.depth }
@@ -82,7 +82,7 @@ fn lay_background<const N: usize>(sheet: &mut Sheet<N>, layer: usize, object: u1
     }
 }
 
-/// What stands on a layer in the first cell that has something there.
+/// What stands on a layer in the first cell with something there: columns from the left, each from the top.
 fn first_on<const N: usize>(sheet: &Sheet<N>, layer: usize) -> Option<Piece>
     requires layer_in { layer < sheet.now.grid.depth }
     ensures first { result ≡ first_on sheet.now.grid layer }

@@ -1,4 +1,4 @@
-//! What gives back an older level from the one after it.
+//! The way back from a level to the one before it.
 
 ghost use Rattle.std.specs.Prelude.{◌≡◌, IfOk, OnOk, OnErr, All};
 ghost use Rattle.pz_bare.specs.Past.{given_back, Leads, IsFor};
@@ -9,8 +9,8 @@ use crate::{AnySheet, BareLevel};
 use pz_sheet::changes::Change;
 use std::alloc::{AllocError, Global};
 
-/// What gives back an older level from the one after it: the cells in which that differs, in as many words as a cell of the level has. Where
-/// the two aren't of one size, it is the older level whole.
+/// The way back from a level to the one before it: the cells in which they differ, in as many words as the level's cells have. If the sizes
+/// differ, it is the whole older level.
 #[derive(Drop)]
 pub(crate) enum Older {
     Small(Vec<Change<1>>),
@@ -20,7 +20,7 @@ pub(crate) enum Older {
 }
 
 impl BareLevel {
-    /// Becomes a newer level, and gives the way back. Err: memory was refused, and it is as it was.
+    /// Makes this level equal to a newer one, and gives the way back. Err: memory was refused, and the level is unchanged.
     pub(crate) fn go_on(&mut self, alloc: Global, newer: &BareLevel) -> Result<Older, AllocError>
         ensures newer { OnOk result (self.new.grid ≡ newer.now.grid) }
         ensures kept { OnErr result (self.new.grid ≡ self.old.grid) }
@@ -35,7 +35,7 @@ impl BareLevel {
         Ok(Older::Whole(whole))
     }
 
-    /// Becomes a newer level of the same size, and gives the way back. Err: memory was refused, and it is as it was.
+    /// Makes this level equal to a newer one of the same size, and gives the way back. Err: memory was refused, and the level is unchanged.
     fn change_to(&mut self, newer: &BareLevel) -> Result<Older, AllocError>
         requires size { SameSize newer.now.grid self.old.grid }
         ensures newer { OnOk result (self.new.grid ≡ newer.now.grid) }
@@ -57,7 +57,7 @@ impl BareLevel {
         }
     }
 
-    /// Becomes the older level that is given back.
+    /// Goes the way back: makes this level equal to the older one.
     pub(crate) fn give_back(&mut self, way: Older)
         requires { Leads way self.old.grid (given_back way self.old.grid) }
         ensures { self.new.grid ≡ given_back way self.old.grid }

@@ -1,4 +1,4 @@
-//! The past of a level.
+//! The past of a session.
 
 ghost use Rattle.std.specs.Prelude.{◌≡◌, ◌<◌, List, [], ◌∷◌, ◌++◌, OnOk, OnErr, MatchOption, drop, vec_len, vec_capacity};
 
@@ -7,14 +7,14 @@ use crate::older::Older;
 use std::alloc::{AllocError, Global};
 use std::marker::Model;
 
-/// Levels that were, to be taken back from the newest to the oldest. The newest is kept whole, and of each before it only the cells in
-/// which it differs from the one after it.
+/// The levels that undo takes back, from the newest to the oldest. The newest is kept whole. Of each older one only the cells are kept in
+/// which it differs from the next newer one.
 pub struct Past {
     newest: Option<BareLevel>,
     before: Vec<Older>,
 }
 
-/// Written out, so that each place where one goes out of scope is one call.
+/// Written out: where one goes out of scope, the prover then sees one call.
 impl Drop for Past {
     fn drop(self) {
         let Past { newest, before } = self;
@@ -36,7 +36,7 @@ impl Model for Past {
 }
 
 impl Past {
-    /// No level.
+    /// An empty past.
     pub fn new(alloc: Global) -> Past
         ensures { result ≡ [] }
     {
@@ -54,7 +54,7 @@ impl Past {
         self.before.clear();
     }
 
-    /// One more level, the newest. Err: memory was refused, and there is none more.
+    /// Adds a level as the newest. Err: memory was refused, and the past is unchanged.
     pub fn push(&mut self, level: &BareLevel) -> Result<(), AllocError>
         ensures pushed { OnOk result (self.new ≡ level.now.grid ∷ self.old) }
         ensures kept { OnErr result (self.new ≡ self.old) }
@@ -91,7 +91,7 @@ impl Past {
     }
 }
 
-/// Puts a way behind others, for which there is room.
+/// Adds a way after the others. There must be room for it.
 fn put_last(ways: &mut Vec<Older>, way: Older)
     requires { vec_len ways.old < vec_capacity ways.old }
     ensures { ways.new.items ≡ ways.old.items ++ way ∷ [] }

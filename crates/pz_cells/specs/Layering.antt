@@ -12,7 +12,7 @@ pub record Layering : Type 0 where
 abbrev pub layering_of : GameParts → Layering
 layering_of game = record { depth = game.depth; layers = game.layers }
 
--- what holds of layers for whose cells so many words are enough
+-- what holds of layers whose cells fit in N words
 pub record IsLayering (N : ℕ) (layering : Layering) : Type 0 where
   pub short : N ≤ 4
   pub few : length layering.layers ≤ MAX_OBJECTS
@@ -21,7 +21,7 @@ pub record IsLayering (N : ℕ) (layering : Layering) : Type 0 where
   pub movement_room : layering.depth ≤ 25 * N
   pub layered : All (λ layer. layer < layering.depth) layering.layers
 
--- of each layer there is the set of its objects
+-- there is a set for each layer, which has its objects
 pub record HasSets (layering : Layering) (sets : List (List ℕ)) : Type 0 where
   pub deep : length sets ≡ layering.depth
   pub table : (layer : ℕ) (other : List ℕ) → layer < layering.depth → IsSetOf layering.layers (slice_index_or sets layer other) layer

@@ -18,11 +18,11 @@ IsSound layering cell = AreLawful layering.layers cell.objects cell.movement
 abbrev pub HeadNowhere : {N : ℕ} → List (Cell N) → Type 0
 HeadNowhere {N} cells = (index : ℕ) (cell : Cell N) (number : ℕ) → index < length cells → member (slice_index_or cells index cell).movement number ≡ false
 
--- cells of which each has the objects of the other of its number
+-- cells with the same objects, one by one
 abbrev pub HaveSameObjects : {N : ℕ} → List (Cell N) → List (Cell N) → Type 0
 HaveSameObjects {N} old new = (index : ℕ) (cell : Cell N) → (slice_index_or new index cell).objects ≡ (slice_index_or old index cell).objects
 
--- cells of words that are seen as others, each made from one of those by a function
+-- cells that, seen by layers, are made from old ones by a function, one by one
 pub record AreMapped {N : ℕ} (layering : Layering) (f : List (Option Piece) → List (Option Piece)) (old new : List (Cell N)) : Type 0 where
   pub sound : All (IsSound layering) new
   pub cells : map (seen layering) new ≡ map f (map (seen layering) old)
@@ -31,15 +31,15 @@ pub record AreMapped {N : ℕ} (layering : Layering) (f : List (Option Piece) �
 abbrev pub AreAlike : {N : ℕ} → Cell N → Cell N → Type 0
 AreAlike cell other = AreSame cell.objects other.objects × AreSame cell.movement other.movement
 
--- cells of words that have the same numbers, cell by cell
+-- lists of cells that are alike, one by one
 pub record HaveSame {N : ℕ} (a b : List (Cell N)) : Type 0 where
   pub long : length a ≡ length b
   pub alike : (index : ℕ) (cell other : Cell N) → index < length a → AreAlike (slice_index_or a index cell) (slice_index_or b index other)
 
--- what the words of a cell say of a layer
+-- what stands on a layer, by the words of a cell
 abbrev pub place_in : {N : ℕ} → Layering → Cell N → ℕ → Option Piece
 place_in layering cell layer = place_of layering.layers cell.objects cell.movement layer
 
--- a cell becomes one in which a layer has another place
+-- a cell becomes one that differs only on this layer, where this stands
 abbrev pub Becomes : {N : ℕ} → Layering → Cell N → Cell N → ℕ → Option Piece → Type 0
 Becomes layering cell new layer place = Changes layering.layers cell.objects cell.movement new.objects new.movement layer place

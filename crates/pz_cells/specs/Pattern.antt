@@ -1,5 +1,6 @@
--- What holds in a cell. An item under `no` holds where its object is not; a name alone where it is, however it moves; `stationary`
--- where it is and heads nowhere; a direction where it is and heads there. A cell of a rule holds where all its items hold.
+-- What holds in a cell, which is to say fits there. A name without a word holds where its object is, however it heads. A
+-- direction holds where the object heads there, `stationary` where it is still, and `no` where it isn't. A cell of a rule holds
+-- where all its items do.
 use Rattle.std.specs.Prelude.{List, Bool, true, false, Option, Some, None}
 use Rattle.std.specs.List.{list_all}
 use Rattle.pz_game.specs.declared.direction.Dir.{Dir}

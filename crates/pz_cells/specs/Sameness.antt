@@ -1,4 +1,4 @@
--- Two cells are the same if they agree in each place.
+-- Two cells are the same if they agree on each layer, in what stands there and where it heads.
 use Rattle.std.specs.Prelude.{List, [], ◌∷◌, Option, Some, None, Bool, true, false, nat_eq, ◌&&◌}
 use Rattle.pz_game.specs.declared.direction.Dir.{Dir}
 use Rattle.pz_game.specs.Direction.{same_dir}

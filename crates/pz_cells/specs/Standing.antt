@@ -3,7 +3,7 @@ use Rattle.std.specs.Prelude.{ℕ, List, [], ◌∷◌, Option, Some, None, nat_
 use Rattle.pz_game.specs.declared.direction.Dir.{Dir}
 use Rattle.pz_cells.specs.declared.piece.Piece.{Piece}
 
--- what a cell says of an object: where it heads, if it stands there
+-- where an object in a cell heads, if it stands there
 abbrev pub standing : List (Option Piece) → ℕ → Option (Option Dir)
 standing [] object = None
 standing (None ∷ places) object = standing places object

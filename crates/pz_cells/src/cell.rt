@@ -14,7 +14,7 @@ use pz_game::direction::Dir;
 use pz_game::headings;
 use pz_sets::words;
 
-/// A cell: the objects that stand there, and where the objects of each layer head, in so many words each.
+/// A cell: the objects that stand there, and where the object of each layer heads. Each set has `N` words.
 #[derive(Clone, Copy)]
 pub struct Cell<const N: usize> {
     pub objects: [u128; N],
@@ -32,7 +32,7 @@ impl<const N: usize> Cell<N> {
         N
     }
 
-    /// The object of a layer.
+    /// The object that stands on a layer.
     fn object_on(&self, layers: &Layers<N>, layer: usize) -> Option<usize>
         requires low { layer < layers.now.depth }
         requires sound { IsSound layers.now self.now }
@@ -50,7 +50,7 @@ impl<const N: usize> Cell<N> {
         self.piece_on(layers, layer)
     }
 
-    /// What stands on a layer, as the words say it.
+    /// What stands on a layer, read from the words.
     pub(crate) fn piece_on(&self, layers: &Layers<N>, layer: usize) -> Option<Piece>
         requires low { layer < layers.now.depth }
         requires sound { IsSound layers.now self.now }
@@ -70,7 +70,7 @@ impl<const N: usize> Cell<N> {
         }
     }
 
-    /// Takes what stands on a layer away.
+    /// Removes what stands on a layer.
     fn lift(&mut self, layers: &Layers<N>, layer: usize, here: Option<Piece>)
         requires low { layer < MAX_LAYERS }
         requires sound { IsSound layers.now self.old }
@@ -86,7 +86,7 @@ impl<const N: usize> Cell<N> {
         }
     }
 
-    /// Lets a layer head.
+    /// Gives a layer a direction, if there is one.
     fn head(&mut self, layer: usize, heading: Option<Dir>)
         requires low { layer < MAX_LAYERS }
         requires within { layer / 25 < N }
@@ -114,7 +114,7 @@ impl<const N: usize> Cell<N> {
         self.head(layer, piece.heading);
     }
 
-    /// Puts a piece, or nothing, on a layer, in the place of what stands there.
+    /// Puts a piece, or nothing, on a layer, instead of `here`, which stands there.
     pub(crate) fn exchange(
         &mut self,
         layers: &Layers<N>,
@@ -138,7 +138,7 @@ impl<const N: usize> Cell<N> {
         }
     }
 
-    /// Puts a piece, or nothing, on a layer.
+    /// Puts a piece, or nothing, on a layer, instead of what stands there.
     pub fn put(&mut self, layers: &Layers<N>, layer: usize, place: Option<Piece>)
         requires low { layer < layers.now.depth }
         requires sound { IsSound layers.now self.old }

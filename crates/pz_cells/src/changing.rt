@@ -1,4 +1,4 @@
-//! Changes of cells that a level is loaded by, or that a step begins or ends with.
+//! Changes of cells when a level is loaded, and at the beginning and the end of a step.
 
 ghost use Rattle.std.specs.Prelude.{◌≡◌, ℕ, ◌<◌, true, false, length, map, slice_index, Some};
 ghost use Rattle.pz_sets.specs.Sets.{member};
@@ -24,7 +24,7 @@ impl<const N: usize> Cell<N> {
         }
     }
 
-    /// Ends the movement of every layer.
+    /// Stills every layer.
     pub fn still_all(&mut self, layers: &Layers<N>)
         requires sound { IsSound layers.now self.old }
         ensures sound { IsSound layers.now self.new }
@@ -36,7 +36,7 @@ impl<const N: usize> Cell<N> {
         self.movement = still;
     }
 
-    /// Lets an object head in a direction, if it stands in the cell.
+    /// Gives an object a direction, if it stands in the cell.
     pub fn turn(&mut self, layers: &Layers<N>, object: usize, dir: Dir)
         requires sound { IsSound layers.now self.old }
         ensures turned { member self.old.objects object ≡ true → Becomes layers.now self.old self.new (slice_index layers.now.layers object) (Some (record { object = object; heading = Some dir })) }
@@ -63,7 +63,7 @@ impl<const N: usize> Cell<N> {
         self.exchange(layers, layer, here, Some(here.unwrap_or(piece)));
     }
 
-    /// Puts an object on its layer, in the place of what stands there.
+    /// Puts an object on its layer, still, instead of what stands there.
     pub fn add(&mut self, layers: &Layers<N>, object: usize)
         requires sound { IsSound layers.now self.old }
         requires object_in { object < length layers.now.layers }

@@ -7,7 +7,7 @@ ghost use Rattle.pz_cells.specs.Lists.{HaveSame, HeadNowhere};
 use crate::cell::Cell;
 use pz_sets::words::same;
 
-/// The number of the first cell from one on in which two lists differ. Where no cell of either heads anywhere, the objects alone are looked at.
+/// The first cell, from number `from` on, in which two lists differ. If no cell of either heads anywhere, only the objects are compared.
 pub fn next_differing<const N: usize>(
     cells: &[Cell<N>],
     others: &[Cell<N>],
@@ -65,7 +65,7 @@ fn next_of_cells<const N: usize>(
     None
 }
 
-/// Whether the words of the cells have the same numbers. Where no cell of either heads anywhere, the objects alone are looked at.
+/// Whether two lists have the same cells. If no cell of either heads anywhere, only the objects are compared.
 pub fn same_cells<const N: usize>(a: &[Cell<N>], b: &[Cell<N>], are_still: bool) -> bool
     requires short { N ≤ 4 }
     requires still { are_still ≡ true → HeadNowhere a.now }

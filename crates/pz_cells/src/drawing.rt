@@ -1,4 +1,4 @@
-//! Lists of cells, as they are drawn and filled.
+//! Draws and fills lists of cells.
 
 ghost use Rattle.std.specs.Prelude.{◌≡◌, ◌<◌, IfOk, All, length, map, fold, Some};
 ghost use Rattle.pz_cells.specs.Cell.{IsOnLayer};
@@ -12,7 +12,7 @@ use crate::piece::Piece;
 use pz_game::game::Game;
 use std::alloc::{AllocError, Global};
 
-/// The cells of the glyphs of these numbers, one after another. Err: memory was refused.
+/// The cells that the glyphs of these numbers draw, in order. Err: memory was refused.
 pub fn glyph_cells<const N: usize>(
     alloc: Global,
     game: &Game,
@@ -33,7 +33,7 @@ pub fn glyph_cells<const N: usize>(
     Ok(cells)
 }
 
-/// A cell with the objects of the glyph of a number.
+/// The cell that the glyph of this number draws.
 fn glyph_cell<const N: usize>(game: &Game, layers: &Layers<N>, number: usize) -> Cell<N>
     requires of_game { layers.now ≡ layering_of game.now }
     requires number { number < length game.now.values }
@@ -45,7 +45,7 @@ fn glyph_cell<const N: usize>(game: &Game, layers: &Layers<N>, number: usize) ->
     cell
 }
 
-/// Puts objects on their layers, one after another.
+/// Puts objects on their layers in order; a later one replaces one of its layer.
 fn add_objects<const N: usize>(cell: &mut Cell<N>, layers: &Layers<N>, objects: &[usize])
     requires objects { All (λ object. object < length layers.now.layers) objects.now }
     requires sound { IsSound layers.now cell.old }
@@ -57,7 +57,7 @@ fn add_objects<const N: usize>(cell: &mut Cell<N>, layers: &Layers<N>, objects: 
     }
 }
 
-/// Puts a piece on a layer of each cell where nothing stands there.
+/// Puts a piece on a layer, in each cell where nothing stands on it.
 pub fn fill_cells<const N: usize>(
     cells: &mut Vec<Cell<N>>,
     layers: &Layers<N>,

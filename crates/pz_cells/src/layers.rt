@@ -20,7 +20,7 @@ struct Table {
     sets: Vec<NumberSet>,
 }
 
-/// The collision layers of a game for whose cells `N` words are enough. Levels share them.
+/// The collision layers of a game whose cells fit in `N` words: 128 objects and 25 layers for each word. Levels share them.
 #[derive(Drop)]
 pub struct Layers<const N: usize> {
     table: Arc<Table>,
@@ -38,7 +38,7 @@ impl<const N: usize> Model for Layers<N> {
 }
 
 impl<const N: usize> Layers<N> {
-    /// The layers of a game for which there is room. Err: memory was refused.
+    /// The layers of a game, whose cells must fit in `N` words. Err: memory was refused.
     pub fn of_game(alloc: Global, game: &Game) -> Result<Layers<N>, AllocError>
         requires short { N ≤ 4 }
         requires room { length game.now.layers ≤ 128 * N }
@@ -59,7 +59,7 @@ impl<const N: usize> Layers<N> {
         Ok(Layers { table })
     }
 
-    /// The same layers once more.
+    /// The same layers, shared. Err: memory was refused.
     pub fn share(&self) -> Result<Layers<N>, AllocError>
         ensures { IfOk result (λ layers. layers ≡ self.now) }
     {
@@ -102,7 +102,7 @@ impl<const N: usize> Layers<N> {
         self.table.sets[layer].words()
     }
 
-    /// The objects of some layers.
+    /// The objects of these layers.
     pub fn objects_on(&self, chosen: &NumberSet) -> NumberSet
         ensures objects { (object : ℕ) → object < length self.now.layers → member result object ≡ member chosen.now (slice_index self.now.layers object) }
         ensures law { IsLayering N self.now }
@@ -152,14 +152,14 @@ fn layer_sets(alloc: Global, depth: usize, layers: &[usize]) -> Result<Vec<Numbe
     Ok(sets)
 }
 
-/// The numbers of a set, with those of another if a test holds.
+/// The numbers of a set, and those of another if a test holds.
 fn union_if(set: &NumberSet, test: bool, more: &NumberSet) -> NumberSet
     ensures { (number : ℕ) → member result number ≡ (member set.now number || (test && member more.now number)) }
 {
     if test { set.union(more) } else { *set }
 }
 
-/// The objects of some layers, of which the sets of their objects are given.
+/// The objects of the chosen layers; `sets` has the objects of each layer.
 fn union_of(layers: &[usize], sets: &[NumberSet], chosen: &NumberSet) -> NumberSet
     requires table { (layer : ℕ) (other : List ℕ) → layer < length sets.now → IsSetOf layers.now (slice_index_or sets.now layer other) layer }
     requires layered { All (λ layer. layer < length sets.now) layers.now }

@@ -1,5 +1,5 @@
-//! Cells of a level: which objects stand there and where they head, as sets in machine words; what holds in a cell, and how it is
-//! rewritten; and lists of cells, drawn, filled, stilled and compared.
+//! Cells of a level: which objects stand there and where they head, as sets in machine words. Also what holds in a cell, how it is
+//! rewritten, and lists of cells, which are drawn, filled, stilled and compared.
 #![tactic(auto)]
 
 pub mod cell;

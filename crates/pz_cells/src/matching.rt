@@ -12,7 +12,7 @@ use pz_game::pattern::Pattern;
 use pz_sets::set::NumberSet;
 use pz_sets::words;
 
-/// Whether a set has each of some numbers, and none of others. Only the words that it has are compared.
+/// Whether a set has all wanted numbers and no unwanted one. Only the words that it has are compared.
 fn meets(set: &[u128], wanted: &NumberSet, unwanted: &NumberSet) -> bool
     requires wanted { (number : ℕ) → member wanted.now number ≡ true → number / 128 < length set.now }
     requires unwanted { (number : ℕ) → member unwanted.now number ≡ true → number / 128 < length set.now }

@@ -5,7 +5,7 @@ ghost use Rattle.pz_cells.specs.Cell.{still_piece};
 
 use pz_game::direction::Dir;
 
-/// An object in a cell, by its place among the game's objects, and where it heads; None: it is still.
+/// An object in a cell, by its number, and where it heads. `None`: it is still.
 #[derive(Clone, Copy)]
 pub struct Piece {
     pub object: u16,

@@ -21,7 +21,7 @@ impl<const N: usize> Cell<N> {
         words::contains(&self.objects, object)
     }
 
-    /// Where the objects of each layer head.
+    /// Where the layers head, as a set of headings.
     pub fn heading_set(&self, layers: &Layers<N>) -> NumberSet
         ensures { (number : ℕ) → member result number ≡ member self.now.movement number }
     {
@@ -69,7 +69,7 @@ impl<const N: usize> Cell<N> {
         }
     }
 
-    /// Whether both cells have the same objects, and the same layers head alike.
+    /// Whether both cells have the same objects and the same headings.
     pub fn same(&self, other: &Cell<N>) -> bool
         ensures { IsTrue result ↔ (AreSame self.now.objects other.now.objects × AreSame self.now.movement other.now.movement) }
     {

@@ -18,7 +18,7 @@ use pz_game::pattern::Pattern;
 use pz_sets::set::NumberSet;
 use pz_sets::words::{next_common, replace};
 
-/// Ends the movement of a layer, unless it is one of some.
+/// Stills a layer, unless it is one of those spared.
 fn end_unless(movement: &mut [u128], spared: &NumberSet, layer: usize)
     requires { layer < MAX_LAYERS }
     ensures ended { member spared.now layer ≡ false → (dir : Dir) → heads movement.new layer dir ≡ false }
@@ -32,7 +32,7 @@ fn end_unless(movement: &mut [u128], spared: &NumberSet, layer: usize)
     }
 }
 
-/// Ends the movement of the layers of the objects that go.
+/// Stills the layers of the objects that are removed, unless the right places something there.
 fn end_leaving<const N: usize>(
     movement: &mut [u128],
     layers: &Layers<N>,
@@ -54,7 +54,7 @@ fn end_leaving<const N: usize>(
 }
 
 impl<const N: usize> Cell<N> {
-    /// Rewrites the cell from a left cell of a rule to its right cell, and says whether that gave another one.
+    /// Rewrites the cell from a left cell of a rule to its right cell, and says whether the cell changed.
     pub fn rewrite(&mut self, layers: &Layers<N>, left: &Pattern, right: &Pattern) -> bool
         requires left_of { AreOf layers.now.layers left.now }
         requires right_of { AreOf layers.now.layers right.now }

@@ -1,5 +1,5 @@
--- The lines in which a row of a rule may start. A line is admitted if its set has every object that the row's first cell names as
--- present. The search leaves out more: each line whose set lacks an object that some cell of the row names.
+-- The lines in which a row of a rule may start. A line is admitted if its marks have every object that the row's first cell
+-- names as present. The search skips more: each line whose marks lack an object that some cell of the row names as present.
 use Rattle.std.specs.Prelude.{◌≡◌, ℕ, List, [], ◌∷◌, Bool, true, false, not, ◌&&◌, ◌||◌, nat_eq, slice_index_or}
 use Rattle.std.specs.List.{list_all, list_any, count_by, sum_by, range_with_len}
 use Rattle.pz_sets.specs.Sets.{member}
@@ -12,7 +12,7 @@ use Rattle.pz_sheet.specs.Grid.{Grid, LevelState}
 use Rattle.pz_game.specs.Items.{names}
 use Rattle.pz_grid.specs.Places.{line_count, line_length, row_holds}
 
--- the set of a line: of a column for up and down, else of a row
+-- the marks of a line: of a column for up and down, else of a row
 abbrev pub marks_of : LevelState → Dir → ℕ → List ℕ
 marks_of state Up line = slice_index_or state.column_marks line []
 marks_of state Down line = slice_index_or state.column_marks line []
@@ -22,11 +22,11 @@ marks_of state _ line = slice_index_or state.row_marks line []
 abbrev pub marks_item : List ℕ → Item → Bool
 marks_item marks item = not (names item.word) || member marks item.object
 
--- a set has every object that a cell of a rule names
+-- a set has every object that a cell of a rule names as present
 abbrev pub marks_cell : List ℕ → List Item → Bool
 marks_cell marks cell = list_all (marks_item marks) cell
 
--- a set has every object that the first cell names
+-- a set has every object that the first cell names as present
 abbrev pub admits : List ℕ → List (List Item) → Bool
 admits marks [] = true
 admits marks (first ∷ rest) = marks_cell marks first
@@ -39,15 +39,15 @@ admits_line state row dir line = admits (marks_of state dir line) row.cells
 abbrev pub admitted : LevelState → RuleRow → Dir → ℕ
 admitted state row dir = count_by (admits_line state row dir) (range_with_len 0 (line_count state.grid dir))
 
--- a line is searched for a row: its set has every object that one of its cells names
+-- a line is searched for a row: the line's marks have every object that any cell of the row names as present
 abbrev pub searches_line : LevelState → RuleRow → Dir → ℕ → Bool
 searches_line state row dir line = list_all (marks_cell (marks_of state dir line)) row.cells
 
--- a level is searched for a row: its own set has every object that one of the row's cells names
+-- a level is searched for a row: the level's own marks have every object that any cell of the row names as present
 abbrev pub searches_level : LevelState → RuleRow → Bool
 searches_level state row = list_all (marks_cell state.level_marks) row.cells
 
--- the line in which a place starts, and where in it
+-- the line in which a place starts, and its position in that line
 abbrev pub line_of : Dir → Place → ℕ
 line_of Up place = place.x
 line_of Down place = place.x
@@ -62,11 +62,11 @@ start_of _ place = place.x
 abbrev pub StartsNowhere : Grid → RuleRow → Dir → ℕ → Type 0
 StartsNowhere grid row dir line = (place : Place) → line_of dir place ≡ line → row_holds grid row dir place ≡ false
 
--- a place starts in this cell
+-- the place starts in this cell of this line
 abbrev pub starts_at : Dir → ℕ → ℕ → Place → Bool
 starts_at dir line start place = nat_eq (line_of dir place) line && nat_eq (start_of dir place) start
 
--- how many cells of a line some place starts in
+-- in how many cells of a line some place starts
 abbrev pub starts_in : Dir → List Place → ℕ → ℕ → ℕ
 starts_in dir found size line = count_by (λ start. list_any (starts_at dir line start) found) (range_with_len 0 size)
 

@@ -1,4 +1,4 @@
--- The marks of a level: for each row and each column a set of objects that holds at least those that stand there.
+-- The marks of a level: each row, each column and the whole level has a set of at least the objects that stand there.
 use Rattle.std.specs.Prelude.{◌≡◌, ℕ, ◌<◌, List, [], Bool, true, ◌&&◌, ◌||◌, ◌⊎◌, nat_eq, length, slice_index_or}
 use Rattle.std.specs.List.{list_any}
 use Rattle.pz_sets.specs.Sets.{member}
@@ -7,7 +7,7 @@ use Rattle.pz_sheet.specs.Grid.{LevelState}
 use Rattle.pz_sheet.specs.Presence.{in_row, in_column}
 use Rattle.pz_game.specs.Items.{names_object}
 
--- an object is in the set of a line
+-- an object is in the set of the line of this number
 abbrev pub is_marked : List (List ℕ) → ℕ → ℕ → Bool
 is_marked marks line object = member (slice_index_or marks line []) object
 
@@ -25,12 +25,12 @@ pub record IsExact (state : LevelState) : Type 0 where
   pub rows : (line object : ℕ) → line < state.grid.height → is_marked state.row_marks line object ≡ in_row state.grid line object
   pub columns : (line object : ℕ) → line < state.grid.width → is_marked state.column_marks line object ≡ in_column state.grid line object
 
--- the sets hold nothing but what they held before, and what these tests of a line and an object let in
+-- the sets of the lines hold only what they held before, and objects that pass the test for their line
 pub record IsWidened (old new : LevelState) (row_has column_has : ℕ → ℕ → Bool) : Type 0 where
   pub rows : (line object : ℕ) → is_marked new.row_marks line object ≡ true → (is_marked old.row_marks line object ≡ true) ⊎ (row_has line object ≡ true)
   pub columns : (line object : ℕ) → is_marked new.column_marks line object ≡ true → (is_marked old.column_marks line object ≡ true) ⊎ (column_has line object ≡ true)
 
--- nothing but what they held before, and objects that pass a test
+-- the sets of the lines hold only what they held before, and objects that pass the test
 abbrev pub IsWidenedBy : LevelState → LevelState → (ℕ → Bool) → Type 0
 IsWidenedBy old new test = IsWidened old new (λ line object. test object) (λ line object. test object)
 
@@ -42,7 +42,7 @@ row_places object row = list_any (names_object object) row.cells
 abbrev pub places_object : List RuleRow → ℕ → Bool
 places_object right object = list_any (row_places object) right
 
--- the sets with more in one line: the objects that pass a test
+-- the set of one line has got the objects that pass the test; the others are unchanged
 abbrev pub IsMore : List (List ℕ) → List (List ℕ) → ℕ → (ℕ → Bool) → Type 0
 IsMore old new line test = (other object : ℕ) → is_marked new other object ≡ ((nat_eq other line && test object) || is_marked old other object)
 

@@ -1,6 +1,6 @@
--- The movement of a step. A pass goes column by column, from the top, and in a cell layer by layer: what heads somewhere moves
--- one cell on if its target is on the map and free on its layer, and is still from then on. Passes repeat until one moves
--- nothing; then all are still. The action moves nothing.
+-- The movement of a step. A pass goes column by column from the left, each from the top, and in a cell layer by layer. What
+-- heads somewhere moves one cell if its target is on the map and free on its layer; then it is still. Passes repeat until one
+-- moves nothing; then all is still. The action moves nothing.
 use Rattle.std.specs.Prelude.{◌≡◌, ◌<◌, ℕ, zero, suc, ◌+◌, ◌-◌, List, map, fold, Bool, true, false, Option, Some, None, nat_lt, if◌then◌else◌}
 use Rattle.std.specs.List.{flat_map, range_with_len, sum_by}
 use Rattle.pz_game.specs.declared.direction.Dir.{Dir}
@@ -11,7 +11,7 @@ use Rattle.pz_sets.specs.declared.set.TheConstants.{CAPACITY}
 use Rattle.pz_sheet.specs.Grid.{Grid, place_at, with_place}
 use Rattle.pz_sheet.specs.Movement.{stilled}
 
--- the next position in a direction, on the map
+-- the next position in a direction, if it is on the map
 abbrev pub neighbour : Grid → Dir → ℕ → ℕ → Option (ℕ × ℕ)
 neighbour grid Up x y = if nat_lt 0 y then Some (x, y - 1) else None
 neighbour grid Down x y = if nat_lt (y + 1) grid.height then Some (x, y + 1) else None
@@ -23,12 +23,12 @@ abbrev pub unless_taken : ℕ × ℕ → Option Piece → Option (ℕ × ℕ)
 unless_taken position None = Some position
 unless_taken position (Some _) = None
 
--- a position, if it is free on a layer
+-- the position, if nothing stands on this layer there
 abbrev pub free : Grid → ℕ → Option (ℕ × ℕ) → Option (ℕ × ℕ)
 free grid layer None = None
 free grid layer (Some position) = unless_taken position (place_at grid position.0 position.1 layer)
 
--- a layer of a position
+-- one layer of one position
 pub record Spot : Type 0 where
   pub x : ℕ
   pub y : ℕ
@@ -37,12 +37,12 @@ pub record Spot : Type 0 where
 abbrev pub spot : ℕ → ℕ → ℕ → Spot
 spot x y layer = record { x = x; y = y; layer = layer }
 
--- where a piece that heads there goes
+-- where a piece with this heading goes, if it can
 abbrev pub heading_goal : Grid → Spot → Option Dir → Option (ℕ × ℕ)
 heading_goal grid spot None = None
 heading_goal grid spot (Some dir) = free grid spot.layer (neighbour grid dir spot.x spot.y)
 
--- a level in a pass, and whether something moved so far
+-- the level during a pass, and whether something has moved so far
 pub record Pass : Type 0 where
   pub grid : Grid
   pub moved : Bool
@@ -50,7 +50,7 @@ pub record Pass : Type 0 where
 abbrev pub in_pass : Grid → Bool → Pass
 in_pass grid moved = record { grid = grid; moved = moved }
 
--- a piece moved from a spot, still from then on
+-- a piece moves from a spot to its goal, and is still there
 abbrev pub moved_to : Pass → Spot → Piece → Option (ℕ × ℕ) → Pass
 moved_to pass spot piece None = pass
 moved_to pass spot piece (Some (x, y)) =
@@ -102,11 +102,11 @@ heads (Some piece) = heading_count piece.heading
 abbrev pub moving : Grid → ℕ
 moving grid = sum_by (sum_by heads) grid.cells
 
--- passes up to the first without a move, at most a number of them
+-- passes up to the first without a move, at most n of them
 abbrev pub settle : ℕ → Grid → Grid
 settle zero grid = grid
 settle (suc n) grid = if (pass_of grid).moved then settle n (pass_of grid).grid else grid
 
--- the movement: each pass with a move stills a piece, so no more passes are needed than pieces head somewhere
+-- the movement: each pass with a move stills a piece, so there are at most as many of them as pieces that head somewhere
 abbrev pub resolved : Grid → Grid
 resolved grid = stilled (settle (moving grid) grid)

@@ -1,6 +1,6 @@
--- The places of a row of a rule: all pairs of a start cell and a gap whose cells are on the map and hold. Left and right go by
--- rows from the top, and in a row from the left; up and down by columns from the left, and in a column from the top. For one
--- start cell the gaps ascend; a row without `...` has the gap 0 alone.
+-- The places of a row of a rule: each start cell with each gap for which all cells of the row are on the map and hold. A cell
+-- of a rule *holds* where it fits. Left and right scan row by row from the top, each from the left. Up and down scan column by
+-- column from the left, each from the top. At a start cell gaps ascend. A row without `...` has only the gap 0.
 use Rattle.std.specs.Prelude.{ℕ, ◌+◌, List, take, map, filter, length, Bool, Option, Some, None, Result, Ok, Err, nat_lt, nat_le, nat_eq, ◌&&◌, ◌||◌, if◌then◌else◌, is_some}
 use Rattle.std.specs.List.{list_all, enumerate_from, flat_map, range_with_len, zip}
 use Rattle.pz_game.specs.declared.direction.Dir.{Dir}
@@ -16,12 +16,12 @@ use Rattle.pz_sheet.specs.Grid.{Grid}
 use Rattle.pz_sheet.specs.Runs.{run_holds}
 pub use Rattle.pz_sheet.specs.Runs.{on_map, along, holds_at}
 
--- how far a row's cell is from its start: the cells after the gap are as much farther as it spans
+-- how far the row's cell of this number is from its start: a cell behind the gap is farther by the gap
 abbrev pub distance : Option ℕ → ℕ → ℕ → ℕ
 distance None gap index = index
 distance (Some at) gap index = if nat_le at index then index + gap else index
 
--- where the cell of a number of a row stands, if that is on the map
+-- the position of the row's cell of this number, if it is on the map
 abbrev pub position_of : Grid → Dir → Option ℕ → Place → ℕ → Option (ℕ × ℕ)
 position_of grid dir gap_at place index = along grid dir place.x place.y (distance gap_at place.gap index)
 
@@ -33,7 +33,7 @@ cell_holds grid row dir place (index, pattern) = holds_at grid pattern (position
 abbrev pub row_holds : Grid → RuleRow → Dir → Place → Bool
 row_holds grid row dir place = list_all (cell_holds grid row dir place) (enumerate_from 0 row.cells)
 
--- the lines that are scanned: columns for up and down, else rows
+-- how many lines are scanned: columns for up and down, else rows
 abbrev pub line_count : Grid → Dir → ℕ
 line_count grid Up = grid.width
 line_count grid Down = grid.width
@@ -57,13 +57,13 @@ cells_before (Some at) cells = take at cells
 abbrev pub head_of : RuleRow → List (List Item)
 head_of row = cells_before row.gap_at row.cells
 
--- a row's cells before its gap hold one after another from a start in a line on
+-- these cells of a row hold one after another, from a start in a line on
 abbrev pub starts_with : Grid → Dir → ℕ → List (List Item) → ℕ → Bool
 starts_with grid Up line head start = run_holds grid Up line start head
 starts_with grid Down line head start = run_holds grid Down line start head
 starts_with grid dir line head start = run_holds grid dir start line head
 
--- the cell of a row that is the first behind its gap holds, where the gap spans that many cells
+-- the row's first cell behind its gap holds if the gap spans this many cells
 abbrev pub holds_behind : Grid → Dir → ℕ → ℕ → List Item → ℕ → ℕ → Bool
 holds_behind grid dir x y behind at gap = holds_at grid behind (along grid dir x y (at + gap))
 
@@ -71,7 +71,7 @@ holds_behind grid dir x y behind at gap = holds_at grid behind (along grid dir x
 abbrev pub gap_count : Grid → RuleRow → Dir → ℕ
 gap_count grid row dir = if is_some row.gap_at then line_length grid dir else 1
 
--- all pairs of a start cell and a gap, in the order of the scan
+-- all pairs of a start cell and a gap, in the order of the scan: of one start cell, of one line, of the level
 abbrev pub pairs_at : Grid → RuleRow → Dir → ℕ → ℕ → List Place
 pairs_at grid row dir line start = map (place_in dir line start) (range_with_len 0 (gap_count grid row dir))
 
@@ -89,7 +89,7 @@ places grid row dir = filter (row_holds grid row dir) (pairs grid row dir)
 unfoldable pub searched : Grid → RuleRow → Dir → Result (List Place) GridFault
 searched grid row dir = if nat_lt MATCH_LIMIT (length (places grid row dir)) then Err MatchLimit else Ok (places grid row dir)
 
--- a row holds at a place, whose gap is 0 where the row has none
+-- a row holds at a place; the place has the gap 0 if the row has no gap
 abbrev pub still_holds : Grid → Dir → RuleRow × Place → Bool
 still_holds grid dir (row, place) = (is_some row.gap_at || nat_eq place.gap 0) && row_holds grid row dir place
 

@@ -1,7 +1,7 @@
--- The rewriting of cells. Of a cell, a left and a right cell of a rule: on a layer where the right places an object, that object
--- stands. It heads where its word says; without a word it is still if the left has a movement word on an object of that layer,
--- else it heads where what stood there did. On other layers what the left names as present, or the right has under `no`, is
--- removed; what stays heads where it did.
+-- The rewriting of cells. A left and a right cell of a rule rewrite a cell of the level, layer by layer. If the right places an
+-- object on the layer, that object stands there. It heads where its word says. Without a word it is still if the left has a
+-- movement word on an object of that layer; else it heads where what stood there did, and is still if nothing did. On other
+-- layers an object is removed if the left names it as present or the right has it under `no`. What stays heads where it did.
 use Rattle.std.specs.Prelude.{ℕ, List, fold, Bool, ◌||◌, Option, Some, None}
 use Rattle.std.specs.List.{enumerate_from, zip}
 use Rattle.pz_game.specs.declared.direction.Dir.{Dir}
@@ -13,7 +13,7 @@ use Rattle.pz_sheet.specs.Grid.{Grid}
 use Rattle.pz_sheet.specs.Rewriting.{with_rewritten, changes}
 use Rattle.pz_grid.specs.Places.{position_of}
 
--- a level that is rewritten, and whether some rewriting gave another cell so far
+-- the level during a rewriting, and whether a cell has changed so far
 pub record Rewriting : Type 0 where
   pub grid : Grid
   pub changed : Bool
@@ -27,12 +27,12 @@ rewritten_at so_far left right None = so_far
 rewritten_at so_far left right (Some (x, y)) =
     in_rewrite (with_rewritten so_far.grid x y left right) (so_far.changed || changes so_far.grid x y left right)
 
--- a cell of a row, with its number, its left and its right, is rewritten where it stands
+-- the row's cell of this number rewrites, with its left and its right, the position where it stands
 abbrev pub rewritten_along : Dir → Option ℕ → Place → Rewriting → ℕ × (List Item × List Item) → Rewriting
 rewritten_along dir gap_at place so_far (index, (left, right)) =
     rewritten_at so_far left right (position_of so_far.grid dir gap_at place index)
 
--- a row is rewritten at its place, cell by cell, each from what the cell holds then
+-- a row is rewritten at its place, cell by cell, each from what the cells before have left
 abbrev pub rewritten_row : Dir → Rewriting → Place × (RuleRow × RuleRow) → Rewriting
 rewritten_row dir so_far (place, (left, right)) =
     fold (rewritten_along dir left.gap_at place) so_far (enumerate_from 0 (zip left.cells right.cells))

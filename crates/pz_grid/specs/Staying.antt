@@ -1,11 +1,11 @@
--- What stays in a movement: a piece that has landed is still, nothing moves it, and nothing enters its place.
+-- What a movement leaves: a piece that has landed is still, nothing moves it, and nothing enters its layer of that cell.
 use Rattle.std.specs.Prelude.{◌≡◌, ℕ, ◌+◌, ◌*◌, ◌<◌, List, [], true, ◌⊎◌, Option, Some, None, slice_index_or}
 use Rattle.pz_cells.specs.declared.piece.Piece.{Piece}
 use Rattle.pz_cells.specs.Cell.{still_piece}
 use Rattle.pz_sheet.specs.Grid.{Grid, LevelState}
 use Rattle.pz_grid.specs.Marks.{is_marked}
 
--- an object stands still on a layer of the cell of a number
+-- an object stands still on a layer of the cell of this number
 abbrev pub IsStill : List (List (Option Piece)) → ℕ → ℕ → ℕ → Type 0
 IsStill cells index layer object = slice_index_or (slice_index_or cells index []) layer None ≡ Some (still_piece object)
 
@@ -27,7 +27,7 @@ pub record IsStillInColumn (grid : Grid) (line object : ℕ) : Type 0 where
   pub inside : y < grid.height
   pub there : IsStill grid.cells (y * grid.width + line) layer object
 
--- a part of a movement: what is still stays, and each set of a line gets at most what has landed there
+-- a part of a movement: what is still stays, and each line's marks get only what has landed in the line
 pub record IsMove (old new : LevelState) : Type 0 where
   pub width : new.grid.width ≡ old.grid.width
   pub height : new.grid.height ≡ old.grid.height

@@ -1,4 +1,4 @@
-//! The lines in which a row of a rule may start.
+//! The lines in which a row of a rule may start, as far as marks and headings show. The search skips the others.
 
 ghost use Rattle.std.specs.Prelude.{◌≡◌, ◌<◌, All, true, false, []};
 ghost use Rattle.std.specs.List.{list_all};
@@ -25,7 +25,7 @@ fn marks_item(marks: &NumberSet, item: Item) -> bool
     !names(item.word) || marks.contains(item.object)
 }
 
-/// Whether a set has every object that a cell of a rule names.
+/// Whether a set has every object that a cell of a rule names as present.
 fn marks_cell(marks: &NumberSet, cell: &Pattern) -> bool
     ensures { result ≡ marks_cell marks.now cell.now }
 {
@@ -37,14 +37,14 @@ fn marks_cell(marks: &NumberSet, cell: &Pattern) -> bool
     true
 }
 
-/// Whether a set has every object that a row's first cell names.
+/// Whether a set has every object that a row's first cell names as present.
 fn admits(marks: &NumberSet, row: &Row) -> bool
     ensures { result ≡ admits marks.now row.now.cells }
 {
     marks_cell(marks, &row.cells()[0])
 }
 
-/// Whether a set has every object that one of a row's cells names.
+/// Whether a set has every object that any cell of the row names as present.
 fn marks_all(marks: &NumberSet, row: &Row) -> bool
     requires low { All (All IsLow) row.now.cells }
     ensures { result ≡ list_all (marks_cell marks.now) row.now.cells }
@@ -53,7 +53,7 @@ fn marks_all(marks: &NumberSet, row: &Row) -> bool
 }
 
 impl Level {
-    /// The set of a line.
+    /// The marks of a line: of a column for up and down, else of a row.
     fn marks_of(&self, dir: Dir, line: u32) -> &NumberSet
         requires { line < line_count self.now.grid dir }
         ensures { result.now ≡ marks_of self.now dir line }
@@ -64,7 +64,7 @@ impl Level {
         }
     }
 
-    /// Whether a place of the row may be in the level, as far as the level's own set tells: false says that none is, in no direction.
+    /// Whether the level's marks have every object that the row's cells name as present. If not, the row has no place, in any direction.
     pub fn is_searched_for(&self, row: &Row) -> bool
         requires of_game { IsRowOf self.now.grid.layers row.now }
         ensures searched { result ≡ searches_level self.now row.now }
@@ -75,7 +75,7 @@ impl Level {
         marks_all(&self.level_marks, row)
     }
 
-    /// Whether a place of the row may be in the level, as far as its headings tell: false says that none is, in no direction.
+    /// Whether the headings noted in the level allow a place of the row. If false, the row has no place, in any direction.
     pub fn may_hold(&self, row: &Row) -> bool
         requires of_game { IsRowOf self.now.grid.layers row.now }
         ensures none { result ≡ false → (dir : Dir) → places self.now.grid row.now dir ≡ [] }
@@ -85,7 +85,7 @@ impl Level {
         self.bare.may_hold(row)
     }
 
-    /// Whether a line is admitted for a row.
+    /// Whether a line is admitted for a row: its marks have every object that the row's first cell names as present.
     pub(crate) fn admits_line(&self, row: &Row, dir: Dir, line: u32) -> bool
         requires of_game { IsRowOf self.now.grid.layers row.now }
         requires line_in { line < line_count self.now.grid dir }
@@ -94,7 +94,7 @@ impl Level {
         admits(self.marks_of(dir, line), row)
     }
 
-    /// Whether a place of the row may start in the line, as far as the line's set tells.
+    /// Whether the line's marks have every object that any cell of the row names as present. If not, no place of the row starts there.
     pub(crate) fn searches_line(&self, row: &Row, dir: Dir, line: u32) -> bool
         requires of_game { IsRowOf self.now.grid.layers row.now }
         requires line_in { line < line_count self.now.grid dir }
@@ -105,7 +105,7 @@ impl Level {
         marks_all(self.marks_of(dir, line), row)
     }
 
-    /// Whether a place of the row may start in the line, as far as the line's set and its headings tell: false says that none does.
+    /// Whether the line's marks and headings allow a place of the row to start there. If false, none does.
     pub(crate) fn may_start(&self, row: &Row, dir: Dir, line: u32) -> bool
         requires of_game { IsRowOf self.now.grid.layers row.now }
         requires line_in { line < line_count self.now.grid dir }
@@ -118,7 +118,7 @@ impl Level {
     }
 }
 
-/// Whether something may head in a line as the cells of the row ask: false says that no place of the row starts there.
+/// Whether the headings noted in a line allow a place of the row to start there. If false, none does.
 fn may_head(bare: &BareLevel, row: &Row, dir: Dir, line: u32) -> bool
     requires of_game { IsRowOf bare.now.grid.layers row.now }
     requires line_in { line < line_count bare.now.grid dir }

@@ -1,4 +1,4 @@
-//! What a level's headings tell of all rows that ask for one of a set.
+//! A test of a level's headings for all rows that ask for one of several headings.
 
 ghost use Rattle.std.specs.Prelude.{◌≡◌, [], false};
 ghost use Rattle.pz_game.specs.declared.direction.Dir.{Dir};
@@ -8,8 +8,8 @@ ghost use Rattle.pz_grid.specs.Places.{places};
 use crate::Level;
 
 impl Level {
-    /// Whether something may head in a direction of a set, as far as the level's headings tell: false says that no row that asks for
-    /// one of them has a place, in no direction.
+    /// Whether the level's headings allow a heading of the set `asked`. If false, no row that asks for one of these headings has a place,
+    /// in any direction.
     pub fn may_head_in(&self, asked: &[u128]) -> bool
         ensures { result ≡ false → (row : RuleRow) (dir : Dir) → IsRowOf self.now.grid.layers row → AsksAmong asked.now row.cells → places self.now.grid row dir ≡ [] }
     {

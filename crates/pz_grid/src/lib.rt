@@ -1,4 +1,4 @@
-//! Levels of a game: loaded, read, compared, matched, rewritten, pushed and moved; with the marks by which the search skips.
+//! Levels of a game: loaded, read, compared, matched, rewritten, pushed and moved. Marks let the search skip lines where a row can't start.
 #![tactic(auto)]
 
 ghost use Rattle.std.specs.Prelude.{◌≡◌, ◌<◌, ℕ, Some, None, MatchOption};
@@ -29,8 +29,8 @@ pub use pz_sets::set::NumberSet;
 pub use rewriting::rewrite;
 pub use sameness::same;
 
-/// A level: what stands in its cells, and its marks: for each row, for each column and for the whole a set of objects that holds at least
-/// those that stand there.
+/// A level: what stands in its cells, and its marks. Each row, each column and the whole level has as marks a set of at least the objects
+/// that stand there.
 pub struct Level {
     bare: BareLevel,
     row_marks: Vec<NumberSet>,
@@ -92,8 +92,8 @@ impl Level {
         self.bare.height()
     }
 
-    /// Whether the object, by its place among the game's objects, stands at the position. Off the map, and for no object of the
-    /// game, it does not.
+    /// Whether the object of this number stands at the position. Objects are numbered from 0 in the game's order. The answer is false off
+    /// the map and for a number without an object.
     pub fn has(&self, x: u32, y: u32, object: usize) -> bool
         ensures { result ≡ stands self.now.grid x y object }
     {
@@ -103,14 +103,14 @@ impl Level {
         }
     }
 
-    /// The objects that stand at the position: off the map, none.
+    /// The objects that stand at the position. Off the map there are none.
     pub fn objects_at(&self, x: u32, y: u32) -> NumberSet
         ensures { (object : ℕ) → member result object ≡ stands self.now.grid x y object }
     {
         self.bare.objects_at(x, y)
     }
 
-    /// Where the object at the position heads; None: it is still, or not there.
+    /// Where the object at the position heads. `None`: it is still, or isn't there.
     pub fn dir_of(&self, x: u32, y: u32, object: usize) -> Option<Dir>
         ensures { result ≡ heading_at self.now.grid x y object }
     {

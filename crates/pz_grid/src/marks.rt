@@ -1,4 +1,4 @@
-//! The objects that each row and each column of a level may have.
+//! The marks of a level: the objects that each row, each column and the whole may have.
 
 ghost use Rattle.std.specs.Prelude.{◌≡◌, ℕ, ◌<◌, ◌&&◌, All, IfOk, IfErr, OnOk, OnErr, true, length, nat_eq, []};
 ghost use Rattle.pz_sets.specs.Sets.{member};
@@ -21,7 +21,7 @@ use pz_sheet::line::{Axis, Line};
 use std::alloc::{AllocError, Global};
 
 impl Level {
-    /// The level of the entry of LEVELS of a number, which is not a message. Err: memory was refused.
+    /// Loads the entry of LEVELS of this number, which must be a level. Entries are numbered from 0. Err: memory was refused.
     pub fn load(alloc: Global, game: &Game, index: usize) -> Result<Level, GridFault>
         requires { is_playable (entry_at game.now index) ≡ true }
         ensures loaded { IfOk result (λ level. level.grid ≡ loaded game.now index) }
@@ -38,7 +38,7 @@ impl Level {
         }
     }
 
-    /// The same level once more, each set exactly what stands in its line. Err: memory was refused.
+    /// A copy of the level. The marks of the copy are exactly what stands in each line. Err: memory was refused.
     pub fn copy(&self) -> Result<Level, GridFault>
         ensures copied { IfOk result (λ level. level.grid ≡ self.now.grid) }
         ensures lawful { IfOk result (λ level. IsLawful level.grid) }
@@ -51,7 +51,7 @@ impl Level {
         }
     }
 
-    /// As `copy`, for callers that know no other fault than want of memory.
+    /// Like `copy`, for callers whose only fault is want of memory.
     pub fn copied(&self) -> Result<Level, AllocError>
         ensures copied { IfOk result (λ level. level.grid ≡ self.now.grid) }
         ensures lawful { IfOk result (λ level. IsLawful level.grid) }
@@ -60,8 +60,8 @@ impl Level {
         Level::marked(*self.row_marks.allocator(), self.bare.copy()?)
     }
 
-    /// Becomes the same as another, each set exactly what stands in its line: in the memory that it has, where both are of one size. Err:
-    /// memory was refused, and its cells are as they were.
+    /// Makes this level equal to another, and its marks exactly what stands in each line. It reuses its memory if both have one size. Err:
+    /// memory was refused, and the cells are unchanged.
     pub fn copy_from(&mut self, other: &Level) -> Result<(), AllocError>
         ensures copied { OnOk result (self.new.grid ≡ other.now.grid) }
         ensures exact { OnOk result (IsExact self.new) }
@@ -78,7 +78,7 @@ impl Level {
         Ok(())
     }
 
-    /// A level with its marks, each set exactly what stands in its line. Err: memory was refused.
+    /// Adds marks to a level: exactly what stands in each line. Err: memory was refused.
     pub fn marked(alloc: Global, bare: BareLevel) -> Result<Level, AllocError>
         ensures grid { IfOk result (λ level. level.grid ≡ bare.grid) }
         ensures lawful { IfOk result (λ level. IsLawful level.grid) }
@@ -111,7 +111,7 @@ impl Level {
         self.level_marks.insert(object);
     }
 
-    /// Marks an item's object, if the item names it.
+    /// Marks an item's object in the row and the column of a position, if the item names it as present.
     fn mark_item(&mut self, x: u32, y: u32, item: Item)
         requires x_in { x < self.old.grid.width }
         requires y_in { y < self.old.grid.height }
@@ -140,7 +140,7 @@ impl Level {
     }
 }
 
-/// Gives each row the set of the objects that stand there.
+/// Sets the marks of each row to the objects that stand there.
 fn mark_rows(bare: &BareLevel, marks: &mut Vec<NumberSet>)
     requires { length marks.old.items ≡ bare.now.grid.height }
     ensures count { length marks.new.items ≡ length marks.old.items }
@@ -154,7 +154,7 @@ fn mark_rows(bare: &BareLevel, marks: &mut Vec<NumberSet>)
     }
 }
 
-/// Gives each column the set of the objects that stand there.
+/// Sets the marks of each column to the objects that stand there.
 fn mark_columns(bare: &BareLevel, marks: &mut Vec<NumberSet>)
     requires { length marks.old.items ≡ bare.now.grid.width }
     ensures count { length marks.new.items ≡ length marks.old.items }
@@ -168,7 +168,7 @@ fn mark_columns(bare: &BareLevel, marks: &mut Vec<NumberSet>)
     }
 }
 
-/// The objects of some sets.
+/// A set with at least the objects of these sets.
 fn all_of(marks: &[NumberSet]) -> NumberSet
     ensures { (line object : ℕ) → line < length marks.now → is_marked marks.now line object ≡ true → member result object ≡ true }
 {

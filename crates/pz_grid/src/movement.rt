@@ -1,4 +1,4 @@
-//! The movement of pieces that head somewhere.
+//! The movement of a step.
 
 ghost use Rattle.std.specs.Prelude.{◌≡◌, ℕ, ◌<◌, IfSome, MatchOption, fold, map, nat_eq, true};
 ghost use Rattle.pz_cells.specs.Cell.{IsOnLayer, still_place};
@@ -16,7 +16,7 @@ use pz_game::direction::Dir;
 use pz_game::game::Game;
 use pz_sheet::Sheet;
 
-/// Moves every piece that heads somewhere as far as the passes of a step's movement take it, and stills all.
+/// Plays the movement of a step: its passes repeat until one moves nothing, then all pieces are stilled. No piece moves more than one cell.
 pub fn resolve(game: &Game, level: &mut Level)
     requires { IsOfGame game.now level.old.grid }
     ensures resolved { level.new.grid ≡ resolved level.old.grid }
@@ -29,7 +29,7 @@ pub fn resolve(game: &Game, level: &mut Level)
     level.still_all();
 }
 
-/// The next position in a direction, on the map.
+/// The next position in a direction, if it is on the map. The action leads nowhere.
 fn neighbour<const N: usize>(sheet: &Sheet<N>, dir: Dir, x: u32, y: u32) -> Option<(u32, u32)>
     requires x_in { x < sheet.now.grid.width }
     requires y_in { y < sheet.now.grid.height }
@@ -46,7 +46,7 @@ fn neighbour<const N: usize>(sheet: &Sheet<N>, dir: Dir, x: u32, y: u32) -> Opti
     }
 }
 
-/// Where a piece that heads there goes, if that is free on its layer.
+/// Where a piece with this heading goes, if that is on the map and free on its layer.
 fn goal<const N: usize>(
     sheet: &Sheet<N>,
     x: u32,
@@ -72,7 +72,7 @@ fn goal<const N: usize>(
     }
 }
 
-/// The piece that leaves a layer of a position of the map, and where it goes, if one does.
+/// The piece that leaves this layer of a position, and where it goes. `None`: nothing leaves.
 fn leaving<const N: usize>(
     sheet: &Sheet<N>,
     x: u32,
@@ -103,7 +103,7 @@ impl Level {
         self.bare.depth()
     }
 
-    /// The piece that leaves a layer of a position of the map, and where it goes, if one does.
+    /// The piece that leaves this layer of a position, and where it goes. `None`: nothing leaves.
     fn leaving(&self, x: u32, y: u32, layer: usize) -> Option<(Piece, (u32, u32))>
         requires x_in { x < self.now.grid.width }
         requires y_in { y < self.now.grid.height }
@@ -126,7 +126,7 @@ impl Level {
         self.bare.is_still(x, y)
     }
 
-    /// Whether no heading is noted for a column of the map: where that is true, nothing in it heads anywhere.
+    /// Whether no heading is noted for a column of the map. If so, nothing in it heads anywhere.
     fn is_column_still(&self, x: u32) -> bool
         requires { x < self.now.grid.width }
         ensures { result ≡ true → (y : ℕ) → y < self.now.grid.height → cell_at self.now.grid x y ≡ map still_place (cell_at self.now.grid x y) }
@@ -134,7 +134,7 @@ impl Level {
         self.bare.is_column_still(x)
     }
 
-    /// Puts a piece that is marked, or nothing, on a layer of a position of the map.
+    /// Puts a piece, or nothing, on a layer of a position of the map. The piece's object must be marked there.
     fn put(&mut self, x: u32, y: u32, layer: usize, place: Option<Piece>)
         requires x_in { x < self.old.grid.width }
         requires y_in { y < self.old.grid.height }
@@ -160,7 +160,7 @@ impl Level {
         self.bare.still_all();
     }
 
-    /// Moves what stands at a spot, if it can, and says whether something moved so far.
+    /// Moves what stands on a layer of a position, if it can. True: something has moved in this pass, here or before.
     fn move_at(&mut self, x: u32, y: u32, layer: usize, moved: bool) -> bool
         requires x_in { x < self.old.grid.width }
         requires y_in { y < self.old.grid.height }
@@ -213,7 +213,7 @@ impl Level {
         moved
     }
 
-    /// Moves each piece that can, column by column, and says whether one did.
+    /// Makes one pass, column by column, and says whether a piece moved.
     fn pass(&mut self) -> bool
         ensures pass { in_pass self.new.grid result ≡ pass_of self.old.grid }
         ensures size { SameSize self.old.grid self.new.grid }
@@ -226,7 +226,7 @@ impl Level {
         moved
     }
 
-    /// Passes up to the first that moves nothing.
+    /// Repeats passes up to the first that moves nothing.
     fn settle(&mut self)
         ensures settled { self.new.grid ≡ settle (moving self.old.grid) self.old.grid }
         ensures size { SameSize self.old.grid self.new.grid }

@@ -1,4 +1,4 @@
-//! The places of a row of a rule: where it holds.
+//! The places of a row of a rule. A row holds at a place if all its cells are on the map and fit there.
 
 ghost use Rattle.std.specs.List.{list_all, enumerate_from, count_by, range_with_len};
 ghost use Rattle.std.specs.Prelude.{◌≡◌, ◌≢◌, All, take, true, ◌+◌, ◌*◌, ◌<◌, ◌≤◌, cond, [], ◌∷◌, ◌++◌, ◌^◌, filter, length, OnOk, IfOk, IfErr, IfSome, Ok, Err};
@@ -17,10 +17,10 @@ use pz_sheet::Sheet;
 use pz_sheet::line::{self, Axis, Way, column, row};
 use std::alloc::Global;
 
-/// The greatest number of places that a search gives.
+/// The most places that a row may have.
 pub const MATCH_LIMIT: usize = 1_048_576;
 
-/// Where a row starts, and how many cells its gap spans: 0, if it has none.
+/// Where a row starts, and how many cells its gap spans. A row without a gap has the gap 0.
 #[derive(Clone, Copy, Debug, PartialEq, Eq)]
 pub struct Place {
     pub x: u32,
@@ -78,7 +78,8 @@ impl Level {
         }
     }
 
-    /// Where the cell of a number of a row stands that starts at a place, if that is on the map.
+    /// The position of the row's cell of this number, for a row that starts at the place. `None`: it is off the map. Cells are numbered
+    /// from 0. `gap_at` is how many cells the row has before its gap.
     pub fn position_of(
         &self,
         dir: Dir,
@@ -94,7 +95,7 @@ impl Level {
     }
 }
 
-/// How far a row's cell is from its start.
+/// How far the row's cell of this number is from its start: a cell behind the gap is farther by the gap.
 fn distance(gap_at: Option<u32>, gap: u32, index: usize) -> usize
     requires { index < 2 ^ 32 }
     ensures value { result ≡ distance gap_at gap index }
@@ -106,7 +107,7 @@ fn distance(gap_at: Option<u32>, gap: u32, index: usize) -> usize
     }
 }
 
-/// Whether all cells of a row, which may have a gap, are on the map and hold, where it starts at a place and those before a number do.
+/// Whether a row, with or without a gap, holds at a place. The caller knows that its cells before the number `from` do.
 fn spread_holds<const N: usize>(
     sheet: &Sheet<N>,
     row: &Row,
@@ -128,7 +129,7 @@ fn spread_holds<const N: usize>(
     true
 }
 
-/// Whether all cells of a row are on the map and hold, where it starts at a place: without a gap they stand one after another.
+/// Whether a row holds at a place. Without a gap its cells stand one after another.
 fn holds_in<const N: usize>(sheet: &Sheet<N>, row: &Row, dir: Dir, place: Place) -> bool
     requires of_game { IsRowOf sheet.now.grid.layers row.now }
     ensures { result ≡ row_holds sheet.now.grid row.now dir place }
@@ -139,7 +140,7 @@ fn holds_in<const N: usize>(sheet: &Sheet<N>, row: &Row, dir: Dir, place: Place)
     }
 }
 
-/// Whether all cells of a row are on the map and hold, where it starts at a place.
+/// Whether a row holds at a place.
 fn row_holds(bare: &BareLevel, row: &Row, dir: Dir, place: Place) -> bool
     requires of_game { IsRowOf bare.now.grid.layers row.now }
     ensures { result ≡ row_holds bare.now.grid row.now dir place }
@@ -188,7 +189,7 @@ fn place_in(line: Line, start: u32, gap: u32) -> Place
     }
 }
 
-/// The cells of a row that stand before its gap: all, if it has none.
+/// The cells of a row before its gap, or all its cells if it has none.
 fn head_of(row: &Row) -> &[Pattern]
     ensures cells { result.now ≡ head_of row.now }
     ensures some { 0 < length result.now }
@@ -200,7 +201,8 @@ fn head_of(row: &Row) -> &[Pattern]
     }
 }
 
-/// The first start from one on in a line from which the cells of a row before its gap hold one after another.
+/// The first start in a line, not before `from`, from which the cells in `head` hold one after another. They are a row's cells before its
+/// gap.
 fn next_start<const N: usize>(
     sheet: &Sheet<N>,
     line: Line,
@@ -253,7 +255,7 @@ fn next_start<const N: usize>(
     }
 }
 
-/// In how many cells of a line the search tests whether the cells of a row before its gap hold from there on.
+/// In how many cells of a line the search tests whether the cells in `head` hold from there on. They are a row's cells before its gap.
 fn tested_in<const N: usize>(sheet: &Sheet<N>, line: Line, head: &[Pattern]) -> u32
     requires some { 0 < length head.now }
     requires line_in { line.number < line_count sheet.now.grid line.dir }
@@ -274,7 +276,7 @@ fn tested_in<const N: usize>(sheet: &Sheet<N>, line: Line, head: &[Pattern]) -> 
     }
 }
 
-/// Adds a place.
+/// Adds a place, unless there are `MATCH_LIMIT` already.
 fn add_found(place: Place, found: &mut Vec<Place>) -> Result<(), GridFault>
     requires room { length found.old.items ≤ MATCH_LIMIT }
     ensures added { OnOk result (found.new.items ≡ found.old.items ++ (place ∷ [])) }
@@ -290,7 +292,7 @@ fn add_found(place: Place, found: &mut Vec<Place>) -> Result<(), GridFault>
     Ok(())
 }
 
-/// Adds the place if the row holds there, of which the cells before a number do.
+/// Adds the place if the row holds there. The caller knows that its cells before the number `from` do.
 fn add_place<const N: usize>(
     sheet: &Sheet<N>,
     row: &Row,
@@ -313,7 +315,8 @@ fn add_place<const N: usize>(
     }
 }
 
-/// The first gap from a place's own on for which the row's first cell behind its gap, that of the number `at`, holds.
+/// The first gap, not smaller than that of the place `from`, for which the row's first cell behind its gap holds. That cell has the number
+/// `at`.
 fn next_gap<const N: usize>(
     sheet: &Sheet<N>,
     dir: Dir,
@@ -380,8 +383,8 @@ fn next_gap<const N: usize>(
     }
 }
 
-/// Adds the places that start in a cell from which the cells before the gap hold, of a row with a gap before the cell of the number `at`:
-/// the cells behind that one are tested for those gaps alone for which it holds.
+/// Adds the places of a row with a gap that start in a cell. From there the cells before the gap hold. The gap stands before the cell of
+/// the number `at`. Further cells are tested only for gaps for which that cell holds.
 fn add_places_with_gaps<const N: usize>(
     sheet: &Sheet<N>,
     row: &Row,
@@ -418,7 +421,7 @@ fn add_places_with_gaps<const N: usize>(
     Ok(())
 }
 
-/// Adds the places that start in a cell from which the cells of the row before its gap hold.
+/// Adds the places that start in a cell. From there the row's cells before its gap hold.
 fn add_places_at<const N: usize>(
     sheet: &Sheet<N>,
     row: &Row,
@@ -441,7 +444,7 @@ fn add_places_at<const N: usize>(
     }
 }
 
-/// Adds the places that start in a line: it is searched for the cells before the row's gap, and the gaps only where these hold.
+/// Adds the places that start in a line. Gaps are tried only where the row's cells before its gap hold.
 fn add_places_in<const N: usize>(
     sheet: &Sheet<N>,
     row: &Row,
@@ -466,7 +469,7 @@ fn add_places_in<const N: usize>(
     Ok(())
 }
 
-/// Searches a line: the sheet that a level has adds the places that start there.
+/// Adds the places that start in a line of a level, whatever the size of its sheet.
 fn search_line(
     bare: &BareLevel,
     row: &Row,
@@ -487,7 +490,7 @@ fn search_line(
     }
 }
 
-/// How many cells of a line are tested, where it is searched for a row.
+/// How many cells of a line the search tests for a row, if it doesn't skip the line.
 fn tested_for(bare: &BareLevel, row: &Row, line: Line) -> u32
     requires of_game { IsRowOf bare.now.grid.layers row.now }
     requires line_in { line.number < line_count bare.now.grid line.dir }
@@ -511,7 +514,7 @@ impl Level {
         line_count(&self.bare, dir)
     }
 
-    /// Adds the places that start in a line, if the line is searched.
+    /// Adds the places that start in a line. A line that can't have one is skipped.
     fn add_searched(
         &self,
         row: &Row,
@@ -534,7 +537,7 @@ impl Level {
         }
     }
 
-    /// In how many cells of a line the search tests whether a row starts there: in none, if the line is left out.
+    /// In how many cells of a line the search tests whether a row starts there. In a skipped line it tests none.
     fn tested(&self, row: &Row, dir: Dir, line: u32) -> u32
         requires of_game { IsRowOf self.now.grid.layers row.now }
         requires line_in { line < line_count self.now.grid dir }
@@ -566,8 +569,9 @@ impl Level {
     }
 }
 
-/// The places of a row in a level, in the order of the scan: by rows from the top for left and right, by columns from the left for
-/// up and down, for one start with ascending gaps. MatchLimit: there are more than `MATCH_LIMIT`.
+/// The places of a row in a level, in the order of the scan. Left and right scan row by row from the top, each from the left. Up and down
+/// scan column by column from the left, each from the top. At one start gaps ascend. `MatchLimit`: there are more than `MATCH_LIMIT`.
+/// `Memory`: memory was refused.
 pub fn places(alloc: Global, level: &Level, row: &Row, dir: Dir) -> Result<Vec<Place>, GridFault>
     requires of_game { IsRowOf level.now.grid.layers row.now }
     ensures found { IfOk result (λ found. searched level.now.grid row.now dir ≡ Ok found.items) }
@@ -585,9 +589,9 @@ pub fn places(alloc: Global, level: &Level, row: &Row, dir: Dir) -> Result<Vec<P
     Ok(found)
 }
 
-/// The places of a row as `places` gives them, and in how many cells it was tested whether the row starts there. Tested are only cells of lines
-/// (rows for left and right, columns for up and down) that `admitted` counts, each once: in a line of up to 128 cells those that are left once
-/// the positions of the objects that the row's cells name have been joined, in a longer one all.
+/// The places of a row as `places` gives them, and how many cells a search tests as starts of the row. It tests only lines that `admitted`
+/// counts, and each cell at most once. In a line of up to 128 cells it tests only those that fit by the positions of the objects named
+/// before the row's gap, headings aside. In a longer line it tests all cells, unless it skips the line.
 pub fn places_counted(
     alloc: Global,
     level: &Level,
@@ -605,8 +609,8 @@ pub fn places_counted(
     Ok((found, tested))
 }
 
-/// The number of lines that are admitted for a row: those whose set of objects has every object that the row's first cell names as
-/// present. A line is a row of the level for left and right, a column for up and down. No place starts in another line.
+/// The number of lines that are admitted for a row: those whose marks have every object that the row's first cell names as present. A line
+/// is a row of the level for left and right, and a column for up and down. No place starts in another line.
 pub fn admitted(level: &Level, row: &Row, dir: Dir) -> u32
     requires of_game { IsRowOf level.now.grid.layers row.now }
     ensures { result ≡ admitted level.now row.now dir }
@@ -620,7 +624,7 @@ pub fn admitted(level: &Level, row: &Row, dir: Dir) -> u32
     count
 }
 
-/// Whether a row still holds at a place, whose gap is 0 where the row has none.
+/// Whether a row still holds at a place. A row without a gap holds only at places with the gap 0.
 fn still_holds(level: &Level, dir: Dir, row: &Row, place: Place) -> bool
     requires of_game { IsRowOf level.now.grid.layers row.now }
     ensures { result ≡ still_holds level.now.grid dir (row.now, place) }
@@ -628,8 +632,8 @@ fn still_holds(level: &Level, dir: Dir, row: &Row, place: Place) -> bool
     (row.gap_at().is_some() || place.gap == 0) && row_holds(&level.bare, row, dir, place)
 }
 
-/// Whether the rows of an instance's left all hold at these places, one for each: false for another number of places, for a cell
-/// off the map, and for a gap above 0 where the row has none.
+/// Whether the rows of an instance's left all hold, each at its place. False if the number of places differs, if a cell is off the map, or
+/// if a place of a row without a gap has a gap above 0.
 pub fn still_matches(level: &Level, instance: &Instance, places: &[Place]) -> bool
     requires of_game { AreRowsOf level.now.grid.layers instance.now.left }
     ensures { result ≡ still_matches level.now.grid instance.now places.now }

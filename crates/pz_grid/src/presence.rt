@@ -21,7 +21,7 @@ impl Level {
         self.bare.is_in(index, object)
     }
 
-    /// Whether one of the objects, by their places among the game's objects, is in the cell of a number, counted row by row.
+    /// Whether one of the objects is in the cell of this number. Objects are numbered in the game's order, cells row by row, both from 0.
     pub fn holds_one(&self, index: usize, objects: &[usize]) -> bool
         requires { index < length self.now.grid.cells }
         ensures { result ≡ holds_one objects.now (cell_of self.now.grid index) }
@@ -34,7 +34,7 @@ impl Level {
         false
     }
 
-    /// Whether each of the objects is in the cell of a number.
+    /// Whether each of the objects is in the cell of this number.
     pub fn holds_each(&self, index: usize, objects: &[usize]) -> bool
         requires { index < length self.now.grid.cells }
         ensures { result ≡ holds_each objects.now (cell_of self.now.grid index) }
@@ -47,14 +47,14 @@ impl Level {
         true
     }
 
-    /// Whether some cell holds one of some objects, and one of others.
+    /// Whether some cell holds both one of `objects` and one of `others`.
     pub fn some_holds(&self, objects: &[usize], others: &[usize]) -> bool
         ensures { result ≡ list_any (holds_both objects.now others.now) self.now.grid.cells }
     {
         self.bare.some_holds(objects, others)
     }
 
-    /// Whether each cell that holds one of some objects holds one of others.
+    /// Whether each cell that holds one of `objects` also holds one of `others`.
     pub fn all_hold(&self, objects: &[usize], others: &[usize]) -> bool
         ensures { result ≡ list_all (holds_if objects.now others.now) self.now.grid.cells }
     {

@@ -1,4 +1,4 @@
-//! The direction of an input, given to the player.
+//! A press gives its direction to the player.
 
 ghost use Rattle.std.specs.Prelude.{◌≡◌};
 ghost use Rattle.pz_game.specs.Game.{players_of};
@@ -10,7 +10,7 @@ use crate::Level;
 use pz_game::direction::Dir;
 use pz_game::game::Game;
 
-/// Lets each object of the level that is the player of its game head in a direction.
+/// Gives the direction to each object of the level that is a `Player`.
 pub fn push_players(game: &Game, level: &mut Level, dir: Dir)
     requires { IsOfGame game.now level.old.grid }
     ensures pushed { level.new.grid ≡ pushed (players_of game.now) dir level.old.grid }

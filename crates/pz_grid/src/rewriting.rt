@@ -17,7 +17,7 @@ use pz_game::pattern::{Pattern, Row};
 use pz_program::instance::Instance;
 
 impl Level {
-    /// Rewrites the cell at a position, whose row and column are marked with what the right places.
+    /// Rewrites the cell at a position, and says whether the cell changed. What the right places must be marked there.
     fn rewrite_marked(&mut self, x: u32, y: u32, left: &Pattern, right: &Pattern) -> bool
         requires x_in { x < self.old.grid.width }
         requires y_in { y < self.old.grid.height }
@@ -32,7 +32,7 @@ impl Level {
         self.bare.rewrite(x, y, left, right)
     }
 
-    /// Rewrites the cell at a position, and says whether that gave another one.
+    /// Rewrites the cell at a position, and says whether the cell changed.
     fn rewrite_position(&mut self, x: u32, y: u32, left: &Pattern, right: &Pattern) -> bool
         requires x_in { x < self.old.grid.width }
         requires y_in { y < self.old.grid.height }
@@ -48,7 +48,7 @@ impl Level {
         self.rewrite_marked(x, y, left, right)
     }
 
-    /// Rewrites the cell at a position, if there is one, and says whether some rewriting gave another cell so far.
+    /// Rewrites the cell at a position, if it is on the map. True: this or an earlier rewriting changed a cell.
     fn rewrite_at(
         &mut self,
         left: &Pattern,
@@ -72,7 +72,7 @@ impl Level {
         }
     }
 
-    /// Rewrites a row's cell of a number, where it stands.
+    /// Rewrites the row's cell of this number, for a row at this place.
     fn rewrite_along(
         &mut self,
         dir: Dir,
@@ -94,7 +94,7 @@ impl Level {
         self.rewrite_at(left, right, position, changed)
     }
 
-    /// Rewrites a row at its place, cell by cell.
+    /// Rewrites a row at its place, cell by cell, each as the cells before have left it.
     fn rewrite_row(
         &mut self,
         dir: Dir,
@@ -127,8 +127,8 @@ impl Level {
         changed
     }
 
-    /// Rewrites the cells of an instance at the places of its rows, row by row and cell by cell, and says whether that or something
-    /// before it gave another cell. It doesn't test whether the rows hold; a cell off the map is left as it is.
+    /// Rewrites the cells of an instance at the places of its rows, row by row and cell by cell. True: this or an earlier rewriting changed
+    /// a cell. It doesn't test whether the rows hold, and skips cells off the map.
     pub fn rewrite_all(
         &mut self,
         instance: &Instance,
@@ -157,8 +157,8 @@ impl Level {
     }
 }
 
-/// Rewrites the cells of an instance at the places of its rows, and says whether some rewriting gave another cell. It doesn't test
-/// whether the rows hold; a cell off the map is left as it is, and the shorter of places and rows ends it.
+/// Rewrites the cells of an instance at the places of its rows. True: some rewriting changed a cell, even if a later one gave it back. It
+/// doesn't test whether the rows hold, and skips cells off the map. Rows without a place and places without a row are left out.
 pub fn rewrite(game: &Game, level: &mut Level, instance: &Instance, places: &[Place]) -> bool
     requires level_of { IsOfGame game.now level.old.grid }
     requires right_of { IsInstanceOf game.now.layers instance.now }

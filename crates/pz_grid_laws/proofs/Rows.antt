@@ -56,7 +56,7 @@ moves_all = refl
 pub stays_on_map : resolved (level 2 1 (toward 4 Left ∷ toward 2 Action ∷ [])) ≡ level 2 1 (still 4 ∷ still 2 ∷ [])
 stays_on_map = refl
 
--- pc with the input right: the player alone heads there
+-- pc with the press right: only the player heads there
 pub pushes_player : pushed (2 ∷ []) Right (level 2 1 (still 2 ∷ still 4 ∷ [])) ≡ level 2 1 (toward 2 Right ∷ still 4 ∷ [])
 pushes_player = refl
 

@@ -1,4 +1,4 @@
--- Two cells in which each object stands alike are one.
+-- Two cells in which each object stands alike are equal.
 use Rattle.std.proofs.Common.{◌≡◌, ◌≢◌, inl, inr, ℕ, ◌<◌, List, Option, Some, None, length, get_or, ap, sym, ◌∙◌, refl, subst}
 use Rattle.std.specs.Prelude.{IfSome}
 use Rattle.std.proofs.lemmas.List.{ext_get_or}
@@ -26,7 +26,7 @@ kept_place layers a b layer piece ha hb same e = by_place (get_or b layer None) 
     | inr two ↦ absurd (let none : Option (Option Dir) = None in let g : none ≡ Some piece.heading = sym (standing_off_layer layers b piece.object hb (subst (λ (v : Option Piece). IfSome v (λ p. p.object ≢ piece.object)) (sym (ap (λ (k : ℕ). get_or b k None) at ∙ f)) two)) ∙ here in cc)
   ]
 
--- two lawful cells in which each object stands alike are one
+-- two lawful cells in which each object stands alike are equal
 pub same_from_standing : (layers : List ℕ) (a b : List (Option Piece)) → length a ≡ length b → OnItsLayer layers a → OnItsLayer layers b → ((object : ℕ) → standing a object ≡ standing b object) → a ≡ b
 same_from_standing layers a b long ha hb same = ext_get_or None a b long (λ layer within. by_place layer (get_or a layer None) refl (get_or b layer None) refl) where
   by_place : (layer : ℕ) (v : Option Piece) → get_or a layer None ≡ v → (w : Option Piece) → get_or b layer None ≡ w → get_or a layer None ≡ get_or b layer None

@@ -98,25 +98,25 @@ first_background : loaded_from game (draws 2 2 (3 ∷ 0 ∷ 1 ∷ 2 ∷ []))
     ≡ level 2 2 ((still 1 ∷ still 3 ∷ None ∷ []) ∷ bare ∷ (still 1 ∷ None ∷ None ∷ []) ∷ (still 1 ∷ still 2 ∷ None ∷ []) ∷ [])
 first_background = refl
 
--- where no cell has a background, each gets the first member of `background`: sand
+-- if no cell has a background, each gets the first member of `background`: sand
 no_background : loaded_from game (draws 2 1 (2 ∷ 5 ∷ [])) ≡ strip ((still 1 ∷ still 2 ∷ None ∷ []) ∷ (still 1 ∷ None ∷ still 5 ∷ []) ∷ [])
 no_background = refl
 
--- the player's input
+-- a press gives its direction to the player
 
 -- each player gets the direction, in place of the one it had; a crate keeps its own
 pushes_each_player : pushed (2 ∷ []) Up (strip (on_grass (heads 2 Right) ∷ on_grass (heads 3 Down) ∷ player ∷ []))
     ≡ strip (on_grass (heads 2 Up) ∷ on_grass (heads 3 Down) ∷ on_grass (heads 2 Up) ∷ [])
 pushes_each_player = refl
 
--- where the player is a property, each of its members is one
+-- if the player is a property, each of its members is a player
 pushes_each_member : pushed (2 ∷ 3 ∷ []) Action (strip (player ∷ crate ∷ wall ∷ []))
     ≡ strip (on_grass (heads 2 Action) ∷ on_grass (heads 3 Action) ∷ wall ∷ [])
 pushes_each_member = refl
 
 -- the movement
 
--- a chain moves as a whole: the first pass moves the crate, the second the player behind it
+-- two in a line move together: the first pass moves the crate, the second the player behind it
 chain : resolved (strip (on_grass (heads 2 Right) ∷ on_grass (heads 3 Right) ∷ bare ∷ [])) ≡ strip (bare ∷ player ∷ crate ∷ [])
 chain = refl
 
@@ -124,7 +124,7 @@ chain_after_a_pass : (pass_of (strip (on_grass (heads 2 Right) ∷ on_grass (hea
     ≡ strip (on_grass (heads 2 Right) ∷ bare ∷ crate ∷ [])
 chain_after_a_pass = refl
 
--- against a wall nothing of the chain moves, and all are still
+-- against a wall neither moves, and both are still
 blocked_chain : resolved (strip (on_grass (heads 2 Right) ∷ on_grass (heads 3 Right) ∷ wall ∷ [])) ≡ strip (player ∷ crate ∷ wall ∷ [])
 blocked_chain = refl
 
@@ -170,7 +170,7 @@ where_it_heads = refl
 one_or_each : holds_one (3 ∷ 5 ∷ []) crate ∷ holds_each (3 ∷ 5 ∷ []) crate ∷ [] ≡ true ∷ false ∷ []
 one_or_each = refl
 
--- nothing needs to be there: none of no objects is, and each is
+-- an empty list of objects: no cell holds one of them, and each cell holds each of them
 no_objects : holds_one [] crate ∷ holds_each [] crate ∷ [] ≡ false ∷ true ∷ []
 no_objects = refl
 
@@ -237,7 +237,7 @@ second_row_finds_the_crate : rewritten (two_rows (item 2 Present ∷ []) (item 2
     ≡ in_rewrite (strip (crate ∷ [])) true
 second_row_finds_the_crate = refl
 
--- [ Player ] [ ] -> [ Crate ] [ Player ] on one cell: the second row gives the cell back, and yet it was changed
+-- [ Player ] [ ] -> [ Crate ] [ Player ] on one cell: the second row gives the cell back, but it counts as changed
 changed_and_back : rewritten (two_rows (item 2 Present ∷ []) [] (item 3 Present ∷ []) (item 2 Present ∷ [])) both_here
     (in_rewrite (strip (player ∷ [])) false)
     ≡ in_rewrite (strip (player ∷ [])) true
@@ -245,7 +245,7 @@ changed_and_back = refl
 
 -- sameness
 
--- levels that differ by a direction alone are not the same
+-- levels that differ only by a direction are not the same
 other_direction : same_grid (strip (player ∷ [])) (strip (on_grass (heads 2 Up) ∷ [])) ≡ false
 other_direction = refl
 

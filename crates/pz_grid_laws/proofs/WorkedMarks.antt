@@ -30,7 +30,7 @@ wall_in_the_row = refl
 pub no_wall_in_the_column : in_column state.grid 2 3 ≡ false
 no_wall_in_the_column = refl
 
--- two places, with gaps of none and of two cells, that start in one cell of the one admitted line
+-- two places, with gaps of no cell and of two cells; both start in one cell of the only admitted line
 pub two_places : places state.grid to_a_wall Right ≡ at 0 0 0 ∷ at 0 0 2 ∷ []
 two_places = refl
 
@@ -54,7 +54,7 @@ no_line = refl
 pub no_level : searches_level state (row (only 4 ∷ [])) ≡ false
 no_level = refl
 
--- a cell without items is searched for in each line, and so is one that only forbids
+-- a cell without items is searched for in each line, and so is one that only has items under `no`
 pub all_columns : admitted state (row ([] ∷ [])) Down ≡ 4
 all_columns = refl
 

@@ -131,7 +131,7 @@ marking_first = refl
 pub marking_second : still_matches marked marking (at 0 0 2 ∷ []) ≡ false
 marking_second = refl
 
--- a gap where the row has none, another number of places, a cell off the map: no match
+-- no match: a gap for a row without one, a wrong number of places, a cell off the map
 pub gap_without : still_matches crates (record { scan = Right; left = one ∷ []; right = []; commands = no_command }) (at 0 0 1 ∷ []) ≡ false
 gap_without = refl
 

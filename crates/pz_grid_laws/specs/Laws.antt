@@ -25,10 +25,10 @@ Settles = (grid : Grid) → (pass_of (settle (moving grid) grid)).moved ≡ fals
 abbrev pub Rests : Type 0
 Rests = (grid : Grid) → (moving (resolved grid) ≡ 0) × ((pass_of (resolved grid)).moved ≡ false)
 
--- what the player's input and the movement make of a level of a game is one
+-- a lawful level stays lawful when a press gives the player a direction, and in the movement
 abbrev pub StaysLawful : Type 0
 StaysLawful = (grid : Grid) → IsLawful grid → ((players : List ℕ) (dir : Dir) → IsLawful (pushed players dir grid)) × IsLawful (resolved grid)
 
--- two cells of a game in which each object stands alike are equal
+-- two cells of a game are equal if each object stands in both, with the same heading, or in neither
 abbrev pub CellsAreWhatStands : Type 0
 CellsAreWhatStands = (depth : ℕ) (layers : List ℕ) (a b : List (Option Piece)) → IsCell depth layers a → IsCell depth layers b → ((object : ℕ) → standing a object ≡ standing b object) → a ≡ b

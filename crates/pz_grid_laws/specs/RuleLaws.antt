@@ -12,19 +12,19 @@ use Rattle.pz_grid.specs.Marks.{IsMarked}
 use Rattle.pz_grid.specs.Admitted.{admits_line, admitted, line_of, start_count}
 use Rattle.pz_cells.specs.Rewriting.{rewritten_cell}
 
--- a pair of a start and a gap is a place of a row exactly if the row holds there, with the gap 0 where the row has none
+-- a pair of a start and a gap is a place of a row exactly if the row holds there; the gap is 0 if the row has none
 abbrev pub ArePlaces : Type 0
 ArePlaces = (grid : Grid) (row : RuleRow) (dir : Dir) (place : Place) → IsRow row → Contains (places grid row dir) place ↔ IsTrue (still_holds grid dir (row, place))
 
--- a cell of a game is one after it is rewritten with objects of the game: each object stands on its own layer
+-- a rewritten cell of a game is a cell of the game again: each object stands on its own layer
 abbrev pub RewritesLawfully : Type 0
 RewritesLawfully = (depth : ℕ) (layers : List ℕ) (left right : List Item) (cell : List (Option Piece)) → AreOf layers right → IsCell depth layers cell → IsCell depth layers (rewritten_cell left right cell)
 
--- a row holds at no place of a line that is not admitted
+-- a row holds at no place that starts in a line that isn't admitted
 abbrev pub HoldsInAdmitted : Type 0
 HoldsInAdmitted = (state : LevelState) (row : RuleRow) (dir : Dir) (place : Place) → IsMarked state → admits_line state row dir (line_of dir place) ≡ false → row_holds state.grid row dir place ≡ false
 
--- there are no more different start cells among the places of a row than cells in the admitted lines
+-- the places of a row have no more different start cells than the admitted lines have cells
 abbrev pub StartsAreBounded : Type 0
 StartsAreBounded = (state : LevelState) (row : RuleRow) (dir : Dir) → IsMarked state → start_count state.grid dir (places state.grid row dir) ≤ admitted state row dir * line_length state.grid dir
 

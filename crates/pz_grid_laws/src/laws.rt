@@ -1,4 +1,4 @@
-//! Laws of levels, each proved as what a function without a body of its own ensures.
+//! Laws of levels. Each is what a function ensures whose body does nothing.
 
 ghost use Rattle.pz_grid.specs.Marks.{IsMarked};
 ghost use Rattle.pz_grid_laws.specs.Laws.{Decides, MovesStill, Settles, Rests, StaysLawful, CellsAreWhatStands};
@@ -10,29 +10,29 @@ pub fn sameness_decides()
     ensures { Decides }
 {}
 
-/// A pass that moves something leaves fewer pieces that head somewhere: so the movement ends.
+/// A pass that moves something leaves fewer pieces that head somewhere, so the movement ends.
 pub fn passes_still()
     ensures { MovesStill }
 {}
 
-/// After the passes of the movement one more would move nothing; and in the end nothing heads anywhere.
+/// After the passes of the movement one more would move nothing. In the end nothing heads anywhere.
 pub fn movement_settles()
     ensures settles { Settles }
     ensures rests { Rests }
 {}
 
-/// What the player's input and the movement make of a level of a game is one again.
+/// A lawful level stays lawful when a press gives the player a direction, and in the movement.
 pub fn levels_stay_lawful()
     ensures { StaysLawful }
 {}
 
-/// Two cells of a game in which each object stands alike are equal.
+/// Two cells of a game are equal if each object stands in both, with the same heading, or in neither.
 pub fn cells_are_what_stands()
     ensures { CellsAreWhatStands }
 {}
 
-/// The marks of a level hold every object in their line, after whatever list of calls made the level: it was loaded or copied, given the
-/// input, moved and rewritten, in any order and any number of times.
+/// The marks of each line have every object in it, whatever calls made the level: loads, copies, presses, movements and rewritings, in any
+/// order and number.
 pub fn marks_hold(level: &Level)
     ensures { IsMarked level.now }
 {

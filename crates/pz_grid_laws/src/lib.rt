@@ -1,4 +1,5 @@
-//! Laws of levels, of places and of rewriting: what holds of them beyond what each call promises. The worked cases of their definitions stand in `proofs/`.
+//! Laws of levels, of places and of rewriting: what holds of them beyond what each call promises. Worked cases of the definitions are in
+//! `proofs/`.
 #![tactic(auto)]
 
 pub mod laws;

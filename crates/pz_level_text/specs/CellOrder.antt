@@ -14,7 +14,7 @@ abbrev pub row_of : Order → Grid → ℕ → ℕ
 row_of Rows grid k = k / grid.width
 row_of Columns grid k = k % grid.height
 
--- the column and the row of the cell of a number
+-- the column and the row of the cell of this number
 abbrev pub position_of : Order → Grid → ℕ → ℕ × ℕ
 position_of order grid k = (column_of order grid k, row_of order grid k)
 
@@ -23,7 +23,7 @@ abbrev pub number_of : Order → Grid → ℕ → ℕ → ℕ
 number_of Rows grid x y = y * grid.width + x
 number_of Columns grid x y = x * grid.height + y
 
--- the cell of a number stands in this column and this row
+-- the cell of this number stands in this column and this row
 pub record IsAt (order : Order) (grid : Grid) (number x y : ℕ) : Type 0 where
   pub column : x ≡ column_of order grid number
   pub row : y ≡ row_of order grid number

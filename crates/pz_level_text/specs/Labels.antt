@@ -21,7 +21,7 @@ texts_in game order grid = map joined (sets_in game order grid)
 abbrev pub IsLabelOf : List (List ℕ) → List (List ℕ) → List ℕ → ℕ → Type 0
 IsLabelOf names texts objects label = (label < length texts) × (text_at texts label ≡ set_text names objects)
 
--- a text is that of a level of this width with these cells
+-- the text is that of a level of this width whose cells have these texts
 abbrev pub IsTextOf : List (List ℕ) → ℕ → List ℕ → Type 0
 IsTextOf cells width text = text ≡ text_of_cells width cells
 

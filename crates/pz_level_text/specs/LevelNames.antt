@@ -7,7 +7,7 @@ use Rattle.pz_record.specs.declared.order.Order.{Order}
 use Rattle.pz_level_text.specs.CellOrder.{cells_in}
 use Rattle.pz_record.specs.CellNames.{set_of}
 
--- the names of the objects that pass a test, the first of which has number k
+-- the names of the objects that pass a test; the first name is that of object k
 abbrev pub chosen_from : (ℕ → Bool) → ℕ → List (List ℕ) → List (List ℕ)
 chosen_from test k [] = []
 chosen_from test k (name ∷ names) = if test k then name ∷ chosen_from test (suc k) names else chosen_from test (suc k) names

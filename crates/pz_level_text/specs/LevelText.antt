@@ -6,7 +6,7 @@ use Rattle.pz_record.specs.declared.order.Order.{Order}
 use Rattle.pz_record.specs.CellTexts.{joined, text_of_cells}
 use Rattle.pz_level_text.specs.LevelNames.{sets_in}
 
--- the text of a level, its cells in an order
+-- the text of a level, with its cells in an order
 unfoldable pub text_of_level : GameParts → Order → Grid → List ℕ
 text_of_level game order grid = text_of_cells grid.width (map joined (sets_in game order grid))
 

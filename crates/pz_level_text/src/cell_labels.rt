@@ -19,7 +19,7 @@ use pz_record::order::Order;
 use std::alloc::{AllocError, Global};
 use std::marker::Model;
 
-/// The labels of the cells of the last level in an order, and the texts of the sets that were met.
+/// The labels of the cells of the last level, in an order, and the texts of the sets of objects seen so far.
 pub(crate) struct CellLabels<'a> {
     alloc: Global,
     order: Order,
@@ -27,7 +27,7 @@ pub(crate) struct CellLabels<'a> {
     labels: Vec<usize>,
 }
 
-/// Written out, so that each place where one goes out of scope is one call.
+/// Written out: where one goes out of scope, the prover then sees one call.
 impl Drop for CellLabels<'_> {
     fn drop(self) {
         let CellLabels {
@@ -93,7 +93,7 @@ impl<'a> CellLabels<'a> {
         Ok(label)
     }
 
-    /// Gives the cell of a number another label.
+    /// Gives the cell of this number another label.
     fn put(&mut self, number: usize, label: usize)
         requires within { number < length self.old.cells }
         requires known { label < length self.old.table.texts }
@@ -124,7 +124,7 @@ impl<'a> CellLabels<'a> {
         self.labels.clear();
     }
 
-    /// Looks at each cell of a level.
+    /// Labels each cell of a level. Err: memory was refused.
     pub fn look_at_all(&mut self, level: &Level) -> Result<(), AllocError>
         ensures cells { OnOk result (self.new.cells ≡ texts_in self.old.table.game self.old.order level.now.grid) }
         ensures game { self.new.table.game ≡ self.old.table.game }
@@ -139,7 +139,8 @@ impl<'a> CellLabels<'a> {
         Ok(())
     }
 
-    /// Looks at the cell of a number, counted row by row, where a level may have changed since it was seen.
+    /// Labels the cell of this number again, because it may have changed since the level was seen. Here cells are numbered row by row. Err:
+    /// memory was refused.
     fn look(&mut self, seen: &mut BareLevel, level: &Level, index: usize) -> Result<(), AllocError>
         requires size { SameSize seen.old.grid level.now.grid }
         requires within { index < length seen.old.grid.cells }
@@ -160,7 +161,7 @@ impl<'a> CellLabels<'a> {
         Ok(())
     }
 
-    /// Looks at each cell of a level that has changed since it was seen, and says whether one has.
+    /// Labels each cell that has changed since the level was seen, and says whether there was one. Err: memory was refused.
     pub fn look_at_changes(
         &mut self,
         seen: &mut BareLevel,

@@ -1,4 +1,4 @@
-//! The cells of a level in an order.
+//! The numbers of a level's cells in an order, from 0.
 
 ghost use Rattle.std.specs.Prelude.{◌≡◌, ◌*◌, ◌<◌};
 ghost use Rattle.pz_level_text.specs.CellOrder.{column_of, row_of, number_of};
@@ -6,7 +6,7 @@ ghost use Rattle.pz_level_text.specs.CellOrder.{column_of, row_of, number_of};
 use pz_grid::Level;
 use pz_record::order::Order;
 
-/// The column and the row of the cell of a number.
+/// The column and the row of the cell of this number.
 pub(crate) fn position(order: Order, level: &Level, number: u32) -> (u32, u32)
     requires { number < level.now.grid.width * level.now.grid.height }
     ensures column { result.0 ≡ column_of order level.now.grid number }

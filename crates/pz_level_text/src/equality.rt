@@ -10,7 +10,8 @@ use pz_grid::Level;
 use pz_record::order::Order;
 use pz_record::recorded::Recorded;
 
-/// Whether the cells of the level, in this order, have the recorded names, as many cells as were recorded.
+/// Whether the level has as many cells as were recorded, and each, in this order, exactly the recorded names. Neither the width nor
+/// headings are compared.
 pub fn equals(game: &Game, level: &Level, recorded: &Recorded, order: Order) -> bool
     ensures { result ≡ equals_recorded game.now order level.now.grid recorded.now }
 {

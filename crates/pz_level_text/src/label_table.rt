@@ -1,4 +1,4 @@
-//! The sets of objects of a game that were met, and the labels of their texts.
+//! The sets of a game's objects that were seen so far, and the labels of their texts.
 
 ghost use Rattle.std.specs.Prelude.{◌≡◌, ℕ, [], length, take, IfOk, IfSome};
 ghost use Rattle.pz_sets.specs.Sets.{member};
@@ -15,8 +15,8 @@ use std::alloc::{AllocError, Global};
 use std::collections::HashMap;
 use std::marker::Model;
 
-/// The texts of the sets of a game's objects that were met. Where a set stands among the known ones is a hint: it is looked at
-/// before it is believed.
+/// The texts of the sets of a game's objects that were seen so far. `places` only gives hints: the set at a place is compared before its
+/// label is used.
 pub(crate) struct LabelTable<'a> {
     game: &'a Game,
     texts: KnownTexts,
@@ -24,7 +24,7 @@ pub(crate) struct LabelTable<'a> {
     places: HashMap<NumberSet, usize>,
 }
 
-/// Written out, so that each place where one goes out of scope is one call.
+/// Written out: where one goes out of scope, the prover then sees one call.
 impl Drop for LabelTable<'_> {
     fn drop(self) {
         let LabelTable {
@@ -69,7 +69,7 @@ impl<'a> LabelTable<'a> {
         &self.texts
     }
 
-    /// The label of a set that was met.
+    /// The label of a set, if it was seen before.
     fn known(&self, objects: &NumberSet) -> Option<usize>
         ensures { IfSome result (λ label. IsLabelOf self.now.game.objects self.now.texts objects.now label) }
     {
@@ -82,7 +82,7 @@ impl<'a> LabelTable<'a> {
         }
     }
 
-    /// The label of the text of the set that stands at a position.
+    /// Writes the text of the set that stands at a position, and gives its label. Err: memory was refused.
     fn label_of(
         &mut self,
         alloc: Global,
@@ -101,7 +101,7 @@ impl<'a> LabelTable<'a> {
         Ok(label)
     }
 
-    /// Notes the label of a set.
+    /// Keeps the label of a set. Err: memory was refused.
     fn note(&mut self, objects: NumberSet, label: usize) -> Result<(), AllocError>
         requires { IsLabelOf self.old.game.objects self.old.texts objects label }
         ensures { self.new ≡ self.old }
@@ -112,7 +112,7 @@ impl<'a> LabelTable<'a> {
         Ok(())
     }
 
-    /// The label of the set that stands at a position, which is met there.
+    /// The label of the set that stands at a position and is new. Err: memory was refused.
     fn learn(
         &mut self,
         alloc: Global,
@@ -131,7 +131,7 @@ impl<'a> LabelTable<'a> {
         Ok(label)
     }
 
-    /// The label of the set that stands at a position.
+    /// The label of the set that stands at a position. Err: memory was refused.
     pub fn label_at(
         &mut self,
         alloc: Global,

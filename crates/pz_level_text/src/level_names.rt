@@ -37,7 +37,7 @@ fn names_at<'a>(
     Ok(names)
 }
 
-/// The names with a space between two.
+/// The names, separated by spaces.
 fn join(alloc: Global, names: BTreeSet<&str>) -> Result<String, AllocError>
     ensures { IfOk result (λ text. string_bytes text ≡ joined (map (λ n. n.now) names.entry.keys)) }
 {
@@ -45,7 +45,7 @@ fn join(alloc: Global, names: BTreeSet<&str>) -> Result<String, AllocError>
     names.join(alloc, " ")
 }
 
-/// The text of the names at a position: a space between two.
+/// The names at a position, in the order of their bytes and separated by spaces. Err: memory was refused.
 pub(crate) fn text_at(
     alloc: Global,
     objects: &[Name],

@@ -1,4 +1,4 @@
-//! The text of a level of a game: written, for each frame or by itself, as it reads back; and a level compared with a recorded one.
+//! The text of a level: written for each frame, or by itself so that it reads back. Also compares a level with a recorded one.
 #![tactic(auto)]
 
 mod cell_labels;

@@ -1,4 +1,4 @@
-//! Sets of a game's objects beside the names that were recorded of cells.
+//! Compares sets of a game's objects with the recorded names of cells.
 
 ghost use Rattle.std.specs.Prelude.{◌≡◌, ◌<◌, [], length, slice_index_or, slice_set, true, None, Some};
 ghost use Rattle.std.specs.List.{list_all};
@@ -15,24 +15,24 @@ use pz_sets::set::NumberSet;
 use std::collections::BTreeSet;
 use std::marker::Model;
 
-/// How many sets are kept in mind at most.
+/// How many sets are remembered at most.
 const ROOM: usize = 8;
 
-/// A set of objects, and a cell of which its names were recorded.
+/// A set of objects, and a recorded cell that has its names.
 #[derive(Clone, Copy)]
 struct Met {
     objects: NumberSet,
     cell: usize,
 }
 
-/// The sets that are kept in mind, by places.
+/// The remembered sets, each at its place.
 #[derive(Clone, Copy)]
 struct MetSets {
     slots: [Option<Met>; ROOM],
 }
 
 impl MetSets {
-    /// The set that is kept in a place.
+    /// The set that is remembered at a place.
     fn at(&self, place: usize) -> &Option<Met>
         requires { place < ROOM }
         ensures { result.now ≡ slice_index_or self.now.slots place None }
@@ -40,7 +40,7 @@ impl MetSets {
         &self.slots[place]
     }
 
-    /// Keeps a set in a place, instead of what was there.
+    /// Remembers a set at a place, and forgets what was there.
     fn put(&mut self, place: usize, met: Met)
         requires { place < ROOM }
         ensures { self.new.slots ≡ slice_set self.old.slots place (Some met) }
@@ -49,8 +49,8 @@ impl MetSets {
     }
 }
 
-/// The names of a game's objects, and those that were recorded. A set that has the names of a cell is kept in mind, so that it is compared once
-/// with names that many cells share.
+/// The names of a game's objects, and those that were recorded. A set that has the names of a cell is remembered, so that it is compared
+/// only once with names that many cells share.
 #[derive(Drop)]
 pub(crate) struct Naming<'a> {
     objects: &'a [Name],
@@ -121,7 +121,7 @@ fn has_names(objects: &[Name], standing: &NumberSet, names: &CellNames) -> bool
     is_within(objects, standing, names) && has_all(objects, standing, names)
 }
 
-/// The place of a set: by the last of its objects whose number is below 128.
+/// The place of a set. It depends on the last object of the set with a number below 128.
 fn place_of(objects: &NumberSet) -> usize
     ensures { result < ROOM }
 {
@@ -141,7 +141,7 @@ impl<'a> Naming<'a> {
         }
     }
 
-    /// Whether it was seen that a set has the names of a cell.
+    /// Whether it is remembered that a set has the names of a cell.
     fn is_met(&self, objects: &NumberSet, cell: usize) -> bool
         requires { cell < length self.now.recorded }
         ensures { (result ≡ true) → has_names self.now.objects objects.now (slice_index_or self.now.recorded cell []) ≡ true }
@@ -153,7 +153,7 @@ impl<'a> Naming<'a> {
         }
     }
 
-    /// Keeps in mind that a set has the names of a cell.
+    /// Remembers that a set has the names of a cell.
     fn keep(&mut self, objects: NumberSet, cell: usize)
         requires within { cell < length self.old.recorded }
         requires named { has_names self.old.objects objects (slice_index_or self.old.recorded cell []) ≡ true }

@@ -1,4 +1,4 @@
-//! The text of one level, which reads back.
+//! The text of one level, written so that it reads back.
 
 ghost use Rattle.std.specs.Prelude.{◌≡◌, IfOk, Some};
 ghost use Rattle.pz_level_text.specs.LevelNames.{sets_in};
@@ -12,7 +12,8 @@ use pz_grid::Level;
 use pz_record::order::Order;
 use std::alloc::{AllocError, Global};
 
-/// The text of a level, which stands by itself: as a `TextWriter` writes it that has met nothing yet.
+/// The text of a level, as `TextWriter` writes it but not quoted. If no object has a comma in its name, reading it gives the names of each
+/// cell. Err: memory was refused.
 pub fn level_text(
     alloc: Global,
     game: &Game,

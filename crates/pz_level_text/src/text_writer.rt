@@ -19,9 +19,9 @@ use pz_record::text_room::TextRoom;
 use std::alloc::{AllocError, Global};
 use std::marker::Model;
 
-/// Writes the texts of the levels of a game, its cells in an order. It remembers what it met: the sets of objects, the last level as it was
-/// seen, and its text. So only the cells that changed since are looked at, and the text of a level of which no cell changed isn't made again.
-/// The room has that text if `last` has the width of its level.
+/// Writes the texts of a game's levels, with the cells in an order. It remembers the sets of objects seen so far, the last level, and its
+/// text. So only changed cells are looked at, and the text of a level without a changed cell isn't made again. `room` has the last text if
+/// `last` has the width of its level.
 pub struct TextWriter<'a> {
     alloc: Global,
     cells: CellLabels<'a>,
@@ -30,7 +30,7 @@ pub struct TextWriter<'a> {
     last: Option<u32>,
 }
 
-/// Written out, so that each place where one goes out of scope is one call.
+/// Written out: where one goes out of scope, the prover then sees one call.
 impl Drop for TextWriter<'_> {
     fn drop(self) {
         let TextWriter {
@@ -57,8 +57,8 @@ impl<'a> Model for TextWriter<'a> {
     ghost invariant = { λ t. IfSome t.seen (λ seen. t.cells.cells ≡ texts_in t.cells.table.game t.cells.order seen.grid) × IfSome t.last (λ width. IsTextOf t.cells.cells width t.room) };
 }
 
-/// Writes the text of cells into the room, where it isn't there yet: it stays there, and what is handed out is a copy, since a recording
-/// keeps it.
+/// Writes the text of cells into the room, unless it is there already. It stays there: callers get copies, because a recording keeps its
+/// texts.
 fn fill(
     room: &mut TextRoom,
     last: &mut Option<u32>,
@@ -81,7 +81,7 @@ fn fill(
     }
 }
 
-/// The text of cells, not quoted. It isn't kept.
+/// The text of cells, not quoted. No copy of it is kept.
 fn plain(alloc: Global, cells: &CellLabels<'_>, width: u32) -> Result<Text, AllocError>
     requires { 0 < width }
     ensures { IfOk result (λ text. text ≡ text_of_cells width cells.now.cells) }
@@ -103,7 +103,7 @@ impl<'a> TextWriter<'a> {
         }
     }
 
-    /// Looks at each cell of a level.
+    /// Labels each cell of a level. Err: memory was refused.
     fn look_at_all(&mut self, level: &Level) -> Result<(), AllocError>
         ensures cells { OnOk result (self.new.cells ≡ texts_in self.old.table.game self.old.order level.now.grid) }
         ensures game { self.new.table.game ≡ self.old.table.game }
@@ -117,7 +117,7 @@ impl<'a> TextWriter<'a> {
         Ok(())
     }
 
-    /// Looks at each cell of a level that has changed since it was seen.
+    /// Labels each cell that has changed since the level was seen. Err: memory was refused.
     fn look_at_changes(&mut self, seen: BareLevel, level: &Level) -> Result<(), AllocError>
         requires size { SameSize seen.grid level.now.grid }
         requires known { self.old.cells ≡ texts_in self.old.table.game self.old.order seen.grid }
@@ -136,7 +136,7 @@ impl<'a> TextWriter<'a> {
         Ok(())
     }
 
-    /// Looks at a level.
+    /// Labels the cells of a level, after another of its size only those that differ. Err: memory was refused.
     fn look_over(&mut self, level: &Level) -> Result<(), AllocError>
         ensures cells { OnOk result (self.new.cells ≡ texts_in self.old.table.game self.old.order level.now.grid) }
         ensures game { self.new.table.game ≡ self.old.table.game }
@@ -148,8 +148,10 @@ impl<'a> TextWriter<'a> {
         }
     }
 
-    /// The text of a level, quoted: for each cell, in this order, the names of its objects, sorted by their bytes, and the next number from
-    /// 0, or where an earlier cell has the same names that number; a line break after as many cells as the level is wide.
+    /// The text of a level, as a JSON string. The cells come in the writer's order, each with a comma after it. The first cell with a set
+    /// of names has the names, sorted by their bytes and separated by spaces, then a colon and the next number from 0. A further cell with
+    /// the same names has only that number. A line break comes after as many cells as the level is wide, in either order. Err: memory was
+    /// refused.
     pub fn write(&mut self, level: &Level) -> Result<QuotedText, AllocError>
         ensures text { IfOk result (λ text. text ≡ text_of_level self.old.table.game self.old.order level.now.grid) }
         ensures game { self.new.table.game ≡ self.old.table.game }
@@ -161,7 +163,7 @@ impl<'a> TextWriter<'a> {
         Ok(text)
     }
 
-    /// The same text, not quoted, for who reads it again.
+    /// The same text, not quoted, for callers that read it back.
     pub fn write_plain(&mut self, level: &Level) -> Result<Text, AllocError>
         ensures text { IfOk result (λ text. text ≡ text_of_level self.old.table.game self.old.order level.now.grid) }
         ensures game { self.new.table.game ≡ self.old.table.game }

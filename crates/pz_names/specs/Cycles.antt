@@ -28,10 +28,10 @@ IsChain meanings (x ∷ y ∷ rest) = (list_any (λ p. p == y) (parts_at meaning
 abbrev pub LeadsTo : List Meaning → ℕ → ℕ → Type 0
 LeadsTo meanings from to = (between : List ℕ) × IsChain meanings (from ∷ (between ++ to ∷ []))
 
--- a line whose name reaches itself; the lines' names have the numbers from `first` on
+-- the fault of a line whose name reaches itself; the lines' names are numbered from `first` on
 abbrev pub reaches_itself : ℕ → List Meaning → List Definition → Definition → Option Code
 reaches_itself first meanings before definition = if is_on_cycle meanings (first + length before) then Some code.BadLegend else None
 
--- the names that are found after a look at the name that was found at a place: its parts, repeats dropped
+-- the names found after a look at the one found at this place: its parts are added, and repeats dropped
 abbrev pub looked : List Meaning → ℕ → List ℕ → List ℕ
 looked meanings place found = option_map_or (λ next. with_mentions found (parts_at meanings next)) (slice_get found place) found

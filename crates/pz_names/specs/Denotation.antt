@@ -6,7 +6,7 @@ use Rattle.pz_game.specs.declared.denotation.Denotation.{Denotation}
 use Rattle.pz_names.specs.declared.meaning.Meaning.{Meaning}
 use Rattle.pz_names.specs.declared.meaning.Meaning.TheVariants.{Itself, Same, AllOf, AnyOf}
 
--- one more mention: a number that is there already is not put there again
+-- one more mention: a number that is there already isn't added again
 abbrev pub with_mention : List ℕ → ℕ → List ℕ
 with_mention mentions number = if list_any (λ other. other == number) mentions then mentions else mentions ++ number ∷ []
 
@@ -14,18 +14,18 @@ with_mention mentions number = if list_any (λ other. other == number) mentions 
 abbrev pub with_mentions : List ℕ → List ℕ → List ℕ
 with_mentions mentions more = fold with_mention mentions more
 
--- the marks tell which of the numbers below their count are mentioned
+-- the marks show which of the numbers below their count are mentioned
 abbrev pub AreMarked : List Bool → List ℕ → Type 0
 AreMarked marks mentions = (k : ℕ) → k < length marks → unwrap_or (slice_get marks k) false ≡ list_any (λ other. other == k) mentions
 
--- the members of the parts in the order of first mention, where each part is known
+-- the members of the parts in the order of first mention, if each part is known
 abbrev pub gathered : (ℕ → Option Denotation) → List ℕ → List ℕ → Option (List ℕ)
 gathered known mentions [] = Some mentions
 gathered known mentions (part ∷ parts) = option_and_then (λ d. gathered known (with_mentions mentions d.members) parts) (known part)
 
--- What a line says of the name with a number, where `known` says what the names on its right denote. An object has itself; a
--- synonym has all that the name has that it stands for, that name's number too; a property or an aggregate has the members of its
--- parts, and its own number. All names of one object have the number of the first of them.
+-- What the line of the name of this number makes it denote; `known` has what the names on its right denote. An object has
+-- itself as its only member. A synonym has the kind, the members and the number of the name that it stands for. A property or
+-- an aggregate has the members of its parts, and its own number. All names of one object have the number of the first of them.
 abbrev pub denotation_of : (ℕ → Option Denotation) → ℕ → Meaning → Option Denotation
 denotation_of known number (Itself place first) = Some (record { kind = Object; members = place ∷ []; number = first })
 denotation_of known number (Same other) = known other
@@ -35,20 +35,20 @@ denotation_of known number (AnyOf parts) = option_map (λ ms. record { kind = Pr
 abbrev pub denotation_next : (ℕ → Option Denotation) → List Meaning → ℕ → Option Denotation
 denotation_next known meanings number = option_and_then (denotation_of known number) (slice_get meanings number)
 
--- what a name denotes, where a chain of at most this many lines leads to objects
+-- what a name denotes, if chains of at most this many lines lead from it to objects
 unfoldable pub value_at : ℕ → List Meaning → ℕ → Option Denotation
 value_at zero meanings number = None
 value_at (suc n) meanings number = denotation_next (value_at n meanings) meanings number
 
--- what each name denotes, in the order of the names, where each denotes something
+-- what the names denote, in their order; names that denote nothing are left out
 abbrev pub values_of : List Meaning → List Denotation
 values_of meanings = filter_map (value_at (length meanings) meanings) (range_with_len 0 (length meanings))
 
--- the entry of a table of names at a number
+-- the entry of a table at a number, if there is one
 abbrev pub known_at : List (Option Denotation) → ℕ → Option Denotation
 known_at table number = option_and_then (λ entry. entry) (slice_get table number)
 
--- where one assignment says what a name denotes, the other says the same
+-- whatever the first assignment gives a name, the second gives it too
 abbrev pub IsBelow : (ℕ → Option Denotation) → (ℕ → Option Denotation) → Type 0
 IsBelow f g = (k : ℕ) (d : Denotation) → f k ≡ Some d → g k ≡ Some d
 
@@ -56,8 +56,8 @@ IsBelow f g = (k : ℕ) (d : Denotation) → f k ≡ Some d → g k ≡ Some d
 abbrev pub settled : (ℕ → Option Denotation) → ℕ → Meaning → Option Denotation
 settled known number meaning = if is_some (known number) then known number else denotation_of known number meaning
 
--- What is known after the lines of the names below `count` were looked at, one after the other: all that was known, only what the
--- lines say, and at least what they said before; where nothing was found, these lines say nothing new.
+-- What is known after a look at the lines of the names below `count`, in order. It has all that was known before, only what the
+-- lines say, and at least what they said before the look. If nothing was found, these lines say nothing new.
 pub record IsRound (meanings : List Meaning) (old new : ℕ → Option Denotation) (count : ℕ) (found : Bool) : Type 0 where
   pub kept : IsBelow old new
   pub sound : (g : ℕ → Option Denotation) → ((k : ℕ) → denotation_next g meanings k ≡ g k) → IsBelow old g → IsBelow new g

@@ -18,13 +18,14 @@ abbrev pub sides : List ℕ → Option (List ℕ × List ℕ)
 sides [] = None
 sides (c ∷ cs) = option_map (λ at. (take (at + 1) (c ∷ cs), drop (at + 1) cs)) (position (λ d. d == 61) cs)
 
--- the parts behind those before them, where each two have the joint between them
+-- the first, third, fifth name and so on, after those in `before`, if the joint stands between each two of them
 abbrev pub joined : List ℕ → List (List ℕ) → List (List ℕ) → Option (List (List ℕ))
 joined joint before [] = None
 joined joint before (part ∷ []) = Some (before ++ part ∷ [])
 joined joint before (part ∷ other ∷ more) = if bytes_eq other joint then joined joint (before ++ part ∷ []) more else None
 
--- what the right side says: a name alone, a synonym; parts that are joined by `and`, an aggregate, or by `or`, a property
+-- what the right side says: a name alone is a synonym, parts joined by `and` are an aggregate, and parts joined by `or` a
+-- property
 abbrev pub said_by : List (List ℕ) → Option Said
 said_by [] = None
 said_by (only ∷ []) = Some (Same only)
@@ -32,13 +33,13 @@ said_by (part ∷ joint ∷ more) =
     if bytes_eq joint (codes "and") then option_map (λ parts. AllOf parts) (joined (codes "and") [] (part ∷ joint ∷ more))
     else option_map (λ parts. AnyOf parts) (joined (codes "or") [] (part ∷ joint ∷ more))
 
--- the left side is one name
+-- the definition that both sides make, if the left side is one name
 abbrev pub defined_by : ℕ → List (List ℕ) → List (List ℕ) → Option Definition
 defined_by number [] right = None
 defined_by number (name ∷ []) right = option_map (λ said. record { number = number; name = name; said = said }) (said_by right)
 defined_by number (name ∷ other ∷ more) right = None
 
--- the definition that a line holds, if it has the form of one
+-- the definition on a line, if the line has the form of one
 abbrev pub definition_of : Line → Option Definition
 definition_of line = option_and_then (λ both. defined_by line.number (names_of both.0) (names_of both.1)) (sides line.text)
 
@@ -61,22 +62,22 @@ names_in (Same name) = name ∷ []
 names_in (AllOf parts) = parts
 names_in (AnyOf parts) = parts
 
--- where 1,024 names are there, no further one may be
+-- there are 1,024 names already, and no more are allowed
 abbrev pub is_full : List (List ℕ) → Bool
 is_full names = nat_le MAX_NAMES (length names)
 
--- a line that is no definition, or one of a name that is there already, or of one name too many
+-- the fault of a line that is no definition, defines a name that is there already, or defines one name too many
 abbrev pub misnames_by : List (List ℕ) → Option Definition → Option Code
 misnames_by there None = Some code.BadLegend
 misnames_by there (Some definition) =
     if is_name_of there definition.name then Some code.Duplicate
     else (if is_full there then Some code.TooLarge else None)
 
--- blank lines are skipped; the names that are there come from OBJECTS and from the lines above
+-- the same of any line: blank lines are skipped, and the names come from OBJECTS and from the lines above
 abbrev pub misnames : List (List ℕ) → List Line → Line → Option Code
 misnames objects before line = if is_blank line then None else misnames_by (objects ++ defined before) (definition_of line)
 
--- a line with a part that isn't a name
+-- the fault of a line with an unknown name on its right
 abbrev pub speaks_of_unknown : List (List ℕ) → List Definition → Definition → Option Code
 speaks_of_unknown names before definition =
     if list_any (λ part. not (is_name_of names part)) (names_in definition.said) then Some code.Unknown else None

@@ -1,4 +1,4 @@
--- OBJECTS: its objects, and the names that they have.
+-- OBJECTS: its objects, and their names.
 use Rattle.std.specs.Prelude.{ℕ, zero, suc, ◌-◌, Bool, false, not, ◌&&◌, ◌||◌, ◌==◌, if◌then◌else◌, nat_lt, nat_le, List, [], ◌∷◌, ◌++◌, length, drop, map, Option, Some, None, Result, Ok, All, ◌<◌}
 use Rattle.std.specs.List.{flat_map, list_all}
 use Rattle.std.specs.Char.{is_ascii_digit, is_whitespace}
@@ -19,7 +19,7 @@ use Rattle.pz_names.specs.declared.objects.TheConstants.{MAX_NAMES}
 abbrev pub object_names : List NameLine → List (List ℕ)
 object_names objects = flat_map (λ line. line.names) objects
 
--- white space alone
+-- only white space
 abbrev pub is_blank : Line → Bool
 is_blank line = list_all is_whitespace line.text
 
@@ -27,11 +27,11 @@ is_blank line = list_all is_whitespace line.text
 abbrev pub is_pixel : ℕ → Bool
 is_pixel c = c == 46 || is_ascii_digit c
 
--- digits and dots alone
+-- only digits and dots
 abbrev pub is_sprite_row : Line → Bool
 is_sprite_row line = not (is_blank line) && list_all is_pixel line.text
 
--- the sprite rows at the front, of which no more than so many are taken
+-- the sprite rows at the front, at most `most` of them
 abbrev pub sprite_rows : ℕ → List Line → List Line
 sprite_rows most [] = []
 sprite_rows most (line ∷ lines) = if is_sprite_row line && nat_lt 0 most then line ∷ sprite_rows (most - 1) lines else []
@@ -44,13 +44,12 @@ is_wide row = length row.text == 5
 abbrev pub is_sprite : List Line → Bool
 is_sprite rows = length rows == 0 || (length rows == 5 && list_all is_wide rows)
 
--- The lines behind a name line are as they should be: the line of colours, of any words, stands directly behind it, and
--- then a sprite.
+-- The lines after a name line have the right form: first a line of colours, which may be any words, and then a sprite or none.
 abbrev pub is_whole : List Line → Bool
 is_whole [] = false
 is_whole (colours ∷ lines) = not (is_blank colours) && is_sprite (sprite_rows 5 lines)
 
--- the lines behind a name line, its colours and its sprite rows
+-- what is left of the lines after a name line, without its colours and its sprite rows
 abbrev pub behind_paragraph : List Line → List Line
 behind_paragraph [] = []
 behind_paragraph (colours ∷ lines) = if is_blank colours then colours ∷ lines else drop (length (sprite_rows 5 lines)) lines
@@ -58,8 +57,8 @@ behind_paragraph (colours ∷ lines) = if is_blank colours then colours ∷ line
 abbrev pub paragraph_of : Line → List Line → Paragraph
 paragraph_of line lines = record { line = record { number = line.number; names = names_of line.text }; is_whole = is_whole lines }
 
--- The paragraphs of lines, at most so many: a line that isn't blank is a name line, and begins one. Blank lines may stand
--- between paragraphs.
+-- The paragraphs of these lines, in at most `most` steps. A line that isn't blank is a name line, and begins a paragraph. Blank
+-- lines may stand between paragraphs.
 abbrev pub paragraphs_within : ℕ → List Line → List Paragraph
 paragraphs_within zero lines = []
 paragraphs_within (suc most) [] = []
@@ -75,13 +74,13 @@ name_line_of paragraph = paragraph.line
 abbrev pub paragraph_at : Paragraph → ℕ
 paragraph_at paragraph = paragraph.line.number
 
--- one of the names is among those above, or stands before itself
+-- one of the names is among those above, or is repeated
 abbrev pub has_repeat : List (List ℕ) → List (List ℕ) → Bool
 has_repeat above [] = false
 has_repeat above (name ∷ names) = is_name_of above name || has_repeat (above ++ name ∷ []) names
 
--- what is wrong with a paragraph below so many others, which have these names: its form, a name that is there already, or that
--- there are too many objects or names
+-- what is wrong with a paragraph: its form, a name that is there already, or too many objects or names; `count` paragraphs
+-- stand above it, and `above` are their names
 abbrev pub misnamed : List (List ℕ) → ℕ → Paragraph → Option Code
 misnamed above count paragraph =
     if not paragraph.is_whole then Some code.BadObject
@@ -96,6 +95,6 @@ misnames before paragraph = misnamed (object_names (map name_line_of before)) (l
 abbrev pub objects_of : List Line → Result (List NameLine) SourceFault
 objects_of lines = unless (first_fault paragraph_at misnames [] (paragraphs_of lines)) (Ok (map name_line_of (paragraphs_of lines)))
 
--- a line of names has one, and all are words
+-- a name line has a name, and all its names are words
 abbrev pub IsNamed : NameLine → Type 0
 IsNamed line = (0 < length line.names) × All IsWord line.names

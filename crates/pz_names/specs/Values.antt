@@ -17,11 +17,12 @@ use Rattle.pz_names.specs.declared.meaning.Meaning.{Meaning}
 abbrev pub names_of_source : List NameLine → List Definition → List (List ℕ)
 names_of_source objects definitions = object_names objects ++ map (λ d. d.name) definitions
 
--- what the lines say of their names
+-- what the lines say about their names
 abbrev pub meanings_of_source : List NameLine → List Definition → List Meaning
 meanings_of_source objects definitions = meanings_of objects (names_of_source objects definitions) definitions
 
--- the fault of definitions of new names: first a part that isn't a name, then a name that reaches itself, then a mixture of kinds
+-- the first fault of definitions with new names: an unknown name on the right, then a name that reaches itself, then a mixture
+-- of kinds
 abbrev pub fault_of_definitions : List NameLine → List Definition → Option SourceFault
 fault_of_definitions objects definitions =
     let names = names_of_source objects definitions in
@@ -30,7 +31,7 @@ fault_of_definitions objects definitions =
     (or_else (first_fault line_at (reaches_itself (length (object_names objects)) meanings) [] definitions)
     (first_fault line_at (mixes (kind_in names (values_of meanings))) [] definitions))
 
--- the fault of the lines of LEGEND
+-- the first fault of the lines of LEGEND
 abbrev pub fault_of_legend : List NameLine → List Line → Option SourceFault
 fault_of_legend objects lines =
     or_else (first_fault line_number (misnames (object_names objects)) [] lines) (fault_of_definitions objects (definitions_of lines))

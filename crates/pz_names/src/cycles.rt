@@ -15,7 +15,7 @@ use pz_base::fault::{Code, SourceFault};
 use pz_game::denotation::Denotation;
 use std::alloc::{AllocError, Global};
 
-/// The parts of a name, none where there is no such name.
+/// The parts of a name, or none if there is no such name.
 fn parts_at(meanings: &[Meaning], number: usize) -> &[usize]
     ensures { result.now ≡ parts_at meanings.now number }
 {
@@ -25,7 +25,7 @@ fn parts_at(meanings: &[Meaning], number: usize) -> &[usize]
     }
 }
 
-/// Looks at the name that was found at a place, if there is one: its parts are put behind those that are found.
+/// Looks at the name found at this place, if there is one, and adds its parts to the names found. Repeats are dropped.
 fn look(
     found: &mut Vec<usize>,
     marks: &mut [bool],
@@ -42,8 +42,8 @@ fn look(
     add_mentions(found, marks, parts_at(meanings, next))
 }
 
-/// Whether the lines lead from a name back to it, where no line speaks of an unknown name: all names that it leads to are found,
-/// each once.
+/// Whether the lines lead from a name back to itself. It finds all names that the name leads to, each once. No line may name something
+/// unknown.
 pub fn is_on_cycle(alloc: Global, meanings: &[Meaning], number: usize) -> Result<bool, AllocError>
     requires { StaysInside meanings.now }
     ensures { IfOk result (λ r. r ≡ is_on_cycle meanings.now number) }
@@ -58,7 +58,7 @@ pub fn is_on_cycle(alloc: Global, meanings: &[Meaning], number: usize) -> Result
     Ok(is_mentioned(found.as_slice(), marks, number))
 }
 
-/// Whether a name reaches itself, where `known` says what names denote: a name that denotes something doesn't.
+/// Whether a name reaches itself. `known` has what each name denotes, and a name that denotes something doesn't reach itself.
 fn lies_on_cycle(
     alloc: Global,
     meanings: &[Meaning],
@@ -75,7 +75,7 @@ fn lies_on_cycle(
     is_on_cycle(alloc, meanings, number)
 }
 
-/// The first line whose name reaches itself, where `first` is the number of the first line's name.
+/// `BadLegend` at the first line whose name reaches itself. `first` is the number of the first line's name.
 pub fn circle(
     alloc: Global,
     first: usize,
@@ -100,14 +100,14 @@ pub fn circle(
     Ok(None)
 }
 
-/// In lines that stay inside the table and have no cycle, every name denotes something.
+/// If no line names something unknown and no name reaches itself, every name denotes something.
 pub fn every_name_denotes(meanings: &[Meaning])
     requires inside { StaysInside meanings.now }
     requires acyclic { (k : ℕ) → is_on_cycle meanings.now k ≡ false }
     ensures { (k : ℕ) → k < length meanings.now → value_at (length meanings.now) meanings.now k ≢ None }
 {}
 
-/// A name reaches itself within the number of names exactly if some chain of definitions leads back to it.
+/// A name reaches itself, in at most as many steps as there are names, exactly if some chain of definitions leads back to it.
 pub fn circles_are_chains(meanings: &[Meaning], number: usize)
     ensures leads { is_on_cycle meanings.now number ≡ true → LeadsTo meanings.now number number }
     ensures found { LeadsTo meanings.now number number → is_on_cycle meanings.now number ≡ true }

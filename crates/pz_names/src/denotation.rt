@@ -11,7 +11,7 @@ use pz_game::denotation::{Denotation, Kind};
 use pz_game::limits::MAX_OBJECTS;
 use std::alloc::{AllocError, Global};
 
-/// Whether a number is mentioned; the marks answer it for those below their count.
+/// Whether a number is mentioned. Numbers below the count of the marks are looked up there.
 pub fn is_mentioned(mentions: &[usize], marks: &[bool], number: usize) -> bool
     requires { AreMarked marks.now mentions.now }
     ensures { result ≡ list_any (λ other. other == number) mentions.now }
@@ -41,7 +41,7 @@ fn add_mention(
     Ok(())
 }
 
-/// Puts numbers behind those that are mentioned, repeats dropped.
+/// Adds numbers to those that are mentioned. Repeats are dropped.
 pub fn add_mentions(
     mentions: &mut Vec<usize>,
     marks: &mut [bool],
@@ -57,7 +57,7 @@ pub fn add_mentions(
     Ok(())
 }
 
-/// Marks for a count of numbers, none of which is mentioned yet.
+/// Marks for this many numbers, none of them mentioned yet.
 pub fn no_marks(alloc: Global, count: usize) -> Result<Vec<bool>, AllocError>
     ensures none { IfOk result (λ marks. AreMarked marks.items []) }
     ensures count { IfOk result (λ marks. length marks.items ≡ count) }
@@ -65,7 +65,7 @@ pub fn no_marks(alloc: Global, count: usize) -> Result<Vec<bool>, AllocError>
     vec![in alloc; false; count]
 }
 
-/// The entry of a table of names at a number.
+/// What the name of this number denotes, if it is known.
 pub fn entry(known: &[Option<Denotation>], number: usize) -> Option<&Denotation>
     ensures { option_copied result ≡ known_at known.now number }
 {
@@ -75,8 +75,8 @@ pub fn entry(known: &[Option<Denotation>], number: usize) -> Option<&Denotation>
     }
 }
 
-/// Puts the members of all parts behind those that are mentioned, in order of first mention, as far as the parts are known.
-/// Answers whether all are.
+/// Adds the members of the parts to those that are mentioned, in order of first mention, up to the first part that isn't known. True: all
+/// parts are known.
 fn gather(
     mentions: &mut Vec<usize>,
     marks: &mut [bool],
@@ -95,7 +95,7 @@ fn gather(
     Ok(true)
 }
 
-/// The members of all parts, in order of first mention, where each part is known.
+/// The members of all parts, in order of first mention, if each part is known.
 fn gathered(
     alloc: Global,
     parts: &[usize],
@@ -112,7 +112,7 @@ fn gathered(
     }
 }
 
-/// What the name with a number denotes that is an aggregate or a property of parts, where each part is known.
+/// What the name of this number denotes, if it is an aggregate or a property of parts that are all known.
 fn group(
     alloc: Global,
     kind: Kind,
@@ -132,7 +132,7 @@ fn group(
     }))
 }
 
-/// What a line says of the name with a number, as far as the names on its right are known.
+/// What the line of the name of this number makes it denote, if the names on its right are known.
 fn denote(
     alloc: Global,
     number: usize,
@@ -160,22 +160,22 @@ fn denote(
     }
 }
 
-/// Whether it is known of each of the names what it denotes.
+/// Whether it is known what each of the names denotes.
 fn are_known(parts: &[usize], known: &[Option<Denotation>]) -> bool
     ensures { result ≡ list_all (λ part. is_some (known_at known.now part)) parts.now }
 {
     parts.iter().all(|part| entry(known, *part).is_some())
 }
 
-/// Whether a look at the line of a name finds nothing: it is known what it denotes, or not what a name on its right denotes.
+/// Whether a look at the line of a name finds nothing: either what the name denotes is known already, or a name on its right isn't known
+/// yet.
 fn is_settled(number: usize, meaning: &Meaning, known: &[Option<Denotation>]) -> bool
     ensures { result ≡ (is_some (known_at known.now number) || not (list_all (λ part. is_some (known_at known.now part)) (parts_of meaning.now))) }
 {
     entry(known, number).is_some() || !are_known(meaning.parts(), known)
 }
 
-/// Looks at the line of a name: what it denotes is noted if it is not known yet, and the names on its right are. Answers whether it
-/// was noted.
+/// Looks at the line of a name. What the name denotes is noted if it isn't known yet and the names on its right are. True: it was noted.
 fn settle(
     alloc: Global,
     number: usize,
@@ -194,7 +194,7 @@ fn settle(
     Ok(true)
 }
 
-/// Looks at each line once. Answers whether something was noted.
+/// Looks at each line once, and says whether something was noted.
 fn round(
     alloc: Global,
     meanings: &[Meaning],
@@ -211,7 +211,7 @@ fn round(
     Ok(found)
 }
 
-/// Notes what each name denotes, in rounds, until one finds nothing.
+/// Notes what each name denotes, in rounds over all lines, until one finds nothing.
 fn fill(
     alloc: Global,
     meanings: &[Meaning],
@@ -241,7 +241,7 @@ fn nothing_known(alloc: Global, count: usize) -> Result<Vec<Option<Denotation>>,
     Ok(known)
 }
 
-/// What every name denotes, where no line speaks of an unknown name.
+/// What each name denotes, or `None` for a name that leads to itself or to such a name. No line may name something unknown.
 pub fn denotations(
     alloc: Global,
     meanings: &[Meaning],
@@ -255,8 +255,8 @@ pub fn denotations(
     Ok(known)
 }
 
-/// What names denote is the least assignment that satisfies each line of OBJECTS and LEGEND: it satisfies them, and whatever
-/// satisfies them says the same where it says something.
+/// What names denote is the least assignment that satisfies each line of OBJECTS and LEGEND: it satisfies them, and any other assignment
+/// that does gives the same to each name that denotes something here.
 pub fn values_are_least(meanings: &[Meaning])
     requires { StaysInside meanings.now }
     ensures lawful { (k : ℕ) → denotation_next (value_at (length meanings.now) meanings.now) meanings.now k ≡ value_at (length meanings.now) meanings.now k }

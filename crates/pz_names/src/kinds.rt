@@ -34,7 +34,7 @@ fn is_of_kind(kind: Kind, found: Option<Kind>) -> bool
     }
 }
 
-/// Whether one of the names is of a kind.
+/// Whether one of the names is of this kind.
 pub fn has_kind(names: &NameSet, values: &[Denotation], kind: Kind, parts: &[Name]) -> bool
     ensures { result ≡ list_any (λ part. is_of_kind kind (kind_in names.now values.now part)) parts.now }
 {
@@ -44,7 +44,7 @@ pub fn has_kind(names: &NameSet, values: &[Denotation], kind: Kind, parts: &[Nam
 }
 
 impl Said {
-    /// Whether an aggregate is among the parts of a property, or a property among those of an aggregate.
+    /// Whether a property has an aggregate among its parts, or an aggregate a property.
     fn mixes(&self, names: &NameSet, values: &[Denotation]) -> bool
         ensures { result ≡ is_mixed (kind_in names.now values.now) self.now }
     {
@@ -56,7 +56,7 @@ impl Said {
     }
 }
 
-/// The first line with an aggregate in a property, or a property in an aggregate.
+/// `Mixed` at the first line with an aggregate in a property, or a property in an aggregate.
 pub fn mixture(
     names: &NameSet,
     values: &[Denotation],

@@ -34,7 +34,7 @@ impl Drop for Said {
     }
 }
 
-/// A line of LEGEND: its number, the name that it defines, and what it says of it.
+/// A line of LEGEND: its number, the name that it defines, and its right side.
 pub struct Definition {
     pub number: u32,
     pub name: Name,
@@ -72,7 +72,7 @@ fn sides<'a>(text: &'a [char]) -> Option<(&'a [char], &'a [char])>
     }
 }
 
-/// The names at the odd places, if there is one and each name between them is the joint.
+/// The first, third, fifth name and so on, if there is one and the joint stands between each two of them.
 fn joined(alloc: Global, names: &[Name], joint: &str) -> Result<Option<Listed<Name>>, AllocError>
     ensures { IfOk result (λ parts. parts ≡ joined joint.now [] names.now) }
 {
@@ -107,7 +107,7 @@ fn said_by(alloc: Global, right: &[Name]) -> Result<Option<Said>, AllocError>
     }
 }
 
-/// The definition of a line with a number by the names on its two sides, if it has the form of one.
+/// The definition that the names on the two sides of a line make, if they have the form of one.
 fn defined_by(
     alloc: Global,
     number: u32,
@@ -126,7 +126,7 @@ fn defined_by(
     Ok(Some(Definition { number, name, said }))
 }
 
-/// The definition that a line holds, if it has the form of one.
+/// The definition on a line, if the line has the form of one.
 fn read_definition(alloc: Global, line: &Line) -> Result<Option<Definition>, AllocError>
     ensures { IfOk result (λ definition. definition ≡ definition_of line.now) }
 {
@@ -138,7 +138,7 @@ fn read_definition(alloc: Global, line: &Line) -> Result<Option<Definition>, All
     defined_by(alloc, line.number, left.items(), right.items())
 }
 
-/// Puts the name of a definition behind those that are there, or says what is wrong with it, at the line with a number.
+/// Adds the name of a definition, or gives the fault at the line of this number: `Duplicate` or `TooLarge`.
 fn note_name(
     alloc: Global,
     names: &mut NameSet,
@@ -168,7 +168,7 @@ fn note_name(
     Ok(())
 }
 
-/// The definition that a line holds, whose name is put behind those that are there; or the line's fault.
+/// Reads the definition on a line, and adds its name; or gives the line's fault.
 fn new_definition(
     alloc: Global,
     names: &mut NameSet,
@@ -191,7 +191,7 @@ fn new_definition(
     Ok(definition)
 }
 
-/// Reads a line that may be blank: its definition is put behind the others, and its name behind those that are there.
+/// Reads a line that may be blank, and adds its definition and its name.
 fn define(
     alloc: Global,
     names: &mut NameSet,
@@ -213,8 +213,8 @@ fn define(
     Ok(())
 }
 
-/// The definitions of LEGEND, whose names are put behind those that are there; or the first line that is none (BadLegend), gives
-/// a name that is there already (Duplicate), or gives one name too many (TooLarge).
+/// Reads the definitions of LEGEND, and adds their names. Or the fault of the first line that is no definition (`BadLegend`), defines a
+/// name that is there already (`Duplicate`), or one name too many (`TooLarge`).
 pub fn definitions(
     alloc: Global,
     names: &mut NameSet,
@@ -244,7 +244,7 @@ impl Said {
         }
     }
 
-    /// Whether a part isn't a name.
+    /// Whether a name on the right is unknown.
     fn speaks_beyond(&self, names: &NameSet) -> bool
         ensures { result ≡ list_any (λ part. not (is_name_of names.now part)) (names_in self.now) }
     {
@@ -252,14 +252,14 @@ impl Said {
     }
 }
 
-/// Whether one of the texts isn't a name.
+/// Whether one of the names is unknown.
 pub fn has_unknown(names: &NameSet, parts: &[Name]) -> bool
     ensures { result ≡ list_any (λ part. not (is_name_of names.now part)) parts.now }
 {
     parts.iter().any(|part| !names.contains(part.as_str()))
 }
 
-/// The first line with a part that isn't a name.
+/// `Unknown` at the first line with an unknown name on its right.
 pub fn unknown_part(names: &NameSet, definitions: &[Definition]) -> Option<SourceFault>
     ensures first { result ≡ first_fault line_at (speaks_of_unknown names.now) [] definitions.now }
     ensures code { IfSome result (λ fault. fault.code ≡ code.Unknown) }

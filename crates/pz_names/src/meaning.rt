@@ -1,4 +1,4 @@
-//! What the lines of OBJECTS and LEGEND say of their names, by the numbers of the names.
+//! What the lines of OBJECTS and LEGEND say about their names, by the numbers of the names.
 
 ghost use Rattle.std.specs.Prelude.{◌≡◌, ◌++◌, ◌∷◌, [], IfOk, OnOk, map, length};
 ghost use Rattle.pz_names.specs.declared.meaning.Meaning.TheVariants.{Itself};
@@ -11,8 +11,8 @@ use pz_base::name::Name;
 use pz_base::name_set::NameSet;
 use std::alloc::{AllocError, Global};
 
-/// What a line says of its name: that it is the object at a place, of which the first name has a number, or what it stands for,
-/// by the numbers of other names.
+/// What a line says about its name. `Itself`: it is the object of the first number, whose first name has the second number. Else it stands
+/// for other names, by their numbers: one name, all of some, or any of some.
 pub enum Meaning {
     Itself(usize, usize),
     Same(usize),
@@ -43,7 +43,7 @@ impl Meaning {
     }
 }
 
-/// The number of a name, and the number of names where it is none of them.
+/// The number of a name, or how many names there are if it is none of them.
 pub fn number_or_end(names: &NameSet, name: &Name) -> usize
     ensures { result ≡ number_or_end names.now name.now }
 {
@@ -61,7 +61,7 @@ fn numbers(alloc: Global, names: &NameSet, parts: &[Name]) -> Result<Listed<usiz
 }
 
 impl Said {
-    /// What is said, by the numbers of the names.
+    /// The same, by the numbers of the names.
     fn meaning(&self, alloc: Global, names: &NameSet) -> Result<Meaning, AllocError>
         ensures { IfOk result (λ meaning. meaning ≡ meaning_by names.now self.now) }
     {
@@ -87,7 +87,7 @@ fn add_object(
     Ok(())
 }
 
-/// Puts behind others what the lines of OBJECTS say of their names.
+/// Adds what the lines of OBJECTS say about their names.
 fn add_objects(meanings: &mut Vec<Meaning>, objects: &[NameLine]) -> Result<(), AllocError>
     ensures { OnOk result (meanings.new.items ≡ meanings.old.items ++ object_meanings 0 (length meanings.old.items) objects.now) }
 {
@@ -98,7 +98,7 @@ fn add_objects(meanings: &mut Vec<Meaning>, objects: &[NameLine]) -> Result<(), 
     Ok(())
 }
 
-/// Puts behind others what a line of LEGEND says of its name.
+/// Adds what a line of LEGEND says about its name.
 fn add_definition(
     alloc: Global,
     meanings: &mut Vec<Meaning>,
@@ -126,7 +126,7 @@ fn add_definitions(
     Ok(())
 }
 
-/// What the lines of OBJECTS and LEGEND say of their names, by the names' numbers.
+/// What the lines of OBJECTS and LEGEND say about their names, in the order of the names' numbers.
 pub fn meanings(
     alloc: Global,
     objects: &[NameLine],

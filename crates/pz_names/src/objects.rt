@@ -1,4 +1,4 @@
-//! OBJECTS: its objects, and the names that they have.
+//! OBJECTS: its objects, and their names.
 
 ghost use Rattle.std.specs.Prelude.{◌≡◌, ◌≢◌, ◌≤◌, ◌++◌, ◌∷◌, [], ℕ, suc, length, map, IfOk, IfErr, IfSome, OnOk, Ok, Err, Some, None, false, All};
 ghost use Rattle.std.specs.List.{list_all};
@@ -19,19 +19,19 @@ use std::alloc::{AllocError, Global};
 /// The most names that a source may have, all names of OBJECTS and LEGEND together.
 pub const MAX_NAMES: usize = 1024;
 
-/// The limit as a number: a promise, which the constant can't change by itself.
+/// Promises the limit as a number, so that changing the constant alone breaks a proof.
 pub fn names_are_limited()
     ensures { MAX_NAMES ≡ 1024 }
 {}
 
-/// What the lines of an object give: its name line, and whether its colours and its sprite are as they should be.
+/// The lines of an object: its name line, and whether its colours and its sprite have the right form.
 #[derive(Drop)]
 pub struct Paragraph {
     pub line: NameLine,
     pub is_whole: bool,
 }
 
-/// Whether a line holds white space alone.
+/// Whether a line has only white space.
 pub fn is_blank(line: &Line) -> bool
     ensures { result ≡ is_blank line.now }
 {
@@ -56,7 +56,7 @@ fn is_sprite_row(line: &Line) -> bool
     !is_blank(line) && are_pixels(line.text.items())
 }
 
-/// The sprite rows at the front, of which at most five are taken.
+/// The sprite rows at the front, at most five of them.
 fn sprite_rows(lines: &[Line]) -> &[Line]
     ensures rows { result.now ≡ sprite_rows 5 lines.now }
     ensures within { length result.now ≤ length lines.now }
@@ -87,7 +87,7 @@ fn are_wide(rows: &[Line]) -> bool
     rows.iter().all(|row| is_wide(row))
 }
 
-/// Whether the lines behind a name line begin with colours, and then with no sprite or a whole one.
+/// Whether the lines after a name line begin with colours, and go on with no sprite or a whole one.
 fn is_whole(lines: &[Line]) -> bool
     ensures { result ≡ is_whole lines.now }
 {
@@ -97,7 +97,7 @@ fn is_whole(lines: &[Line]) -> bool
     }
 }
 
-/// The lines behind a name line, its colours and its sprite rows.
+/// What is left of the lines after a name line, without its colours and its sprite rows.
 fn behind_paragraph(lines: &[Line]) -> &[Line]
     ensures { result.now ≡ behind_paragraph lines.now }
 {
@@ -107,7 +107,7 @@ fn behind_paragraph(lines: &[Line]) -> &[Line]
     }
 }
 
-/// Puts the paragraph that a line begins behind those that are found, if the line is not blank. Gives the lines behind.
+/// Adds the paragraph that a line begins, if the line isn't blank, and gives the lines after it.
 fn read_paragraph<'a>(
     alloc: Global,
     found: &mut Vec<Paragraph>,
@@ -144,7 +144,7 @@ fn paragraphs_of(alloc: Global, lines: &[Line]) -> Result<Vec<Paragraph>, AllocE
     Ok(found)
 }
 
-/// Puts names behind those that are there, and says whether one was there already.
+/// Adds names up to the first that is there already, and says whether there was one.
 fn note_names(alloc: Global, above: &mut NameSet, names: &[Name]) -> Result<bool, AllocError>
     ensures repeat { IfOk result (λ r. r ≡ has_repeat above.old names.now) }
     ensures noted { IfOk result (λ r. (r ≡ false) → above.new ≡ above.old ++ names.now) }
@@ -158,7 +158,8 @@ fn note_names(alloc: Global, above: &mut NameSet, names: &[Name]) -> Result<bool
     Ok(false)
 }
 
-/// What is wrong with a paragraph below so many others, whose names are given; where nothing is, its names are put behind them.
+/// What is wrong with a paragraph, if anything: `BadObject`, `Duplicate` or `TooLarge`. `count` paragraphs stand above it, with the names
+/// in `above`. If nothing is wrong, its names are added.
 fn misnamed(
     alloc: Global,
     above: &mut NameSet,
@@ -181,7 +182,7 @@ fn misnamed(
     Ok(None)
 }
 
-/// Puts the names of a paragraph below so many others behind those that are there, or says what is wrong with it.
+/// Adds the names of a paragraph with `count` others above it, or gives its fault.
 fn note_paragraph(
     alloc: Global,
     above: &mut NameSet,
@@ -203,7 +204,7 @@ fn note_paragraph(
     Ok(())
 }
 
-/// Notes the names of the paragraphs, where none is there yet, or says the first fault that a paragraph has.
+/// Adds the names of the paragraphs to an empty set, or gives the first fault of a paragraph.
 fn note_paragraphs(
     alloc: Global,
     names: &mut NameSet,
@@ -221,7 +222,7 @@ fn note_paragraphs(
     Ok(())
 }
 
-/// The names of the paragraphs, or the first fault that a paragraph has.
+/// The names of the paragraphs, or the first fault of a paragraph.
 fn names_of_paragraphs(alloc: Global, paragraphs: &[Paragraph]) -> Result<NameSet, SourceFault>
     ensures sound { IfOk result (λ _. first_fault paragraph_at misnames [] paragraphs.now ≡ None) }
     ensures names { IfOk result (λ names. names ≡ object_names (map name_line_of paragraphs.now)) }
@@ -246,8 +247,9 @@ fn name_lines(alloc: Global, paragraphs: Vec<Paragraph>) -> Result<Vec<NameLine>
     paragraphs.into_iter().map(name_line_of).collect(alloc)
 }
 
-/// The name line of each object of OBJECTS, and all its names, or its first fault: BadObject, Duplicate or TooLarge, at the
-/// name line of an object. Memory, with line 0, may come in place of either.
+/// The name line of each object, and all names of OBJECTS; or the first fault, at the name line of an object. It is `BadObject` (no colours
+/// directly after the name line, or sprite rows that aren't five of five), `Duplicate` or `TooLarge`. `Memory`, with line 0, may come in
+/// place of either.
 pub fn read_objects(alloc: Global, lines: &[Line]) -> Result<(Vec<NameLine>, NameSet), SourceFault>
     ensures read { IfOk result (λ r. objects_of lines.now ≡ Ok r.0.items) }
     ensures names { IfOk result (λ r. r.1 ≡ object_names r.0.items) }

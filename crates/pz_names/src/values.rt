@@ -29,8 +29,8 @@ fn known_values(
     known.into_iter().filter_map(|entry| entry).collect(alloc)
 }
 
-/// What each name denotes, or the first line that speaks of an unknown name (Unknown), else whose name reaches itself (BadLegend),
-/// else that mixes properties and aggregates (Mixed). The lines' names have the numbers from `first` on.
+/// What each name denotes, or the first fault of the definitions: `Unknown`, then `BadLegend` (a name that reaches itself), then `Mixed`.
+/// `first` is the number of the first definition's name.
 fn denoted(
     alloc: Global,
     first: usize,
@@ -64,9 +64,9 @@ fn denoted(
     Ok(values)
 }
 
-/// What each name of a source denotes, or the first fault of its legend: first BadLegend (the form), Duplicate and TooLarge, line
-/// by line, then Unknown, then BadLegend (a name that reaches itself), then Mixed. The names of OBJECTS are handed in, and those
-/// of LEGEND put behind them. Memory, with line 0, may come in place of either.
+/// What each name of a source denotes, or the first fault of its legend. Line by line it is `BadLegend` (the form), `Duplicate` or
+/// `TooLarge`. Then it is `Unknown`, then `BadLegend` (a name that reaches itself), then `Mixed`. `names` has the names of OBJECTS, and
+/// gets those of LEGEND after them. `Memory`, with line 0, may come in place of any.
 pub fn read_legend(
     alloc: Global,
     objects: &[NameLine],

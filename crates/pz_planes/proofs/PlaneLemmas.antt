@@ -40,7 +40,7 @@ changed_on a b c x y f g h first second both = record {
   columns = line_changed_on a.columns b.columns c.columns x y f g h first.columns second.columns both;
 }
 
--- the same change, said otherwise
+-- the same change in other words
 pub changed_as : (old new : PlaneSets) (x y : ℕ) (f g : ℕ → Bool → Bool) → AreChanged old new x y f → ((object : ℕ) (was : Bool) → f object was ≡ g object was) → AreChanged old new x y g
 changed_as old new x y f g changed same = record {
   rows = record { objects = changed.rows.objects; count = changed.rows.count; here = λ object small. changed.rows.here object small ∙ same object (stands_in old.rows object y x); others = changed.rows.others };

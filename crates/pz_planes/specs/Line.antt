@@ -3,12 +3,12 @@ use Rattle.std.specs.Prelude.{ℕ, ◌+◌, ◌-◌}
 use Rattle.pz_planes.specs.declared.line.Way.{Way}
 use Rattle.pz_planes.specs.declared.line.Way.TheVariants.{Ahead, Back}
 
--- the position some steps on
+-- the position this many steps on
 abbrev pub step_to : Way → ℕ → ℕ → ℕ
 step_to Ahead at steps = at + steps
 step_to Back at steps = at - steps
 
--- how many positions there are from one on, in a line that has so many
+-- how many positions there are from `at` on, in a line of this length
 abbrev pub room_from : ℕ → Way → ℕ → ℕ
 room_from length Ahead at = length - at
 room_from length Back at = at + 1

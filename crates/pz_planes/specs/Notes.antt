@@ -1,4 +1,4 @@
--- Where something may head in a level, by its lines. What is noted holds at least what is there.
+-- Where something may head in a level, by its lines. The notes have at least the headings that are there.
 use Rattle.std.specs.Prelude.{◌≡◌, ℕ, ◌<◌, List, [], false, length, nat_eq, ◌&&◌, ◌||◌, slice_index_or}
 use Rattle.pz_sets.specs.Sets.{member, IsWithin}
 use Rattle.pz_planes.specs.declared.line.Axis.{Axis}
@@ -10,7 +10,7 @@ pub record HeadingSets : Type 0 where
   pub rows : List (List ℕ)
   pub columns : List (List ℕ)
 
--- the sets of the lines that lie so
+-- the sets of the rows, or those of the columns
 abbrev pub headings_of : HeadingSets → Axis → List (List ℕ)
 headings_of sets Horizontal = sets.rows
 headings_of sets Vertical = sets.columns
@@ -21,7 +21,7 @@ pub record HaveNone (sets : HeadingSets) : Type 0 where
   pub rows : (line number : ℕ) → line < length sets.rows → member (slice_index_or sets.rows line []) number ≡ false
   pub columns : (line number : ℕ) → line < length sets.columns → member (slice_index_or sets.columns line []) number ≡ false
 
--- sets of lines with more in one line, and the same in all others
+-- the set of one line has got these headings; the others are unchanged
 pub record IsMoreIn (old new : List (List ℕ)) (line : ℕ) (headings : List ℕ) : Type 0 where
   pub count : length new ≡ length old
   pub sets : (other number : ℕ) → member (slice_index_or new other []) number ≡ (member (slice_index_or old other []) number || (nat_eq other line && member headings number))

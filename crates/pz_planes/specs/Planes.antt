@@ -1,4 +1,5 @@
--- At which positions of each row and each column the objects of a level stand. What is noted is exactly that, of the positions below 128: others are not.
+-- At which positions of each row and each column the objects of a level stand. The planes have exactly the positions below 128,
+-- and no others.
 use Rattle.std.specs.Prelude.{◌≡◌, ◌≢◌, ℕ, ◌+◌, ◌*◌, ◌<◌, ◌≤◌, List, Bool, true, false, length, slice_index_or, All}
 use Rattle.pz_sets.specs.Sets.{member}
 use Rattle.pz_game.specs.declared.limits.TheConstants.{MAX_OBJECTS, MAX_SIDE}
@@ -9,7 +10,7 @@ use Rattle.pz_planes.specs.declared.line.Axis.TheVariants.{Horizontal, Vertical}
 use Rattle.pz_planes.specs.declared.line.Way.{Way}
 use Rattle.pz_planes.specs.Line.{step_to, room_from}
 
--- for each of so many objects and each of so many lines the positions at which it stands, as one set of numbers: 128 for each line
+-- for each object and each line the positions at which the object stands, all as one set of numbers: 128 numbers for each pair
 pub record LineSets : Type 0 where
   pub objects : ℕ
   pub count : ℕ
@@ -20,7 +21,7 @@ pub record PlaneSets : Type 0 where
   pub rows : LineSets
   pub columns : LineSets
 
--- the sets of the lines that lie so
+-- the sets of the rows, or those of the columns
 abbrev pub lines_of : PlaneSets → Axis → LineSets
 lines_of planes Horizontal = planes.rows
 lines_of planes Vertical = planes.columns
@@ -43,29 +44,30 @@ IsMissingIn sets line object = (at : ℕ) → object < sets.objects → at < 128
 abbrev pub IsEmpty : LineSets → Type 0
 IsEmpty sets = (object line at : ℕ) → stands_in sets object line at ≡ false
 
--- sets of as many objects and lines that have what they had, but at one position of a line: a function says which objects are noted there, by those that were
+-- sets of as many objects and lines, unchanged except at one position of one line: there `noted` gives for each object whether
+-- it is noted, from whether it was
 pub record IsChanged (old new : LineSets) (line at : ℕ) (noted : ℕ → Bool → Bool) : Type 0 where
   pub objects : new.objects ≡ old.objects
   pub count : new.count ≡ old.count
   pub here : (object : ℕ) → at < 128 → stands_in new object line at ≡ noted object (stands_in old object line at)
   pub others : (object other place : ℕ) → other < old.count → place < 128 → (other ≡ line → place ≢ at) → stands_in new object other place ≡ stands_in old object other place
 
--- the same of both orders, at a position of the map
+-- the same by rows and by columns, at a position of the map
 pub record AreChanged (old new : PlaneSets) (x y : ℕ) (noted : ℕ → Bool → Bool) : Type 0 where
   pub rows : IsChanged old.rows new.rows y x noted
   pub columns : IsChanged old.columns new.columns x y noted
 
--- a position of the map, in both orders
+-- a position of the map
 pub record IsInside (planes : PlaneSets) (x y : ℕ) : Type 0 where
   pub x_in : x < planes.columns.count
   pub y_in : y < planes.rows.count
 
--- an object that both orders have
+-- an object that the planes have, by rows and by columns
 pub record IsKnown (planes : PlaneSets) (object : ℕ) : Type 0 where
   pub in_rows : object < planes.rows.objects
   pub in_columns : object < planes.columns.objects
 
--- all objects of a set are such
+-- the planes have all objects of a set
 abbrev pub AreKnown : PlaneSets → List ℕ → Type 0
 AreKnown planes objects = (object : ℕ) → member objects object ≡ true → IsKnown planes object
 
@@ -81,12 +83,12 @@ pub record HaveSameLines (old new : PlaneSets) : Type 0 where
   pub column_objects : new.columns.objects ≡ old.columns.objects
   pub column_count : new.columns.count ≡ old.columns.count
 
--- there are as many words in one as in another, for each object and each line
+-- one has as many objects and lines as another
 pub record HasRoomOf (sets other : LineSets) : Type 0 where
   pub objects : sets.objects ≡ other.objects
   pub count : sets.count ≡ other.count
 
--- sets for so many objects, for each row and for each column
+-- planes of this many objects, for each row and each column of a map of this size
 pub record IsFor (objects width height : ℕ) (planes : PlaneSets) : Type 0 where
   pub row_objects : planes.rows.objects ≡ objects
   pub row_count : planes.rows.count ≡ height
@@ -97,11 +99,11 @@ pub record IsFor (objects width height : ℕ) (planes : PlaneSets) : Type 0 wher
 abbrev pub AreItemsOf : LineSets → List Item → Type 0
 AreItemsOf sets pattern = All (λ item. item.object < sets.objects) pattern
 
--- each object that a rule's cell names as present is noted at a position of a line, and none that it names as absent
+-- each object that a rule's cell names as present is noted at a position of a line, and none that it has under `no`
 abbrev pub MayHold : LineSets → ℕ → ℕ → List Item → Type 0
 MayHold sets line at pattern = All (λ item. stands_in sets item.object line at ≡ names item.word) pattern
 
--- so it is with rules' cells one after another, from a position of a line on
+-- the same of rules' cells one after another, from a position of a line on
 pub record MayRun (sets : LineSets) (line : ℕ) (way : Way) (patterns : List (List Item)) (at : ℕ) : Type 0 where
   pub within : length patterns ≤ room_from 128 way at
   pub each : (index : ℕ) (pattern : List Item) → index < length patterns → MayHold sets line (step_to way at index) (slice_index_or patterns index pattern)

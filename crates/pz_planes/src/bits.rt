@@ -11,7 +11,7 @@ use pz_sets::words;
 /// How many positions a word has room for: those below 128.
 pub const ROOM: u32 = 128;
 
-/// All positions.
+/// All positions of a line.
 pub fn all() -> u128
     ensures { (at : ℕ) → at < 128 → in_word result at ≡ true }
 {
@@ -39,7 +39,7 @@ pub fn others(set: u128) -> u128
     !set
 }
 
-/// The positions from which one of the set is so many steps on, in a line of 128.
+/// The positions from which a position of the set is this many steps on, in a line of 128.
 pub fn from_which(set: u128, way: Way, steps: usize) -> u128
     requires { steps < 128 }
     ensures { (at : ℕ) → at < 128 → steps < room_from 128 way at → in_word result at ≡ in_word set (step_to way at steps) }
@@ -58,7 +58,7 @@ pub fn has(set: u128, at: u32) -> bool
     set >> at & 1 == 1
 }
 
-/// The first position of a set from one on and below an end, if there is one.
+/// The first position of a set that is not before `from` and is below `end`, if there is one.
 pub fn next(set: u128, from: u32, end: u32) -> Option<u32>
     requires { end ≤ 128 }
     ensures { IsNext (in_word set) from end result }

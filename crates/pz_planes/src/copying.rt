@@ -1,4 +1,4 @@
-//! Copies in the memory that is there.
+//! Copies that reuse memory.
 
 ghost use Rattle.std.specs.Prelude.{◌≡◌, ◌≤◌, length, vec_capacity, OnOk, OnErr};
 
@@ -6,7 +6,8 @@ use crate::notes::Notes;
 use crate::planes::Planes;
 use std::alloc::AllocError;
 
-/// Makes what is noted of a level the same as of another, in the memory that it has if that is enough. Err: more was refused, and it is as it was.
+/// Makes the notes and planes of a level equal to those of another. They reuse their memory if that is enough. Err: memory was refused, and
+/// both are unchanged.
 pub fn renew(
     notes: &mut Notes,
     planes: &mut Planes,
@@ -29,7 +30,7 @@ pub fn renew(
     Ok(())
 }
 
-/// Makes room for so many items in all. Err: memory was refused.
+/// Makes room for `count` items in all. Err: memory was refused.
 pub fn make_room<T>(items: &mut Vec<T>, count: usize) -> Result<(), AllocError>
     ensures items { items.new.items ≡ items.old.items }
     ensures room { OnOk result (count ≤ vec_capacity items.new) }
@@ -38,7 +39,7 @@ pub fn make_room<T>(items: &mut Vec<T>, count: usize) -> Result<(), AllocError>
     items.reserve(missing)
 }
 
-/// Puts copies of others in the place of the items.
+/// Replaces the items by copies of others. There must be room for them.
 pub fn refill<T: Copy + Drop>(items: &mut Vec<T>, others: &[T])
     requires { length others.now ≤ vec_capacity items.old }
     ensures { items.new.items ≡ others.now }

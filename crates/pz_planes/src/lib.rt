@@ -1,5 +1,5 @@
-//! What is noted of the lines of a level: for each object the positions of each row and of each column at which it stands, as bits of words, and what
-//! a search reads off them; and where something may head in a line.
+//! What a level knows about its rows and columns. Planes have exactly the positions of each object, as bits of words, and a search reads
+//! them. Notes have at least where something heads.
 #![tactic(auto)]
 
 pub mod bits;

@@ -1,4 +1,4 @@
-//! Lines of a map: the ways in which they lie, and those in which they are walked.
+//! Lines of a map: how they lie, and which way they are walked.
 
 ghost use Rattle.std.specs.Prelude.{◌≡◌, ◌+◌, ◌<◌};
 ghost use Rattle.pz_planes.specs.Line.{step_to};
@@ -17,7 +17,7 @@ pub enum Way {
     Back,
 }
 
-/// The position some steps on.
+/// The position this many steps on.
 pub fn step_to(way: Way, at: u32, steps: usize) -> u32
     requires near { at + steps < 65536 }
     ensures { result ≡ step_to way at steps }

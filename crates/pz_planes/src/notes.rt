@@ -1,5 +1,5 @@
-//! Where something may head in a level, by its lines: sets of headings, that is of numbers of the layers and the directions in which they head, of the whole level, of each row and
-//! of each column.
+//! Where something may head in a level. The whole level, each row and each column has a set of headings: a heading is a layer with a
+//! direction, as one number.
 
 ghost use Rattle.std.specs.Prelude.{◌≡◌, ◌<◌, ◌*◌, ◌/◌, ◌%◌, ◌||◌, ℕ, [], true, false, length, slice_index_or, IfOk, OnOk, OnErr};
 ghost use Rattle.pz_sets.specs.Sets.{member};
@@ -11,7 +11,7 @@ use pz_sets::set::NumberSet;
 use std::alloc::{AllocError, Global};
 use std::marker::Model;
 
-/// At least the headings of all cells of a level, of those of each row and of those of each column.
+/// Sets of at least the headings in the whole level, in each row and in each column.
 pub struct Notes {
     whole: NumberSet,
     rows: Vec<NumberSet>,
@@ -40,7 +40,7 @@ impl Model for Notes {
 }
 
 impl Notes {
-    /// No headings at all, of a map of so many columns and rows. Err: memory was refused.
+    /// Notes without headings, for a map of this size. Err: memory was refused.
     pub fn empty(alloc: Global, width: usize, height: usize) -> Result<Notes, AllocError>
         ensures rows { IfOk result (λ notes. length notes.rows ≡ height) }
         ensures columns { IfOk result (λ notes. length notes.columns ≡ width) }
@@ -55,14 +55,14 @@ impl Notes {
         })
     }
 
-    /// The headings of all cells.
+    /// The headings noted for the whole level.
     pub fn whole(&self) -> &NumberSet
         ensures { result.now ≡ self.now.whole }
     {
         &self.whole
     }
 
-    /// The headings of a line.
+    /// The headings noted for a line.
     pub fn line(&self, axis: Axis, number: u32) -> &NumberSet
         requires { number < length (headings_of self.now axis) }
         ensures { result.now ≡ slice_index_or (headings_of self.now axis) number [] }
@@ -73,7 +73,8 @@ impl Notes {
         }
     }
 
-    /// Notes headings for the cell of a number, counted row by row: they are added to those of the level, of its row and of its column.
+    /// Notes headings for the cell of this number: adds them to those of the level, of its row and of its column. Cells are numbered row by
+    /// row.
     pub fn add(&mut self, index: usize, headings: &NumberSet)
         requires within { index < length self.old.columns * length self.old.rows }
         ensures whole { (number : ℕ) → member self.new.whole number ≡ (member self.old.whole number || member headings.now number) }
@@ -97,7 +98,7 @@ impl Notes {
         clear(&mut self.columns);
     }
 
-    /// The same once more. Err: memory was refused.
+    /// A copy of the notes. Err: memory was refused.
     pub fn copy(&self) -> Result<Notes, AllocError>
         ensures { IfOk result (λ notes. notes ≡ self.now) }
     {
@@ -111,7 +112,7 @@ impl Notes {
         })
     }
 
-    /// Becomes the same as another, in the memory that it has if that is enough. Err: more was refused, and it is as it was.
+    /// Makes these notes equal to others. They reuse their memory if that is enough. Err: memory was refused, and the notes are unchanged.
     pub fn copy_from(&mut self, other: &Notes) -> Result<(), AllocError>
         ensures copied { OnOk result (self.new ≡ other.now) }
         ensures kept { OnErr result (self.new ≡ self.old) }
@@ -125,14 +126,14 @@ impl Notes {
     }
 }
 
-/// Whether a set of headings has none.
+/// Whether a set of headings is empty.
 pub fn is_empty(headings: &NumberSet) -> bool
     ensures { result ≡ true → (number : ℕ) → member headings.now number ≡ false }
 {
     headings.same(&NumberSet::empty())
 }
 
-/// Whether no heading is noted of two levels.
+/// Whether neither of two levels has a heading noted.
 pub fn are_empty(notes: &Notes, others: &Notes) -> bool
     ensures first { result ≡ true → (number : ℕ) → member notes.now.whole number ≡ false }
     ensures second { result ≡ true → (number : ℕ) → member others.now.whole number ≡ false }

@@ -1,5 +1,5 @@
-//! At which positions of each row and each column the objects of a level stand, by which its lines are searched. Objects, columns and rows
-//! are counted from 0; a position of a row is a column, and one of a column is a row.
+//! At which positions of each row and each column the objects of a level stand, so that lines can be searched fast. Objects, columns and
+//! rows are counted from 0. A position of a row is a column, and a position of a column is a row.
 
 ghost use Rattle.std.specs.Prelude.{◌≡◌, ℕ, ◌+◌, ◌*◌, ◌/◌, ◌%◌, ◌<◌, ◌≤◌, ◌&&◌, ◌||◌, true, false, not, nat_eq, All, length, IfOk};
 ghost use Rattle.pz_game.specs.declared.limits.TheConstants.{MAX_OBJECTS, MAX_SIDE};
@@ -15,8 +15,8 @@ use pz_sets::words;
 use std::alloc::{AllocError, Global};
 use std::marker::Model;
 
-/// For each object and each line, exactly the positions below 128 at which the object stands: a word for each line, those of one object
-/// one after another. Sets of positions that it gives are the bits of a word.
+/// For each object and each line, exactly the positions below 128 at which the object stands. Each pair has a word, and the words of one
+/// object follow one another. A set of positions is the bits of a word.
 #[derive(Drop)]
 pub struct LinePlanes {
     objects: usize,
@@ -34,13 +34,13 @@ impl Model for LinePlanes {
     ghost invariant = { λ p. HasLines p.objects p.count p.words.items };
 }
 
-/// The same by rows and by columns. Since what is noted is exact, a search can look for a cell that has some objects and lacks others.
+/// The same by rows and by columns. They are exact, so a search can look for cells that have some objects and lack others.
 pub struct Planes {
     rows: LinePlanes,
     columns: LinePlanes,
 }
 
-/// Written out, so that each place where planes go out of scope is one call, and not the ways through all their fields.
+/// Written out: where planes go out of scope, the prover then sees one call, not every path through their fields.
 impl Drop for Planes {
     fn drop(self) {
         let Planes { rows, columns } = self;
@@ -58,7 +58,7 @@ impl Model for Planes {
 }
 
 impl LinePlanes {
-    /// Nothing is noted. Err: memory was refused.
+    /// Planes of this many objects and lines, with nothing noted. Err: memory was refused.
     fn empty(alloc: Global, objects: usize, count: usize) -> Result<LinePlanes, AllocError>
         requires few { objects ≤ MAX_OBJECTS }
         requires short { count ≤ MAX_SIDE }
@@ -93,7 +93,7 @@ impl LinePlanes {
         object * self.count + line
     }
 
-    /// Notes an object at a position of a line.
+    /// Notes an object at a position of a line. From position 128 on nothing is noted.
     fn insert(&mut self, object: usize, line: usize, at: usize)
         requires object_in { object < self.old.objects }
         requires line_in { line < self.old.count }
@@ -105,7 +105,7 @@ impl LinePlanes {
         }
     }
 
-    /// Notes an object at a position of a line no longer.
+    /// Drops the note of an object at a position of a line.
     fn remove(&mut self, object: usize, line: usize, at: usize)
         requires object_in { object < self.old.objects }
         requires line_in { line < self.old.count }
@@ -117,7 +117,7 @@ impl LinePlanes {
         }
     }
 
-    /// Nothing is noted any longer.
+    /// Drops all notes.
     fn clear(&mut self)
         ensures objects { self.new.objects ≡ self.old.objects }
         ensures count { self.new.count ≡ self.old.count }
@@ -126,7 +126,7 @@ impl LinePlanes {
         clear(&mut self.words);
     }
 
-    /// The positions of a line that an item admits: those at which its object is noted, or all others, where it names that as absent.
+    /// The positions of a line that an item allows: those at which its object is noted or, under `no`, all others.
     fn item_places(&self, line: usize, item: &Item) -> u128
         requires line_in { line < self.now.count }
         requires object_in { item.now.object < self.now.objects }
@@ -140,8 +140,8 @@ impl LinePlanes {
         }
     }
 
-    /// The positions of a line at which a rule's cell may hold: all at which each object that it names as present is noted, and none that
-    /// it names as absent.
+    /// The positions of a line at which a rule's cell may hold: each object that it names as present is noted there, and none that it has
+    /// under `no`.
     pub fn places(&self, line: usize, pattern: &Pattern) -> u128
         requires line_in { line < self.now.count }
         requires of_game { AreItemsOf self.now pattern.now }
@@ -177,7 +177,7 @@ impl LinePlanes {
         object < self.objects && !bits::is_empty(self.words[self.index(object, line)])
     }
 
-    /// Whether one of some objects is noted in a line.
+    /// Whether one of these objects is noted in a line.
     pub fn has_one_of(&self, line: usize, objects: &[usize]) -> bool
         requires { line < self.now.count }
         ensures { result ≡ false → All (IsMissingIn self.now line) objects.now }
@@ -190,14 +190,14 @@ impl LinePlanes {
         false
     }
 
-    /// Whether another has as many objects and lines, so that its notes fit in this one's memory.
+    /// Whether another has as many objects and lines, so that it fits in this one's memory.
     fn has_room_of(&self, other: &LinePlanes) -> bool
         ensures { result ≡ true → HasRoomOf self.now other.now }
     {
         self.objects == other.objects && self.count == other.count
     }
 
-    /// Becomes the same as another of as many objects and lines.
+    /// Makes this equal to another of as many objects and lines.
     fn overwrite(&mut self, other: &LinePlanes)
         requires { HasRoomOf self.old other.now }
         ensures { self.new ≡ other.now }
@@ -205,7 +205,7 @@ impl LinePlanes {
         self.words.copy_from_slice(&other.words);
     }
 
-    /// The same once more. Err: memory was refused.
+    /// A copy. Err: memory was refused.
     fn copy(&self) -> Result<LinePlanes, AllocError>
         ensures { IfOk result (λ planes. planes ≡ self.now) }
     {
@@ -220,7 +220,7 @@ impl LinePlanes {
 }
 
 impl Planes {
-    /// Nothing is noted yet, of so many objects on a map of so many columns and rows. Err: memory was refused.
+    /// Planes of this many objects for a map of this size, with nothing noted. Err: memory was refused.
     pub fn empty(
         alloc: Global,
         objects: usize,
@@ -239,7 +239,7 @@ impl Planes {
         Ok(Planes { rows, columns })
     }
 
-    /// What is noted of the lines that lie so.
+    /// The planes of the rows, or those of the columns.
     pub fn lines(&self, axis: Axis) -> &LinePlanes
         ensures { result.now ≡ lines_of self.now axis }
     {
@@ -267,7 +267,7 @@ impl Planes {
         self.columns.remove(object, x, y);
     }
 
-    /// Notes an object no longer, unless it is one of some.
+    /// Drops the note of an object, unless it is one of `after`.
     fn remove_unless(&mut self, object: usize, x: usize, y: usize, after: &[u128])
         requires inside { IsInside self.old x y }
         requires known { IsKnown self.old object }
@@ -278,7 +278,7 @@ impl Planes {
         }
     }
 
-    /// Takes away the notes of the objects that a cell had and has no longer.
+    /// Drops the notes of the objects that a cell had in `before` and hasn't in `after`.
     fn leave(&mut self, x: usize, y: usize, before: &[u128], after: &[u128])
         requires short { length before.now ≤ 4 }
         requires inside { IsInside self.old x y }
@@ -306,8 +306,8 @@ impl Planes {
         }
     }
 
-    /// Notes the objects of the cell of a column and a row of the map, and none of those that were noted there before and are gone. Both sets
-    /// are in at most four words. (Inlined, since the number of words is known where it is called.)
+    /// Notes at a position of the map the objects in `after` instead of those in `before`. Both sets have at most four words. (Inlined,
+    /// because the caller knows the number of words.)
     #[inline(always)]
     fn note(&mut self, x: usize, y: usize, before: &[u128], after: &[u128])
         requires short_before { length before.now ≤ 4 }
@@ -325,7 +325,7 @@ impl Planes {
         self.arrive(x, y, after);
     }
 
-    /// The same in the cell of a number, counted row by row.
+    /// The same at the cell of this number. Cells are numbered row by row.
     #[inline(always)]
     pub fn note_at(&mut self, index: usize, before: &[u128], after: &[u128])
         requires short_before { length before.now ≤ 4 }
@@ -340,7 +340,8 @@ impl Planes {
         self.note(index % width, index / width, before, after);
     }
 
-    /// Notes the objects of the cell of a number, counted row by row: a set in at most four words. What was noted there stays so.
+    /// Notes objects at the cell of this number, besides those noted there already. The set has at most four words. Cells are numbered row
+    /// by row.
     pub fn arrive_at(&mut self, index: usize, objects: &[u128])
         requires short { length objects.now ≤ 4 }
         requires within { index < self.old.columns.count * self.old.rows.count }
@@ -351,7 +352,7 @@ impl Planes {
         self.arrive(index % width, index / width, objects);
     }
 
-    /// Nothing is noted any longer, of as many objects and lines.
+    /// Drops all notes. The numbers of objects and lines stay.
     pub fn clear(&mut self)
         ensures size { HaveSameLines self.old self.new }
         ensures rows { IsEmpty self.new.rows }
@@ -361,14 +362,14 @@ impl Planes {
         self.columns.clear();
     }
 
-    /// Whether another has as many objects and lines, so that its notes fit in this one's memory.
+    /// Whether another has as many objects and lines, so that it fits in this one's memory.
     pub fn has_room_of(&self, other: &Planes) -> bool
         ensures { result ≡ true → HasRoomOf self.now.rows other.now.rows × HasRoomOf self.now.columns other.now.columns }
     {
         self.rows.has_room_of(&other.rows) && self.columns.has_room_of(&other.columns)
     }
 
-    /// Becomes the same as another of as many objects and lines.
+    /// Makes this equal to another of as many objects and lines.
     pub fn overwrite(&mut self, other: &Planes)
         requires rows { HasRoomOf self.old.rows other.now.rows }
         requires columns { HasRoomOf self.old.columns other.now.columns }
@@ -378,7 +379,7 @@ impl Planes {
         self.columns.overwrite(&other.columns);
     }
 
-    /// The same once more. Err: memory was refused.
+    /// A copy. Err: memory was refused.
     pub fn copy(&self) -> Result<Planes, AllocError>
         ensures { IfOk result (λ planes. planes ≡ self.now) }
     {
@@ -388,7 +389,7 @@ impl Planes {
     }
 }
 
-/// Empties each word of a set.
+/// Empties a set.
 fn clear(words: &mut [u128])
     ensures length { length words.new ≡ length words.old }
     ensures none { (number : ℕ) → member words.new number ≡ false }

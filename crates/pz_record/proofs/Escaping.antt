@@ -60,6 +60,6 @@ escape-new old text n =
     append_assoc old (escape text ++ 58 ∷ []) (escape (decimal n ++ 44 ∷ []))
     ∙ ap (λ l. old ++ l) (ap (λ l. l ++ escape (decimal n ++ 44 ∷ [])) (sym name) ∙ sym (escape-append (text ++ 58 ∷ []) (decimal n ++ 44 ∷ [])) ∙ ap escape (sym (append_assoc (text ++ 58 ∷ []) (decimal n) (44 ∷ []))))
 
--- a list that was lent whole, and given back as long as it was
+-- a list that was lent as a whole, and came back with the same length
 pub lent : (n : ℕ) (new old : List ℕ) → length new ≡ n → take n (new ++ drop (length new) old) ≡ new
 lent n new old e = rw (← e) (take_at new (drop (length new) old) (length new) refl)

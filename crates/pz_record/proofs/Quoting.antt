@@ -1,4 +1,4 @@
--- What a writer of JSON that wrote one text has written, and what that says.
+-- What a JSON writer has written after one text, and what text that stands for.
 use Rattle.std.proofs.Common.{◌≡◌, ℕ, List, [], ◌∷◌, ◌++◌, refl, ap, ap₂, sym, ◌∙◌}
 use Rattle.std.proofs.lemmas.List.{append-nil}
 use Rattle.json.specs.Lex.{tokens}
@@ -15,14 +15,14 @@ pub quoted_says : (text : List ℕ) (ts : List Token) → ts ≡ string text ∷
 unfolding text_said
 quoted_says text ts is back = ap text_of_first (ap tokens (sym (written_quoted text ts is)) ∙ back ∙ is)
 
--- in room that was empty stands the text, quoted, and says the text
+-- into empty room the writer writes the text, quoted, which stands for the text
 pub kept_quoted : (text before json : List ℕ) (ts : List Token) → json ≡ before ++ print ts → before ≡ [] → ts ≡ string text ∷ [] → tokens (print ts) ≡ ts → (json ≡ quoted (text_said json)) × (text_said json ≡ text)
 kept_quoted text before json ts made empty is back =
     let written : json ≡ quoted text = made ∙ ap₂ (λ b w. b ++ w) empty (written_quoted text ts is) in
     let says : text_said json ≡ text = ap text_said written ∙ quoted_says text ts is back in
     (written ∙ ap quoted (sym says), says)
 
--- what an escaped text says is that text
+-- an escaped text stands for the text that was escaped
 escaped_back : (text : List ℕ) → escaped_says (escape text) ≡ text
 unfolding ArePrintable
 escaped_back text = quoted_says text (string text ∷ []) refl (tokens-print (string text ∷ []) (tt, tt))

@@ -1,9 +1,9 @@
--- The text of cells: for each its names, and from the second time on their number.
+-- The text of cells. The first cell with a set of names has the names and their number, a further one only the number.
 use Rattle.std.specs.Prelude.{ℕ, ◌+◌, ◌%◌, ◌==◌, List, [], ◌∷◌, ◌++◌, length, take, slice_index_or, fold, flat_map, if◌then◌else◌, Option, Some, None, decimal}
 use Rattle.std.specs.List.{join_with_byte, range_with_len}
 use Rattle.pz_base.specs.NameSet.{number_in}
 
--- the text of a set of names: a space between two
+-- the text of a set of names, separated by spaces
 abbrev pub joined : List (List ℕ) → List ℕ
 joined names = join_with_byte 32 names
 
@@ -11,7 +11,7 @@ abbrev pub or_added : List (List ℕ) → List ℕ → Option ℕ → List (List
 or_added known cell None = known ++ cell ∷ []
 or_added known cell (Some k) = known
 
--- the sets that are known, and this one where it is new
+-- the known sets, and this one if it is new
 unfoldable pub with_cell : List (List ℕ) → List ℕ → List (List ℕ)
 with_cell known cell = or_added known cell (number_in known cell)
 
@@ -23,11 +23,11 @@ abbrev pub numbered : List (List ℕ) → List ℕ → Option ℕ → List ℕ
 numbered known cell None = cell ++ 58 ∷ [] ++ decimal (length known) ++ 44 ∷ []
 numbered known cell (Some k) = decimal k ++ 44 ∷ []
 
--- a known set by its number, a new one by its names and the next number; a comma ends each
+-- a known set is written as its number, a new one as its names, a colon and the next number; a comma ends each
 unfoldable pub piece : List (List ℕ) → List ℕ → List ℕ
 piece known cell = numbered known cell (number_in known cell)
 
--- a line break after every width cells
+-- a line break if the number of cells is a multiple of the width
 abbrev pub line_end : ℕ → ℕ → List ℕ
 line_end width count = if count % width == 0 then 10 ∷ [] else []
 

@@ -1,4 +1,4 @@
--- Cells by their labels: the place of a cell's text among different texts.
+-- The label of a cell: the place of its text among different texts.
 use Rattle.std.specs.Prelude.{◌≡◌, ℕ, false, List, [], ◌∷◌, slice_index_or}
 use Rattle.std.specs.List.{list_any}
 use Rattle.std.specs.Str.{bytes_eq}

@@ -1,4 +1,4 @@
--- The text that a JSON string says.
+-- The text that a JSON string stands for.
 use Rattle.std.specs.Prelude.{ℕ, List, [], ◌∷◌, ◌++◌}
 use Rattle.json.specs.Lex.{tokens}
 use Rattle.json.specs.Token.{Token}
@@ -19,10 +19,10 @@ abbrev pub text_of_first : List Token → List ℕ
 text_of_first [] = []
 text_of_first (token ∷ tokens) = text_of_token token
 
--- what a JSON string says, as a reader of JSON gives it
+-- the text that a JSON string stands for, as a reader of JSON gives it
 unfoldable pub text_said : List ℕ → List ℕ
 text_said json = text_of_first (tokens json)
 
--- what an escaped text says
+-- the text that an escaped text stands for
 abbrev pub escaped_says : List ℕ → List ℕ
 escaped_says bytes = text_said (34 ∷ (bytes ++ 34 ∷ []))

@@ -5,7 +5,8 @@ use Rattle.pz_base.specs.NameSet.{number_in}
 use Rattle.pz_record.specs.declared.written.Written.{Written}
 use Rattle.pz_record.specs.CellTexts.{known_of, text_to}
 
--- so much of these cells is written: their text stands in front, escaped; each text that may come has the number that was given to it, if one was
+-- this much of the cells is written: their text stands at the front, escaped, and `given` has the number of each text that has
+-- one
 pub record AreWritten (width : ℕ) (all texts : List (List ℕ)) (written : Written) (json : List ℕ) (given : List (Option ℕ)) : Type 0 where
   pub text : take written.end json ≡ escape (text_to width all written.cells)
   pub within : written.end ≤ length json

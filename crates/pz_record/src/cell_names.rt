@@ -7,7 +7,7 @@ use std::alloc::{AllocError, Global};
 use std::collections::BTreeSet;
 use std::marker::Model;
 
-/// The names of a cell, each once, which contracts see as their list in the order of their bytes.
+/// The names of a cell, each once. Contracts see them as a list in the order of their bytes.
 #[derive(Drop)]
 pub struct CellNames {
     names: BTreeSet<Vec<u8>>,
@@ -38,7 +38,7 @@ impl CellNames {
         &self.names
     }
 
-    /// Puts a name at its place, if it isn't there yet.
+    /// Adds a name, unless it is there already. Err: memory was refused.
     pub fn insert(&mut self, name: Vec<u8>) -> Result<(), AllocError>
         ensures { OnOk result (self.new ≡ with_name self.old name.items) }
     {

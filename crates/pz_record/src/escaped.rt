@@ -1,4 +1,4 @@
-//! The text of cells as it stands in a JSON string, its escapes made. It is written into room that is kept from text to text.
+//! The text of cells as it stands in a JSON string, escaped. It is written into memory that is reused from text to text.
 
 ghost use Rattle.std.specs.Prelude.{◌≡◌, ℕ, ◌+◌, ◌-◌, ◌*◌, ◌%◌, ◌^◌, ◌<◌, ◌≤◌, ◌++◌, ◌∷◌, [], length, map, replicate, take, None, All, IfOk, OnOk, decimal};
 ghost use Rattle.json.specs.Print.{escape};
@@ -12,7 +12,7 @@ use crate::written::Written;
 use itoa::Buffer;
 use std::alloc::AllocError;
 
-/// Makes room for so many bytes more behind a text that ends here.
+/// Makes room for `more` bytes after the text, which ends at `end`. Err: memory was refused.
 fn make_way(json: &mut Vec<u8>, end: usize, more: usize) -> Result<(), AllocError>
     requires within { end ≤ length json.old.items }
     requires few { more < 2 ^ 63 }
@@ -25,7 +25,7 @@ fn make_way(json: &mut Vec<u8>, end: usize, more: usize) -> Result<(), AllocErro
     Ok(())
 }
 
-/// Writes bytes behind a text, and says where it ends then.
+/// Writes bytes at the end of the text, and gives its new end.
 fn put(json: &mut [u8], end: usize, bytes: &[u8]) -> usize
     requires { end + length bytes.now ≤ length json.old }
     ensures end { result ≡ end + length bytes.now }
@@ -37,7 +37,7 @@ fn put(json: &mut [u8], end: usize, bytes: &[u8]) -> usize
     next
 }
 
-/// Writes bytes and a mark behind them.
+/// Writes bytes and then a mark, and gives the new end.
 fn put_marked(json: &mut [u8], end: usize, bytes: &[u8], mark: u8) -> usize
     requires { end + length bytes.now + 1 ≤ length json.old }
     ensures end { result ≡ end + length bytes.now + 1 }
@@ -92,8 +92,8 @@ fn put_number(json: &mut [u8], end: usize, number: usize) -> usize
     next + 1
 }
 
-/// Ends the last line behind one more cell, if it then has as many cells as the level is wide: says where the text ends then, and how many cells
-/// the last line has.
+/// Counts one more cell in the last line, and ends the line if it then has as many cells as the level is wide. Gives the new end of the
+/// text, and how many cells the last line then has.
 #[inline(always)]
 fn end_line(json: &mut [u8], end: usize, width: usize, column: usize) -> (usize, usize)
     requires column { column < width }
@@ -112,7 +112,8 @@ fn end_line(json: &mut [u8], end: usize, width: usize, column: usize) -> (usize,
     (end + 2, 0)
 }
 
-/// Writes cells that have a number of one digit or two, up to the first other one. The numbers are those that were given to the texts.
+/// Writes cells whose text has a number of one or two digits, up to the first other cell. `numbers` has the number of each label's text, if
+/// it has one.
 fn write_known(
     json: &mut [u8],
     numbers: &[Option<usize>],
@@ -158,7 +159,7 @@ fn put_large(json: &mut Vec<u8>, end: usize, number: usize) -> Result<usize, All
     Ok(put_marked(json.as_mut_slice(), end, text, b','))
 }
 
-/// Writes a text that is new, its number and a comma.
+/// Writes a new text, a colon, its number and a comma.
 fn put_new(
     json: &mut Vec<u8>,
     end: usize,
@@ -176,7 +177,7 @@ fn put_new(
     Ok(end)
 }
 
-/// Writes the cell behind those that are written, whatever its text.
+/// Writes the next cell, whatever its text.
 fn write_cell(
     json: &mut Vec<u8>,
     numbers: &mut Vec<Option<usize>>,
@@ -212,7 +213,7 @@ fn write_cell(
     })
 }
 
-/// As yet no label has a number.
+/// Clears the numbers: no label has one yet.
 fn clear_numbers(numbers: &mut Vec<Option<usize>>, count: usize) -> Result<(), AllocError>
     ensures { OnOk result (numbers.new.items ≡ replicate count None) }
 {
@@ -221,7 +222,8 @@ fn clear_numbers(numbers: &mut Vec<Option<usize>>, count: usize) -> Result<(), A
     Ok(())
 }
 
-/// Writes the text of cells of these labels over what was written before, and says where it ends. The numbers are room for those of the labels.
+/// Writes the text of cells with these labels over what was written before, and gives its end. `numbers` is memory for the numbers of the
+/// labels. Err: memory was refused.
 pub(crate) fn write_labels(
     json: &mut Vec<u8>,
     numbers: &mut Vec<Option<usize>>,

@@ -5,15 +5,15 @@ ghost use Rattle.std.specs.Prelude.{◌≡◌, ◌≤◌, length};
 use pz_game::direction::Dir;
 use std::marker::Model;
 
-/// The most inputs that a session has.
+/// The most inputs that a session may have.
 pub const MOST_INPUTS: usize = 65_536;
 
-/// The limit as a number: a promise, which the constant can't change by itself.
+/// Promises the limit as a number, so that changing the constant alone breaks a proof.
 pub fn inputs_are_limited()
     ensures { MOST_INPUTS ≡ 65_536 }
 {}
 
-/// An input of a session: a direction or the action is pressed, the last change is undone, the level is restarted, or time passes.
+/// An input of a session: a press (a direction or the action), undo, restart, or a tick.
 #[derive(Clone, Copy, Debug, PartialEq, Eq)]
 pub enum Input {
     Press(Dir),
@@ -22,7 +22,7 @@ pub enum Input {
     Tick,
 }
 
-/// The inputs of a session, at most `MOST_INPUTS`, which contracts see as their list.
+/// The inputs of a session, at most `MOST_INPUTS`. Contracts see them as a list.
 #[derive(Drop)]
 pub struct Inputs {
     items: Vec<Input>,

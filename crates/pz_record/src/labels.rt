@@ -1,4 +1,4 @@
-//! The labels of cells: texts of which none stands twice, each with a number.
+//! The labels of cells: different texts, each with a number.
 
 ghost use Rattle.std.specs.Prelude.{◌≡◌, ◌<◌, ◌^◌, ◌++◌, ◌∷◌, [], length, false, IfOk, OnOk, take, string_bytes};
 ghost use Rattle.pz_base.specs.NameSet.{is_name_of, number_in};
@@ -9,13 +9,13 @@ use indexmap::IndexSet;
 use std::alloc::{AllocError, Global};
 use std::marker::Model;
 
-/// Different texts of cells, by their numbers; and the same texts quoted, since a text is written again and again.
+/// Different texts of cells, by their numbers. The same texts are also kept quoted, because each is written many times.
 pub struct KnownTexts {
     texts: IndexSet<String>,
     quoted: Vec<QuotedText>,
 }
 
-/// Written out, so that each place where they go out of scope is one call, in other crates too.
+/// Written out: where they go out of scope, the prover then sees one call, in other crates too.
 impl Drop for KnownTexts {
     fn drop(self) {
         let KnownTexts { texts, quoted } = self;
@@ -81,7 +81,7 @@ impl KnownTexts {
         self.texts.get_index_of(text)
     }
 
-    /// Puts a new text behind the others.
+    /// Adds a new text after the others. Err: memory was refused.
     fn add(&mut self, alloc: Global, text: String) -> Result<(), AllocError>
         requires { is_name_of self.old (string_bytes text) ≡ false }
         ensures added { OnOk result (self.new ≡ self.old ++ string_bytes text ∷ []) }
@@ -94,7 +94,7 @@ impl KnownTexts {
         Ok(())
     }
 
-    /// The label of a text, which is put behind the others where it is new. Err: memory was refused; those that were known keep their labels.
+    /// The label of a text. A new text is added after the others. Err: memory was refused. The texts known before always keep their labels.
     pub fn label_of(&mut self, alloc: Global, text: String) -> Result<usize, AllocError>
         ensures label { IfOk result (λ label. (label < length self.new) × (text_at self.new label ≡ string_bytes text)) }
         ensures kept { take (length self.old) self.new ≡ self.old }

@@ -1,5 +1,4 @@
-//! What a recorded session says, and what playing it again needs of that: its inputs, the names in the cells of its last level, and the
-//! texts of cells, as they are written.
+//! What was recorded of a session: its inputs, and the names in the cells of its last level. Also the texts of cells, as they are written.
 #![tactic(auto)]
 
 pub mod cell_names;

@@ -2,10 +2,10 @@
 
 ghost use Rattle.std.specs.Prelude.{◌≡◌};
 
-/// The most entries that a file has.
+/// The most entries that a sessions file may have.
 pub const MOST_ENTRIES: usize = 65_536;
 
-/// The limit as a number: a promise, which the constant can't change by itself.
+/// Promises the limit as a number, so that changing the constant alone breaks a proof.
 pub fn files_are_limited()
     ensures { MOST_ENTRIES ≡ 65_536 }
 {}

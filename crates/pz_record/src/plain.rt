@@ -1,4 +1,4 @@
-//! The text of cells as it is, for who reads it again. It is written seldom; `escaped` has the same text as it is written for each frame.
+//! The text of cells, not quoted, for callers that read it back. It is seldom needed: `escaped` writes the same text for each frame.
 
 ghost use Rattle.std.specs.Prelude.{◌≡◌, ℕ, ◌<◌, ◌+◌, ◌%◌, ◌++◌, ◌∷◌, [], length, All, IfOk, None, OnOk, decimal, map, replicate, string_bytes};
 ghost use Rattle.pz_record.specs.Labels.{text_at};
@@ -19,7 +19,7 @@ fn write_number(text: &mut String, number: usize) -> Result<(), AllocError>
     Ok(())
 }
 
-/// Writes a text that is new, its number and a comma.
+/// Writes a new text, a colon, its number and a comma.
 fn write_new(text: &mut String, name: &str, number: usize) -> Result<(), AllocError>
     ensures { OnOk result (string_bytes text.new ≡ string_bytes text.old ++ (name.now ++ 58 ∷ [] ++ decimal number ++ 44 ∷ [])) }
 {
@@ -29,7 +29,8 @@ fn write_new(text: &mut String, name: &str, number: usize) -> Result<(), AllocEr
     Ok(())
 }
 
-/// Ends the last line behind one more cell, if it then has as many cells as the level is wide, and says how many it has.
+/// Counts one more cell in the last line, and ends the line if it then has as many cells as the level is wide. Gives how many cells the
+/// last line then has.
 fn end_line(text: &mut String, width: usize, column: usize) -> Result<usize, AllocError>
     requires { column < width }
     ensures ended { OnOk result ((count : ℕ) → column ≡ count % width → string_bytes text.new ≡ string_bytes text.old ++ line_end width (count + 1)) }
@@ -42,7 +43,7 @@ fn end_line(text: &mut String, width: usize, column: usize) -> Result<usize, All
     Ok(0)
 }
 
-/// As yet no label has a number.
+/// A list of numbers in which no label has one yet.
 fn no_numbers(alloc: Global, count: usize) -> Result<Vec<Option<usize>>, AllocError>
     ensures { IfOk result (λ numbers. numbers.items ≡ replicate count None) }
 {
@@ -51,7 +52,7 @@ fn no_numbers(alloc: Global, count: usize) -> Result<Vec<Option<usize>>, AllocEr
     Ok(numbers)
 }
 
-/// Writes the text of cells of these labels.
+/// Writes the text of cells with these labels.
 fn write_labels(
     alloc: Global,
     texts: &KnownTexts,
@@ -81,7 +82,7 @@ fn write_labels(
     Ok(text)
 }
 
-/// The text of cells of these labels, the level so many cells wide, as it is read again: not quoted. Err: memory was refused.
+/// The text of cells with these labels, not quoted, for a level of this width. Err: memory was refused.
 pub fn plain_text(
     alloc: Global,
     texts: &KnownTexts,

@@ -1,4 +1,4 @@
-//! Texts that are kept in the form in which they are written.
+//! Texts kept as JSON strings.
 
 ghost use Rattle.std.specs.Prelude.{◌≡◌, ◌+◌, ◌<◌, ◌^◌, length, IfOk};
 ghost use Rattle.json.specs.Print.{escape, quoted};
@@ -8,8 +8,8 @@ use json::Writer;
 use std::alloc::{AllocError, Global};
 use std::marker::Model;
 
-/// A text, kept as its JSON string: in quotation marks, its escapes made. Contracts see the text itself. So whoever makes it quotes it, once,
-/// and whoever writes it copies it.
+/// A text kept as a JSON string, with its quotation marks and escapes. Contracts see the text itself. It is quoted once, when it is made,
+/// and only copied when it is written.
 #[derive(Drop)]
 pub struct QuotedText {
     json: Vec<u8>,
@@ -28,7 +28,7 @@ impl Model for QuotedText {
 }
 
 impl QuotedText {
-    /// Quotes a text.
+    /// Quotes a text. Err: memory was refused.
     pub fn of_str(alloc: Global, text: &str) -> Result<QuotedText, AllocError>
         ensures { IfOk result (λ kept. kept ≡ text.now) }
     {
@@ -41,7 +41,7 @@ impl QuotedText {
         })
     }
 
-    /// Quotes a text whose escapes are made.
+    /// Puts quotation marks around a text that is escaped already. Err: memory was refused.
     pub(crate) fn of_escaped(alloc: Global, escaped: &[u8]) -> Result<QuotedText, AllocError>
         requires { escaped.now ≡ escape (escaped_says escaped.now) }
         ensures { IfOk result (λ kept. kept ≡ escaped_says escaped.now) }
@@ -60,7 +60,7 @@ impl QuotedText {
         self.json.as_slice()
     }
 
-    /// The text with its escapes made, as it stands between the two marks.
+    /// The escaped text, as it stands between the two quotation marks.
     pub(crate) fn escaped(&self) -> &[u8]
         ensures text { result.now ≡ escape self.now }
         ensures small { length result.now + 1 < 2 ^ 63 }

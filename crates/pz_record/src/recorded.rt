@@ -5,8 +5,8 @@ ghost use Rattle.std.specs.Prelude.{◌≡◌, ◌<◌, [], length, slice_index_
 use crate::cell_names::CellNames;
 use std::marker::Model;
 
-/// The level at the end of a recorded session: contracts see the names of each cell, in the order of the cells.
-/// Cells with the same names share them, so that a level takes no more room than its text.
+/// The level at the end of a recorded session. Contracts see the names of each cell, in the order of the cells. Cells with the same names
+/// share them, so that a level takes no more room than its text.
 #[derive(Drop)]
 pub struct Recorded {
     sets: Vec<CellNames>,
@@ -24,7 +24,7 @@ impl Model for Recorded {
 }
 
 impl Recorded {
-    /// The level whose cells have the sets of these numbers.
+    /// The level in which each cell has the set of this number.
     pub fn new(sets: Vec<CellNames>, cells: Vec<usize>) -> Recorded
         requires { All (λ set. set < length sets.items) cells.items }
         ensures { result ≡ map (λ set. slice_index_or sets.items set []) cells.items }
@@ -39,7 +39,7 @@ impl Recorded {
         self.cells.len()
     }
 
-    /// Whether two cells share their names. Cells that don't may still have the same.
+    /// Whether two cells share their names. Cells that don't share them may still have the same names.
     pub fn share_names(&self, number: usize, other: usize) -> bool
         requires number { number < length self.now }
         requires other { other < length self.now }
@@ -48,7 +48,7 @@ impl Recorded {
         self.cells[number] == self.cells[other]
     }
 
-    /// The names of the cell of a number.
+    /// The names of the cell of this number.
     pub fn names(&self, number: usize) -> &CellNames
         requires { number < length self.now }
         ensures { result.now ≡ slice_index_or self.now number [] }

@@ -1,4 +1,4 @@
-//! The room for the text of a level.
+//! Reused memory for the text of a level.
 
 ghost use Rattle.std.specs.Prelude.{◌≡◌, ◌<◌, [], length, map, All, IfOk, OnOk};
 ghost use Rattle.pz_record.specs.Labels.{text_at};
@@ -10,8 +10,8 @@ use crate::quoted::QuotedText;
 use std::alloc::{AllocError, Global};
 use std::marker::Model;
 
-/// The room for the text of a level, and for the numbers that it gives to the sets of its cells. It is kept from text to text, so that a
-/// text is written without asking for memory: it stands in front, with the escapes that JSON asks for, and ends where `end` says.
+/// Memory for the text of a level, and for the numbers that the text gives to sets of names. It is reused from text to text, so most texts
+/// are written without asking for memory. The text stands at the front, escaped as in a JSON string, and ends at `end`.
 pub struct TextRoom {
     json: Vec<u8>,
     end: usize,
@@ -44,7 +44,7 @@ impl Model for TextRoom {
 }
 
 impl TextRoom {
-    /// Room that has no text yet.
+    /// Room with an empty text.
     pub fn new(alloc: Global) -> TextRoom
         ensures { result ≡ [] }
     {
@@ -55,14 +55,15 @@ impl TextRoom {
         }
     }
 
-    /// A copy of the text that was written last. Err: memory was refused.
+    /// A copy of the last text, quoted. Err: memory was refused.
     pub fn text(&self, alloc: Global) -> Result<QuotedText, AllocError>
         ensures { IfOk result (λ text. text ≡ self.now) }
     {
         QuotedText::of_escaped(alloc, &self.json[..self.end])
     }
 
-    /// Writes the text of cells of these labels, the level so many cells wide, over the last one. Err: memory was refused.
+    /// Writes the text of cells with these labels, for a level of this width, over the last text. Err: memory was refused, and no text is
+    /// left.
     pub fn write(
         &mut self,
         texts: &KnownTexts,

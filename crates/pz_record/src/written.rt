@@ -1,7 +1,7 @@
 //! How much of a text is written.
 
-/// How much of the text of cells is written: where it ends, how many cells it has, to how many of their texts a number was given, and how many
-/// cells the last line has.
+/// How much of the text of cells is written. `end` is where it ends, `cells` how many cells it has, `known` how many texts have a number,
+/// and `column` how many cells the last line has.
 #[derive(Clone, Copy)]
 pub(crate) struct Written {
     pub end: usize,

@@ -110,7 +110,7 @@ pub walk : played_items (session walled (Press Right ∷ Press Right ∷ []))
 unfolding played_items played numbered items_from frame_of start_link press_link tick_link undo_link restarted won_link kept_link reached_link effect begun settled level_from step_of rules_run blocks_run block_runs has_won
 walk = refl
 
--- p..: an undo takes back what there is, and shows the level where there is nothing
+-- p..: an undo takes back a press if there is one, and else shows the level as it is
 abbrev free : LevelEntry
 free = row 3 (5 ∷ 3 ∷ 3 ∷ [])
 
@@ -160,7 +160,7 @@ pub restarts_by_rule : played_items (playing (game (free ∷ [])) (giving 8) (Pr
 unfolding played_items played numbered items_from frame_of start_link press_link tick_link undo_link restarted won_link kept_link reached_link effect begun settled level_from step_of rules_run blocks_run block_runs rest_of applied searched has_won
 restarts_by_rule = refl
 
--- AGAIN, where the step changed the level, asks for a tick; one that is idle is not shown
+-- `again` asks for a tick if the step changed the level; an idle tick isn't shown
 pub runs_again : played_items (playing (game (free ∷ [])) (giving 1) (Press Right ∷ []))
     ≡ shows free 0 0 kind.Start at_start ∷ shows free 1 1 kind.Move one_on ∷ closes free one_on ∷ []
 unfolding played_items played numbered items_from frame_of start_link press_link tick_link undo_link restarted won_link kept_link reached_link effect begun settled level_from step_of rules_run blocks_run block_runs rest_of applied searched has_won
@@ -186,7 +186,7 @@ pub wins : played_items (playing two_levels no_rules (Press Right ∷ Undo ∷ P
 unfolding played_items played numbered items_from frame_of start_link press_link tick_link undo_link restarted won_link kept_link reached_link effect begun settled level_from step_of rules_run blocks_run block_runs has_won
 wins = refl
 
--- a session that is refused has its close alone
+-- a refused session has only its close
 pub refused : items_of_plan (Err NoLevel) ≡ Close (Refused NoLevel) ∷ []
 unfolding items_of_plan
 refused = refl

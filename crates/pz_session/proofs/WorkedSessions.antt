@@ -176,19 +176,19 @@ again_without_a_change : effect kind.Move (session here there []) (record { leve
 unfolding effect reached_link kept_link has_won frame_of
 again_without_a_change = refl
 
--- a message alone is left behind the won level: play is over, and the level stays
+-- only a message comes after the won level: play is over, and the level stays
 last_level_won : effect kind.Move (session here here []) (record { level = there; commands = command.win; changed = true })
     ≡ record { shown = shows kind.Move there ∷ []; after = record (session there here []) { is_over = true }; goes_on = false }
 unfolding effect reached_link won_link has_won level_from frame_of
 last_level_won = refl
 
--- after that an undo too shows the won level alone
+-- after that even an undo only shows the won level
 over_means_over : begun Undo (record (session there here (here ∷ [])) { is_over = true })
     ≡ Ok (record { shown = shows kind.Over there ∷ []; after = record (session there here (here ∷ [])) { is_over = true }; goes_on = false })
 unfolding begun frame_of
 over_means_over = refl
 
--- a win shows the step and then the next level, behind a message; it is the target, and there is no past
+-- a win shows the step and then the next level, which comes after a message; it is the target, and the past is empty
 next_level : effect kind.Move (session_of (game_with false (entry ∷ Message ∷ entry ∷ [])) there there (here ∷ []))
     (record { level = there; commands = command.win; changed = false })
     ≡ record {

@@ -1,4 +1,4 @@
--- The links of a session: a press, a tick, an undo, a restart, and what the commands of a step make of it.
+-- The links of a session: a press, a tick, an undo, a restart, and the effect of a step's commands.
 use Rattle.std.specs.Prelude.{ℕ, ◌+◌, ◌<◌, Bool, true, false, ◌&&◌, ◌||◌, List, [], ◌∷◌, length, Option, Some, None, Result, Ok, Err, All, IfSome, if◌then◌else◌}
 use Rattle.pz_game.specs.declared.game.GameParts.{GameParts}
 use Rattle.pz_game.specs.declared.direction.Dir.{Dir}
@@ -47,7 +47,7 @@ pub record State : Type 0 where
   -- whether the last level was won
   pub is_over : Bool
 
--- all levels of a session are its game's, and so are its rules
+-- all levels of a session belong to its game, and so do its rules
 pub record IsOneGame (state : State) : Type 0 where
   pub program : IsProgramOf state.game.layers state.program
   pub entry : state.entry < length state.game.levels
@@ -56,7 +56,7 @@ pub record IsOneGame (state : State) : Type 0 where
   pub past : All (IsOfGame state.game) state.past
   pub before : IfSome state.before (IsOfGame state.game)
 
--- the level of an entry, as it is loaded: it is the target, and there is no past
+-- the session that has just loaded the level of an entry: it is the target too, and the past is empty
 abbrev pub loaded_at : GameParts → Program → Order → List (List (List ℕ)) → ℕ → State
 loaded_at game program order recorded entry = record {
   game = game;
@@ -77,11 +77,11 @@ at_level level state = record state { level = level }
 unfoldable pub frame_of : State → FrameKind → Frame
 frame_of state kind = record { kind = kind; level_text = text_of_level state.game state.order state.level }
 
--- a link that shows where it leads to, and whether one more tick follows it
+-- a link that shows the level that it leads to; one more tick may follow it
 abbrev pub showing : FrameKind → State → Bool → Link State
 showing kind state goes_on = record { shown = frame_of state kind ∷ []; after = state; goes_on = goes_on }
 
--- a link that shows where it leads to, and with which the chain ends
+-- a link that shows the level that it leads to, and ends the chain
 abbrev pub showing_end : FrameKind → State → Link State
 showing_end kind state = showing kind state false
 
@@ -97,15 +97,15 @@ ticks_at_start state = state.game.options.run_rules_on_level_start
 unfoldable pub start_link : State → Link State
 start_link state = showing Start state (ticks_at_start state)
 
--- the level is the target again
+-- the level becomes the target, and is shown
 unfoldable pub restarted : State → Link State
 restarted state = showing Restart (at_level state.target state) (ticks_at_start state)
 
--- a load shows its level behind the frame of the step that wins
+-- a load: the frame of the step that wins, then a frame of the level that is loaded
 abbrev pub loading : Frame → State → Link State
 loading won state = record { shown = won ∷ frame_of state Load ∷ []; after = state; goes_on = ticks_at_start state }
 
--- behind the last level play is over
+-- after the last level play is over, which shows no frame of its own
 abbrev pub ending : Frame → State → Link State
 ending won state = record { shown = won ∷ []; after = record state { is_over = true }; goes_on = false }
 
@@ -114,7 +114,7 @@ unfoldable pub won_link : Frame → State → Option ℕ → Link State
 won_link won state None = ending won state
 won_link won state (Some next) = loading won (loaded_at state.game state.program state.order state.recorded next)
 
--- no win: a checkpoint makes the level the target, and AGAIN, if the step changed the level, asks for one more tick
+-- no win: a checkpoint makes the level the target, and `again` asks for one more tick if the step changed the level
 unfoldable pub kept_link : FrameKind → Commands → Bool → State → Link State
 kept_link kind commands changed state = record {
   shown = frame_of state kind ∷ [];
@@ -122,15 +122,15 @@ kept_link kind commands changed state = record {
   goes_on = command.has commands command.again && changed;
 }
 
--- the level where a step ends that is neither cancelled nor a restart: it is won by WIN or by the win lines
+-- a step that gives neither `cancel` nor `restart`: it wins by `win` or by the win lines, or play goes on
 unfoldable pub reached_link : FrameKind → Commands → Bool → State → Link State
 reached_link kind commands changed state =
     if command.has commands command.win || has_won state.game state.level
     then won_link (frame_of state kind) state (level_from state.game (state.entry + 1))
     else kept_link kind commands changed state
 
--- the effect of a step: cancel, restart and win, in this force, exclude what comes after them. A cancelled step leaves the level; a
--- restart is shown in place of the step.
+-- the effect of a step: cancel, restart and win, in this order, each exclude all after it. A cancelled step leaves the level as
+-- it was. A restart is shown in place of the step.
 unfoldable pub effect : FrameKind → State → Outcome Grid → Link State
 effect kind state end =
     if command.has end.commands command.cancel then showing_end kind state
@@ -158,7 +158,7 @@ ticked_to state (Ok end) = Ok (if is_idle end then idle state else effect Tick s
 unfoldable pub tick_link : State → Result (Link State) Stop
 tick_link state = ticked_to state (step_of state.game state.program state.level None)
 
--- the last of the past is taken, if there is one; the target stays
+-- the last level of the past, if there is one, is taken from it and becomes the level; the target stays
 abbrev pub undone : State → List Grid → State
 undone state [] = state
 undone state (last ∷ past) = record state { level = last; past = past }
@@ -182,11 +182,11 @@ abbrev pub past_with : State → Option Grid → List Grid
 past_with state None = state.past
 past_with state (Some before) = if same_grid before state.level then state.past else before ∷ state.past
 
--- once the chain of a press or a restart is over, the level before it is put on the past if the level differs
+-- once the chain of a press or a restart is over, the level before it goes on the past if the level differs
 unfoldable pub settled : State → State
 settled state = record state { past = past_with state state.before; before = None }
 
--- a session whose inputs were all played passes if its last level is the recorded one
+-- a session whose inputs were all played passes if its level is the recorded one
 abbrev pub verdict_of : State → Verdict
 verdict_of state = if equals_recorded state.game state.order state.level state.recorded then Passed else Differs
 

@@ -15,12 +15,12 @@ use Rattle.pz_session.specs.Board.{State, board_links, start_link, loaded_at}
 abbrev pub state_of : PlanState → State
 state_of plan = loaded_at plan.game plan.program plan.order plan.recorded plan.first
 
--- the frames of a session that is played, and its close; the start is a chain as an input is
+-- a played session has its frames and then its close; the start is a chain, as an input is
 unfoldable pub played_items : PlanState → List Item
 played_items plan = items_from 0 (going_on board_links 0 (played board_links 0 plan.inputs)
     (follow (ticks board_links.ticked MOST_TICKS) (Ok (start_link (state_of plan)))))
 
--- a session that is refused has its close alone
+-- a refused session has only its close
 unfoldable pub items_of_plan : Result PlanState Refusal → List Item
 items_of_plan (Err refusal) = Close (Refused refusal) ∷ []
 items_of_plan (Ok plan) = played_items plan

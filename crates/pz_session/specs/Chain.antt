@@ -21,12 +21,12 @@ pub record Chain (S : Type 0) : Type 0 where
 abbrev pub preceded : {S : Type 0} → List Frame → Chain S → Chain S
 preceded frames chain = record { shown = frames ++ chain.shown; after = chain.after }
 
--- a link and, where it goes on, what follows from the state that it leaves
+-- a link, and if it goes on, what follows from the state that it leaves
 abbrev pub follow : {S : Type 0} → (S → Chain S) → Result (Link S) Stop → Chain S
 follow later (Err stop) = record { shown = []; after = Err stop }
 follow later (Ok link) = if link.goes_on then preceded link.shown (later link.after) else record { shown = link.shown; after = Ok link.after }
 
--- ticks from a state that needs one, of which at most n may be run
+-- ticks from a state that needs one; at most n may run
 abbrev pub ticks : {S : Type 0} → (S → Result (Link S) Stop) → ℕ → S → Chain S
 ticks ticked zero state = record { shown = []; after = Err AgainLimit }
 ticks ticked (suc n) state = follow (ticks ticked n) (ticked state)
@@ -34,7 +34,7 @@ ticks ticked (suc n) state = follow (ticks ticked n) (ticked state)
 abbrev pub shown_frames : Shown → List Frame
 shown_frames shown = option_to_list shown.first ++ option_to_list shown.second
 
--- a call that leaves `state` answers the link or its stop, unless memory was refused
+-- a call that leaves `state` answers this link or stop, unless memory was refused
 abbrev pub GivesLink : {S : Type 0} → Result (Link S) Stop → S → Result Shown PlayFault → Type 0
 GivesLink link state (Ok shown) = link ≡ Ok (record { shown = shown_frames shown; after = state; goes_on = shown.goes_on })
 GivesLink link state (Err Memory) = Unit {0}

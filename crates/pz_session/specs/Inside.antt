@@ -3,7 +3,7 @@ use Rattle.std.specs.Prelude.{◌≡◌, option_map}
 use Rattle.pz_session.specs.declared.board.Board.TheInside.{Inside}
 use Rattle.pz_session.specs.Board.{State, IsOneGame}
 
--- the session of a board, its levels as grids
+-- a board as a session, whose levels are grids
 abbrev pub state_in : Inside → State
 state_in b = record {
   game = b.game.now;
@@ -18,6 +18,6 @@ state_in b = record {
   is_over = b.is_over;
 }
 
--- it is of one game, and the writer of its texts is of the same game and order
+-- a board belongs to one game, and the writer of its texts has the same game and order
 abbrev pub IsKept : Inside → Type 0
 IsKept b = IsOneGame (state_in b) × ((b.texts.table.game ≡ b.game.now) × (b.texts.order ≡ b.order))

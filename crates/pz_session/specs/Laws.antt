@@ -7,6 +7,6 @@ use Rattle.pz_case.specs.declared.item.Verdict.{Verdict}
 use Rattle.pz_session.specs.Session.{numbered}
 use Rattle.pz_session.specs.Case.{items_of}
 
--- the items of a case are frames, numbered from 0, and then one close, with which they end
+-- the items of a case are frames, numbered from 0, and last one close
 abbrev pub CloseOnce : Type 0
 CloseOnce = (case : Case) → (frames : List (ℕ × Frame)) × ((end : Verdict) × (items_of case ≡ numbered 0 frames ++ item.Close end ∷ []))

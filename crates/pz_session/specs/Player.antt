@@ -30,7 +30,7 @@ pending player = option_to_list player.first ++ option_to_list player.second
 abbrev pub left : Player → List Item
 left player = left_in player.phase player.number (pending player) player.taken (drop player.taken player.inputs) player.board
 
--- a bound on the links that are left
+-- bounds on the links that are left: in the chain, and in the session
 abbrev pub rank : Phase → ℕ
 rank (phase.Ticking n) = n + 1
 rank _ = 0
@@ -38,7 +38,7 @@ rank _ = 0
 abbrev pub work : Player → ℕ
 work player = (length player.inputs - player.taken) * (MOST_TICKS + 2) + rank player.phase
 
--- no link is needed before the next item
+-- without pending frames, a link has to be played before the next item
 abbrev pub is_waiting_in : Phase → ℕ → List Input → Bool
 is_waiting_in phase.Between taken inputs = nat_lt taken (length inputs)
 is_waiting_in (phase.Ticking n) taken inputs = true
@@ -53,7 +53,7 @@ to_follow goes_on n taken inputs state =
     if goes_on then going_on board_links taken (played board_links taken inputs) (ticks tick_link n state)
     else played board_links taken inputs (settled state)
 
--- what is left once a link was begun, at most n ticks allowed after it
+-- what is left from this link on; at most n ticks may run after it
 abbrev pub left_with : ℕ → ℕ → ℕ → List Input → Result (Link State) Stop → List Item
 left_with n number taken inputs link =
     items_from number (going_on board_links taken (played board_links taken inputs) (follow (ticks tick_link n) link))

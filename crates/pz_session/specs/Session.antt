@@ -43,7 +43,7 @@ after_chain links later (Ok state) = later (links.settled state)
 abbrev pub going_on : {S : Type 0} → Links S → ℕ → (S → Played) → Chain S → Played
 going_on links at later chain = showing at chain.shown (after_chain links later chain.after)
 
--- the inputs that are left, where `taken` were taken
+-- what is shown for the inputs that are left, after `taken` inputs
 unfoldable pub played : {S : Type 0} → Links S → ℕ → List Input → S → Played
 played links taken [] state = closing (links.verdict state)
 played links taken (input ∷ inputs) state =

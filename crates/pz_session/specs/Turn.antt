@@ -10,7 +10,7 @@ use Rattle.pz_case.specs.declared.item.Stop.TheVariants as stop
 use Rattle.pz_session.specs.declared.chain.PlayFault.{PlayFault}
 use Rattle.pz_session.specs.declared.chain.PlayFault.TheVariants.{Memory, Stopped}
 
--- a step that stops is the stop of its session; want of memory is none, and no step of a game ends with it
+-- the stop of a step is the stop of its session; no step of a game ends with want of memory, so that case doesn't matter
 abbrev pub stop_of : StepFault → Stop
 stop_of step.MatchLimit = stop.MatchLimit
 stop_of _ = stop.LoopLimit
@@ -20,6 +20,6 @@ fault_of step.Memory = Memory
 fault_of step.LoopLimit = Stopped stop.LoopLimit
 fault_of step.MatchLimit = Stopped stop.MatchLimit
 
--- a tick is idle if it is cancelled, or if it changes nothing and gives neither RESTART nor WIN; win lines don't count
+-- a tick is idle if it is cancelled, or if it changes nothing and gives neither `restart` nor `win`; win lines don't count
 abbrev pub is_idle : Outcome Grid → Bool
 is_idle end = has end.commands cancel || not (end.changed || (has end.commands restart || has end.commands win))

@@ -36,9 +36,9 @@ use pz_turn::win::won;
 use std::alloc::{AllocError, Global};
 use std::marker::Model;
 
-/// A session between two links: the entry of LEVELS that is played, its level, the target of a restart, the levels that an undo
-/// takes back, the level before an input until that input's chain is over, and whether play is over. A spare level is room for the next step,
-/// whatever stands there.
+/// A session between two links: the entry of LEVELS that is played, its level, the target of a restart, the past, and whether play is over.
+/// `before` has the level before an input until that input's chain is over. `spare` is memory for the next step; what stands there doesn't
+/// count.
 pub struct Board<'a> {
     alloc: Global,
     game: &'a Game,
@@ -67,7 +67,7 @@ impl<'a> Model for Board<'a> {
     ghost invariant = { IsKept };
 }
 
-/// Written out, so that where a board goes out of scope one call stands for the ways through all its fields.
+/// Written out: where a board goes out of scope, the prover then sees one call, not every path through its fields.
 impl Drop for Board<'_> {
     fn drop(self) {
         let Board {
@@ -90,7 +90,7 @@ impl Drop for Board<'_> {
     }
 }
 
-/// The level of an entry, to be played, and once more, as the target.
+/// The level of an entry, and a copy of it as the target. Err: memory was refused.
 fn opened(alloc: Global, game: &Game, entry: usize) -> Result<(Level, Level), AllocError>
     requires playable { is_playable (entry_at game.now entry) ≡ true }
     requires within { entry < length game.now.levels }
@@ -107,7 +107,7 @@ fn opened(alloc: Global, game: &Game, entry: usize) -> Result<(Level, Level), Al
 impl<'a> Board<'a> {
     ghost use Rattle.pz_session.specs.Board.{loaded_at, at_level, frame_of, showing, showing_end, start_link, restarted, ending, won_link, kept_link, reached_link, effect, press_link, tick_link, undone, undo_link, ticks_at_start, keeping};
 
-    /// A session at the level of an entry, as it is loaded.
+    /// A session that has just loaded the level of an entry. Err: memory was refused.
     pub fn load(
         alloc: Global,
         game: &'a Game,
@@ -148,7 +148,7 @@ impl<'a> Board<'a> {
         self.game.options().run_rules_on_level_start
     }
 
-    /// The level, shown.
+    /// A frame of the level.
     fn frame(&mut self, kind: FrameKind) -> Result<Frame, AllocError>
         ensures frame { IfOk result (λ frame. frame ≡ frame_of self.old kind) }
         ensures same { self.new ≡ self.old }
@@ -157,7 +157,7 @@ impl<'a> Board<'a> {
         Ok(Frame { kind, level_text })
     }
 
-    /// Shows the level, and whether one more tick follows.
+    /// A link that shows the level. If `goes_on`, one more tick follows.
     fn show(&mut self, kind: FrameKind, goes_on: bool) -> Result<Shown, PlayFault>
         ensures { GivesLink (Ok (showing kind self.old goes_on)) self.new result }
     {
@@ -169,7 +169,7 @@ impl<'a> Board<'a> {
         })
     }
 
-    /// The start of a session shows its level.
+    /// The first link of a session, which shows its level.
     pub fn start(&mut self) -> Result<Shown, PlayFault>
         ensures { GivesLink (Ok (start_link self.old)) self.new result }
     {
@@ -177,7 +177,7 @@ impl<'a> Board<'a> {
         self.show(FrameKind::Start, goes_on)
     }
 
-    /// The level is the target again.
+    /// Makes the level a copy of the target, and shows it.
     fn restart(&mut self) -> Result<Shown, PlayFault>
         ensures { GivesLink (Ok (restarted self.old)) self.new result }
     {
@@ -186,7 +186,7 @@ impl<'a> Board<'a> {
         self.show(FrameKind::Restart, goes_on)
     }
 
-    /// The level of an entry, as it is loaded: it is the target, and there is no past.
+    /// Loads the level of an entry. It is the target too, and the past is empty.
     fn enter(&mut self, next: usize) -> Result<(), AllocError>
         requires playable { is_playable (entry_at self.old.game next) ≡ true }
         requires within { next < length self.old.game.levels }
@@ -202,7 +202,7 @@ impl<'a> Board<'a> {
         Ok(())
     }
 
-    /// Behind the frame of the step that wins, the next level is loaded, or play is over.
+    /// Shows the frame of the step that wins. Then the next level is loaded and shown, or play is over.
     fn win(&mut self, won: Frame) -> Result<Shown, PlayFault>
         ensures { GivesLink (Ok (won_link won self.old (level_from self.old.game (self.old.entry + 1)))) self.new result }
     {
@@ -227,7 +227,7 @@ impl<'a> Board<'a> {
         }
     }
 
-    /// At a checkpoint the level is the target from then on.
+    /// Makes the level the target, if the commands have `checkpoint`.
     fn set_target(&mut self, commands: Commands) -> Result<(), AllocError>
         ensures { OnOk result (self.new ≡ record self.old { target = if has commands checkpoint then self.old.level else self.old.target }) }
     {
@@ -237,7 +237,8 @@ impl<'a> Board<'a> {
         Ok(())
     }
 
-    /// The end of a step that doesn't win: at a checkpoint it is the target.
+    /// Shows the level after a step that doesn't win. A checkpoint makes it the target. `again` asks for one more tick if the step changed
+    /// the level.
     fn keep(
         &mut self,
         kind: FrameKind,
@@ -251,7 +252,7 @@ impl<'a> Board<'a> {
         self.show(kind, goes_on)
     }
 
-    /// The level where a step ends that is neither cancelled nor a restart.
+    /// The effect of a step that gives neither `cancel` nor `restart`: it wins, by `win` or by the win lines, or play goes on.
     fn reach(
         &mut self,
         kind: FrameKind,
@@ -267,7 +268,7 @@ impl<'a> Board<'a> {
         self.keep(kind, commands, changed)
     }
 
-    /// The effect of a step that led to the level.
+    /// The effect of a step that has led to the level. Cancel, restart and win, in this order, each exclude all after it.
     fn take(
         &mut self,
         kind: FrameKind,
@@ -285,8 +286,7 @@ impl<'a> Board<'a> {
         self.reach(kind, commands, changed)
     }
 
-    /// A step from the level, which leads to another level of its game, and to the same where it is cancelled. The level itself stays
-    /// as it is.
+    /// Plays a step from the level, which stays as it is. A cancelled step ends with an equal level.
     fn turn(&mut self, input: Option<Dir>) -> Result<StepEnd, StepFault>
         ensures end { IfOk result (λ end. step_of self.old.game self.old.program self.old.level input ≡ Ok (record { level = end.level.grid; commands = end.commands; changed = end.changed })) }
         ensures cancelled { IfOk result (λ end. has end.commands cancel ≡ true → end.level.grid ≡ self.old.level) }
@@ -341,7 +341,7 @@ impl<'a> Board<'a> {
         self.take(FrameKind::Tick, commands, changed)
     }
 
-    /// Takes the last of the past, if there is one.
+    /// Takes the last level of the past, if there is one, as the level.
     fn step_back(&mut self) -> Result<(), AllocError>
         ensures { OnOk result (self.new ≡ undone self.old self.old.past) }
     {
@@ -359,7 +359,7 @@ impl<'a> Board<'a> {
         self.show(FrameKind::Undo, false)
     }
 
-    /// A restart input.
+    /// A restart input. The level before it is kept for the past.
     fn start_again(&mut self) -> Result<Shown, PlayFault>
         ensures { GivesLink (Ok (restarted (keeping self.old))) self.new result }
     {
@@ -370,11 +370,11 @@ impl<'a> Board<'a> {
     }
 }
 
-/// What a player asks of its board. Each call leaves the state that its link leaves.
+/// What a player asks of its board. A call that plays a link leaves the state that the link leaves.
 impl<'a> Board<'a> {
     ghost use Rattle.pz_session.specs.Board.{begun, settled, verdict_of};
 
-    /// The first link of an input.
+    /// Plays the first link of an input. After play is over it only shows the won level.
     pub fn begin(&mut self, input: Input) -> Result<Shown, PlayFault>
         ensures { GivesLink (begun input self.old) self.new result }
     {
@@ -389,7 +389,8 @@ impl<'a> Board<'a> {
         }
     }
 
-    /// What is done once an input with its whole chain is over.
+    /// Ends the chain of an input. After a press or a restart, the level before it goes on the past, unless the level is the same or
+    /// another was loaded.
     pub fn settle(&mut self) -> Result<(), AllocError>
         ensures { OnOk result (self.new ≡ settled self.old) }
     {

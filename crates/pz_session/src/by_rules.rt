@@ -14,7 +14,7 @@ pub struct ByRules<'a> {
 impl<'a> ByRules<'a> {
     ghost use Rattle.std.specs.Prelude.{◌≡◌};
 
-    /// Has a job played by the rules.
+    /// Plays a job by the rules.
     pub fn new(job: &'a Job) -> ByRules<'a>
         ensures { result.job.now ≡ job.now }
     {

@@ -1,14 +1,14 @@
-//! Links of a session: an input's first step, and the ticks that follow it.
+//! Links of a session: what an input does first, and the ticks that follow.
 
 ghost use Rattle.std.specs.Prelude.{◌≡◌};
 
 use pz_case::item::{Frame, Stop};
 use std::alloc::AllocError;
 
-/// The most ticks of a chain: those that follow a press, or a tick input with those that follow it.
+/// The most ticks of a chain, idle ones included. A tick input is one of them itself.
 pub const MOST_TICKS: u64 = 500;
 
-/// The limit as a number: a promise, which the constant can't change by itself.
+/// Promises the limit as a number, so that changing the constant alone breaks a proof.
 pub fn ticks_are_limited()
     ensures { MOST_TICKS ≡ 500 }
 {}

@@ -1,4 +1,4 @@
-//! A case, played. The run of a case gives its items one by one: the frames that the session shows, and its close.
+//! Plays cases. The run of a case gives its items one by one: the frames that the session shows, then its close.
 #![tactic(auto)]
 
 mod board;

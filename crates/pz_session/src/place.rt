@@ -1,4 +1,4 @@
-//! Values in the places of others.
+//! Replacing one value by another.
 
 ghost use Rattle.std.specs.Prelude.{◌≡◌, OnOk, OnErr, Some};
 
@@ -6,22 +6,21 @@ use pz_grid::Level;
 use std::alloc::AllocError;
 use std::mem::replace;
 
-/// Puts a value in the place of another. That one goes out of scope by a call, where an assignment would write out the ways through all
-/// its parts.
+/// Replaces a value. The old one is dropped by a call, because an assignment makes the prover follow every path through its parts.
 pub(crate) fn put<T: Drop>(place: &mut T, value: T)
     ensures { place.new ≡ value }
 {
     drop(replace(place, value));
 }
 
-/// Puts a level where one may be that is of no more use.
+/// Keeps a level as a spare one. If there is one already, it is dropped.
 pub(crate) fn put_aside(place: &mut Option<Level>, level: Level)
     ensures { place.new ≡ Some level }
 {
     *place = Some(level);
 }
 
-/// Puts a level in the place of another, and that one aside.
+/// Replaces a level, and puts the old one aside.
 pub(crate) fn put_before(place: &mut Level, level: Level, aside: &mut Option<Level>)
     ensures place { place.new ≡ level }
     ensures aside { aside.new ≡ Some place.old }
@@ -30,7 +29,7 @@ pub(crate) fn put_before(place: &mut Level, level: Level, aside: &mut Option<Lev
     *aside = Some(before);
 }
 
-/// Puts a copy of a level in the place of another.
+/// Replaces a level by a copy of another. Err: memory was refused, and the level is unchanged.
 pub(crate) fn put_copy(place: &mut Level, level: &Level) -> Result<(), AllocError>
     ensures copied { OnOk result (place.new.grid ≡ level.now.grid) }
     ensures kept { OnErr result (place.new ≡ place.old) }

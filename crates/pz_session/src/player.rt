@@ -12,12 +12,12 @@ use pz_case::item::{Frame, Item, Stop, Verdict};
 use pz_record::input::Input;
 use std::alloc::AllocError;
 
-/// What comes after the frames that are still to be handed out.
+/// What comes after the pending frames.
 #[derive(Clone, Copy)]
 pub enum Phase {
     /// The next input, or the close.
     Between,
-    /// A tick, of which at most so many may follow.
+    /// A tick. At most this many may still run.
     Ticking(u64),
     /// The close of a session that stopped.
     Stopped(Stop),
@@ -35,7 +35,7 @@ fn ticks_after(input: Input) -> u64
     }
 }
 
-/// A frame as the item of the next number, where so many inputs were taken.
+/// Makes an item of a frame. It gets the next number, and `at` is the number of inputs taken so far.
 fn numbered(next: &mut u64, taken: u64, frame: Frame) -> Item
     requires { next.old + 1 < 2 ^ 64 }
     ensures item { result ≡ Item.Frame next.old taken frame }
@@ -50,8 +50,8 @@ fn numbered(next: &mut u64, taken: u64, frame: Frame) -> Item
     }
 }
 
-/// A session in play: its board, the inputs with how many were taken, the frames that are still to be handed out, what comes
-/// after them, and the number of the next frame.
+/// A session in play. `taken` is how many inputs were taken. `first` and `second` are pending frames, and `phase` is what comes after them.
+/// `number` is the number of the next frame.
 pub struct Player<'a> {
     pub board: Board<'a>,
     pub inputs: Tape<'a>,
@@ -79,7 +79,7 @@ impl Drop for Player<'_> {
     }
 }
 
-/// The phase after a link, which settles the board where the chain is over.
+/// The phase after a link. If the chain is over, the board is settled.
 fn phase_after(board: &mut Board<'_>, goes_on: bool, allowed: u64) -> Result<Phase, AllocError>
     ensures to_come { IfOk result (λ phase. (taken : ℕ) (inputs : List Input) →
         to_come phase taken inputs board.new
@@ -99,7 +99,7 @@ impl<'a> Player<'a> {
     ghost use Rattle.pz_session.specs.Player.{left, left_with, work, rank, is_waiting};
     ghost use Rattle.pz_case.specs.Playing.{Yields};
 
-    /// A session whose first link was played: it shows the board.
+    /// A session whose first link has been played: it shows the start.
     pub fn start(board: Board<'a>, inputs: Tape<'a>) -> Result<Player<'a>, AllocError>
         ensures left { IfOk result (λ player. left player ≡ left_with MOST_TICKS 0 0 inputs.entry (Ok (start_link board.entry))) }
         ensures number { IfOk result (λ player. player.number ≡ 0) }
@@ -133,7 +133,7 @@ impl<'a> Player<'a> {
             }
     }
 
-    /// The next item, where no link has to be played before it.
+    /// The next item, when no link has to be played before it.
     fn take_item(&mut self) -> Option<Item>
         requires ready { is_waiting self.old ≡ false }
         requires room { self.old.number + 1 < 2 ^ 64 }
@@ -157,7 +157,7 @@ impl<'a> Player<'a> {
         Some(Item::Close(close))
     }
 
-    /// Takes over what a link gave, after which so many ticks are allowed.
+    /// Takes over what a link gave. At most `allowed` ticks may run after it.
     fn take_link(
         &mut self,
         outcome: Result<Shown, PlayFault>,
@@ -224,7 +224,7 @@ impl<'a> Player<'a> {
         }
     }
 
-    /// The next item; none after the close.
+    /// The next item, or `None` after the close. Err: memory was refused.
     pub fn next(&mut self) -> Result<Option<Item>, AllocError>
         requires room { self.old.number + 1 < 2 ^ 64 }
         ensures item { IfOk result (λ answer. Yields (left self.old) answer

@@ -15,7 +15,7 @@ use pz_case::playing::Playing;
 use std::alloc::{AllocError, Global};
 use std::marker::Model;
 
-/// The run of a case, which contracts see as the items that are still to come, and whether memory was refused.
+/// The run of a case. Contracts see the items that are still to come, and whether memory was refused.
 pub struct Run<'a> {
     stage: Stage<'a>,
 }
@@ -56,8 +56,8 @@ fn play(alloc: Global, plan: &Plan) -> Result<Player<'_>, AllocError>
     }
 }
 
-/// Nothing is to come, since memory was refused. It stands alone, since a call clears all room that it may need, also where it needs none:
-/// this needs that of a stage.
+/// Ends the run, because memory was refused. It stays a function of its own: a call clears all the stack that it might use, and this one
+/// uses room for a stage.
 #[inline(never)]
 fn fail(stage: &mut Stage<'_>)
     ensures { stage.new ≡ Stage.Failed }
@@ -87,7 +87,7 @@ impl<'a> Run<'a> {
         }
     }
 
-    /// The next item; none after the close. Once memory was refused it is refused for good.
+    /// The next item, or `None` after the close. Err: memory was refused; then every later call fails too.
     pub fn next(&mut self) -> Result<Option<Item>, AllocError>
         ensures item { MatchResult result
             (λ answer. (self.old.has_failed ≡ false) × (self.new.has_failed ≡ false) × Yields self.old.items answer self.new.items)
@@ -119,7 +119,7 @@ impl Playing for Run<'_> {
     }
 }
 
-/// Puts the next item behind those that were taken; false: there is none.
+/// Adds the next item to those taken before. False: there is none.
 fn take_next(run: &mut Run<'_>, items: &mut Vec<Item>) -> Result<bool, AllocError>
     ensures kept { IfOk result (λ _. items.new.items ++ run.new.items ≡ items.old.items ++ run.old.items) }
     ensures fewer { IfOk result (λ found. found ≡ true → length run.new.items < length run.old.items) }
@@ -143,7 +143,7 @@ fn left_in(alloc: Global, run: &mut Run<'_>) -> Result<Vec<Item>, AllocError>
     Ok(items)
 }
 
-/// All items of a case: the frames of a session that is played and its close, or the close of one that is refused.
+/// All items of a case. A played session has its frames and then its close, a refused one only its close. Err: memory was refused.
 pub fn frames(alloc: Global, case: &Case) -> Result<Vec<Item>, AllocError>
     ensures { IfOk result (λ items. items.items ≡ items_of case.now) }
 {

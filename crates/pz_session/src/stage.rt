@@ -6,7 +6,7 @@ use pz_case::item::Refusal;
 /// What is still to come in the run of a case.
 #[derive(Drop)]
 pub enum Stage<'a> {
-    /// The close of a session that is refused; None: it was handed out.
+    /// The close of a refused session. `None`: it was handed out.
     Refused(Option<Refusal>),
     /// The items of a session in play.
     Playing(Player<'a>),

@@ -1,4 +1,5 @@
--- A level notes each heading that a row of a rule asks for whose cells all hold somewhere, for the whole and for each line.
+-- If all cells of a rule's row hold somewhere, each heading that the row asks for is noted, for the whole level and for the
+-- lines.
 use Rattle.pz_cells.specs.Layering.{Layering}
 use Rattle.std.proofs.Common.{◌≡◌, ◌+◌, ◌*◌, ◌%◌, ◌<◌, ℕ, List, [], ◌∷◌, Bool, true, false, not, inl, inr, suc, length, get_or, arith, ap, sym, ◌∙◌, refl, subst}
 use Rattle.std.specs.Prelude.{IsTrue, ◌↔◌}

@@ -1,4 +1,4 @@
--- A level with the cells of a newer one put where changes that lead back from that say that they differ is the newer one.
+-- A level becomes a newer one if it gets the newer one's cells wherever the changes that lead back say that the two differ.
 use Rattle.std.proofs.Common.{◌≡◌, ℕ, ◌+◌, ◌*◌, List, [], ◌∷◌, ◌++◌, Option, Bool, true, false, cond, set, length, get_or, ap, sym, ◌∙◌, refl, arith}
 use Rattle.std.specs.Prelude.{fold}
 use Rattle.std.proofs.lemmas.List.{length-append}

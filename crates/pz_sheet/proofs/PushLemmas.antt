@@ -1,4 +1,4 @@
--- Objects that are given a direction.
+-- Objects that get a direction.
 use Rattle.std.proofs.Common.{◌≡◌, ◌≢◌, inl, inr, ℕ, zero, suc, ◌+◌, ◌*◌, ◌<◌, ◌≤◌, List, [], ◌∷◌, ◌++◌, Option, Some, None, Bool, true, false, ◌||◌, cond, is_some, map, set, take, drop, length, get_or, nat_eq, arith, ap, sym, ◌∙◌, refl, subst, eq-eqb, length-append, length-drop, length-take}
 use Rattle.std.proofs.Math.Nat.{mul_comm, suc-mul, mul-le-mul_right}
 use Rattle.std.specs.Prelude.{IfSome}
@@ -180,7 +180,7 @@ pushed_end players dir count old now past is =
 pub pushed_row : (players : List ℕ) (dir : Dir) (y at : ℕ) (old now : Grid) → at ≡ old.width → ArePushedTo players dir (y * old.width + at) old now → ArePushedTo players dir ((y + 1) * old.width) old now
 pushed_row players dir y at old now end is = pushed_as players dir (y * old.width + at) ((y + 1) * old.width) old now (omega (arith, end, suc-mul y old.width)) is
 
--- one in which none of the players stands needs no push
+-- a row in which none of the players stands needs no push
 pub passed_row : (players : List ℕ) (dir : Dir) (y : ℕ) (old now : Grid) → length old.cells ≡ old.width * old.height → y < old.height → ((x : ℕ) → x < now.width → AreMissing players (cell_at now x y)) → ArePushedTo players dir (y * old.width) old now
     → ArePushedTo players dir ((y + 1) * old.width) old now
 passed_row players dir y old now covers y_in missing is =

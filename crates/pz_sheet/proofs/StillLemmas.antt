@@ -1,4 +1,4 @@
--- A cell that heads nowhere is still, and so is each cell of a line, or of a level, of which no heading is noted.
+-- A cell that heads nowhere is still. So is each cell of a line or of a level for which no heading is noted.
 use Rattle.pz_cells.specs.Layering.{Layering}
 use Rattle.std.proofs.Common.{◌≡◌, ◌+◌, ◌*◌, ◌<◌, ℕ, suc, List, [], ◌∷◌, Option, Some, None, Bool, true, false, map, length, get_or, arith, ap, sym, ◌∙◌, refl, subst}
 use Rattle.std.specs.Prelude.{find}

@@ -1,4 +1,4 @@
--- The cells in which an older level differs from another of its size, and the level with other cells in their places.
+-- The cells in which an older level differs from another of its size, and a level with cells replaced.
 use Rattle.std.specs.Prelude.{ℕ, ◌+◌, ◌<◌, List, [], ◌∷◌, Option, Bool, not, length, map, fold, slice_set, if◌then◌else◌}
 use Rattle.pz_cells.specs.declared.piece.Piece.{Piece}
 use Rattle.pz_cells.specs.Sameness.{same_cell}
@@ -8,12 +8,12 @@ use Rattle.pz_cells.specs.Layering.{Layering}
 use Rattle.pz_sheet.specs.Presence.{cell_of}
 use Rattle.pz_cells.specs.Lists.{seen, IsSound}
 
--- what a change says: the number of a cell, and what stood there
+-- a change: the number of a cell, and what stood there
 pub record CellChange : Type 0 where
   pub number : ℕ
   pub cell : List (Option Piece)
 
--- the cells, counted from a number, in which older ones differ, each with what stood there
+-- the cells in which older ones differ, each with what stood there; the first cell has this number
 abbrev pub changed_from : ℕ → List (List (Option Piece)) → List (List (Option Piece)) → List CellChange
 changed_from number (cell ∷ cells) (old ∷ older) =
     if same_cell cell old then changed_from (number + 1) cells older else record { number = number; cell = old } ∷ changed_from (number + 1) cells older
@@ -27,7 +27,7 @@ changed_cells grid older = changed_from 0 grid.cells older.cells
 abbrev pub change_seen : {N : ℕ} → Layering → Change N → CellChange
 change_seen layering change = record { number = change.index; cell = seen layering change.cell }
 
--- what changes say of a level's cells
+-- changes of a level's cells, seen by layers
 abbrev pub changes_seen : {N : ℕ} → Grid → List (Change N) → List CellChange
 changes_seen grid changes = map (change_seen (layers_in grid)) changes
 
@@ -36,7 +36,7 @@ pub record IsChangeOf {N : ℕ} (grid : Grid) (change : Change N) : Type 0 where
   pub within : change.index < length grid.cells
   pub sound : IsSound (layers_in grid) change.cell
 
--- the level with another cell in the place of one
+-- the level with one cell replaced
 abbrev pub with_cell : Grid → CellChange → Grid
 with_cell grid change = record grid { cells = slice_set grid.cells change.number change.cell }
 
@@ -44,10 +44,10 @@ with_cell grid change = record grid { cells = slice_set grid.cells change.number
 abbrev pub restored : List CellChange → Grid → Grid
 restored changes grid = fold with_cell grid changes
 
--- two levels differ in the cell of a number
+-- two levels differ in the cell of this number
 abbrev pub differ_in : Grid → Grid → ℕ → Bool
 differ_in grid other number = not (same_cell (cell_of grid number) (cell_of other number))
 
--- what stands in the cell of a number
+-- what stands in the cell of this number
 abbrev pub cell_there : Grid → ℕ → CellChange
 cell_there grid number = record { number = number; cell = cell_of grid number }

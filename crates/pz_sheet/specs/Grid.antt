@@ -13,7 +13,7 @@ pub record Grid : Type 0 where
   -- the number of layers, and the layer of each object of the game
   pub depth : ℕ
   pub layers : List ℕ
-  -- row by row, the cells: for each layer nothing, or what stands there
+  -- the cells, row by row: for each layer nothing, or what stands there
   pub cells : List (List (Option Piece))
 
 -- the layers of a level
@@ -39,7 +39,7 @@ cell_at grid x y = slice_index_or grid.cells (y * grid.width + x) []
 abbrev pub place_at : Grid → ℕ → ℕ → ℕ → Option Piece
 place_at grid x y layer = slice_index_or (cell_at grid x y) layer None
 
--- the level with this on that layer
+-- the level with this, or nothing, on that layer of that position
 abbrev pub with_place : Grid → ℕ → ℕ → ℕ → Option Piece → Grid
 with_place grid x y layer place =
     record grid { cells = slice_set grid.cells (y * grid.width + x) (slice_set (cell_at grid x y) layer place) }

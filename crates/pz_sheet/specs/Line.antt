@@ -1,4 +1,4 @@
--- The lines of a map: rows and columns, each with so many positions.
+-- The lines of a map: rows and columns, and their positions.
 use Rattle.std.specs.Prelude.{ℕ, List, Bool}
 use Rattle.pz_game.specs.declared.direction.Dir.{Dir}
 use Rattle.pz_game.specs.declared.direction.Dir.TheVariants.{Up, Down, Left, Right}
@@ -12,7 +12,7 @@ use Rattle.pz_sheet.specs.declared.line.Line.{Line}
 use Rattle.pz_sheet.specs.Grid.{Grid, cell_at}
 use Rattle.pz_sheet.specs.Runs.{run_holds}
 
--- the row and the column of a number
+-- the row and the column of this number
 abbrev pub row_of : ℕ → Line
 row_of number = record { axis = Horizontal; number = number }
 

@@ -1,4 +1,4 @@
--- A level as it is drawn, and how its background is laid: it is filled with a piece where nothing stands on a layer.
+-- A level as it is drawn, and as its background is filled: each cell with nothing on a layer gets a piece there.
 use Rattle.std.specs.Prelude.{ℕ, map}
 use Rattle.pz_game.specs.declared.game.GameParts.{GameParts}
 use Rattle.pz_game.specs.Drawing.{Drawing}
@@ -6,7 +6,7 @@ use Rattle.pz_cells.specs.declared.piece.Piece.{Piece}
 pub use Rattle.pz_cells.specs.Drawing.{with_object, glyph_cell, filled_cell}
 use Rattle.pz_sheet.specs.Grid.{Grid}
 
--- the level as it is drawn, before the background is laid
+-- the level as it is drawn, before its background is filled
 abbrev pub drawn : GameParts → Drawing → Grid
 drawn game drawing = record {
   width = drawing.width;
@@ -16,6 +16,6 @@ drawn game drawing = record {
   cells = map (glyph_cell game) drawing.cells;
 }
 
--- the level with this piece on a layer of each cell where nothing stands
+-- the level with this piece in each cell where nothing stands on the layer
 abbrev pub filled : ℕ → Piece → Grid → Grid
 filled layer piece grid = record grid { cells = map (filled_cell layer piece) grid.cells }

@@ -23,7 +23,7 @@ holds_each objects cell = list_all (is_in cell) objects
 abbrev pub AreMissing : List ℕ → List (Option Piece) → Type 0
 AreMissing objects cell = All (λ object. is_in cell object ≡ false) objects
 
--- the cell of a number, counted row by row
+-- the cell of this number, counted row by row
 abbrev pub cell_of : Grid → ℕ → List (Option Piece)
 cell_of grid index = slice_index_or grid.cells index []
 
@@ -43,10 +43,10 @@ in_row grid number object = in_line grid (row_of number) object
 abbrev pub in_column : Grid → ℕ → ℕ → Bool
 in_column grid number object = in_line grid (column_of number) object
 
--- one of some objects is in a cell, and one of others
+-- one of `objects` is in a cell, and one of `others`
 abbrev pub holds_both : List ℕ → List ℕ → List (Option Piece) → Bool
 holds_both objects others cell = holds_one objects cell && holds_one others cell
 
--- if one of some objects is in a cell, so is one of others
+-- if one of `objects` is in a cell, so is one of `others`
 abbrev pub holds_if : List ℕ → List ℕ → List (Option Piece) → Bool
 holds_if objects others cell = not (holds_one objects cell) || holds_one others cell

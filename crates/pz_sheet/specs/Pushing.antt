@@ -1,4 +1,4 @@
--- The direction of an input, given to the player.
+-- A press gives its direction to the player.
 use Rattle.std.specs.Prelude.{ℕ, Bool, List, [], map, Option, Some, None, nat_eq, slice_set, slice_index_or, if◌then◌else◌}
 use Rattle.std.specs.List.{list_any}
 use Rattle.pz_game.specs.declared.direction.Dir.{Dir}
@@ -8,7 +8,7 @@ use Rattle.pz_sheet.specs.Grid.{Grid}
 abbrev pub is_one_of : List ℕ → ℕ → Bool
 is_one_of objects object = list_any (λ other. nat_eq other object) objects
 
--- an object that is the player heads where the input says; every other stays as it is
+-- an object that is a player gets the direction; every other stays as it is
 abbrev pub pushed_place : List ℕ → Dir → Option Piece → Option Piece
 pushed_place players dir None = None
 pushed_place players dir (Some piece) =
@@ -17,7 +17,7 @@ pushed_place players dir (Some piece) =
 abbrev pub pushed : List ℕ → Dir → Grid → Grid
 pushed players dir grid = record grid { cells = map (map (pushed_place players dir)) grid.cells }
 
--- the level with the player pushed in the cell of a number alone
+-- the level with the player pushed only in the cell of this number
 abbrev pub pushed_at : List ℕ → Dir → ℕ → Grid → Grid
 pushed_at players dir index grid =
     record grid { cells = slice_set grid.cells index (map (pushed_place players dir) (slice_index_or grid.cells index [])) }

@@ -10,6 +10,6 @@ abbrev pub with_rewritten : Grid → ℕ → ℕ → List Item → List Item →
 with_rewritten grid x y left right =
     record grid { cells = slice_set grid.cells (y * grid.width + x) (rewritten_cell left right (cell_at grid x y)) }
 
--- the rewriting of a cell gives another one
+-- the rewriting of a cell changes it
 abbrev pub changes : Grid → ℕ → ℕ → List Item → List Item → Bool
 changes grid x y left right = not (same_cell (rewritten_cell left right (cell_at grid x y)) (cell_at grid x y))

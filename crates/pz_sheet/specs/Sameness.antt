@@ -1,4 +1,4 @@
--- Two levels are the same if they agree in their size, their layers and each place of each cell.
+-- Two levels are the same if they agree in their size, their layers, and what stands and heads on each layer of each cell.
 use Rattle.std.specs.Prelude.{ℕ, List, [], ◌∷◌, Option, Bool, true, false, nat_eq, ◌&&◌}
 use Rattle.pz_cells.specs.declared.piece.Piece.{Piece}
 use Rattle.pz_cells.specs.Sameness.{same_cell}

@@ -1,4 +1,4 @@
--- The next cell of a line where a rule's cell holds, and the last one before a place in it.
+-- The last position of a line before an end at which a rule's cell holds, and whether it holds somewhere.
 use Rattle.std.specs.Prelude.{◌≡◌, ℕ, ◌<◌, List, Bool, true, false, Option, Some, None}
 use Rattle.pz_game.specs.declared.pattern.Item.{Item}
 use Rattle.pz_cells.specs.Pattern.{pattern_holds}
@@ -6,7 +6,7 @@ use Rattle.pz_sheet.specs.declared.line.Line.{Line}
 use Rattle.pz_sheet.specs.Grid.{Grid, cell_at}
 use Rattle.pz_sheet.specs.Line.{line_length, holds_in}
 
--- the greatest number below another that passes a test, if there is one
+-- the greatest number below `end` that passes a test, if there is one
 abbrev pub IsLast : (ℕ → Bool) → ℕ → Option ℕ → Type 0
 IsLast test end None = (number : ℕ) → number < end → test number ≡ false
 IsLast test end (Some found) =

@@ -4,7 +4,7 @@ use Rattle.pz_game.specs.declared.direction.Dir.{Dir}
 use Rattle.pz_cells.specs.Standing.{standing}
 use Rattle.pz_sheet.specs.Grid.{Grid, cell_at}
 
--- what a level says of an object at a position: nothing off the map
+-- where an object at a position heads, if it stands there; off the map nothing stands
 abbrev pub standing_at : Grid → ℕ → ℕ → ℕ → Option (Option Dir)
 standing_at grid x y object = if nat_lt x grid.width && nat_lt y grid.height then standing (cell_at grid x y) object else None
 

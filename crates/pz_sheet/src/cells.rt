@@ -1,4 +1,4 @@
-//! One cell of a level: lent, or put in the place of that which stands there.
+//! One cell of a level: lent, or replaced.
 
 ghost use Rattle.std.specs.Prelude.{◌≡◌, ◌<◌, ◌≤◌, ℕ, length};
 ghost use Rattle.pz_sets.specs.Sets.{member};
@@ -22,7 +22,7 @@ impl<const N: usize> Sheet<N> {
         &self.layers
     }
 
-    /// The cell of a number, counted row by row.
+    /// The cell of this number. Cells are numbered row by row.
     pub(crate) fn cell(&self, index: usize) -> &Cell<N>
         requires { index < length self.now.grid.cells }
         ensures sound { IsSound (layers_in self.now.grid) result.now }
@@ -31,7 +31,7 @@ impl<const N: usize> Sheet<N> {
         &self.cells[index]
     }
 
-    /// The objects that stand in the cell of a number, counted row by row.
+    /// The objects that stand in the cell of this number. Cells are numbered row by row.
     pub(crate) fn objects_in(&self, index: usize) -> &[u128]
         requires { index < length self.now.grid.cells }
         ensures objects { (object : ℕ) → member result.now object ≡ is_in (cell_of self.now.grid index) object }
@@ -43,7 +43,7 @@ impl<const N: usize> Sheet<N> {
         &cell.objects
     }
 
-    /// Puts a cell in the place of that of a number, and notes where it heads and what stands there.
+    /// Replaces the cell of this number, and notes where the new one heads and what stands there.
     pub(crate) fn set_cell(&mut self, index: usize, cell: Cell<N>)
         requires within { index < length self.old.grid.cells }
         requires sound { IsSound (layers_in self.old.grid) cell }

@@ -19,8 +19,8 @@ pub struct Change<const N: usize> {
 }
 
 impl<const N: usize> Sheet<N> {
-    /// Becomes a newer level of the same size, and gives what leads back: the cells in which it was another, and no other. Err: memory was refused,
-    /// and it is as it was.
+    /// Makes this level equal to a newer one of the same size, and gives the way back: exactly the cells in which they differed, as they
+    /// were. Err: memory was refused, and the level is unchanged.
     pub fn go_on(&mut self, newer: &Sheet<N>) -> Result<Vec<Change<N>>, AllocError>
         requires size { SameSize newer.now.grid self.old.grid }
         ensures newer { OnOk result (self.new.grid ≡ newer.now.grid) }
@@ -34,7 +34,7 @@ impl<const N: usize> Sheet<N> {
         Ok(changes)
     }
 
-    /// Puts the cells of a newer level in the place of its own, where the way back from that says that they differ.
+    /// Copies the cells of a newer level in which, by the way back from it, the two differ.
     fn catch_up(&mut self, newer: &Sheet<N>, way: &[Change<N>])
         requires size { SameSize newer.now.grid self.old.grid }
         requires changes { changes_seen newer.now.grid way.now ≡ changed_cells newer.now.grid self.old.grid }
@@ -48,7 +48,7 @@ impl<const N: usize> Sheet<N> {
         }
     }
 
-    /// What gives an older level of the same size back: the cells in which that differs, and no other. Err: memory was refused.
+    /// The way back to an older level of the same size: exactly the cells in which it differs. Err: memory was refused.
     fn changes_to(&self, older: &Sheet<N>) -> Result<Vec<Change<N>>, AllocError>
         requires size { SameSize self.now.grid older.now.grid }
         ensures changes { IfOk result (λ changes. changes_seen self.now.grid changes.items ≡ changed_cells self.now.grid older.now.grid) }
@@ -78,7 +78,7 @@ impl<const N: usize> Sheet<N> {
         }
     }
 
-    /// The number of the first cell from one on in which another level of the same size differs.
+    /// The first cell, from number `from` on, in which another level of the same size differs.
     pub fn next_change(&self, other: &Sheet<N>, from: usize) -> Option<usize>
         requires size { SameSize self.now.grid other.now.grid }
         ensures { IsNext (differ_in self.now.grid other.now.grid) from (length self.now.grid.cells) result }
@@ -87,7 +87,7 @@ impl<const N: usize> Sheet<N> {
         next_differing(&self.cells, &other.cells, are_still, from)
     }
 
-    /// Puts the cell of a number of another level of the same size in the place of its own.
+    /// Copies the cell of this number from another level of the same size.
     pub fn take_cell(&mut self, other: &Sheet<N>, index: usize)
         requires size { SameSize self.old.grid other.now.grid }
         requires within { index < length self.old.grid.cells }

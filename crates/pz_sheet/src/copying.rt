@@ -7,7 +7,7 @@ use pz_planes::copying::{make_room, refill, renew};
 use std::alloc::AllocError;
 
 impl<const N: usize> Sheet<N> {
-    /// The same cells once more. Err: memory was refused.
+    /// A copy of the level. Err: memory was refused.
     pub fn copy(&self) -> Result<Sheet<N>, AllocError>
         ensures copied { IfOk result (λ sheet. sheet.grid ≡ self.now.grid) }
     {
@@ -27,7 +27,7 @@ impl<const N: usize> Sheet<N> {
         Ok(copy)
     }
 
-    /// Becomes the same as another, in the memory that it has if that is enough. Err: more was refused, and it is as it was.
+    /// Makes this level equal to another. It reuses its memory if that is enough. Err: memory was refused, and the level is unchanged.
     pub fn copy_from(&mut self, other: &Sheet<N>) -> Result<(), AllocError>
         ensures copied { OnOk result (self.new.grid ≡ other.now.grid) }
         ensures kept { OnErr result (self.new.grid ≡ self.old.grid) }

@@ -13,7 +13,7 @@ use pz_game::pattern::Row;
 use pz_sets::words::{has_subset, is_disjoint};
 
 impl<const N: usize> Sheet<N> {
-    /// Whether something may head as the cells of a row ask: true where each of them holds somewhere.
+    /// Whether the headings noted in the level allow each cell of a row to hold somewhere. If false, some cell holds nowhere.
     pub fn may_hold(&self, row: &Row) -> bool
         requires of_game { IsRowOf self.now.grid.layers row.now }
         ensures { All (HoldsSomewhere self.now.grid) row.now.cells → result ≡ true }
@@ -21,14 +21,16 @@ impl<const N: usize> Sheet<N> {
         has_subset(self.notes.whole().words(), row.required().words())
     }
 
-    /// Whether something may head in a direction of a set: true where cells that ask for one of them all hold somewhere.
+    /// Whether the headings noted in the level allow a heading of the set `asked`. If false, cells that ask for one of these don't all hold
+    /// somewhere.
     pub fn may_head_in(&self, asked: &[u128]) -> bool
         ensures { (cells : List (List Item)) → All (AreOf self.now.grid.layers) cells → AsksAmong asked.now cells → All (HoldsSomewhere self.now.grid) cells → result ≡ true }
     {
         !is_disjoint(self.notes.whole().words(), asked)
     }
 
-    /// Whether something may head in a line of the map as the cells of a rule's row ask: true where each of them holds somewhere in it.
+    /// Whether the headings noted in a line allow each cell of a rule's row to hold somewhere in it. If false, some cell holds nowhere in
+    /// the line.
     pub fn may_hold_in_line(&self, line: Line, row: &Row) -> bool
         requires line_in { line.number < line_count self.now.grid line.axis }
         requires of_game { IsRowOf self.now.grid.layers row.now }

@@ -1,4 +1,4 @@
-//! Whether cells hold one of some objects.
+//! Which cells hold one of some objects.
 
 ghost use Rattle.std.specs.Prelude.{◌≡◌, ◌<◌, ℕ, ◌&&◌, ◌||◌, nat_eq, nat_lt, length};
 ghost use Rattle.std.specs.List.{list_any, list_all};
@@ -12,7 +12,7 @@ use pz_sets::set::{CAPACITY, NumberSet};
 use pz_sets::words::is_disjoint;
 
 impl<const N: usize> Sheet<N> {
-    /// Whether some cell holds one of some objects, and one of others.
+    /// Whether some cell holds both one of `objects` and one of `others`.
     pub fn some_holds(&self, objects: &[usize], others: &[usize]) -> bool
         ensures { result ≡ list_any (holds_both objects.now others.now) self.now.grid.cells }
     {
@@ -26,7 +26,7 @@ impl<const N: usize> Sheet<N> {
         false
     }
 
-    /// Whether each cell that holds one of some objects holds one of others.
+    /// Whether each cell that holds one of `objects` also holds one of `others`.
     pub fn all_hold(&self, objects: &[usize], others: &[usize]) -> bool
         ensures { result ≡ list_all (holds_if objects.now others.now) self.now.grid.cells }
     {
@@ -40,7 +40,7 @@ impl<const N: usize> Sheet<N> {
         true
     }
 
-    /// Whether the cell of a number holds one of some objects, of which there is a set.
+    /// Whether the cell of this number holds one of `objects`. `set` has the same objects.
     fn holds_one(&self, index: usize, objects: &[usize], set: &NumberSet) -> bool
         requires within { index < length self.now.grid.cells }
         requires set { IsSetFor objects.now set.now }
@@ -50,7 +50,7 @@ impl<const N: usize> Sheet<N> {
     }
 }
 
-/// The set of some objects. Those that no game has are left out.
+/// The set of these objects. Numbers that no game's object has are left out.
 pub(crate) fn set_of(objects: &[usize]) -> NumberSet
     ensures { IsSetFor objects.now result }
 {

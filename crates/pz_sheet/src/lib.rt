@@ -1,4 +1,4 @@
-//! A level in words of one size: the cells of a rectangle, read, compared, searched, matched, rewritten, pushed and stilled.
+//! A level with the same number of words for each cell: read, compared, searched, matched, rewritten, pushed and stilled.
 #![tactic(auto, using(pz_cells::proofs::ListLemmas::small_cell))]
 
 ghost use Rattle.std.specs.Prelude.{◌≡◌, ◌+◌, ◌*◌, ◌<◌, length};
@@ -27,8 +27,8 @@ mod runs;
 mod sameness;
 mod searching;
 
-/// The cells of a level, in `N` words for the objects and `N` for their headings, of a game's layers, and
-/// what is noted of where the cells head and where the objects stand.
+/// The cells of a level. Each has `N` words for the objects that stand there, and `N` for where its layers head. `notes` has at least where
+/// something heads in each line, and `planes` exactly where the objects stand.
 pub struct Sheet<const N: usize> {
     width: u32,
     height: u32,
@@ -38,7 +38,7 @@ pub struct Sheet<const N: usize> {
     planes: Planes,
 }
 
-/// Written out, so that each place where a sheet goes out of scope is one call, and not the ways through all its fields.
+/// Written out: where a sheet goes out of scope, the prover then sees one call, not every path through its fields.
 impl<const N: usize> Drop for Sheet<N> {
     fn drop(self) {
         let Sheet {
@@ -92,7 +92,7 @@ impl<const N: usize> Sheet<N> {
         self.layers.depth()
     }
 
-    /// The number of the cell at a position of the map: cells stand row by row.
+    /// The number of the cell at a position of the map. Cells are numbered row by row.
     fn index(&self, x: u32, y: u32) -> usize
         requires x_in { x < self.now.grid.width }
         requires y_in { y < self.now.grid.height }

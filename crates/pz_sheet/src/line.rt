@@ -12,14 +12,14 @@ use crate::Sheet;
 use pz_game::pattern::Pattern;
 pub use pz_planes::line::{Axis, Way};
 
-/// A line of the map: the row or the column of a number.
+/// A line of the map: the row or the column of this number, from 0.
 #[derive(Clone, Copy)]
 pub struct Line {
     pub axis: Axis,
     pub number: u32,
 }
 
-/// The row of a number.
+/// The row of this number.
 pub fn row(number: u32) -> Line
     ensures { result ≡ row_of number }
 {
@@ -29,7 +29,7 @@ pub fn row(number: u32) -> Line
     }
 }
 
-/// The column of a number.
+/// The column of this number.
 pub fn column(number: u32) -> Line
     ensures { result ≡ column_of number }
 {
@@ -51,7 +51,7 @@ impl<const N: usize> Sheet<N> {
         }
     }
 
-    /// How many positions of a line there are from one on.
+    /// How many positions of a line there are from `at` on, as it is walked.
     pub(crate) fn room_from(&self, axis: Axis, way: Way, at: u32) -> usize
         requires at_in { at < line_length self.now.grid axis }
         ensures room { result ≡ room_from (line_length self.now.grid axis) way at }
@@ -77,7 +77,7 @@ impl<const N: usize> Sheet<N> {
         }
     }
 
-    /// Whether a rule's cell holds in the cell of a number.
+    /// Whether a rule's cell holds in the cell of this number.
     pub(crate) fn holds_there(&self, index: usize, pattern: &Pattern) -> bool
         requires within { index < length self.now.grid.cells }
         requires of_game { AreOf self.now.grid.layers pattern.now }

@@ -1,4 +1,4 @@
-//! Levels, as they are drawn and filled.
+//! Draws levels and fills their background.
 
 ghost use Rattle.std.specs.Prelude.{◌≡◌, ◌≤◌, ◌<◌, ◌*◌, IfOk, All, length, slice_index};
 ghost use Rattle.pz_sheet.specs.Grid.{IsLawful};
@@ -14,7 +14,7 @@ use pz_game::level::DrawnLevel;
 use std::alloc::{AllocError, Global};
 
 impl<const N: usize> Sheet<N> {
-    /// The level as it is drawn, before the background is laid, of a game for which there is room. Err: memory was refused.
+    /// The level of a drawing, before its background is filled. `N` words must be enough for the game. Err: memory was refused.
     pub fn drawn(alloc: Global, game: &Game, drawing: &DrawnLevel) -> Result<Sheet<N>, AllocError>
         requires short { N ≤ 4 }
         requires room { length game.now.layers ≤ 128 * N }
@@ -40,7 +40,7 @@ impl<const N: usize> Sheet<N> {
         })
     }
 
-    /// Puts a piece on a layer of each cell where nothing stands there.
+    /// Puts a piece on a layer, in each cell where nothing stands on it.
     pub fn fill(&mut self, layer: usize, piece: Piece)
         requires layer_in { layer < self.old.grid.depth }
         requires on_layer { (piece.object < length self.old.grid.layers) × (slice_index self.old.grid.layers piece.object ≡ layer) }

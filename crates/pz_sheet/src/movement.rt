@@ -32,7 +32,7 @@ impl<const N: usize> Sheet<N> {
         self.cell(self.index(x, y)).is_layer_still(layers, layer)
     }
 
-    /// Whether no heading is noted for a column of the map: where that is true, nothing in it heads anywhere.
+    /// Whether no heading is noted for a column of the map. If so, nothing in it heads anywhere.
     pub fn is_column_still(&self, x: u32) -> bool
         requires { x < self.now.grid.width }
         ensures { result ≡ true → (y : ℕ) → y < self.now.grid.height → cell_at self.now.grid x y ≡ map still_place (cell_at self.now.grid x y) }

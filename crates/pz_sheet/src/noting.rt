@@ -1,4 +1,4 @@
-//! What a level notes of where its cells head and where its objects stand.
+//! Makes the notes and planes of a level: where its cells head, and where its objects stand.
 
 ghost use Rattle.std.specs.Prelude.{◌≡◌, ◌≤◌, ◌<◌, ◌*◌, All, length, IfOk};
 ghost use Rattle.pz_game.specs.declared.limits.TheConstants.{MAX_SIDE};
@@ -14,7 +14,7 @@ use pz_planes::notes::Notes;
 use pz_planes::planes::Planes;
 use std::alloc::{AllocError, Global};
 
-/// Where these cells head. Err: memory was refused.
+/// Notes of where these cells head. Err: memory was refused.
 pub(crate) fn notes_of<const N: usize>(
     alloc: Global,
     layers: &Layers<N>,
@@ -32,7 +32,7 @@ pub(crate) fn notes_of<const N: usize>(
     Ok(notes)
 }
 
-/// Notes where the cell of a number heads, counted row by row.
+/// Notes where the cell of this number heads. Cells are numbered row by row.
 pub(crate) fn note_heading<const N: usize>(
     notes: &mut Notes,
     layers: &Layers<N>,
@@ -59,7 +59,7 @@ pub(crate) fn renew_notes<const N: usize>(notes: &mut Notes, layers: &Layers<N>,
     }
 }
 
-/// The objects of these cells are noted. Err: memory was refused.
+/// Planes with the objects of these cells. Err: memory was refused.
 pub(crate) fn planes_of<const N: usize>(
     alloc: Global,
     layers: &Layers<N>,
@@ -91,7 +91,7 @@ pub(crate) fn note_all<const N: usize>(planes: &mut Planes, layers: &Layers<N>, 
     arrive_all(planes, layers, cells);
 }
 
-/// Notes the objects of all cells, where nothing is noted.
+/// Notes the objects of all cells in empty planes.
 fn arrive_all<const N: usize>(planes: &mut Planes, layers: &Layers<N>, cells: &[Cell<N>])
     requires covers { length cells.now ≡ planes.old.columns.count * planes.old.rows.count }
     requires rows { IsEmpty planes.old.rows }

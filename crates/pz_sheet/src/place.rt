@@ -52,7 +52,7 @@ impl<const N: usize> Sheet<N> {
         self.holds_there(self.index(x, y), pattern)
     }
 
-    /// Rewrites the cell at a position of the map from a left cell of a rule to its right cell, and says whether that gave another one.
+    /// Rewrites the cell at a position of the map from a left cell of a rule to its right cell, and says whether the cell changed.
     pub fn rewrite(&mut self, x: u32, y: u32, left: &Pattern, right: &Pattern) -> bool
         requires x_in { x < self.old.grid.width }
         requires y_in { y < self.old.grid.height }

@@ -1,4 +1,4 @@
-//! The direction of an input, given to the player.
+//! A press gives its direction to the player.
 
 ghost use Rattle.std.specs.Prelude.{◌≡◌, ℕ, ◌<◌, false, length, map};
 ghost use Rattle.pz_cells.specs.Lists.{seen, IsSound};
@@ -18,7 +18,7 @@ use pz_sets::set::NumberSet;
 use pz_sets::words::is_disjoint;
 
 impl<const N: usize> Sheet<N> {
-    /// Lets each of some objects head in a direction.
+    /// Gives a direction to each of these objects in the level.
     pub fn push_all(&mut self, players: &[usize], dir: Dir)
         ensures pushed { self.new.grid ≡ pushed players.now dir self.old.grid }
         ensures lawful { IsLawful self.new.grid }
@@ -35,7 +35,7 @@ impl<const N: usize> Sheet<N> {
         let _ = self.width();
     }
 
-    /// Whether one of some objects may stand in a row, by what is noted of where objects stand: true, if one does.
+    /// Whether the planes allow one of these objects to stand in a row. If false, none does.
     fn may_stand_in_row(&self, y: u32, objects: &[usize]) -> bool
         requires { y < self.now.grid.height }
         ensures { result ≡ false → (x : ℕ) → x < self.now.grid.width → AreMissing objects.now (cell_at self.now.grid x y) }
@@ -44,7 +44,7 @@ impl<const N: usize> Sheet<N> {
         self.width > bits::ROOM || rows.has_one_of(y as usize, objects)
     }
 
-    /// Lets each of some objects head in a direction, in the cell of a number. Only a cell that holds one of them is changed.
+    /// Gives a direction to each of these objects in the cell of this number. Only a cell that holds one of them is written.
     fn push_at(&mut self, index: usize, players: &[usize], set: &NumberSet, dir: Dir)
         requires within { index < length self.old.grid.cells }
         requires set { IsSetFor players.now set.now }
@@ -56,7 +56,7 @@ impl<const N: usize> Sheet<N> {
         self.push_in(index, players, dir);
     }
 
-    /// The same where one of them stands there. (Out of the loop over all cells, which is faster without it.)
+    /// The same for a cell that holds one of them. (Not inlined: the loop over all cells is faster without it.)
     #[inline(never)]
     fn push_in(&mut self, index: usize, players: &[usize], dir: Dir)
         requires { index < length self.old.grid.cells }

@@ -11,7 +11,7 @@ use pz_sets::set::NumberSet;
 use pz_sets::words::contains;
 
 impl<const N: usize> Sheet<N> {
-    /// The objects that stand at the position: off the map, none.
+    /// The objects that stand at the position. Off the map there are none.
     pub fn objects_at(&self, x: u32, y: u32) -> NumberSet
         ensures { (object : ℕ) → member result object ≡ stands self.now.grid x y object }
     {
@@ -22,7 +22,7 @@ impl<const N: usize> Sheet<N> {
         }
     }
 
-    /// The object's piece, if it stands at the position. Off the map, and for no object of the game, it does not.
+    /// The object's piece, if it stands at the position. Off the map, and for a number without an object, there is none.
     pub fn piece(&self, x: u32, y: u32, object: usize) -> Option<Piece>
         ensures { MatchOption result (standing_at self.now.grid x y object ≡ None) (λ piece. standing_at self.now.grid x y object ≡ Some piece.heading) }
     {
@@ -41,7 +41,7 @@ impl<const N: usize> Sheet<N> {
         self.cells.len()
     }
 
-    /// Whether an object stands in the cell of a number, counted row by row.
+    /// Whether an object stands in the cell of this number. Cells are numbered row by row.
     pub fn is_in(&self, index: usize, object: usize) -> bool
         requires { index < length self.now.grid.cells }
         ensures { result ≡ is_in (cell_of self.now.grid index) object }

@@ -1,4 +1,4 @@
-//! Rules' cells one after another in a direction: whether they hold from a position on, and where in a line they do so next.
+//! Rules' cells one after another in a direction: whether they hold from a position on, and from which position of a line they hold next.
 
 ghost use Rattle.std.specs.Prelude.{◌≡◌, ℕ, ◌<◌, ◌≤◌, ◌^◌, All, true, length, slice_index_or, []};
 ghost use Rattle.std.specs.List.{count_by, range_with_len};
@@ -28,7 +28,7 @@ impl<const N: usize> Sheet<N> {
         }
     }
 
-    /// Whether a rule's cell holds some cells on from a position.
+    /// Whether a rule's cell holds `steps` cells on from a position.
     pub fn holds_along(&self, dir: Dir, x: u32, y: u32, steps: usize, pattern: &Pattern) -> bool
         requires near { steps < 2 ^ 33 }
         requires of_game { AreOf self.now.grid.layers pattern.now }
@@ -45,7 +45,7 @@ impl<const N: usize> Sheet<N> {
         }
     }
 
-    /// Whether rules' cells hold from a position of a line on, where the first does. It stays a call, which few positions of a search come to.
+    /// Whether rules' cells hold from a position of a line on, when the first does. (Not inlined: few positions of a search come here.)
     #[inline(never)]
     fn rest_holds(&self, line: Line, way: Way, at: u32, patterns: &[Pattern]) -> bool
         requires some { 0 < length patterns.now }
@@ -68,7 +68,7 @@ impl<const N: usize> Sheet<N> {
         true
     }
 
-    /// Whether rules' cells hold from a position of a line on. Its test of the first cell is the body of each search.
+    /// Whether rules' cells hold from a position of a line on. (Inlined: most positions of a search fail at the first cell.)
     #[inline(always)]
     fn runs_from(&self, line: Line, way: Way, at: u32, patterns: &[Pattern]) -> bool
         requires some { 0 < length patterns.now }
@@ -80,7 +80,7 @@ impl<const N: usize> Sheet<N> {
         self.holds_in(line, at, &patterns[0]) && self.rest_holds(line, way, at, patterns)
     }
 
-    /// Whether rules' cells hold from a position of the map on: the action leads nowhere.
+    /// Whether rules' cells hold from a position of the map on. The action leads nowhere.
     fn runs_on_map(&self, dir: Dir, x: u32, y: u32, patterns: &[Pattern]) -> bool
         requires some { 0 < length patterns.now }
         requires x_in { x < self.now.grid.width }
@@ -110,7 +110,8 @@ impl<const N: usize> Sheet<N> {
         }
     }
 
-    /// The positions of a line from which rules' cells may hold, by what is noted of the objects that they name: all from which they do.
+    /// The positions of a line from which rules' cells may hold, as the planes show for the objects that they name. They do hold from no
+    /// other.
     fn starts_in(&self, line: Line, way: Way, patterns: &[Pattern]) -> u128
         requires short { line_length self.now.grid line.axis ≤ 128 }
         requires some { 0 < length patterns.now }
@@ -123,7 +124,7 @@ impl<const N: usize> Sheet<N> {
             .starts(line.number as usize, way, patterns)
     }
 
-    /// The first position of a line from one on from which rules' cells hold.
+    /// The first position of a line, from `from` on, from which rules' cells hold.
     pub fn next_run(&self, line: Line, way: Way, from: u32, patterns: &[Pattern]) -> Option<u32>
         requires some { 0 < length patterns.now }
         requires line_in { line.number < line_count self.now.grid line.axis }
@@ -166,8 +167,8 @@ impl<const N: usize> Sheet<N> {
         None
     }
 
-    /// At how many positions of a line a search tests whether rules' cells hold from there on: those that are left by what is noted of the
-    /// line; in a line longer than a word, all.
+    /// At how many positions of a line a search tests whether rules' cells hold from there on. In a line of up to 128 positions they are
+    /// those that the planes leave, in a longer line all.
     pub fn tested_in(&self, line: Line, way: Way, patterns: &[Pattern]) -> u32
         requires some { 0 < length patterns.now }
         requires line_in { line.number < line_count self.now.grid line.axis }
@@ -183,7 +184,7 @@ impl<const N: usize> Sheet<N> {
     }
 }
 
-/// How many positions of a set are below an end.
+/// How many positions of a set are below `end`.
 fn count_below(set: u128, end: u32) -> u32
     requires { end ≤ 128 }
     ensures { result ≡ count_by (in_word set) (range_with_len 0 end) }

@@ -7,7 +7,7 @@ use pz_cells::differing::same_cells;
 use pz_planes::notes::are_empty;
 
 impl<const N: usize> Sheet<N> {
-    /// Whether both are of one size and over the same layers.
+    /// Whether both have the same size and the same layers.
     pub fn same_size(&self, other: &Sheet<N>) -> bool
         ensures { IsTrue result ↔ ((self.now.grid.width ≡ other.now.grid.width) × (self.now.grid.height ≡ other.now.grid.height) × (self.now.grid.depth ≡ other.now.grid.depth) × (self.now.grid.layers ≡ other.now.grid.layers)) }
     {
@@ -16,7 +16,7 @@ impl<const N: usize> Sheet<N> {
             && self.layers.equals(&other.layers)
     }
 
-    /// Whether both are the same: in their size, their layers, and each place of each cell.
+    /// Whether both are the same: in their size, their layers, and what stands and heads on each layer of each cell.
     pub fn equals(&self, other: &Sheet<N>) -> bool
         ensures { IsTrue result ↔ (self.now.grid ≡ other.now.grid) }
     {

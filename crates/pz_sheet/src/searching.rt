@@ -1,4 +1,4 @@
-//! The next cell of a line where a rule's cell holds, and the last one before a place in it.
+//! The next position of a line at which a rule's cell holds, and the last one before an end.
 
 ghost use Rattle.std.specs.Prelude.{◌≡◌, ℕ, ◌<◌, ◌≤◌, true};
 ghost use Rattle.pz_sets.specs.Sets.{in_word};
@@ -13,7 +13,7 @@ use pz_game::pattern::Pattern;
 use pz_planes::bits;
 
 impl<const N: usize> Sheet<N> {
-    /// The positions of a line at which a rule's cell may hold, by what is noted of the objects that it names: all at which it does.
+    /// The positions of a line at which a rule's cell may hold, as the planes show for the objects that it names. It holds at no other.
     fn places_in(&self, line: Line, pattern: &Pattern) -> u128
         requires short { line_length self.now.grid line.axis ≤ 128 }
         requires line_in { line.number < line_count self.now.grid line.axis }
@@ -25,7 +25,7 @@ impl<const N: usize> Sheet<N> {
             .places(line.number as usize, pattern)
     }
 
-    /// The first position of a line from one on at which a rule's cell holds.
+    /// The first position of a line, from `from` on, at which a rule's cell holds.
     pub fn next_in_line(&self, line: Line, from: u32, pattern: &Pattern) -> Option<u32>
         requires line_in { line.number < line_count self.now.grid line.axis }
         requires of_game { AreOf self.now.grid.layers pattern.now }
@@ -60,7 +60,7 @@ impl<const N: usize> Sheet<N> {
         None
     }
 
-    /// The last position of a line before an end at which a rule's cell holds.
+    /// The last position of a line, before `end`, at which a rule's cell holds.
     pub fn last_in_line(&self, line: Line, end: u32, pattern: &Pattern) -> Option<u32>
         requires line_in { line.number < line_count self.now.grid line.axis }
         requires end_in { end ≤ line_length self.now.grid line.axis }

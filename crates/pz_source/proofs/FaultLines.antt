@@ -321,7 +321,7 @@ is_memory : (c : Code) → (c ≡ code.Memory) ⊎ (c ≢ code.Memory)
 is_memory code.Memory = inl refl
 is_memory c = inr (λ e. cc)
 
--- and so does what stands for it where memory may fail
+-- and so does the fault of a call, which may also be want of memory
 pub line-within : (text : List ℕ) (fault : SourceFault) → (fault.code ≢ code.Memory → source_of text ≡ Err fault) → (fault.code ≡ code.Memory → fault.line ≡ 0) → fault.line ≤ line_count text
 line-within text fault refused whole = elim (is_memory fault.code) [
   | inl memory ↦ (let none = whole memory in omega arith)

@@ -18,7 +18,7 @@ lines_at section number [] = []
 lines_at section number (text ∷ texts) =
     record { number = number; section = section; is_heading = false; text = text } ∷ lines_at section (suc number) texts
 
--- brackets, bars, arrows and a first plus sign stand by themselves, without white space too
+-- brackets, bars, arrows and a first plus sign are words of their own, even without white space around them
 row : rule_words (codes "[A|b]->[]") ≡ codes "[" ∷ codes "a" ∷ codes "|" ∷ codes "b" ∷ codes "]" ∷ codes "->" ∷ codes "[" ∷ codes "]" ∷ []
 unfolding encode_utf8
 row = refl

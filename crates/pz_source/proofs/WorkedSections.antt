@@ -59,7 +59,7 @@ abbrev values : List Denotation
 values = denotes Object (0 ∷ []) 0 ∷ denotes Object (1 ∷ []) 1 ∷ denotes Object (2 ∷ []) 2
     ∷ denotes Property (1 ∷ 0 ∷ []) 3 ∷ denotes Aggregate (1 ∷ 0 ∷ []) 4 ∷ []
 
--- commas and white space part names alike, any number of them
+-- commas and white space separate names alike, in any number
 parted : layer_names (codes "Wall,crate ,, Player,") ≡ codes "wall" ∷ codes "crate" ∷ codes "player" ∷ []
 unfolding encode_utf8
 parted = refl
@@ -75,7 +75,7 @@ last_layer_wins : layers_of objects names values (lines_at section.Layers 20 (co
 unfolding encode_utf8
 last_layer_wins = refl
 
--- a layer counts although a later one takes its only object away: wall and crate are in layer 1
+-- a layer counts even if a later one takes its only object: wall and crate are in layer 1
 emptied_layer_counts : layers_of objects names values (lines_at section.Layers 20 (codes "wall" ∷ codes "thing player" ∷ [])) ≡ 1 ∷ 1 ∷ 1 ∷ []
 unfolding encode_utf8
 emptied_layer_counts = refl
@@ -116,7 +116,7 @@ layer_101 = refl
 abbrev numbers_of : List (List Line) → List (List ℕ)
 numbers_of entries = map (map (λ (line : Line). line.number)) entries
 
--- a message ends a level and is an entry of its own; further blank lines part nothing more
+-- a message ends a level and is an entry of its own; further blank lines separate nothing
 entries : numbers_of (entries_of []
     (lines_at section.Levels 30 (codes "ab" ∷ codes "cd" ∷ codes "MESSAGE hi" ∷ codes "e" ∷ [] ∷ [] ∷ codes "f" ∷ [])))
     ≡ (30 ∷ 31 ∷ []) ∷ (32 ∷ []) ∷ (33 ∷ []) ∷ (36 ∷ []) ∷ []

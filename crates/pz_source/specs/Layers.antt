@@ -17,7 +17,7 @@ use Rattle.pz_game.specs.declared.denotation.Denotation.{Denotation}
 use Rattle.pz_game.specs.declared.denotation.Kind.TheVariants.{Aggregate}
 use Rattle.pz_game.specs.declared.limits.TheConstants.{MAX_LAYERS}
 
--- the words of a line, parted by commas and white space
+-- the words of a line, separated by commas or white space
 abbrev pub layer_words : List ℕ → List (List ℕ)
 layer_words line = filter (λ word. not (length word == 0)) (slice_split (λ c. is_whitespace c || c == 44) line)
 
@@ -34,7 +34,7 @@ layer_lines (line ∷ lines) =
 abbrev pub name_line_at : NameLine → ℕ
 name_line_at line = line.number
 
--- what is wrong with a layer below so many others: a name that is unknown, an aggregate, or that it is one too many
+-- what is wrong with a layer, with `above` layers above it: an unknown name, an aggregate, or one layer too many
 abbrev pub misplaced : List (List ℕ) → List Denotation → ℕ → List (List ℕ) → Option Code
 misplaced names values above layer =
     if list_any (λ name. not (is_name_of names name)) layer then Some code.Unknown
@@ -44,7 +44,7 @@ misplaced names values above layer =
 abbrev pub misplaces : List (List ℕ) → List Denotation → List NameLine → NameLine → Option Code
 misplaces names values before layer = misplaced names values (length before) layer.names
 
--- the members of a name, by their places among the objects
+-- the members of a name, by the numbers of the objects
 abbrev pub members_of : List (List ℕ) → List Denotation → List ℕ → List ℕ
 members_of names values name = option_map_or (λ d. d.members) (slice_get values (number_or_end names name)) []
 
@@ -52,19 +52,19 @@ members_of names values name = option_map_or (λ d. d.members) (slice_get values
 abbrev pub holds : List (List ℕ) → List Denotation → NameLine → ℕ → Bool
 holds names values layer object = list_any (λ name. list_any (λ member. member == object) (members_of names values name)) layer.names
 
--- the last of the layers that holds an object, where they are numbered from `number` on, and otherwise `found`
+-- the last of the layers that holds an object, or else `found`; the layers are numbered from `number` on
 abbrev pub last_layer : (NameLine → ℕ → Bool) → ℕ → Option ℕ → List NameLine → ℕ → Option ℕ
 last_layer holds number found [] object = found
 last_layer holds number found (layer ∷ layers) object = last_layer holds (number + 1) (if holds layer object then Some number else found) layers object
 
--- the layer of an object: the last that holds it, and a layer counts although later ones take its objects away
+-- the layer of an object: the last that holds it; a layer counts even if later ones take all its objects
 abbrev pub layer_of : (NameLine → ℕ → Bool) → List NameLine → ℕ → Option ℕ
 layer_of holds layers object = last_layer holds 0 None layers object
 
 abbrev pub entry_at : List (Option ℕ) → ℕ → Option ℕ
 entry_at table object = option_and_then (λ entry. entry) (slice_get table object)
 
--- the line of an object that is in no layer; the objects are numbered by their lines
+-- `NoLayer` at the line of an object in no layer; the objects are numbered by their lines
 abbrev pub lies_nowhere : (ℕ → Option ℕ) → List NameLine → NameLine → Option Code
 lies_nowhere layer before line = if is_some (layer (length before)) then None else Some code.NoLayer
 

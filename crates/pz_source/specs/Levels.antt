@@ -28,7 +28,7 @@ abbrev pub closed : List Line → List (List Line)
 closed [] = []
 closed (row ∷ rows) = (row ∷ rows) ∷ []
 
--- the entries, each with its lines, where the rows of a level stand before them: a blank line or a message ends a level
+-- the entries, each with its lines; `rows` are those of a level that is still open, and a blank line or a message ends it
 abbrev pub entries_of : List Line → List Line → List (List Line)
 entries_of rows [] = closed rows
 entries_of rows (line ∷ lines) =
@@ -47,7 +47,7 @@ draws Object = true
 draws Aggregate = true
 draws Property = false
 
--- the number of the name that a character is, if it draws something
+-- the number of the name that a character stands for, if it draws something
 abbrev pub glyph_of : List (List ℕ) → List Denotation → ℕ → Option ℕ
 glyph_of names values c =
     option_and_then (λ number. option_and_then (λ d. if draws d.kind then Some number else None) (slice_get values number)) (number_in names (name_of (c ∷ [])))
@@ -56,7 +56,7 @@ glyph_of names values c =
 abbrev pub glyphs_of : (ℕ → Option ℕ) → List ℕ → Option (List ℕ)
 glyphs_of glyph row = all_some (map glyph row)
 
--- a row of n cells: the numbers in order, and then the last of them again
+-- a row of n cells: the numbers in order, then the last of them again and again
 abbrev pub filled : ℕ → ℕ → List ℕ → List ℕ
 filled zero last row = []
 filled (suc n) last row = get_or row 0 last ∷ filled n (get_or row 0 last) (drop 1 row)
@@ -74,7 +74,7 @@ rows_of glyph width lines = and_then (λ rows. Ok (flat_map (λ row. row) rows))
 abbrev pub is_too_large : ℕ → ℕ → Bool
 is_too_large width height = nat_lt MAX_SIDE width || nat_lt MAX_SIDE height || nat_lt MAX_CELLS (width * height)
 
--- an entry below so many others
+-- an entry with `above` entries above it: the 1,025th and one that is too large are faults at its first line
 abbrev pub entry_of : (ℕ → Option ℕ) → ℕ → List Line → Result LevelEntry SourceFault
 entry_of glyph above [] = Ok Message
 entry_of glyph above (first ∷ rest) =
@@ -88,7 +88,7 @@ entry_of glyph above (first ∷ rest) =
 abbrev pub read_entries : (ℕ → Option ℕ) → List (List Line) → Result (List LevelEntry) SourceFault
 read_entries glyph entries = each_ok (map (λ entry. entry_of glyph entry.0 entry.1) (enumerate_from 0 entries))
 
--- the entries of LEVELS, of which one is to be playable
+-- the entries of LEVELS; one of them must be a level
 abbrev pub levels_of : (ℕ → Option ℕ) → List Line → Result (List LevelEntry) SourceFault
 levels_of glyph lines =
     and_then (λ entries. if list_any is_playable entries then Ok entries else Err (record { code = code.NoLevel; line = 0 }))

@@ -1,4 +1,4 @@
--- The profile: the keywords of the prelude, and the words of RULES that are outside it.
+-- The profile: which keywords and words are outside it, and which options the prelude sets.
 use Rattle.std.specs.Prelude.{ℕ, Bool, false, ◌||◌, if◌then◌else◌, List, [], ◌∷◌, Option, Some, None, codes}
 use Rattle.std.specs.List.{list_any}
 use Rattle.std.specs.Str.{bytes_eq}
@@ -18,13 +18,13 @@ use Rattle.pz_game.specs.declared.options.Options.{Options}
 abbrev pub is_outside_word : List ℕ → Bool
 is_outside_word word = bytes_eq word (codes "random") || bytes_eq word (codes "randomdir") || bytes_eq word (codes "rigid")
 
--- one of the words of a rule line is outside the profile; the text behind `message` is no such word
+-- one of the words of a rule line is outside the profile; the text after `message` is no such word
 abbrev pub has_outside_word : List (List ℕ) → Bool
 has_outside_word [] = false
 has_outside_word (word ∷ words) =
     if bytes_eq word (codes "message") then false else is_outside_word word || has_outside_word words
 
--- a text of a section is outside the profile: a game in real time, or a rule line with such a word
+-- a line of a section is outside the profile: it makes a game in real time, or is a rule line with such a word
 abbrev pub is_outside : Section → List ℕ → Bool
 is_outside Prelude text = begins_with_word text (codes "realtime_interval")
 is_outside Rules text = has_outside_word (rule_words text)

@@ -1,4 +1,4 @@
--- The game of a text, or its first fault: the first check that names a line, at the least line that it names.
+-- The game of a text, or its first fault: that of the first check that names a line, at the first such line.
 use Rattle.std.specs.Prelude.{ℕ, ◌==◌, List, [], length, map, get_or, Result, Ok}
 use Rattle.std.specs.List.{slice_split}
 use Rattle.std.specs.Str.{chars}
@@ -23,15 +23,15 @@ use Rattle.pz_source.specs.declared.reading.Sections.{Sections}
 use Rattle.pz_names.specs.declared.name_line.NameLine.{NameLine}
 use Rattle.pz_game.specs.declared.denotation.Denotation.{Denotation}
 
--- how many lines a text has, which line feeds end
+-- how many lines a text has: line feeds separate them
 abbrev pub line_count : List ℕ → ℕ
 line_count text = length (slice_split (λ c. c == 10) (chars text))
 
--- of each object, the first name that its line gives
+-- the first name of each object's line
 abbrev pub first_names : List NameLine → List (List ℕ)
 first_names objects = map (λ line. get_or line.names 0 []) objects
 
--- the game of names, of what they denote, and of what the sections behind the legend give
+-- the game of these names, of what they denote, and of what the sections after the legend give
 abbrev pub game_with : List (List ℕ) → List Denotation → Sections → GameParts
 game_with names values sections = record {
   objects = sections.objects;
@@ -45,7 +45,7 @@ game_with names values sections = record {
   options = sections.options;
 }
 
--- the game over these objects and names: the names that each game needs, then the layers, then the win lines, then the levels
+-- the game with these objects and names; the order of the checks is: needed names, layers, win lines, levels
 abbrev pub game_over : List Line → List NameLine → List (List ℕ) → List Denotation → Result GameParts SourceFault
 game_over lines objects names values =
     unless (fault_of_needs names values)
@@ -66,17 +66,17 @@ game_over lines objects names values =
     (levels_of (glyph_of names values) (lines_in section.Levels lines)))
     (wins_of names (lines_in section.Wins lines))))
 
--- the game over these objects: the legend, then what follows
+-- the game with these objects: checks the legend, then what follows
 abbrev pub game_of_objects : List Line → List NameLine → Result GameParts SourceFault
 game_of_objects lines objects =
     let definitions = definitions_of (lines_in section.Legend lines) in
     unless (fault_of_legend objects (lines_in section.Legend lines))
     (game_over lines objects (names_of_source objects definitions) (values_of (meanings_of_source objects definitions)))
 
--- the game of lines with all headings in order: the profile, then the objects, then what follows
+-- the game of lines whose headings are in order: checks the profile, then the objects, then what follows
 abbrev pub game_of_lines : List Line → Result GameParts SourceFault
 game_of_lines lines = unless (outside_profile lines) (and_then (game_of_objects lines) (objects_of (lines_in section.Objects lines)))
 
--- the game of a text: its length and its headings, then what follows
+-- the game of a text: checks its length and its headings, then what follows
 unfoldable pub source_of : List ℕ → Result GameParts SourceFault
 source_of text = and_then game_of_lines (lines_of text)

@@ -9,20 +9,20 @@ use Rattle.pz_text.specs.declared.line.Section.TheVariants.{Rules}
 use Rattle.pz_names.specs.Objects.{is_blank}
 use Rattle.pz_game.specs.declared.rule_line.RuleLine.{RuleLine}
 
--- a word that was read, if it has a character
+-- the word that was read, if it isn't empty
 abbrev pub closed : List ℕ → List (List ℕ)
 closed word = if length word == 0 then [] else word ∷ []
 
--- The words that end where a character ends the word before it: that word, and the character if it stands by itself, as a
--- bracket, a bar, or a first plus sign. An arrow stands by itself too; its first character was taken for one of the word.
+-- The words that a character ends: the word before it, and the character itself if it is a bracket, a bar, or a first plus
+-- sign. An arrow is a word too; its first character was read as part of the word before it.
 abbrev pub ended : List ℕ → ℕ → List (List ℕ)
 ended word c =
     if is_whitespace c then closed word
     else (if ends_arrow word c then closed (take (length word - 1) word) ++ codes "->" ∷ []
     else closed word ++ (c ∷ []) ∷ [])
 
--- The words of a rule line from a character on, behind the characters of a word. The text behind the word `message` is one
--- word, as it stands, without the white space at its ends.
+-- The words of a rule line from a character on; `word` has the characters read of the current word. The text after the word
+-- `message` is one word, without the white space at its ends.
 abbrev pub words_from : Bool → List ℕ → List ℕ → List (List ℕ)
 words_from is_first word [] = closed word
 words_from is_first word (c ∷ cs) =

@@ -21,14 +21,14 @@ quantifier_of word =
     else (if bytes_eq word (codes "no") then Some quantifier.No
     else None))
 
--- What a win line says of a name, and of another that stands behind `on`, each by its number: BadWin goes before Unknown.
+-- The win line about a name and, after `on`, another; both by their numbers. `BadWin` goes before `Unknown`.
 abbrev pub win_about : Option Quantifier → Option ℕ → Option (Option ℕ) → Result WinLine Code
 win_about None subject on = Err code.BadWin
 win_about (Some quantifier) None on = Err code.Unknown
 win_about (Some quantifier) (Some subject) None = Err code.Unknown
 win_about (Some quantifier) (Some subject) (Some on) = Ok (record { quantifier = quantifier; subject = subject; on = on })
 
--- A win line has a quantifier, a name and nothing more, or `on` and another name: `on` is a joint by its place alone.
+-- A win line has a quantifier and a name, and may go on with `on` and another name. `on` is a joint by its place alone.
 abbrev pub win_of : List (List ℕ) → List (List ℕ) → Result WinLine Code
 win_of names (word ∷ subject ∷ []) = win_about (quantifier_of word) (number_in names subject) (Some None)
 win_of names (word ∷ subject ∷ joint ∷ on ∷ []) =
@@ -36,15 +36,15 @@ win_of names (word ∷ subject ∷ joint ∷ on ∷ []) =
     else Err code.BadWin
 win_of names words = Err code.BadWin
 
--- what is read at a line, or its fault there
+-- a result at a line: a code becomes the fault at this line
 abbrev pub at_line : {A : Type 0} → ℕ → Result A Code → Result A SourceFault
 at_line number (Ok x) = Ok x
 at_line number (Err code) = Err (record { code = code; line = number })
 
--- what a line says, or its fault
+-- the win line of a line, or its fault
 abbrev pub win_at : List (List ℕ) → Line → Result WinLine SourceFault
 win_at names line = at_line line.number (win_of names (names_of line.text))
 
--- the lines of WINCONDITIONS over these names, or their first fault; blank lines are none
+-- the win lines of WINCONDITIONS with these names, or their first fault; blank lines are skipped
 abbrev pub wins_of : List (List ℕ) → List Line → Result (List WinLine) SourceFault
 wins_of names lines = each_ok (map (win_at names) (filter (λ line. not (is_blank line)) lines))

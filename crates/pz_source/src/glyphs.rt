@@ -9,7 +9,7 @@ use pz_game::denotation::{Denotation, Kind};
 use std::alloc::{AllocError, Global};
 use std::marker::Model;
 
-/// How many glyphs are kept in mind at most.
+/// How many glyphs are remembered at most.
 const ROOM: usize = 16;
 
 /// A glyph that draws something, and the number of its name.
@@ -19,8 +19,8 @@ struct Met {
     number: usize,
 }
 
-/// What each character draws, by the names and what they denote. A glyph that was met is kept in mind, in the place that its code gives, so
-/// that its name is looked up once.
+/// What each character draws, by the names and what they denote. A glyph is remembered at a place that depends on its code, so that its
+/// name is mostly looked up only once.
 #[derive(Drop)]
 pub(crate) struct Glyphs<'a> {
     names: &'a NameSet,
@@ -52,7 +52,7 @@ impl<'a> Glyphs<'a> {
         }
     }
 
-    /// The number of a glyph that is kept in mind.
+    /// The number of a glyph, if it is remembered.
     fn kept(&self, character: char) -> Option<usize>
         ensures { IfSome result (λ number. glyph_of self.now.names self.now.values character ≡ Some number) }
     {
@@ -70,7 +70,7 @@ impl<'a> Glyphs<'a> {
         self.met[character as usize % ROOM] = Some(Met { character, number });
     }
 
-    /// The number of the name that a glyph is, if it draws something.
+    /// The number of the name that a glyph stands for, if it draws something: an object or an aggregate.
     pub(crate) fn number_of(
         &mut self,
         alloc: Global,
@@ -90,7 +90,7 @@ impl<'a> Glyphs<'a> {
     }
 }
 
-/// The number of a name, if the name draws something.
+/// The number of a name, if it is that of an object or an aggregate.
 fn drawing(values: &[Denotation], number: usize) -> Option<usize>
     ensures { result ≡ option_and_then (λ d. if draws d.kind then Some number else None) (slice_get values.now number) }
 {
@@ -105,7 +105,7 @@ fn drawing(values: &[Denotation], number: usize) -> Option<usize>
     }
 }
 
-/// The number of the name that a glyph is, if it draws something.
+/// The number of the name that a glyph stands for, if it draws something: an object or an aggregate.
 fn glyph(
     alloc: Global,
     names: &NameSet,

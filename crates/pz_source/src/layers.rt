@@ -20,7 +20,7 @@ use pz_names::name_line::NameLine;
 use pz_text::line::Line;
 use std::alloc::{AllocError, Global};
 
-/// The words of a line of COLLISIONLAYERS, parted by commas and white space.
+/// The words of a line of COLLISIONLAYERS, separated by commas or white space.
 fn layer_words<'a>(alloc: Global, line: &'a [char]) -> Result<Vec<&'a [char]>, AllocError>
     ensures { IfOk result (λ parts. map (λ part. part.now) parts.items ≡ layer_words line.entry.now) }
 {
@@ -40,7 +40,7 @@ fn layer_names(alloc: Global, line: &[char]) -> Result<Vec<Name>, AllocError>
     Ok(items)
 }
 
-/// Puts the layer of a line behind the others, if the line has a name.
+/// Adds the layer of a line, if the line has a name.
 fn add_layer(alloc: Global, layers: &mut Vec<NameLine>, line: &Line) -> Result<(), AllocError>
     ensures { OnOk result (layers.new.items ≡ layers.old.items ++ layer_lines (line.now ∷ [])) }
 {
@@ -66,7 +66,7 @@ pub fn layer_lines(alloc: Global, lines: &[Line]) -> Result<Vec<NameLine>, Alloc
     Ok(layers)
 }
 
-/// What is wrong with a layer below so many others.
+/// What is wrong with a layer, if anything: `Unknown`, `Mixed` (an aggregate) or `TooLarge`. `above` is the number of layers above it.
 fn misplaced(names: &NameSet, values: &[Denotation], above: usize, layer: &[Name]) -> Option<Code>
     ensures first { result ≡ misplaced names.now values.now above layer.now }
     ensures other { IfSome result (λ c. c ≢ code.Memory) }
@@ -82,7 +82,7 @@ fn misplaced(names: &NameSet, values: &[Denotation], above: usize, layer: &[Name
     }
 }
 
-/// The first layer that speaks of an unknown name or of an aggregate, or is one too many.
+/// The first fault of a layer: it names something unknown or an aggregate, or it is one too many.
 pub fn misplacement(
     names: &NameSet,
     values: &[Denotation],
@@ -102,7 +102,7 @@ pub fn misplacement(
     None
 }
 
-/// The members of a name, by their places.
+/// The members of a name, by their numbers.
 fn members_of<'a>(names: &NameSet, values: &'a [Denotation], name: &Name) -> &'a [usize]
     ensures { result.now ≡ members_of names.now values.entry.now name.now }
 {
@@ -128,7 +128,7 @@ fn put_objects(table: &mut [Option<usize>], objects: &[usize], layer: usize)
     }
 }
 
-/// Puts the objects of a layer's names on it.
+/// Puts the objects of a layer's names on this layer, even if they were on another.
 fn put_layer(
     table: &mut [Option<usize>],
     names: &NameSet,
@@ -143,7 +143,7 @@ fn put_layer(
     }
 }
 
-/// The layer of each object: the last that holds it.
+/// The layer of each object: the last one that names it.
 fn layer_table(
     alloc: Global,
     count: usize,
@@ -168,7 +168,7 @@ fn entry_at(table: &[Option<usize>], object: usize) -> Option<usize>
     table.get(object).copied().unwrap_or(None)
 }
 
-/// The first object's line that is in no layer.
+/// `NoLayer` at the first name line whose object is in no layer.
 fn missing_layer(table: &[Option<usize>], objects: &[NameLine]) -> Option<SourceFault>
     ensures first { result ≡ first_fault name_line_at (lies_nowhere (entry_at table.now)) [] objects.now }
     ensures code { IfSome result (λ fault. fault.code ≡ code.NoLayer) }
@@ -190,8 +190,8 @@ fn known_layers(alloc: Global, table: Vec<Option<usize>>) -> Result<Vec<usize>, 
     table.into_iter().filter_map(|entry| entry).collect(alloc)
 }
 
-/// The layer of each object, and the number of layers; or the first fault of COLLISIONLAYERS: Unknown, Mixed (an aggregate) and
-/// TooLarge, line by line, then NoLayer at the name line of an object. Memory, with line 0, may come in place of either.
+/// The layer of each object, and the number of layers; or the first fault of COLLISIONLAYERS. Line by line it is `Unknown`, `Mixed` (an
+/// aggregate) or `TooLarge`; then it is `NoLayer` at the name line of an object. `Memory`, with line 0, may come in place of any.
 pub fn read_layers(
     alloc: Global,
     objects: &[NameLine],

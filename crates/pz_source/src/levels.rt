@@ -21,7 +21,7 @@ use std::alloc::{AllocError, Global};
 /// The most entries that a source may have.
 pub const MAX_ENTRIES: usize = 1_024;
 
-/// The limit as a number: a promise, which the constant can't change by itself.
+/// Promises the limit as a number, so that changing the constant alone breaks a proof.
 pub fn entries_are_limited()
     ensures { MAX_ENTRIES ≡ 1_024 }
 {}
@@ -32,7 +32,7 @@ fn is_message(line: &Line) -> bool
     begins_with_word(line.text.items(), b"message")
 }
 
-/// The entries of LEVELS, each with its lines: a message alone, or the rows of a level.
+/// The entries of LEVELS, each with its lines: the line of a message, or the rows of a level.
 fn entries<'a>(alloc: Global, lines: &'a [Line]) -> Result<Vec<&'a [Line]>, AllocError>
     ensures { IfOk result (λ entries. map (λ entry. entry.now) entries.items ≡ entries_of [] lines.entry.now) }
 {
@@ -45,8 +45,8 @@ fn entries<'a>(alloc: Global, lines: &'a [Line]) -> Result<Vec<&'a [Line]>, Allo
     Ok(entries)
 }
 
-/// Goes past the line at a place, where the rows from `start` on stand before it, and answers where the rows before the next line
-/// start.
+/// Takes the line at `place` into account. The rows from `start` up to it belong to an open level. Gives where the rows of the level that
+/// is open after the line start.
 fn pass<'a>(
     entries: &mut Vec<&'a [Line]>,
     lines: &'a [Line],
@@ -80,7 +80,7 @@ fn close<'a>(entries: &mut Vec<&'a [Line]>, rows: &'a [Line]) -> Result<(), Allo
     Ok(())
 }
 
-/// The numbers of the glyphs, if each draws something.
+/// The numbers of the names that the glyphs of a row stand for, if all of them draw something.
 fn numbers_of(
     alloc: Global,
     glyphs: &mut Glyphs,
@@ -100,7 +100,7 @@ fn numbers_of(
     Ok(Some(found))
 }
 
-/// Puts a row behind the cells, of the width and filled with its own last glyph.
+/// Adds a row of this width to the cells. A shorter row is filled with its own last glyph.
 fn add_row(cells: &mut Vec<usize>, width: usize, row: &[usize]) -> Result<(), AllocError>
     ensures cells { OnOk result (cells.new.items ≡ cells.old.items ++ filled width 0 row.now) }
     ensures count { OnOk result (length cells.new.items ≡ length cells.old.items + width) }
@@ -119,7 +119,7 @@ fn next_glyph(row: &[usize], column: usize, last: usize) -> usize
     row.get(column).copied().unwrap_or(last)
 }
 
-/// The numbers of the glyphs of a row that is cut to a width, or its fault where one draws nothing.
+/// The numbers of the glyphs of a row, cut to this width. `BadGlyph`: a glyph of the cut row draws nothing.
 fn read_row(
     alloc: Global,
     glyphs: &mut Glyphs,
@@ -140,7 +140,7 @@ fn read_row(
     }
 }
 
-/// The cells of the rows of a level, or the first row with a glyph that draws nothing.
+/// The cells of the rows of a level, or `BadGlyph` at the first row with a glyph that draws nothing.
 fn rows(
     alloc: Global,
     glyphs: &mut Glyphs,
@@ -179,7 +179,7 @@ fn is_too_large(width: usize, height: usize) -> bool
     width > MAX_SIDE || height > MAX_SIDE || width * height > MAX_CELLS
 }
 
-/// An entry below so many others, or its first fault.
+/// The entry with these lines, or its first fault. `above` is the number of entries above it.
 fn read_entry(
     alloc: Global,
     glyphs: &mut Glyphs,
@@ -216,7 +216,8 @@ fn read_entry(
     Ok(LevelEntry::Level(DrawnLevel::new(width as u32, height as u32, Listed::new(cells))))
 }
 
-/// The entries of LEVELS, or their first fault.
+/// The entries of LEVELS, or their first fault: `TooLarge` or `BadGlyph` of an entry, then `NoLevel`, with line 0, if no entry is a level.
+/// `Memory`, with line 0, may come in place of any.
 pub fn read_levels(
     alloc: Global,
     names: &NameSet,

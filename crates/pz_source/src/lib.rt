@@ -1,5 +1,5 @@
-//! The source of a PuzzleScript game, read: from its text to its game, or to its first fault. A door of the library: a caller lists this crate
-//! alone.
+//! Reads the source of a PuzzleScript game: from its text to its game, or to its first fault. A door of the library: a caller lists this
+//! crate alone.
 #![tactic(auto)]
 
 mod glyphs;

@@ -1,4 +1,4 @@
-//! The profile: the keywords of the prelude, and the words of RULES that are outside it.
+//! The profile: which keywords and words are outside it, and which options the prelude sets.
 
 ghost use Rattle.std.specs.Prelude.{◌≡◌, ◌≢◌, None, Some, IfOk, IfErr};
 ghost use Rattle.pz_base.specs.declared.fault.Code.TheVariants as code;
@@ -45,8 +45,8 @@ fn is_outside(alloc: Global, line: &Line) -> Result<bool, AllocError>
     }
 }
 
-/// OutsideProfile, at its line: the first line of the prelude with the keyword `realtime_interval`, or of RULES with a word
-/// `random`, `randomdir` or `rigid`. Memory, with line 0, may come in place of it.
+/// `OutsideProfile` at the first line outside the profile: of the prelude with the keyword `realtime_interval`, or of RULES with a word
+/// `random`, `randomdir` or `rigid`. `Memory`, with line 0, may come in place of either.
 pub fn check_profile(alloc: Global, lines: &[Line]) -> Result<(), SourceFault>
     ensures sound { IfOk result (λ _. outside_profile lines.now ≡ None) }
     ensures refused { IfErr result (λ fault. fault.code ≢ code.Memory → outside_profile lines.now ≡ Some fault) }
@@ -71,7 +71,7 @@ fn has_keyword(lines: &[Line], keyword: &[u8]) -> bool
         .any(|line| begins_with_word(line.text.items(), keyword))
 }
 
-/// The options that the lines of the prelude set: each counts by its keyword, whatever its value.
+/// The options that the lines of the prelude set. A keyword sets its option, whatever its value.
 pub fn options_of(lines: &[Line]) -> Options
     ensures { result ≡ options_of lines.now }
 {

@@ -1,4 +1,4 @@
-//! A source, read.
+//! Reads a source: section after section, in the order of the checks.
 
 ghost use Rattle.std.specs.Prelude.{◌≡◌, ◌≢◌, ◌≤◌, ◌<◌, length, All, [], get_or, IfOk, IfErr, Ok, Err};
 ghost use Rattle.pz_base.specs.declared.fault.Code.TheVariants as code;
@@ -38,7 +38,7 @@ use pz_text::line::{Line, Section};
 use pz_text::section::lines_in;
 use std::alloc::{AllocError, Global};
 
-/// What the sections behind LEGEND give over names that are known, and the first names of the objects.
+/// What the sections after LEGEND give, once the names are known, and the first name of each object.
 #[derive(Drop)]
 pub(crate) struct Sections {
     pub objects: Listed<Name>,
@@ -50,7 +50,7 @@ pub(crate) struct Sections {
     pub options: Options,
 }
 
-/// The first name of a line; a line of OBJECTS always has one.
+/// The first name of a line. A name line of OBJECTS always has one.
 fn first_name(alloc: Global, line: &NameLine) -> Result<Name, AllocError>
     ensures { IfOk result (λ name. name ≡ get_or line.now.names 0 []) }
 {
@@ -85,7 +85,7 @@ fn names_and_rules(
     Ok((firsts, rules))
 }
 
-/// The win lines and the entries of LEVELS, or their first fault: those of the win lines go first.
+/// The win lines and the entries of LEVELS, or their first fault. Faults of win lines come first.
 fn wins_and_levels(
     alloc: Global,
     lines: &[Line],
@@ -102,8 +102,8 @@ fn wins_and_levels(
     Ok((wins, levels))
 }
 
-/// What the sections behind LEGEND give over these objects and names, or their first fault: Missing, then those of the layers, of
-/// the win lines and of the levels.
+/// What the sections after LEGEND give with these objects and names, or their first fault: `Missing`, then those of the layers, of the win
+/// lines and of the levels.
 fn read_sections(
     alloc: Global,
     lines: &[Line],
@@ -168,7 +168,7 @@ fn game_with(names: NameSet, values: Vec<Denotation>, sections: Sections) -> Gam
     }
 }
 
-/// The game over these objects and names, or its first fault: that of what follows the legend.
+/// The game with these objects and names, or the first fault of what follows the legend.
 fn read_over(
     alloc: Global,
     lines: &[Line],
@@ -188,7 +188,7 @@ fn read_over(
     Ok(Game::new(game_with(names, values, sections)))
 }
 
-/// The game over these objects, or its first fault: those of the legend, then those of what follows.
+/// The game with these objects, or its first fault. Faults of the legend come before those of what follows.
 fn read_over_objects(
     alloc: Global,
     lines: &[Line],
@@ -206,7 +206,7 @@ fn read_over_objects(
     read_over(alloc, lines, objects, names, values)
 }
 
-/// The game of lines with all headings in order, or its first fault: OutsideProfile, then those of the objects, then those of what
+/// The game of lines whose headings are in order, or its first fault: `OutsideProfile`, then those of the objects, then those of what
 /// follows.
 fn read_game_of_lines(alloc: Global, lines: &[Line]) -> Result<Game, SourceFault>
     ensures read { IfOk result (λ game. game_of_lines lines.now ≡ Ok game) }
@@ -218,8 +218,9 @@ fn read_game_of_lines(alloc: Global, lines: &[Line]) -> Result<Game, SourceFault
     read_over_objects(alloc, lines, objects.as_slice(), names)
 }
 
-/// The game of a source, or its first fault: the first check that names a line, at the least line that it names. Memory, with
-/// line 0, may come in place of either. The rule lines of the game have the numbers of lines of the text, counted from 1.
+/// Reads a source: gives its game, or its first fault. That is the fault of the first check that names a line, at the first such line.
+/// `Memory`, with line 0, may come in place of either. The rules of the game are not expanded yet. Rule lines have their line numbers in
+/// the text, counted from 1.
 pub fn read_game(alloc: Global, text: &str) -> Result<Game, SourceFault>
     ensures read { IfOk result (λ game. source_of text.now ≡ Ok game) }
     ensures refused { IfErr result (λ fault. fault.code ≢ code.Memory → source_of text.now ≡ Err fault) }

@@ -16,7 +16,7 @@ use pz_text::comment::Cursor;
 use pz_text::line::{Line, Section};
 use std::alloc::{AllocError, Global};
 
-/// Puts the name that a word spells behind the others.
+/// Adds a word, folded.
 pub(crate) fn push_word(
     alloc: Global,
     words: &mut Vec<Name>,
@@ -38,7 +38,7 @@ fn push_closed(alloc: Global, words: &mut Vec<Name>, word: &[char]) -> Result<()
     push_word(alloc, words, word)
 }
 
-/// Puts the words that a character ends behind the others.
+/// Adds the words that a character ends.
 fn push_ended(
     alloc: Global,
     words: &mut Vec<Name>,
@@ -59,7 +59,7 @@ fn push_ended(
     push_word(alloc, words, &[c])
 }
 
-/// Puts the word `message` and its text behind the others, where the text goes on with what is left of the line.
+/// Adds the word `message` and its text. The text begins in `word` and goes on to the end of the line.
 fn push_message(
     alloc: Global,
     words: &mut Vec<Name>,
@@ -76,7 +76,7 @@ fn push_message(
     push_closed(alloc, words, trimmed(text.as_slice()))
 }
 
-/// Goes behind a character, and puts the words that it ends behind the others.
+/// Takes a character, and adds the words that it ends.
 fn pass(
     alloc: Global,
     words: &mut Vec<Name>,
@@ -93,7 +93,7 @@ fn pass(
     cursor.pass(Section::Rules, c)
 }
 
-/// Puts the words of a rule line, from a character on, behind the others.
+/// Adds the words of a rule line from a character on.
 fn push_words(
     alloc: Global,
     words: &mut Vec<Name>,
@@ -113,7 +113,7 @@ fn push_words(
     push_closed(alloc, words, cursor.word.as_slice())
 }
 
-/// The words of a rule line, folded.
+/// The words of a rule line, folded. The text after `message` is one word.
 pub fn rule_words(alloc: Global, text: &[char]) -> Result<Listed<Name>, AllocError>
     ensures { IfOk result (λ words. words ≡ rule_words text.now) }
 {

@@ -27,7 +27,7 @@ fn quantifier_of(word: &Name) -> Option<Quantifier>
     }
 }
 
-/// What a win line says of a name, and of another that stands behind `on`, each by its number.
+/// The win line about a name and, after `on`, another; both by their numbers. `BadWin` goes before `Unknown`.
 fn win_about(
     quantifier: Option<Quantifier>,
     subject: Option<usize>,
@@ -46,7 +46,7 @@ fn win_about(
     })
 }
 
-/// The win line that words give, over these names.
+/// The win line that these words make.
 fn win_of(names: &NameSet, words: &[Name]) -> Result<WinLine, Code>
     ensures line { result ≡ win_of names.now words.now }
     ensures other { IfErr result (λ c. c ≢ code.Memory) }
@@ -66,7 +66,7 @@ fn win_of(names: &NameSet, words: &[Name]) -> Result<WinLine, Code>
     }
 }
 
-/// What a line says that is not blank, or its fault.
+/// The win line of a line that isn't blank, or its fault.
 fn read_win(alloc: Global, names: &NameSet, line: &Line) -> Result<WinLine, SourceFault>
     ensures read { IfOk result (λ win. win_at names.now line.now ≡ Ok win) }
     ensures refused { IfErr result (λ fault. fault.code ≢ code.Memory → win_at names.now line.now ≡ Err fault) }
@@ -82,8 +82,8 @@ fn read_win(alloc: Global, names: &NameSet, line: &Line) -> Result<WinLine, Sour
     }
 }
 
-/// The lines of WINCONDITIONS, or their first fault: BadWin, a line of another form, or Unknown, a name that is not there.
-/// Memory, with line 0, may come in place of either.
+/// The lines of WINCONDITIONS, or their first fault: `BadWin` (a line of another form) or `Unknown` (a name that is not there). `Memory`,
+/// with line 0, may come in place of any.
 pub fn read_wins(
     alloc: Global,
     names: &NameSet,

@@ -45,7 +45,7 @@ message_second = refl
 message_in_parts : outside Levels true [] 0 (codes "mess(x)age (b") ≡ codes "message (b"
 message_in_parts = refl
 
--- in RULES what follows any word `message` is, where a bracket, a bar, an arrow or a first plus sign stand by themselves
+-- in RULES what follows any word `message` is; a bracket, a bar, an arrow and a first plus sign are words of their own
 rule_row : outside Rules true [] 0 (codes "]message (x") ≡ codes "]message (x"
 rule_row = refl
 
@@ -82,7 +82,7 @@ lines = refl
 glued_heading : map (λ (line : Line). line.is_heading) (cut (codes "objects(x)")) ≡ false ∷ []
 glued_heading = refl
 
--- a heading that is repeated, and one above which a later one stands
+-- a heading that is repeated, and one that comes after a later one
 repeated : misplaced_heading (cut (joined (codes "OBJECTS" ∷ codes "a" ∷ codes " Objects " ∷ []))) ≡ Some (record { code = code.Section; line = 3 })
 unfolding joined
 repeated = refl

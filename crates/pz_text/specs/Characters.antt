@@ -4,11 +4,11 @@ use Rattle.std.specs.Option.{option_map_or}
 use Rattle.std.specs.Str.{bytes_eq, skip_leading_whitespace, drop_trailing_whitespace}
 use Rattle.pz_base.specs.Name.{folded}
 
--- without the white space at both ends, by any that Unicode knows
+-- without the white space at both ends; all white space of Unicode counts
 abbrev pub trimmed : List ℕ → List ℕ
 trimmed cs = drop_trailing_whitespace (skip_leading_whitespace cs)
 
--- the characters spell a keyword, whose letters are small
+-- the characters spell a keyword, in any case; the keyword itself is in small letters
 abbrev pub is_word : List ℕ → List ℕ → Bool
 is_word cs word = bytes_eq (folded cs) word
 

@@ -13,7 +13,7 @@ use Rattle.pz_base.specs.declared.fault.Code.{Code}
 use Rattle.pz_base.specs.declared.fault.Code.TheVariants as code
 use Rattle.pz_base.specs.declared.fault.SourceFault.{SourceFault}
 
--- the text has more bytes than a source may have
+-- the fault of a text with more bytes than a source may have
 abbrev pub too_long : List ℕ → Option SourceFault
 too_long bytes = if nat_lt MAX_BYTES (length bytes) then Some (record { code = code.TooLong; line = 0 }) else None
 
@@ -24,25 +24,25 @@ number_of line = line.number
 abbrev pub reaches_place : ℕ → Line → Bool
 reaches_place place line = line.is_heading && nat_le place (place_of line.section)
 
--- a heading is named if a heading above it stands at the same place of the order, or at a later one
+-- a heading is at fault if one above it has the same place in the order, or a later one
 abbrev pub misplaces : List Line → Line → Option Code
 misplaces before line =
     if line.is_heading && list_any (reaches_place (place_of line.section)) before then Some code.Section else None
 
--- the first heading out of order, or repeated
+-- the fault of the first heading that is out of order, or repeated
 abbrev pub misplaced_heading : List Line → Option SourceFault
 misplaced_heading lines = first_fault number_of misplaces [] lines
 
 abbrev pub has_section : Section → List Line → Bool
 has_section section lines = list_any (is_heading_of section) lines
 
--- a section is missing that each source has
+-- the fault of a text without a section that every source must have
 abbrev pub missing_section : List Line → Option SourceFault
 missing_section lines =
     if has_section Objects lines && has_section Legend lines && has_section Layers lines && has_section Levels lines then None
     else Some (record { code = code.Section; line = 0 })
 
--- the lines of a text with all its headings in order, or its first fault
+-- the lines of a text, or the first fault of its length and its headings
 abbrev pub lines_of : List ℕ → Result (List Line) SourceFault
 lines_of bytes =
     unless (too_long bytes)

@@ -13,15 +13,15 @@ abbrev pub holds_only : ℕ → List ℕ → Bool
 holds_only k [] = true
 holds_only k (c ∷ cs) = c == k && holds_only k cs
 
--- A line that is left out everywhere: it is void, white space alone that begins inside a comment or holds part of one, or it
--- is `=` alone, once or more. `line` is the line, `left` it without comments, `text` that without white space at its ends,
--- and `depth` brackets are open before the line.
+-- A line that is left out everywhere. Either it is void: only white space is left of it, and it begins inside a comment or has
+-- part of one. Or only `=` characters are left. `line` is the line, `left` is it without comments, and `text` is that without
+-- white space at its ends. `depth` brackets are open before the line.
 abbrev pub is_left_out : ℕ → List ℕ → List ℕ → List ℕ → Bool
 is_left_out depth line left text =
     if length text == 0 then nat_lt 0 depth || nat_lt (length left) (length line) else holds_only 61 text
 
--- The lines of a text from line `number` on, which begins in a section with so many brackets open. A heading ends the section
--- before it, by whose rules of comments it is read.
+-- The lines of a text from line `number` on, which begins in this section with `depth` brackets open. The comments of a heading
+-- are read as in the section that it ends.
 abbrev pub lines_from : Section → ℕ → ℕ → List (List ℕ) → List Line
 lines_from section depth number [] = []
 lines_from section depth number (raw ∷ more) =
@@ -34,6 +34,6 @@ lines_from section depth number (raw ∷ more) =
     else record { number = number; section = after; is_heading = is_some heading; text = text } ∷ [])
     ++ lines_from after (depth_after section true [] depth line) (number + 1) more
 
--- the lines of a text, which line feeds end
+-- the lines of a text; a line ends at a line feed
 abbrev pub cut : List ℕ → List Line
 cut text = lines_from Prelude 0 1 (slice_split (λ c. c == 10) text)

@@ -4,7 +4,7 @@ use Rattle.pz_text.specs.declared.line.Section.{Section}
 use Rattle.pz_text.specs.declared.line.Section.TheVariants.{Prelude, Objects, Legend, Sounds, Layers, Rules, Wins, Levels}
 use Rattle.pz_text.specs.declared.line.Line.{Line}
 
--- the place of a section in the order of the sections
+-- the place of a section in the order of the sections, from 0
 abbrev pub place_of : Section → ℕ
 place_of Prelude = 0
 place_of Objects = 1
@@ -23,12 +23,12 @@ abbrev pub before_heading : List Line → List Line
 before_heading [] = []
 before_heading (line ∷ lines) = if line.is_heading then [] else line ∷ before_heading lines
 
--- the lines behind the heading of a section
+-- the lines after the heading of a section
 abbrev pub behind_heading : Section → List Line → List Line
 behind_heading section [] = []
 behind_heading section (line ∷ lines) = if is_heading_of section line then lines else behind_heading section lines
 
--- the lines of a section, without its heading: of the prelude, those before the first heading
+-- the lines of a section, without its heading; the prelude has those before the first heading
 abbrev pub lines_in : Section → List Line → List Line
 lines_in Prelude lines = before_heading lines
 lines_in section lines = before_heading (behind_heading section lines)

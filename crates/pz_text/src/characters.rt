@@ -35,7 +35,7 @@ pub fn trimmed(line: &[char]) -> &[char]
     rest
 }
 
-/// Whether the characters spell a keyword, which is given in small letters.
+/// Whether the characters spell a keyword, in any case. The keyword itself is in small letters.
 pub fn is_word(cs: &[char], word: &[u8]) -> bool
     ensures { result ≡ is_word cs.now word.now }
 {

@@ -14,12 +14,12 @@ use std::alloc::Global;
 /// The most bytes that a source may have.
 pub const MAX_BYTES: usize = 1_048_576;
 
-/// The limit as a number: a promise, which the constant can't change by itself.
+/// Promises the limit as a number, so that changing the constant alone breaks a proof.
 pub fn sources_are_limited()
     ensures { MAX_BYTES ≡ 1_048_576 }
 {}
 
-/// TooLong, line 0: the text has more bytes than a source may have.
+/// `TooLong`, with line 0, if the text has more bytes than a source may have.
 pub fn too_long(text: &str) -> Option<SourceFault>
     ensures { result ≡ too_long text.now }
 {
@@ -33,7 +33,7 @@ pub fn too_long(text: &str) -> Option<SourceFault>
     }
 }
 
-/// Section, at its line: the first heading that stands out of the order of the sections, or is repeated.
+/// `Section` at the first heading that is out of the order of the sections, or repeated.
 pub fn misplaced_heading(lines: &[Line]) -> Option<SourceFault>
     ensures first { result ≡ misplaced_heading lines.now }
     ensures code { IfSome result (λ fault. fault.code ≡ code.Section) }
@@ -60,7 +60,7 @@ fn has_section(section: Section, lines: &[Line]) -> bool
     lines.iter().any(|line| is_heading_of(section, line))
 }
 
-/// Section, line 0: OBJECTS, LEGEND, COLLISIONLAYERS or LEVELS is missing.
+/// `Section`, with line 0, if OBJECTS, LEGEND, COLLISIONLAYERS or LEVELS is missing.
 pub fn missing_section(lines: &[Line]) -> Option<SourceFault>
     ensures { result ≡ missing_section lines.now }
 {
@@ -78,7 +78,7 @@ pub fn missing_section(lines: &[Line]) -> Option<SourceFault>
     }
 }
 
-/// The lines of a text, or its first fault: TooLong, then Section. Memory, with line 0, may come in place of Section.
+/// The lines of a text, or its first fault: `TooLong`, then `Section`. `Memory`, with line 0, may come in place of `Section`.
 pub fn read_lines(alloc: Global, text: &str) -> Result<Vec<Line>, SourceFault>
     ensures read { IfOk result (λ lines. lines_of text.now ≡ Ok lines.items) }
     ensures refused { IfErr result (λ fault. fault.code ≢ code.Memory → lines_of text.now ≡ Err fault) }

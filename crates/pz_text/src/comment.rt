@@ -8,14 +8,15 @@ use crate::characters::{ends_in, is_word};
 use crate::line::Section;
 use std::alloc::{AllocError, Global};
 
-/// Whether a character is a bracket or a bar, which stand by themselves in RULES.
+/// Whether a character is a square bracket or a bar. Each is a word of its own in RULES.
 pub fn is_bracket(c: char) -> bool
     ensures { result ≡ is_bracket c }
 {
     c == '[' || c == ']' || c == '|'
 }
 
-/// Where a reader of a line stands: behind the characters of a word, none between words, which is the first on its line or not.
+/// Where a reader of a line stands. `word` has the characters read of the current word, and is empty between words. `is_first`: no other
+/// word stands before it on the line.
 #[derive(Drop, Debug)]
 pub struct Cursor {
     pub is_first: bool,
@@ -34,14 +35,14 @@ impl Cursor {
         }
     }
 
-    /// Whether a character ends an arrow.
+    /// Whether a character ends an arrow, `->`.
     pub fn ends_arrow(&self, c: char) -> bool
         ensures { result ≡ ends_arrow self.now.word.items c }
     {
         c == '>' && ends_in(self.word.as_slice(), '-')
     }
 
-    /// Whether a character is a plus sign that is the first on its line.
+    /// Whether a character is a plus sign with only white space before it on its line.
     pub fn is_first_plus(&self, c: char) -> bool
         ensures { result ≡ is_first_plus self.now.is_first self.now.word.items c }
     {
@@ -83,7 +84,7 @@ impl Cursor {
         }
     }
 
-    /// Goes behind a character.
+    /// Takes a character.
     pub fn pass(&mut self, section: Section, c: char) -> Result<(), AllocError>
         ensures word { OnOk result (self.new.word.items ≡ word_after section self.old.is_first self.old.word.items c) }
         ensures first { OnOk result (self.new.is_first ≡ is_first_after section self.old.is_first self.old.word.items c) }
@@ -109,14 +110,14 @@ fn depth_past(depth: usize, c: char) -> usize
     }
 }
 
-/// Whether a comment may begin on a line: a line without an opening bracket has none, where none is open before it.
+/// Whether a line has an opening bracket. Without one it has no comment, unless one is open before it.
 pub fn opens_bracket(line: &[char]) -> bool
     ensures { result ≡ list_any (λ c. c == 40) line.now }
 {
     line.iter().any(|c| *c == '(')
 }
 
-/// What is left of a line without its comments, and how many brackets are open behind it, where so many are open before it.
+/// What is left of a line without its comments, and how many brackets are open after it. `opened` brackets are open before it.
 pub fn outside(
     alloc: Global,
     section: Section,

@@ -49,7 +49,8 @@ struct Standing {
     depth: usize,
 }
 
-/// The line, if it isn't left out, of which `left` is left without comments, and where a reader stands behind it.
+/// A line, unless it is left out, and where a reader stands after it. `left` is what is left of it without comments, and `depth` brackets
+/// are open after it.
 fn line_of(
     alloc: Global,
     before: Standing,
@@ -97,7 +98,7 @@ fn read_line(
     line_of(alloc, before, number, line, left.as_slice(), depth)
 }
 
-/// The lines of a text that are not left out, without comments: blank lines stand, void lines and lines of `=` don't.
+/// The lines of a text, without comments. Blank lines are kept. Void lines and lines of only `=` are left out.
 pub fn cut(alloc: Global, text: &[char]) -> Result<Vec<Line>, AllocError>
     requires { length text.now < 2 ^ 31 }
     ensures { IfOk result (λ lines. lines.items ≡ cut text.now) }

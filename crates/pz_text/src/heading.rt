@@ -28,7 +28,8 @@ fn heading_of(line: &[char]) -> Option<Section>
     }
 }
 
-/// Whether a keyword, given in small letters, is the first word of a line that begins with no white space.
+/// Whether a keyword is the first word of a line, in any case. The keyword itself is in small letters, and the line must not begin with
+/// white space.
 pub fn begins_with_word(line: &[char], word: &[u8]) -> bool
     ensures { result ≡ begins_with_word line.now word.now }
 {
@@ -45,7 +46,7 @@ pub fn begins_with_word(line: &[char], word: &[u8]) -> bool
     }
 }
 
-/// The section that a line of a section begins, where it is a heading.
+/// The section that a line begins, if it is a heading. `section` is the one in which it stands.
 pub fn heading_in(section: Section, line: &[char]) -> Option<Section>
     ensures { result ≡ heading_in section line.now }
 {

@@ -15,8 +15,8 @@ pub enum Section {
     Levels,
 }
 
-/// A line of a source: its number from 1, the section in which it stands, whether it is that section's heading, and what
-/// stands on it without comments and without white space at its ends.
+/// A line of a source: its number from 1, its section, whether it is that section's heading, and its text. The text has no comments, and no
+/// white space at its ends.
 #[derive(Drop, Debug)]
 pub struct Line {
     pub number: u32,

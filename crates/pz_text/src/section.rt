@@ -5,7 +5,7 @@ ghost use Rattle.pz_text.specs.Section.{place_of, is_heading_of, before_heading,
 
 use crate::line::{Line, Section};
 
-/// The place of a section in the order of the sections.
+/// The place of a section in the order of the sections, from 0.
 pub fn place_of(section: Section) -> u8
     ensures place { result ≡ place_of section }
     ensures within { result < 8 }
@@ -53,7 +53,7 @@ fn behind_heading(section: Section, lines: &[Line]) -> &[Line]
     rest
 }
 
-/// The lines of a section, without its heading: of the prelude, those before the first heading.
+/// The lines of a section, without its heading. The prelude has those before the first heading.
 pub fn lines_in(section: Section, lines: &[Line]) -> &[Line]
     ensures { result.now ≡ lines_in section lines.now }
 {

@@ -7,7 +7,7 @@ use pz_base::listed::Listed;
 use pz_base::name::Name;
 use std::alloc::{AllocError, Global};
 
-/// The words of a line: white space alone parts them.
+/// The words of a line, separated by white space only.
 pub fn words<'a>(alloc: Global, line: &'a [char]) -> Result<Vec<&'a [char]>, AllocError>
     ensures { IfOk result (λ parts. map (λ part. part.now) parts.items ≡ words line.entry.now) }
 {
@@ -16,7 +16,7 @@ pub fn words<'a>(alloc: Global, line: &'a [char]) -> Result<Vec<&'a [char]>, All
         .collect(alloc)
 }
 
-/// The names that the words of a line spell.
+/// The words of a line, folded to names.
 pub fn names_of(alloc: Global, line: &[char]) -> Result<Listed<Name>, AllocError>
     ensures { IfOk result (λ names. names ≡ names_of line.now) }
 {

@@ -52,7 +52,7 @@ unfolding applied
 applied_none instance grid rows =
     ap (applied_with instance grid) rows.takes ∙ ap (applied_to instance grid) rows.none
 
--- a row that is told to have no gap
+-- a row known to have no gap
 pub gapless : (row : RuleRow) (gap_at : Option ℕ) → gap_at ≡ row.gap_at → is_some gap_at ≡ false → row.gap_at ≡ None
 gapless row None e f = sym e
 gapless row (Some at) e f = cc

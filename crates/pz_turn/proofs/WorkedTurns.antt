@@ -91,12 +91,12 @@ pushes : step_of game pushing (strip (one 1 ∷ one 2 ∷ bare ∷ [])) (Some Ri
 unfolding step_of rules_run blocks_run block_runs rest_of applied searched
 pushes = refl
 
--- a crate against a wall doesn't move; since the player has to, the step is cancelled and gives the level handed in
+-- a crate against a wall doesn't move; since the player has to, the step is cancelled and ends with the level before it
 pushes_against_a_wall : step_of game pushing (strip (one 1 ∷ one 2 ∷ one 3 ∷ [])) (Some Right) ≡ Ok (record { level = strip (one 1 ∷ one 2 ∷ one 3 ∷ []); commands = cancel; changed = false })
 unfolding step_of rules_run blocks_run block_runs rest_of applied searched
 pushes_against_a_wall = refl
 
--- where the player needn't move, nothing has changed and nothing is cancelled
+-- if the player needn't move, nothing has changed and nothing is cancelled
 needs_no_movement : step_of (game_with false []) pushing (strip (one 1 ∷ one 2 ∷ one 3 ∷ [])) (Some Right) ≡ Ok (record { level = strip (one 1 ∷ one 2 ∷ one 3 ∷ []); commands = no_commands; changed = false })
 unfolding step_of rules_run blocks_run block_runs rest_of applied searched
 needs_no_movement = refl

@@ -1,4 +1,4 @@
--- All ways to take one element of each list.
+-- All ways to take one element from each list.
 use Rattle.std.specs.Prelude.{List, [], ◌∷◌, map}
 use Rattle.std.specs.List.{flat_map}
 

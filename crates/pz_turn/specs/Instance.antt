@@ -1,7 +1,7 @@
--- An instance, applied to a level: at all combinations of the places that its rows have in the level before it, the first row
--- varying fastest; each is tested again in the level so far before it is rewritten. Its commands are given if there is a
--- combination, even if nothing changes. It stops if, among the rows before the first one without a place, one has too many
--- places, or if there are too many combinations.
+-- An instance, applied to a level. The combinations are those of the places that its rows have before it, and the first row
+-- varies fastest. Each is tested again in the level so far, just before it is rewritten. The commands are given if there is a
+-- combination, even if nothing changes. Two things stop it: too many places of a row before the first one without a place, or
+-- too many combinations.
 use Rattle.std.specs.Prelude.{◌≡◌, ◌⊎◌, ◌*◌, ◌≤◌, List, [], ◌∷◌, fold, length, false, None, Result, Ok, Err, nat_lt, if◌then◌else◌}
 use Rattle.pz_game.specs.declared.direction.Dir.{Dir}
 use Rattle.pz_program.specs.declared.commands.Commands.{Commands}
@@ -20,7 +20,7 @@ use Rattle.pz_turn.specs.Combinations.{combinations}
 use Rattle.pz_program.specs.Commands.{no_commands}
 use Rattle.pz_turn.specs.Outcome.{Outcome}
 
--- the stop of a search is a stop of the step
+-- the fault of a search is the fault of the step
 abbrev pub stop_of : GridFault → StepFault
 stop_of grid.Memory = Memory
 stop_of grid.MatchLimit = MatchLimit
@@ -33,7 +33,7 @@ abbrev pub preceded_by : List Place → Result (List (List Place)) StepFault →
 preceded_by found (Err fault) = Err fault
 preceded_by found (Ok lists) = Ok (found ∷ lists)
 
--- after a row without a place no other row is looked at
+-- after a row without a place no other row is searched
 abbrev pub after_row : Result (List Place) StepFault → Result (List (List Place)) StepFault → Result (List (List Place)) StepFault
 after_row (Err fault) rest = Err fault
 after_row (Ok []) rest = Ok ([] ∷ [])
@@ -44,7 +44,7 @@ abbrev pub taken : Grid → Dir → List RuleRow → Result (List (List Place)) 
 taken grid dir [] = Ok []
 taken grid dir (row ∷ rows) = after_row (found_or_stop (searched grid row dir)) (taken grid dir rows)
 
--- an instance at a combination of places, if all its rows hold there in the level so far
+-- an instance rewrites at a combination of places, if all its rows hold there in the level so far
 abbrev pub applied_at : Instance → Rewriting → List Place → Rewriting
 applied_at instance so_far places =
     if still_matches so_far.grid instance places then rewritten instance places so_far else so_far
@@ -71,8 +71,8 @@ applied_with instance grid (Ok lists) = applied_to instance grid (combinations l
 unfoldable pub applied : Instance → Grid → Result (Outcome Grid) StepFault
 applied instance grid = applied_with instance grid (taken grid instance.scan instance.left)
 
--- an instance without effect on a level: with no right and no commands it neither changes nor gives anything, and one row meets no limit
--- where it has no gap or the level has few cells
+-- an instance without effect on a level: it has no right and no commands, and its one row can't have too many places, because
+-- it has no gap or the level has few cells
 pub record HasNoEffect (grid : Grid) (instance : Instance) : Type 0 where
   pub right : instance.right ≡ []
   pub commands : instance.commands ≡ no_commands

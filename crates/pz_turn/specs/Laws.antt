@@ -15,11 +15,11 @@ use Rattle.pz_turn.specs.Outcome.{Outcome}
 use Rattle.pz_turn.specs.Rest.{pass_of, rest_of, rests}
 use Rattle.pz_turn.specs.Step.{step_of}
 
--- there are as many combinations as the product of the numbers of places says
+-- the number of combinations is the product of the numbers of places
 abbrev pub IsCounted : Type 0
 IsCounted = (lists : List (List Place)) → length (combinations lists) ≡ product_of (map length lists)
 
--- a pass that changes nothing leaves the level
+-- a pass that changes nothing leaves the level as it was
 abbrev pub QuietPassLeaves : Type 0
 QuietPassLeaves = (group : List Instance) (grid : Grid) (end : Outcome Grid) → pass_of applied group grid ≡ Ok end → end.changed ≡ false → end.level ≡ grid
 
@@ -27,6 +27,6 @@ QuietPassLeaves = (group : List Instance) (grid : Grid) (end : Outcome Grid) →
 abbrev pub RestLasts : Type 0
 RestLasts = (group : List Instance) (grid : Grid) (end : Outcome Grid) → rest_of PASSES (pass_of applied group) grid ≡ Ok end → rests (pass_of applied group end.level) ≡ true
 
--- want of memory stops a run alone: no step ends with it
+-- want of memory is never the stop of a step: it can end a call, but no rule of the language ends a step with it
 abbrev pub NeverEndsForMemory : Type 0
 NeverEndsForMemory = (game : GameParts) (program : Program) (grid : Grid) (input : Option Dir) → step_of game program grid input ≢ Err Memory

@@ -1,5 +1,4 @@
--- What running something on a level gives: the level afterwards, the commands that were given, and whether some rewriting gave
--- another cell; or a stop.
+-- What a run on a level gives: the level afterwards, the commands given, and whether some rewriting changed a cell; or a stop.
 use Rattle.std.specs.Prelude.{◌≡◌, ◌≢◌, Bool, false, ◌||◌, Result, Ok, Err}
 use Rattle.pz_program.specs.declared.commands.Commands.{Commands}
 use Rattle.pz_program.specs.Commands.{no_commands, either}
@@ -7,13 +6,13 @@ use Rattle.pz_turn.specs.declared.outcome.StepFault.{StepFault}
 use Rattle.pz_turn.specs.declared.outcome.StepFault.TheVariants.{Memory}
 use Rattle.pz_turn.specs.declared.outcome.Given.{Given}
 
--- the level afterwards, the commands given and whether something changed
+-- the level afterwards, the commands given, and whether something changed
 pub record Outcome (L : Type 0) : Type 0 where
   pub level : L
   pub commands : Commands
   pub changed : Bool
 
--- where nothing was run
+-- the outcome of running nothing
 abbrev pub untouched : {L : Type 0} → L → Outcome L
 untouched level = record { level = level; commands = no_commands; changed = false }
 
@@ -26,12 +25,12 @@ joined first (Ok second) = Ok (record {
   changed = first.changed || second.changed;
 })
 
--- run on the level so far, unless there was a stop
+-- a run, and then another on the level that it left, unless the first stopped
 abbrev pub followed_by : {L : Type 0} → Result (Outcome L) StepFault → (L → Result (Outcome L) StepFault) → Result (Outcome L) StepFault
 followed_by (Err fault) run = Err fault
 followed_by (Ok first) run = joined first (run first.level)
 
--- a call that leaves `level` answers the outcome or its stop, unless memory was refused
+-- a call that leaves `level` answers this outcome or stop, unless memory was refused
 abbrev pub GivesOutcome : {L : Type 0} → Result (Outcome L) StepFault → L → Result Given StepFault → Type 0
 GivesOutcome outcome level (Ok given) =
     outcome ≡ Ok (record { level = level; commands = given.commands; changed = given.changed })

@@ -1,7 +1,6 @@
--- A step: the input is given to each object that is the player, then the early blocks run, the movement, and the late blocks.
--- In a game with `require_player_movement` a step with an input is cancelled if some cell held a player and each cell that did
--- holds one at the end. A cancelled step leaves the level and has changed nothing; a stop in a block is the step's stop, whatever
--- was given before it.
+-- A step: a press gives its direction to each object that is a player. Then come the early blocks, the movement and the late
+-- blocks. With `require_player_movement` a press is cancelled if some cell held a player before it and each such cell holds one
+-- at the end. A cancelled step leaves the level as it was. A stop in a block is the step's stop, even after `cancel` was given.
 use Rattle.std.specs.Prelude.{ℕ, Bool, true, false, not, ◌&&◌, ◌||◌, List, Option, Some, None, Result, Ok, Err, is_some, if◌then◌else◌}
 use Rattle.std.specs.List.{list_any, list_all, zip}
 use Rattle.pz_game.specs.declared.direction.Dir.{Dir}
@@ -29,7 +28,7 @@ unfoldable pub block_runs : Block → Runs Grid
 block_runs (One group) = rest_of PASSES (pass_of applied group)
 block_runs (Loop groups) = rest_of PASSES (pass_of (group_runs PASSES applied) groups)
 
--- blocks, one after another
+-- blocks in order
 unfoldable pub blocks_run : List Block → Runs Grid
 blocks_run blocks = pass_of block_runs blocks
 
@@ -44,21 +43,21 @@ then_moved (Ok end) = Ok (moved end)
 unfoldable pub rules_run : Program → Runs Grid
 rules_run program grid = followed_by (then_moved (blocks_run program.early grid)) (blocks_run program.late)
 
--- the input is given to the player
+-- a press gives its direction to the player; a tick gives none
 abbrev pub given_input : List ℕ → Option Dir → Grid → Grid
 given_input players None grid = grid
 given_input players (Some dir) grid = pushed players dir grid
 
--- a cell that held a player holds one
+-- if the cell held a player before, it holds one after
 abbrev pub keeps_player : List ℕ → List (Option Piece) × List (Option Piece) → Bool
 keeps_player players (before, after) = not (holds_one players before) || holds_one players after
 
--- some cell held a player, and each cell that did holds one
+-- some cell held a player before, and each such cell holds one after
 abbrev pub has_stayed : List ℕ → Grid → Grid → Bool
 has_stayed players before after =
     list_any (holds_one players) before.cells && list_all (keeps_player players) (zip before.cells after.cells)
 
--- a step with an input that must move the player, and hasn't, is cancelled
+-- a press that must move the player and hasn't is cancelled
 abbrev pub must_cancel : GameParts → Option Dir → Grid → Grid → Bool
 must_cancel game input before after =
     game.options.require_player_movement && (is_some input && has_stayed (players_of game) before after)
@@ -67,7 +66,7 @@ abbrev pub with_cancel : Bool → Commands → Commands
 with_cancel true commands = either commands cancel
 with_cancel false commands = commands
 
--- a cancelled step leaves the level; another has changed it if the levels are not the same
+-- a cancelled step ends with the level before it; any other has changed the level if the two differ
 abbrev pub ended : Grid → Grid → Commands → Outcome Grid
 ended before after commands =
     if has commands cancel
@@ -79,7 +78,7 @@ step_ended game input before (Err fault) = Err fault
 step_ended game input before (Ok end) =
     Ok (ended before end.level (with_cancel (must_cancel game input before end.level) end.commands))
 
--- a step from a level, with an input or none
+-- a step from a level: a press with its direction, or a tick
 unfoldable pub step_of : GameParts → Program → Grid → Option Dir → Result (Outcome Grid) StepFault
 step_of game program grid input =
     step_ended game input grid (rules_run program (given_input (players_of game) input grid))

@@ -14,8 +14,8 @@ use pz_grid::Level;
 use pz_program::group::{Group, Segment};
 use std::alloc::Global;
 
-/// Whether it is told at once that all instances of a segment leave a level as it is: nothing heads in any of the directions for
-/// which they ask.
+/// Whether a look at the level's headings already shows that no instance of a segment does anything there: nothing heads in any of the
+/// directions that they ask for.
 fn is_left_out(level: &Level, segment: &Segment) -> bool
     requires of_game { IsGroupOf level.now.grid.layers segment.now }
     ensures { result ≡ true → pass_of applied segment.now level.now.grid ≡ Ok (untouched level.now.grid) }
@@ -28,7 +28,7 @@ fn is_left_out(level: &Level, segment: &Segment) -> bool
     }
 }
 
-/// A segment of a group: its instances, one after another, unless they are left out together.
+/// Runs a segment of a group: its instances in order, unless all of them are left out together.
 impl Runnable for Segment {
     ghost is_of = { IsGroupOf };
 
@@ -56,7 +56,7 @@ pub(crate) fn rest_group(
     to_rest(alloc, level, group.segments())
 }
 
-/// A group of a loop, run to rest.
+/// A group of a loop runs to rest.
 impl Runnable for Group {
     ghost is_of = { IsGroupOf };
 

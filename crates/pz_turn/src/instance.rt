@@ -1,4 +1,4 @@
-//! An instance of a rule, applied at all combinations of the places of its rows.
+//! An instance of a rule, applied at each combination of places of its rows.
 
 ghost use Rattle.std.specs.Prelude.{◌≡◌, ◌≢◌, ◌≤◌, ◌<◌, ◌+◌, ◌*◌, ◌++◌, ◌∷◌, IfOk, IfErr, Ok, Err, MatchOption, true, false, [], length, drop, map, fold, min};
 ghost use Rattle.pz_game.specs.declared.direction.Dir.{Dir};
@@ -25,13 +25,14 @@ use pz_program::instance::Instance;
 use std::alloc::Global;
 use std::slice;
 
-/// The greatest number of combinations of places of an instance.
+/// The most combinations that an instance may have.
 pub const COMBINATION_LIMIT: u64 = 1_048_576;
 
-/// So many cells have at most `MATCH_LIMIT` places of a row, one for each cell and gap: a gap spans fewer than `MAX_SIDE` cells.
+/// In a level of at most this many cells no row has more than `MATCH_LIMIT` places. There is at most one for each cell and gap, and a gap
+/// spans fewer than `MAX_SIDE` cells.
 const FEW_CELLS: u32 = 4_096;
 
-/// The stop of a search is a stop of the step.
+/// The fault of a search is the fault of the step.
 impl From<GridFault> for StepFault {
     ghost use Rattle.std.specs.Prelude.{◌≡◌};
     ghost use Rattle.pz_turn.specs.Instance.{stop_of};
@@ -56,15 +57,16 @@ fn search(alloc: Global, level: &Level, row: &Row, dir: Dir) -> Result<Listed<Pl
     Ok(Listed::new(found))
 }
 
-/// Whether a level has so few cells that no row has too many places there, however far its gap spans.
+/// Whether a level has so few cells that no row can have too many places there, not even one with a gap.
 fn is_small(level: &Level) -> bool
     ensures { result ≡ true → level.now.grid.width * level.now.grid.height ≤ FEW_CELLS }
 {
     level.width() * level.height() <= FEW_CELLS
 }
 
-/// Whether an instance has no effect on a level wherever it holds, as a rule that only plays a sound. For a small level its row isn't
-/// looked at: there may be thousands of such instances, and each row stands in memory of its own.
+/// Whether an instance has no effect, even if it fits: it neither rewrites, gives a command nor meets a limit. An example is a rule that
+/// only plays a sound. In a small level the row isn't read: there may be thousands of such instances, each with its row elsewhere in
+/// memory.
 fn has_no_effect(level: &Level, instance: &Instance) -> bool
     ensures { result ≡ true → HasNoEffect level.now.grid instance.now }
 {
@@ -77,7 +79,7 @@ fn has_no_effect(level: &Level, instance: &Instance) -> bool
     }
 }
 
-/// Whether a row may have a place in a level, as far as its marks and its headings tell: false says that it has none, in no direction.
+/// Whether the marks and headings of a level allow a place of a row. If false, the row has none, in any direction.
 fn may_have_place(level: &Level, row: &Row) -> bool
     requires of_game { IsRowOf level.now.grid.layers row.now }
     ensures { result ≡ false → (dir : Dir) → places level.now.grid row.now dir ≡ [] }
@@ -85,9 +87,8 @@ fn may_have_place(level: &Level, row: &Row) -> bool
     level.is_searched_for(row) && level.may_hold(row)
 }
 
-/// Whether it is told at once that an instance leaves a level as it is: it has no effect at all, or, as marks and headings tell, no
-/// combination: some row has no place, and none of those before it has a gap. (One with a gap could have too many places, and that is
-/// answered first.)
+/// Whether an instance is known, without a search, to leave a level as it is. Either it has no effect, or marks and headings show that some
+/// row has no place and no row before it has a gap. A row with a gap before it must be searched, because it might have too many places.
 fn is_left_out(level: &Level, instance: &Instance) -> bool
     requires of_game { AreRowsOf level.now.grid.layers instance.now.left }
     ensures { result ≡ true → applied instance.now level.now.grid ≡ Ok (untouched level.now.grid) }
@@ -108,7 +109,7 @@ fn is_left_out(level: &Level, instance: &Instance) -> bool
     false
 }
 
-/// The places of each row. None: a row has none, and no row before it has too many; mostly it is the first row, and then no memory was
+/// The places of each row. `None`: some row has none, and no row before it has too many. Mostly it is the first row; then no memory was
 /// asked for.
 fn take_places(
     alloc: Global,
@@ -132,7 +133,7 @@ fn take_places(
     Ok(Some(lists))
 }
 
-/// How many combinations there are, counted up to one more than the limit.
+/// How many combinations there are, counted up to one above the limit.
 fn combination_count(lists: &[Listed<Place>]) -> u64
     ensures { result ≡ min (length (combinations lists.now)) (COMBINATION_LIMIT + 1) }
 {
@@ -145,7 +146,7 @@ fn combination_count(lists: &[Listed<Place>]) -> u64
     count
 }
 
-/// Rewrites an instance at places, if all its rows still hold there.
+/// Tests again whether all rows of an instance hold at these places, and rewrites them if so.
 fn apply_at(level: &mut Level, instance: &Instance, places: &[Place], changed: bool) -> bool
     requires of_game { IsInstanceOf level.old.grid.layers instance.now }
     ensures applied { in_rewrite level.new.grid result ≡ applied_at instance.now (in_rewrite level.old.grid changed) places.now }
@@ -158,7 +159,7 @@ fn apply_at(level: &mut Level, instance: &Instance, places: &[Place], changed: b
     }
 }
 
-/// Applies an instance at each combination of places of these rows with those chosen for the rows after them.
+/// Applies an instance at each combination of places of these rows, together with the places chosen for the rows after them.
 fn apply_all(
     level: &mut Level,
     instance: &Instance,
@@ -229,7 +230,7 @@ fn apply_rows(alloc: Global, level: &mut Level, instance: &Instance) -> Result<G
     Ok(Given { commands, changed })
 }
 
-/// Applies an instance of one row at places of that row, one after the other.
+/// Applies an instance of one row at each of these places in order.
 fn apply_each(level: &mut Level, instance: &Instance, places: &[Place]) -> bool
     requires of_game { IsInstanceOf level.old.grid.layers instance.now }
     ensures applied { in_rewrite level.new.grid result ≡ fold (applied_at instance.now) (in_rewrite level.old.grid false) (map (λ place. place ∷ []) places.now) }
@@ -242,7 +243,7 @@ fn apply_each(level: &mut Level, instance: &Instance, places: &[Place]) -> bool
     changed
 }
 
-/// Applies an instance of one row, as nearly all are: each place is a combination, and the limit of places that of combinations.
+/// Applies an instance of one row, as nearly all are. Each place is a combination, and both limits are equal.
 fn apply_row(
     alloc: Global,
     level: &mut Level,
@@ -263,8 +264,8 @@ fn apply_row(
     Ok(Given { commands, changed })
 }
 
-/// Applies an instance to a level. MatchLimit: a row before the first one without a place has too many places, or there are more
-/// than `COMBINATION_LIMIT` combinations.
+/// Applies an instance to a level. `MatchLimit`: a row before the first one without a place has too many places, or there are more than
+/// `COMBINATION_LIMIT` combinations.
 fn apply(alloc: Global, level: &mut Level, instance: &Instance) -> Result<Given, StepFault>
     requires of_game { IsInstanceOf level.old.grid.layers instance.now }
     ensures outcome { GivesOutcome (applied instance.now level.old.grid) level.new.grid result }

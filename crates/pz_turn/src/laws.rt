@@ -1,11 +1,11 @@
-//! Laws of turns, each proved as what a function without a body ensures.
+//! Laws of turns. Each is what a function without a body ensures.
 
 ghost use Rattle.std.specs.Prelude.{◌≡◌};
 ghost use Rattle.pz_turn.specs.declared.instance.TheConstants.{COMBINATION_LIMIT};
 ghost use Rattle.pz_turn.specs.declared.resting.TheConstants.{PASSES};
 ghost use Rattle.pz_turn.specs.Laws.{IsCounted, QuietPassLeaves, RestLasts, NeverEndsForMemory};
 
-/// There are as many combinations as the product of the numbers of places says.
+/// The number of combinations is the product of the numbers of places.
 pub fn combinations_are_counted()
     ensures { IsCounted }
 {}
@@ -20,12 +20,12 @@ pub fn rest_lasts()
     ensures { RestLasts }
 {}
 
-/// By the definition a step never ends for want of memory: that fault is of a run alone.
+/// By its definition no step ends with want of memory. Only a call can.
 pub fn steps_never_end_for_memory()
     ensures { NeverEndsForMemory }
 {}
 
-/// The limits of combinations and of passes as numbers: a promise, which no constant can change by itself.
+/// Promises the limits of combinations and of passes as numbers, so that changing a constant alone breaks a proof.
 pub fn turns_are_limited()
     ensures combinations { COMBINATION_LIMIT ≡ 1_048_576 }
     ensures passes { PASSES ≡ 200 }

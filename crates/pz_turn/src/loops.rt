@@ -1,4 +1,4 @@
-//! Loops of groups, run until a pass over all of them changes nothing.
+//! Loops of groups, run to rest.
 
 ghost use Rattle.std.specs.Prelude.{Ok};
 ghost use Rattle.pz_program.specs.Instance.{AreGroupsOf};
@@ -15,8 +15,8 @@ use pz_program::commands::Commands;
 use pz_program::instance::Groups;
 use std::alloc::Global;
 
-/// Runs a loop of groups to rest: pass after pass over its groups, each of them run to rest, up to the first pass that changes
-/// nothing. Answers and faults as `rest` does.
+/// Runs a loop of groups to rest: passes repeat up to the first that changes nothing. A pass runs each group to rest, in order. The result
+/// and the faults are those of `rest`.
 pub fn rest_loop(
     alloc: Global,
     game: &Game,

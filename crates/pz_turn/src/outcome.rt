@@ -1,4 +1,4 @@
-//! What running rules gives, and why it ends early.
+//! What a run of rules gives, and why one ends early.
 
 ghost use Rattle.std.specs.Prelude.{◌≡◌, ◌||◌, false};
 ghost use Rattle.pz_program.specs.Commands.{no_commands, either};
@@ -6,8 +6,8 @@ ghost use Rattle.pz_program.specs.Commands.{no_commands, either};
 use bitflags::Flags;
 use pz_program::commands::{Commands, either};
 
-/// Why running rules ended early: memory was refused, a group or a loop still changed something in its last pass, or a row or
-/// an instance has more places or combinations than the limit.
+/// Why a run of rules ended early. `Memory`: memory was refused. `LoopLimit`: the last allowed pass of a group or a loop still changed
+/// something. `MatchLimit`: a row has too many places, or an instance too many combinations.
 #[derive(Clone, Copy, PartialEq, Eq, Debug)]
 pub enum StepFault {
     Memory,
@@ -15,7 +15,7 @@ pub enum StepFault {
     MatchLimit,
 }
 
-/// What a run of rules gave: its commands, and whether some rewriting gave another cell.
+/// What a run of rules gave: its commands, and whether some rewriting changed a cell.
 #[derive(Clone, Copy, PartialEq, Eq, Debug)]
 pub struct Given {
     pub commands: Commands,
@@ -23,7 +23,7 @@ pub struct Given {
 }
 
 impl Given {
-    /// What is given where nothing is run.
+    /// What a run of nothing gives: no command and no change.
     pub(crate) fn nothing() -> Given
         ensures { result ≡ record { commands = no_commands; changed = false } }
     {
@@ -33,7 +33,7 @@ impl Given {
         }
     }
 
-    /// What two runs gave, one after the other.
+    /// What two runs gave together.
     pub(crate) fn and(self, more: Given) -> Given
         ensures { result ≡ record { commands = either self.commands more.commands; changed = self.changed || more.changed } }
     {

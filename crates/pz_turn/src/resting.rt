@@ -1,4 +1,4 @@
-//! Groups of instances, run until a pass changes nothing.
+//! Groups of instances, run to rest: passes repeat up to the first that changes nothing.
 
 ghost use Rattle.std.specs.Prelude.{◌≡◌, ◌≢◌, Ok, Err, IfOk, IfErr, All, take, cond, true, false};
 ghost use Rattle.pz_program.specs.Instance.{IsGroupOf};
@@ -17,10 +17,10 @@ use pz_program::commands::Commands;
 use pz_program::group::Group;
 use std::alloc::Global;
 
-/// The greatest number of passes in which a group or a loop comes to rest: the last of them changes nothing.
+/// The most passes of a group or a loop. If the last of them still changes something, the stop is `loop-limit`.
 pub const PASSES: u64 = 200;
 
-/// What runs on a level: an instance, a group of a loop, a block.
+/// What runs on a level: an instance, a segment, a group of a loop, a block.
 pub(crate) trait Runnable {
     ghost use Rattle.std.specs.Prelude.{◌≡◌, ℕ, List, IfOk, false};
     ghost use Rattle.pz_sheet.specs.Grid.{Grid};
@@ -37,7 +37,7 @@ pub(crate) trait Runnable {
         ensures size { SameSize level.old.grid level.new.grid };
 }
 
-/// One pass: items, one after another.
+/// Makes one pass: runs each item once, in order.
 pub(crate) fn pass<T: Runnable>(
     alloc: Global,
     level: &mut Level,
@@ -55,14 +55,15 @@ pub(crate) fn pass<T: Runnable>(
     Ok(so_far)
 }
 
-/// What a pass gave, and the number from which on its items are calm on the level that it left.
+/// What a pass gave, and from which item on all are calm: run again on the level after the pass, they change nothing and give no new
+/// command.
 #[derive(Clone, Copy)]
 struct Passed {
     given: Given,
     calm_from: usize,
 }
 
-/// A pass that is ended where only calm items are left and nothing has changed: they would do again what they did on this level.
+/// Makes a pass that ends early if nothing has changed and only calm items are left. On this level those would change nothing.
 fn pass_after<T: Runnable>(
     alloc: Global,
     level: &mut Level,
@@ -94,7 +95,8 @@ fn pass_after<T: Runnable>(
     })
 }
 
-/// Pass after pass, up to the first that changes nothing. What left the level as it is behind the last change needn't run again on it.
+/// Repeats passes up to the first that changes nothing. Items after the last one that changed something needn't run again until something
+/// changes.
 pub(crate) fn to_rest<T: Runnable>(
     alloc: Global,
     level: &mut Level,
@@ -118,9 +120,9 @@ pub(crate) fn to_rest<T: Runnable>(
     Err(StepFault::LoopLimit)
 }
 
-/// Runs a group to rest: pass after pass over its instances, up to the first that changes nothing. Answers the commands that were
-/// given in any pass, and whether one changed something. LoopLimit: the 200th pass still changed something. MatchLimit: a row or an
-/// instance has too many places or combinations. After a fault the level is lawful and its content unsaid.
+/// Runs a group to rest: passes over its instances repeat up to the first that changes nothing. The result has the commands given in any
+/// pass, and whether a pass changed something. `LoopLimit`: the 200th pass still changed something. `MatchLimit`: a row has too many
+/// places, or an instance too many combinations. After a fault the level is lawful, but its contents are unspecified.
 pub fn rest(
     alloc: Global,
     game: &Game,

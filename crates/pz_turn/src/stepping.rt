@@ -1,4 +1,4 @@
-//! A step: the input, the early blocks, the movement, the late blocks.
+//! A step: the press, the early blocks, the movement, the late blocks.
 #![tactic(auto, unfolding(crate::specs::Step::block_runs, crate::specs::Step::blocks_run, crate::specs::Step::rules_run))]
 
 ghost use Rattle.std.specs.Prelude.{◌≡◌, ◌≢◌, ◌<◌, IfOk, IfErr, Ok, Err, length};
@@ -22,7 +22,7 @@ use pz_program::commands::Commands;
 use pz_program::instance::{Block, Program};
 use std::alloc::Global;
 
-/// How a step ends: with the level after it, the commands that were given, and whether that level is another than the one before.
+/// How a step ends: the level after it, the commands that it gave, and whether that level differs from the one before.
 #[derive(Drop)]
 pub struct StepEnd {
     pub level: Level,
@@ -44,7 +44,7 @@ impl Runnable for Block {
     }
 }
 
-/// Runs blocks, one after another.
+/// Runs blocks in order.
 fn run_blocks(alloc: Global, level: &mut Level, blocks: &[Block]) -> Result<Given, StepFault>
     requires of_game { AreBlocksOf level.old.grid.layers blocks.now }
     ensures outcome { GivesOutcome (blocks_run blocks.now level.old.grid) level.new.grid result }
@@ -81,7 +81,7 @@ fn copy_of(level: &Level) -> Result<Level, StepFault>
     }
 }
 
-/// A spare level, which becomes a copy of the level.
+/// A copy of the level, in the memory of a spare one.
 fn renewed(level: &Level, spare: Level) -> Result<Level, StepFault>
     ensures copied { IfOk result (λ copy. copy.grid ≡ level.now.grid) }
     ensures fault { IfErr result (λ fault. fault ≡ Memory) }
@@ -93,7 +93,7 @@ fn renewed(level: &Level, spare: Level) -> Result<Level, StepFault>
     }
 }
 
-/// A copy of the level, in a spare one if there is one.
+/// A copy of the level, in the memory of a spare one if there is one.
 fn copy_in(level: &Level, spare: Option<Level>) -> Result<Level, StepFault>
     ensures copied { IfOk result (λ copy. copy.grid ≡ level.now.grid) }
     ensures fault { IfErr result (λ fault. fault ≡ Memory) }
@@ -104,7 +104,7 @@ fn copy_in(level: &Level, spare: Option<Level>) -> Result<Level, StepFault>
     }
 }
 
-/// A copy of the level, with the input given to the player.
+/// A copy of the level, in which a press has given its direction to the player.
 fn with_input(
     game: &Game,
     level: &Level,
@@ -164,7 +164,7 @@ fn has_stayed(players: &[usize], before: &Level, after: &Level) -> bool
     some_player(players, before) && all_keep_players(players, before, after)
 }
 
-/// Whether a step is cancelled since the player had to move and hasn't.
+/// Whether `require_player_movement` cancels a step: a press had to move the player, and hasn't.
 fn must_cancel(game: &Game, input: Option<Dir>, before: &Level, after: &Level) -> bool
     ensures { result ≡ must_cancel game.now input before.now.grid after.now.grid }
 {
@@ -184,7 +184,7 @@ fn with_cancel(cancelled: bool, commands: Commands) -> Commands
     }
 }
 
-/// How a step ends that leads from one level to another: where it is cancelled, it leaves the level.
+/// How a step ends that leads from one level to another. A cancelled step ends with the level before it.
 fn end_of(before: &Level, after: Level, commands: Commands) -> Result<StepEnd, StepFault>
     requires size { SameSize before.now.grid after.grid }
     ensures end { IfOk result (λ end. ended before.now.grid after.grid commands ≡ record { level = end.level.grid; commands = end.commands; changed = end.changed }) }
@@ -213,7 +213,7 @@ fn end_of(before: &Level, after: Level, commands: Commands) -> Result<StepEnd, S
     }
 }
 
-/// A step as `step` plays it, in a level that is lent for it, if there is one: whatever stands there is written over.
+/// Plays a step as `step` does, in the memory of a spare level if there is one. What the spare level held is lost.
 pub fn step_in(
     alloc: Global,
     game: &Game,
@@ -235,9 +235,9 @@ pub fn step_in(
     end_of(level, work, with_cancel(cancelled, given.commands))
 }
 
-/// A step of a game from a level, with an input or none. Where a rule gives CANCEL, or the player had to move and hasn't, the end
-/// level is the one handed in and nothing has changed. LoopLimit and MatchLimit: a block stopped with it, whatever was given
-/// before. The level handed in is never changed.
+/// Plays a step of a game from a level: a press with its direction, or a tick (`None`). The level passed in is never changed. If a rule
+/// gives `cancel`, or the player had to move and hasn't, the step ends with a copy of that level and `changed` is false. `LoopLimit` and
+/// `MatchLimit`: a block stopped so, even after `cancel` was given.
 pub fn step(
     alloc: Global,
     game: &Game,

@@ -11,7 +11,7 @@ use pz_game::game::Game;
 use pz_game::win_line::{Quantifier, WinLine};
 use pz_grid::Level;
 
-/// Whether the cell of a number fits what a name denotes.
+/// Whether the cell of this number fits what a name denotes: an object or a property if it holds a member, an aggregate if it holds all.
 fn fits_kind(level: &Level, index: usize, denotation: &Denotation) -> bool
     requires { index < length level.now.grid.cells }
     ensures { result ≡ fits_kind denotation.now.kind denotation.now.members (cell_of level.now.grid index) }
@@ -79,7 +79,7 @@ fn some_fits(game: &Game, level: &Level, line: WinLine) -> bool
     false
 }
 
-/// Whether a line holds, cell by cell.
+/// Whether a win line holds, tested cell by cell.
 fn line_holds_by_cell(game: &Game, level: &Level, line: WinLine) -> bool
     ensures { result ≡ line_holds game.now level.now.grid line }
 {
@@ -90,7 +90,8 @@ fn line_holds_by_cell(game: &Game, level: &Level, line: WinLine) -> bool
     }
 }
 
-/// The objects of which a cell must hold one to fit a name. None: it takes more than that, or there is no such name.
+/// The members of the name of this number, if a cell fits the name by holding one of them. `None`: it is an aggregate, or there is no such
+/// name.
 fn members_of(game: &Game, number: usize) -> Option<&[usize]>
     ensures { IfSome result (λ members. (cell : List (Option Piece)) → fits game.now number cell ≡ holds_one members.now cell) }
 {
@@ -103,7 +104,8 @@ fn members_of(game: &Game, number: usize) -> Option<&[usize]>
     }
 }
 
-/// The objects of which a cell must hold one to fit what stands after `on`. Without it, those of the first name: what fits that fits both.
+/// The members of the name after `on`, if a cell fits that name by holding one of them. Without `on` they are those of the first name,
+/// because then each cell that fits the first name fits both.
 fn others_of<'a>(game: &'a Game, line: WinLine, objects: &'a [usize]) -> Option<&'a [usize]>
     requires { (cell : List (Option Piece)) → fits game.now line.subject cell ≡ holds_one objects.now cell }
     ensures { IfSome result (λ others. AreAsked game.now line objects.now others.now) }
@@ -114,7 +116,7 @@ fn others_of<'a>(game: &'a Game, line: WinLine, objects: &'a [usize]) -> Option<
     }
 }
 
-/// Whether a line holds that asks for one of some objects in a cell, and for one of others.
+/// Whether a win line holds. A cell fits its first name by holding one of `objects`, and its second by holding one of `others`.
 fn line_holds_of(
     game: &Game,
     level: &Level,
