@@ -1,5 +1,5 @@
 //! A level with the same number of words for each cell: read, compared, searched, matched, rewritten, pushed and stilled.
-#![tactic(auto, using(pz_cells::proofs::ListLemmas::small_cell))]
+#![tactic(auto)]
 
 ghost use Rattle.std.specs.Prelude.{◌≡◌, ◌+◌, ◌*◌, ◌<◌, length};
 ghost use Rattle.pz_sheet.specs.Grid.{IsLawful};
