@@ -4,6 +4,11 @@ use Rattle.std.specs.Prelude.{replicate}
 use Rattle.std.proofs.Common.{arith}
 use Rattle.std.proofs.lemmas.Grind.{common_steps}
 use Rattle.std.specs.List.{All}
+use Rattle.std.specs.Option.{option_map_or}
+use Rattle.std.proofs.lemmas.Option.{slice_get-get_or}
+use Rattle.pz_game.specs.Game.{glyph_objects}
+use Rattle.pz_game.specs.declared.denotation.Denotation.{Denotation}
+use Rattle.pz_game.specs.declared.game.GameParts.{GameParts}
 use Rattle.std.proofs.lemmas.List.{length-replicate, get_or-replicate, map-append, map_more}
 use Rattle.std.proofs.lemmas.List.Elements.{All-append, All-cons, All-nil}
 use Rattle.pz_sets.specs.Sets.{member}
@@ -55,3 +60,8 @@ glyphs_more layering f numbers index d cells now cell within are sound e is = re
       ∙ (ap (λ (ys : List (List (Option Piece))). ys ++ seen layering cell ∷ []) are.cells_are
       ∙ (ap (λ (y : List (Option Piece)). map f (take index numbers) ++ y ∷ []) e ∙ sym (map_more f numbers index d within))));
 }
+
+-- a glyph's objects, as they are read
+pub glyph_read : (game : GameParts) (values : List Denotation) (number : ℕ) (d : Denotation) (objects : List ℕ) → values ≡ game.values → number < length game.values → objects ≡ (get_or values number d).members → glyph_objects game number ≡ objects
+glyph_read game values number d objects are within is =
+    ap (λ (found : Option Denotation). option_map_or (λ v. v.members) found []) (slice_get-get_or game.values number d within) ∙ ap (λ (all : List Denotation). (get_or all number d).members) (sym are) ∙ sym is

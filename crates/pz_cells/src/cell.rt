@@ -47,15 +47,6 @@ impl<const N: usize> Cell<N> {
         requires sound { IsSound layers.now self.now }
         ensures { result ≡ slice_index_or (seen layers.now self.now) layer None }
     {
-        self.piece_on(layers, layer)
-    }
-
-    /// What stands on a layer, read from the words.
-    pub(crate) fn piece_on(&self, layers: &Layers<N>, layer: usize) -> Option<Piece>
-        requires low { layer < layers.now.depth }
-        requires sound { IsSound layers.now self.now }
-        ensures { result ≡ place_in layers.now self.now layer }
-    {
         // (brings the proof the law of the layers)
         let _ = layers.depth();
         match self.object_on(layers, layer) {
@@ -114,30 +105,6 @@ impl<const N: usize> Cell<N> {
         self.head(layer, piece.heading);
     }
 
-    /// Puts a piece, or nothing, on a layer, instead of `here`, which stands there.
-    pub(crate) fn exchange(
-        &mut self,
-        layers: &Layers<N>,
-        layer: usize,
-        here: Option<Piece>,
-        place: Option<Piece>,
-    )
-        requires low { layer < layers.now.depth }
-        requires sound { IsSound layers.now self.old }
-        requires here { here ≡ place_in layers.now self.old layer }
-        requires on_layer { IsOnLayer layers.now.layers layer place }
-        ensures sound { IsSound layers.now self.new }
-        ensures cell { seen layers.now self.new ≡ slice_set (seen layers.now self.old) layer place }
-    {
-        // (brings the proof the law of the layers)
-        let _ = layers.depth();
-        self.lift(layers, layer, here);
-        match place {
-            None => {}
-            Some(piece) => self.land(layers, layer, piece),
-        }
-    }
-
     /// Puts a piece, or nothing, on a layer, instead of what stands there.
     pub fn put(&mut self, layers: &Layers<N>, layer: usize, place: Option<Piece>)
         requires low { layer < layers.now.depth }
@@ -146,7 +113,13 @@ impl<const N: usize> Cell<N> {
         ensures sound { IsSound layers.now self.new }
         ensures cell { seen layers.now self.new ≡ slice_set (seen layers.now self.old) layer place }
     {
-        let here = self.piece_on(layers, layer);
-        self.exchange(layers, layer, here, place);
+        // (brings the proof the law of the layers)
+        let _ = layers.depth();
+        let here = self.place(layers, layer);
+        self.lift(layers, layer, here);
+        match place {
+            None => {}
+            Some(piece) => self.land(layers, layer, piece),
+        }
     }
 }

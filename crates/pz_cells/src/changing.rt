@@ -1,9 +1,9 @@
 //! Changes of cells when a level is loaded, and at the beginning and the end of a step.
 
-ghost use Rattle.std.specs.Prelude.{◌≡◌, ℕ, ◌<◌, true, false, length, map, slice_index, Some};
+ghost use Rattle.std.specs.Prelude.{◌≡◌, ℕ, ◌<◌, true, false, map, slice_index, Some};
 ghost use Rattle.pz_sets.specs.Sets.{member};
 ghost use Rattle.pz_cells.specs.Cell.{IsOnLayer, empty_cell, still_place};
-ghost use Rattle.pz_cells.specs.Drawing.{with_object, filled_cell};
+ghost use Rattle.pz_cells.specs.Drawing.{filled_cell};
 ghost use Rattle.pz_cells.specs.Lists.{seen, IsSound, Becomes};
 
 use crate::cell::Cell;
@@ -59,18 +59,9 @@ impl<const N: usize> Cell<N> {
         ensures sound { IsSound layers.now self.new }
         ensures cell { seen layers.now self.new ≡ filled_cell layer piece (seen layers.now self.old) }
     {
-        let here = self.piece_on(layers, layer);
-        self.exchange(layers, layer, here, Some(here.unwrap_or(piece)));
-    }
-
-    /// Puts an object on its layer, still, instead of what stands there.
-    pub fn add(&mut self, layers: &Layers<N>, object: usize)
-        requires sound { IsSound layers.now self.old }
-        requires object_in { object < length layers.now.layers }
-        ensures sound { IsSound layers.now self.new }
-        ensures cell { seen layers.now self.new ≡ with_object layers.now.layers (seen layers.now self.old) object }
-    {
-        let layer = layers.layer_of(object);
-        self.put(layers, layer, Some(Piece::still(object as u16)));
+        if self.place(layers, layer).is_some() {
+            return;
+        }
+        self.put(layers, layer, Some(piece));
     }
 }

@@ -1,8 +1,8 @@
 //! Draws and fills lists of cells.
 
-ghost use Rattle.std.specs.Prelude.{◌≡◌, ◌<◌, IfOk, All, length, map, fold, Some};
+ghost use Rattle.std.specs.Prelude.{◌≡◌, ◌<◌, IfOk, All, length, map, Some};
 ghost use Rattle.pz_cells.specs.Cell.{IsOnLayer};
-ghost use Rattle.pz_cells.specs.Drawing.{with_object, glyph_cell, filled_cell};
+ghost use Rattle.pz_cells.specs.Drawing.{glyph_cell, filled_cell};
 ghost use Rattle.pz_cells.specs.Layering.{layering_of};
 ghost use Rattle.pz_cells.specs.Lists.{seen, IsSound, AreMapped};
 
@@ -33,7 +33,7 @@ pub fn glyph_cells<const N: usize>(
     Ok(cells)
 }
 
-/// The cell that the glyph of this number draws.
+/// The cell that the glyph of this number draws: its objects in order, each still on its layer. A later one replaces one of its layer.
 fn glyph_cell<const N: usize>(game: &Game, layers: &Layers<N>, number: usize) -> Cell<N>
     requires of_game { layers.now ≡ layering_of game.now }
     requires number { number < length game.now.values }
@@ -41,20 +41,11 @@ fn glyph_cell<const N: usize>(game: &Game, layers: &Layers<N>, number: usize) ->
     ensures cell { seen layers.now result ≡ glyph_cell game.now number }
 {
     let mut cell = Cell::empty(layers);
-    add_objects(&mut cell, layers, game.values()[number].members.items());
-    cell
-}
-
-/// Puts objects on their layers in order; a later one replaces one of its layer.
-fn add_objects<const N: usize>(cell: &mut Cell<N>, layers: &Layers<N>, objects: &[usize])
-    requires objects { All (λ object. object < length layers.now.layers) objects.now }
-    requires sound { IsSound layers.now cell.old }
-    ensures sound { IsSound layers.now cell.new }
-    ensures cell { seen layers.now cell.new ≡ fold (with_object layers.now.layers) (seen layers.now cell.old) objects.now }
-{
-    for object in objects {
-        cell.add(layers, *object);
+    for object in game.values()[number].members.items() {
+        let layer = layers.layer_of(*object);
+        cell.put(layers, layer, Some(Piece::still(*object as u16)));
     }
+    cell
 }
 
 /// Puts a piece on a layer, in each cell where nothing stands on it.

@@ -1,11 +1,17 @@
-use Rattle.std.proofs.Common.{None, Some, set, ap, sym, ◌∙◌, subst}
+use Rattle.std.proofs.Common.{None, Some, set, arith, ap, sym, ◌∙◌, subst}
 use Rattle.pz_cells.specs.Cell.{IsOnLayer}
 use Rattle.pz_cells.specs.Lists.{seen, Becomes}
 use Rattle.pz_cells.proofs.PlaceLemmas.{lawful_changed, cell_changed, place_changed, changes_again}
+use Rattle.pz_cells.proofs.HoldLemmas.{place_seen}
 use Rattle.pz_cells.proofs.ListLemmas.{small_cell}
-use Rattle.pz_cells.proofs.cell.Cell.exchange.Given.{Over}
-use Rattle.pz_cells.proofs.cell.Cell.exchange.Goals.{After-lift, After-land}
-use Rattle.pz_cells.proofs.cell.Cell.exchange.Goals as goal
+use Rattle.pz_cells.proofs.cell.Cell.put.Given.{Over}
+use Rattle.pz_cells.proofs.cell.Cell.put.Goals.{After-lift, After-land}
+use Rattle.pz_cells.proofs.cell.Cell.put.Goals as goal
+
+pub lift-requires : goal.lift-requires
+lift-requires g c =
+    let here = c.place-here.ensures ∙ place_seen c.args.layers.now.depth c.args.layers.now.layers c.args.self.now.objects c.args.self.now.movement c.args.layer c.requires.low in
+    (small_cell _ c.depth.ensures.law.short, (omega arith, (omega (arith, c.requires.low, c.depth.ensures.law.shallow), (c.requires.sound, here))))
 
 pub land-requires : goal.land-requires
 land-requires g c =

@@ -1,0 +1,12 @@
+use Rattle.std.proofs.Common.{◌≡◌, drop}
+use Rattle.std.specs.Prelude.{fold}
+use Rattle.pz_cells.specs.Lists.{seen, IsSound}
+use Rattle.pz_cells.specs.Drawing.{with_object, glyph_cell}
+use Rattle.pz_game.specs.Game.{glyph_objects}
+use Rattle.pz_cells.proofs.drawing.glyph_cell.Given as goal
+
+abbrev pub invariant-loop-object : goal.invariant-loop-object
+invariant-loop-object g l = record {
+  sound : IsSound l.layers l.cell;
+  rest : fold (with_object l.layers.layers) (seen l.layers l.cell) (drop l.object-index (glyph_objects l.game l.number)) ≡ glyph_cell l.game l.number;
+}
