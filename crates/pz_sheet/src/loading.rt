@@ -5,7 +5,7 @@ ghost use Rattle.pz_sheet.specs.Grid.{IsLawful};
 ghost use Rattle.pz_sheet.specs.Loading.{drawn, filled};
 
 use crate::Sheet;
-use crate::noting::{note_all, notes_of, planes_of, renew_notes};
+use crate::noting::{note_all, noted, renew_notes};
 use pz_cells::drawing::{fill_cells, glyph_cells};
 use pz_cells::layers::Layers;
 use pz_cells::piece::Piece;
@@ -28,8 +28,7 @@ impl<const N: usize> Sheet<N> {
         let cells = glyph_cells(alloc, game, &layers, drawing.cells())?;
         let width = drawing.width();
         let height = drawing.height();
-        let notes = notes_of(alloc, &layers, width as usize, height as usize, &cells)?;
-        let planes = planes_of(alloc, &layers, width as usize, height as usize, &cells)?;
+        let (notes, planes) = noted(alloc, &layers, width as usize, height as usize, &cells)?;
         Ok(Sheet {
             width,
             height,

@@ -4,7 +4,7 @@ ghost use Rattle.std.specs.Prelude.{◌≡◌, ◌≤◌, ◌<◌, ◌*◌, All,
 ghost use Rattle.pz_game.specs.declared.limits.TheConstants.{MAX_SIDE};
 ghost use Rattle.pz_cells.specs.Lists.{IsSound};
 ghost use Rattle.pz_planes.specs.Notes.{IsWider};
-ghost use Rattle.pz_planes.specs.Planes.{IsEmpty, AreKnown, HaveSameLines};
+ghost use Rattle.pz_planes.specs.Planes.{AreKnown, HaveSameLines};
 ghost use Rattle.pz_sheet.specs.Noting.{AreAllThere, ArePlaced};
 ghost use Rattle.pz_sheet.specs.Seen.{IsNoted, AreNoted};
 
@@ -14,22 +14,27 @@ use pz_planes::notes::Notes;
 use pz_planes::planes::Planes;
 use std::alloc::{AllocError, Global};
 
-/// Notes of where these cells head. Err: memory was refused.
-pub(crate) fn notes_of<const N: usize>(
+/// Where these cells head, and where their objects stand. Err: memory was refused.
+pub(crate) fn noted<const N: usize>(
     alloc: Global,
     layers: &Layers<N>,
     width: usize,
     height: usize,
     cells: &[Cell<N>],
-) -> Result<Notes, AllocError>
+) -> Result<(Notes, Planes), AllocError>
+    requires narrow { width ≤ MAX_SIDE }
+    requires low { height ≤ MAX_SIDE }
     requires covers { length cells.now ≡ width * height }
-    ensures { IfOk result (λ notes. AreNoted N width height notes cells.now) }
+    requires sound { All (IsSound layers.now) cells.now }
+    ensures notes { IfOk result (λ found. AreNoted N width height found.0 cells.now) }
+    ensures planes { IfOk result (λ found. ArePlaced N (length layers.now.layers) width height found.1 cells.now) }
 {
-    // (brings the proof how many words a cell has)
-    let _ = layers.depth();
+    let objects = layers.object_count();
     let mut notes = Notes::empty(alloc, width, height)?;
     renew_notes(&mut notes, layers, cells);
-    Ok(notes)
+    let mut planes = Planes::empty(alloc, objects, width, height)?;
+    note_all(&mut planes, layers, cells);
+    Ok((notes, planes))
 }
 
 /// Notes where the cell of this number heads. Cells are numbered row by row.
@@ -59,25 +64,6 @@ pub(crate) fn renew_notes<const N: usize>(notes: &mut Notes, layers: &Layers<N>,
     }
 }
 
-/// Planes with the objects of these cells. Err: memory was refused.
-pub(crate) fn planes_of<const N: usize>(
-    alloc: Global,
-    layers: &Layers<N>,
-    width: usize,
-    height: usize,
-    cells: &[Cell<N>],
-) -> Result<Planes, AllocError>
-    requires narrow { width ≤ MAX_SIDE }
-    requires low { height ≤ MAX_SIDE }
-    requires covers { length cells.now ≡ width * height }
-    requires sound { All (IsSound layers.now) cells.now }
-    ensures { IfOk result (λ planes. ArePlaced N (length layers.now.layers) width height planes cells.now) }
-{
-    let mut planes = Planes::empty(alloc, layers.object_count(), width, height)?;
-    note_all(&mut planes, layers, cells);
-    Ok(planes)
-}
-
 /// Notes the objects of all cells, and nothing else.
 pub(crate) fn note_all<const N: usize>(planes: &mut Planes, layers: &Layers<N>, cells: &[Cell<N>])
     requires covers { length cells.now ≡ planes.old.columns.count * planes.old.rows.count }
@@ -85,21 +71,7 @@ pub(crate) fn note_all<const N: usize>(planes: &mut Planes, layers: &Layers<N>, 
     ensures size { HaveSameLines planes.old planes.new }
     ensures there { AreAllThere N planes.old.columns.count planes.old.rows.count planes.new cells.now }
 {
-    // (brings the proof how many words a cell has)
-    let _ = layers.depth();
     planes.clear();
-    arrive_all(planes, layers, cells);
-}
-
-/// Notes the objects of all cells in empty planes.
-fn arrive_all<const N: usize>(planes: &mut Planes, layers: &Layers<N>, cells: &[Cell<N>])
-    requires covers { length cells.now ≡ planes.old.columns.count * planes.old.rows.count }
-    requires rows { IsEmpty planes.old.rows }
-    requires columns { IsEmpty planes.old.columns }
-    requires known { All (λ cell. AreKnown planes.old cell.objects) cells.now }
-    ensures size { HaveSameLines planes.old planes.new }
-    ensures there { AreAllThere N planes.old.columns.count planes.old.rows.count planes.new cells.now }
-{
     for index in 0..cells.len() {
         let cell = &cells[index];
         // (brings the proof how many words a cell has)

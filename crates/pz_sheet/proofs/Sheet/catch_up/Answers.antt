@@ -1,4 +1,4 @@
-use Rattle.std.proofs.Common.{◌+◌, List, drop, length, ap, sym, ◌∙◌, length-set, arith}
+use Rattle.std.proofs.Common.{◌+◌, List, drop, length, ap, sym, ◌∙◌, length-set}
 use Rattle.std.proofs.lemmas.List.{at_drop_more}
 use Rattle.pz_sheet.specs.declared.changes.Change.{Change}
 use Rattle.pz_sheet.specs.Changes.{with_cell, cell_there}

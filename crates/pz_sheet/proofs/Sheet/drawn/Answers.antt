@@ -13,18 +13,12 @@ use Rattle.pz_sheet.proofs.Sheet.drawn.Goals as goal
 pub glyph_cells-requires : goal.glyph_cells-requires
 glyph_cells-requires g c = (omega arith, (small_cell _ c.requires.short, (c.in_ok-layers.ensures, subst (All (λ (number : ℕ). number < length c.args.game.now.values)) (sym c.cells.ensures.cells) c.requires.numbers)))
 
-pub notes_of-requires : goal.notes_of-requires
-notes_of-requires g c =
-    let glyphs : AreGlyphs c.in_ok-layers.layers (glyph_cell c.args.game.now) c.args.drawing.now.cells c.in_ok-cells.cells.items = record { sound = c.in_ok-cells.ensures.sound; cells_are = c.in_ok-cells.ensures.cells ∙ ap (map (glyph_cell c.args.game.now)) c.cells.ensures.cells } in
-    let covers = drawn_covers g.row.N c.args.game.now c.args.drawing.now c.width-width.result c.height-height.result c.in_ok-layers.layers c.in_ok-cells.cells.items c.cells.ensures.drawing c.width-width.ensures.width c.height-height.ensures.height glyphs in
-    (omega arith, (small_cell _ c.requires.short, ap (λ (all : List (Cell g.row.N)). length all) c.deref.ensures.value ∙ covers))
-
-pub planes_of-requires : goal.planes_of-requires
-planes_of-requires g c =
+pub noted-requires : goal.noted-requires
+noted-requires g c =
     let glyphs : AreGlyphs c.in_ok-layers.layers (glyph_cell c.args.game.now) c.args.drawing.now.cells c.in_ok-cells.cells.items = record { sound = c.in_ok-cells.ensures.sound; cells_are = c.in_ok-cells.ensures.cells ∙ ap (map (glyph_cell c.args.game.now)) c.cells.ensures.cells } in
     let covers = drawn_covers g.row.N c.args.game.now c.args.drawing.now c.width-width.result c.height-height.result c.in_ok-layers.layers c.in_ok-cells.cells.items c.cells.ensures.drawing c.width-width.ensures.width c.height-height.ensures.height glyphs in
     let size = c.cells.ensures.drawing.size in
-    let is = c.deref-2.ensures.value in
+    let is = c.deref.ensures.value in
     let sound = subst (All (IsSound c.in_ok-layers.layers)) (sym is) c.in_ok-cells.ensures.sound in
     let long = ap (λ (all : List (Cell g.row.N)). length all) is ∙ covers in
     (omega arith, (small_cell _ c.requires.short, (omega (arith, c.width-width.ensures.width, size.narrow), (omega (arith, c.height-height.ensures.height, size.low), (long, sound)))))
@@ -35,10 +29,10 @@ invariant_of-result g c =
     let height = c.height-height.result in
     let cells = c.in_ok-cells.cells.items in
     let notes = c.in_ok-notes.notes in
-    let planes = c.in_ok-planes.planes in
+    let planes = c.in_ok-notes.planes in
     let glyphs : AreGlyphs c.in_ok-layers.layers (glyph_cell c.args.game.now) c.args.drawing.now.cells cells = record { sound = c.in_ok-cells.ensures.sound; cells_are = c.in_ok-cells.ensures.cells ∙ ap (map (glyph_cell c.args.game.now)) c.cells.ensures.cells } in
     record {
       stored = stored_drawn g.row.N c.args.game.now c.args.drawing.now width height c.in_ok-layers.layers cells notes c.depth.ensures.law c.cells.ensures.drawing c.width-width.ensures.width c.height-height.ensures.height glyphs
-          (noted_read g.row.N width height width height notes cells c.deref.result.now refl refl c.deref.ensures.value c.in_ok-notes.ensures);
-      placed = subst (λ (all : List (Cell g.row.N)). ArePlaced g.row.N (length c.in_ok-layers.layers.layers) width height planes all) c.deref-2.ensures.value c.in_ok-planes.ensures;
+          (noted_read g.row.N width height width height notes cells c.deref.result.now refl refl c.deref.ensures.value c.in_ok-notes.ensures.notes);
+      placed = subst (λ (all : List (Cell g.row.N)). ArePlaced g.row.N (length c.in_ok-layers.layers.layers) width height planes all) c.deref.ensures.value c.in_ok-notes.ensures.planes;
     }

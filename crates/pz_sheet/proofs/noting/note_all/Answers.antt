@@ -1,27 +1,69 @@
-use Rattle.std.proofs.Common.{ℕ, ◌*◌, ◌∙◌, arith, ap, sym, subst}
+use Rattle.std.proofs.Common.{◌≡◌, ◌*◌, ℕ, Bool, false, ◌||◌, length, arith, ap, sym, ◌∙◌, refl, subst}
+use Rattle.pz_sets.specs.Sets.{member}
+use Rattle.pz_cells.specs.declared.cell.Cell.{Cell}
+use Rattle.pz_planes.specs.Planes.{AreKnown, HaveSameLines, PlaneSets}
+use Rattle.pz_planes.proofs.PlaneLemmas.{none_there, still_there_at, known_still, same_lines}
 use Rattle.pz_sheet.specs.Noting.{AreAllThere}
-use Rattle.pz_planes.proofs.PlaneLemmas.{known_still}
-use Rattle.pz_cells.proofs.ListLemmas.{small_cell}
+use Rattle.pz_sheet.proofs.PlacedLemmas.{all_there_more, all_there}
 use Rattle.pz_sheet.proofs.noting.note_all.Goals as goal
 
-pub arrive_all-requires : goal.arrive_all-requires
-arrive_all-requires g c =
-    let start = c.args.planes.now in
-    let empty = c.clear.ensures in
-    let covers = c.requires.covers ∙ sym (ap (λ (w : ℕ). w * c.clear.new.self.rows.count) empty.size.column_count ∙ ap (λ (h : ℕ). start.columns.count * h) empty.size.row_count) in
-    (omega arith, (small_cell _ c.depth.ensures.law.short, (covers, (empty.rows, (empty.columns, λ k cell within. known_still start c.clear.new.self _ empty.size (c.requires.known k cell within))))))
+-- as many cells fit where nothing is noted any more
+covers : (start cleared : PlaneSets) (count : ℕ) → HaveSameLines start cleared → count ≡ start.columns.count * start.rows.count → count ≡ cleared.columns.count * cleared.rows.count
+covers start cleared count size is = is ∙ sym (ap (λ (w : ℕ). w * cleared.rows.count) size.column_count ∙ ap (λ (h : ℕ). start.columns.count * h) size.row_count)
 
-pub returns : goal.returns
-returns g c =
-    let first = c.clear.ensures.size in
-    let size = c.arrive_all.ensures.size in
+pub loop-index-init : goal.loop-index-init
+loop-index-init g c = record {
+  size = record { row_objects = refl; row_count = refl; column_objects = refl; column_count = refl };
+  there = λ k cell below. absurd (omega (arith, below));
+  none = λ k above inside. none_there c.clear.new.self c.clear.new.self k c.clear.ensures.rows c.clear.ensures.columns;
+}
+
+pub arrive_at-requires : goal.arrive_at-requires
+arrive_at-requires g c =
+    let old = c.loop-index.planes in
+    let start = c.clear.new.self in
+    let size = c.loop-index.invariant.size in
+    let cell = c.index-cells-index.result in
+    let product : old.columns.count * old.rows.count ≡ start.columns.count * start.rows.count = ap (λ (w : ℕ). w * old.rows.count) size.column_count ∙ ap (λ (h : ℕ). start.columns.count * h) size.row_count in
+    let known : AreKnown c.args.planes.now cell.objects = subst (λ (it : Cell g.row.N). AreKnown c.args.planes.now it.objects) (sym c.index-cells-index.is) (c.requires.known c.loop-index.index cell c.loop-index-test.true) in
     record {
-      size = record {
-        row_objects = size.row_objects ∙ first.row_objects;
-        row_count = size.row_count ∙ first.row_count;
-        column_objects = size.column_objects ∙ first.column_objects;
-        column_count = size.column_count ∙ first.column_count;
-      };
-      there = subst (λ (w : ℕ). AreAllThere g.row.N w c.args.planes.now.rows.count c.arrive_all.new.planes c.args.cells.now) first.column_count
-          (subst (λ (h : ℕ). AreAllThere g.row.N c.clear.new.self.columns.count h c.arrive_all.new.planes c.args.cells.now) first.row_count c.arrive_all.ensures.there);
+      short = omega (arith, c.word_count.ensures.objects, c.depth.ensures.law.short);
+      within = omega (arith, c.loop-index-test.true, (covers c.args.planes.now start (length c.args.cells.now) c.clear.ensures.size c.requires.covers), product);
+      known = known_still start old cell.objects size (known_still c.args.planes.now start cell.objects c.clear.ensures.size known);
     }
+
+pub loop-index-preserved : goal.loop-index-preserved
+loop-index-preserved g c =
+    let i = c.loop-index.invariant in
+    let start = c.clear.new.self in
+    let old = c.loop-index.planes in
+    let new = c.arrive_at.new.self in
+    let index = c.loop-index.index in
+    let cell = c.index-cells-index.result in
+    let all = covers c.args.planes.now start (length c.args.cells.now) c.clear.ensures.size c.requires.covers in
+    let noted = λ (object : ℕ) (was : Bool). member cell.objects object || was in
+    record {
+      size = same_lines start old new _ _ noted i.size c.arrive_at.ensures;
+      there = all_there_more g.row.N start old new c.args.cells.now index cell c.loop-index-test.true c.index-cells-index.is i.size all c.arrive_at.ensures (i.none index (omega arith) (omega (arith, c.loop-index-test.true, all))) i.there;
+      none = λ k above inside. still_there_at start old new index k noted (λ object. false) i.size inside (omega (arith, above)) c.arrive_at.ensures (i.none k (omega (arith, above)) inside);
+    }
+
+pub returns-clause-size : goal.returns-clause-size
+returns-clause-size g c =
+    let first = c.clear.ensures.size in
+    let size = c.loop-index.invariant.size in
+    record {
+      row_objects = size.row_objects ∙ first.row_objects;
+      row_count = size.row_count ∙ first.row_count;
+      column_objects = size.column_objects ∙ first.column_objects;
+      column_count = size.column_count ∙ first.column_count;
+    }
+
+pub returns-clause-there : goal.returns-clause-there
+returns-clause-there g c =
+    let first = c.clear.ensures.size in
+    let start = c.clear.new.self in
+    let planes = c.loop-index.planes in
+    let there = all_there g.row.N start planes c.args.cells.now c.loop-index.index (omega (arith, c.loop-index-test.false)) (covers c.args.planes.now start (length c.args.cells.now) c.clear.ensures.size c.requires.covers) c.loop-index.invariant.there in
+    subst (λ (w : ℕ). AreAllThere g.row.N w c.args.planes.now.rows.count planes c.args.cells.now) first.column_count
+    (subst (λ (h : ℕ). AreAllThere g.row.N start.columns.count h planes c.args.cells.now) first.row_count there)

@@ -3,7 +3,7 @@ use Rattle.pz_sets.specs.Sets.{member}
 use Rattle.pz_cells.specs.declared.cell.Cell.{Cell}
 use Rattle.pz_planes.specs.Planes.{HaveSameLines}
 use Rattle.pz_planes.proofs.PlaneLemmas.{AreThereAt}
-use Rattle.pz_sheet.proofs.noting.arrive_all.Given as goal
+use Rattle.pz_sheet.proofs.noting.note_all.Given as goal
 
 abbrev pub invariant-loop-index : goal.invariant-loop-index
 invariant-loop-index g l = record {
