@@ -140,9 +140,9 @@ def ends_in(text: str) -> List[str]:
     return [it[4:] for it in text.partition(f"{GATE_ENDED}\n")[2].partition("\n\n")[0].splitlines()]
 
 
-CONTENTS = """# What stands in this archive
+CONTENTS = """# What is in this archive
 
-*For who has unpacked it: what is here, and what of the documents is only in the repository.*
+*For anyone who has unpacked it: what is here, and what the documents name but only the repository has.*
 
 - `saxtegun` is the command, in Python alone; `bin/pz_replayer` is the program that it calls. `./saxtegun test examples/block-pushing.json` is a first try.
 - `replay` starts the program. The documents say that it proves and builds first; here it has nothing to build.
@@ -151,7 +151,7 @@ CONTENTS = """# What stands in this archive
 - `examples/` has sessions, the lines that the program wrote for them, and a page of each, to open in a browser: `examples/day.html`.
 - `docs/`, `adapters/` and `web/` are as in the repository; `man/saxtegun.1` is the manual page. `PROVED.txt` names the commit.
 
-Only in the repository are the proofs and what makes and tests all this. The documents name it, and here it is not:
+Only the repository has the proofs, and what builds and tests all this. The documents name these paths, which are not here:
 
 {absent}
 """
@@ -193,7 +193,7 @@ def engine_files(top: Path, files: Dict[str, File], version: str) -> Dict[str, F
         "name": "saxtegun-engine",
         "version": version,
         "gitHead": told(top, "git", "rev-parse", "HEAD"),
-        "description": "Plays recorded PuzzleScript sessions again: the proved engine as a WebAssembly module",
+        "description": "Replays recorded PuzzleScript sessions: the proved engine as a WebAssembly module",
         "type": "module",
         "exports": {".": {"types": "./saxtegun.d.ts", "default": "./saxtegun.mjs"}, "./out/saxtegun.wasm": "./out/saxtegun.wasm"},
         "types": "./saxtegun.d.ts",
@@ -225,24 +225,24 @@ Priority: optional
 Depends: {library}python3 (>= 3.8)
 Installed-Size: {size}
 Description: proved replayer of PuzzleScript sessions
- Plays recorded PuzzleScript sessions again, writes every frame, and says
- whether each session still ends where it ended when it was recorded.
+ Replays recorded PuzzleScript sessions, writes every frame, and says
+ whether each session still ends with the recorded level.
 """
 
 MANUAL = """.TH SAXTEGUN 1
 .SH NAME
-saxtegun \\- plays recorded PuzzleScript sessions again
+saxtegun \\- replays recorded PuzzleScript sessions
 .SH SYNOPSIS
 .B saxtegun
 VERB ..
 .SH DESCRIPTION
-Plays recorded sessions of PuzzleScript games, and says whether each still ends where it ended when it was recorded.
+Replays recorded sessions of PuzzleScript games, and says whether each still ends with the recorded level.
 .B saxtegun \\-\\-help
 names the verbs, and each verb says with
 .B \\-\\-help
-what it does. The documents stand in /usr/lib/saxtegun/docs.
+what it does. The documents are in /usr/lib/saxtegun/docs.
 .SH EXIT STATUS
-0 where all is well, 1 where something differs, 2 where there is no answer.
+0 if all is well, 1 if something differs, 2 if there is no answer.
 """
 
 

@@ -98,7 +98,7 @@ class Adapter(OnSessions):
 class DayOfTheAdapter(OnSessions):
     def test_the_example_is_played_as_by_the_program(self):
         answer = run("compare", "--engines", PROGRAM, ENGINE, EXAMPLE)
-        self.assertEqual((answer.status, answer.out, answer.errors), (0, "5 sessions: 5 the same, 0 part\n", ""))
+        self.assertEqual((answer.status, answer.out, answer.errors), (0, "5 sessions: 5 the same, 0 diverge\n", ""))
 
 
 if __name__ == "__main__":

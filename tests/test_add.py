@@ -56,7 +56,7 @@ class DayOfAdding(OfAGame):
 
     def test_a_place_that_can_not_be_written_is_reported(self):
         self.assert_refused(run("add", self.room / "no/where.json", stdin=self.console(0).encode()), "can't be written")
-        self.assert_refused(run("add", "-", stdin=b""), "a sessions file is wanted")
+        self.assert_refused(run("add", "-", stdin=b""), "name a sessions file")
 
 
 if __name__ == "__main__":

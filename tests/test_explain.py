@@ -31,7 +31,7 @@ TOLD = {
     "two-rules-that-undo-each-other-stop-at-the-loop-limit": ("stopped: a group of rules or a loop still changed something in its 200th pass",),
     "an-index-beyond-the-levels-is-refused": ("no level is left from its index on",),
     "walk-with-a-recorded-level-of-three-cells-differs": ("the recorded level has 3 cells, and the one that was reached 4",),
-    "a-column-text-differs-with-order-rows": ("2 of 6 cells (2 wide, 3 high) differ", "in the other order than rows", "    | .p         ..\n    | ..         .p\n"),
+    "a-column-text-differs-with-order-rows": ("2 of 6 cells (2 wide, 3 high) differ", "in the other order, not by rows", "    | .p         ..\n    | ..         .p\n"),
     "a-name-with-marks-that-json-escapes": ("session 0, \\u{1}\"\\/\\u{7f}\u00e9\\u{a}: refused",),
 }
 # For a case the culprit that is named behind the fault of its source.
@@ -102,7 +102,7 @@ class Explain(OnSessions):
             ("", "line 1, letter 1"),
             ("{}", "line 1, letter 1"),
             (f"[{entry},\n", "line 2, letter 1"),
-            (f"[{entry}]\n!", "line 2, letter 1: no JSON list of sessions (something stands behind the list)"),
+            (f"[{entry}]\n!", "line 2, letter 1: no JSON list of sessions (something stands after the list)"),
             (f"[{entry},\n7]", "session 1, line 2: it is no list of a name and a list"),
             ('[["a", ["", [0, 5], ""]]]', "session 0, line 1: its input 1 is neither"),
             ('[["a", ["", [0], "", -1]]]', "session 0, line 1: its index is no whole number"),

@@ -91,7 +91,7 @@ class WordsOfTheRunner(OnSessions):
             ("--both", RUN, RUN): "--both wants a sessions file, or several",
             ("--both", RUN, RUN, EXAMPLE, missing): f"there is no file at '{missing}' that can be read",
         }.items():
-            self.assertEqual(self.answer(*words), (2, "", f"conformance/run: {what} (conformance/run --help tells how it is called)\n"))
+            self.assertEqual(self.answer(*words), (2, "", f"conformance/run: {what} (conformance/run --help says how to call it)\n"))
 
 
 @plays

@@ -9,7 +9,7 @@ from tool import PROGRAM, plays, run
 from saxtegun.lines import Frame, Run
 from saxtegun.parting import parting_of
 
-SAME = "5 sessions: 5 the same, 0 part\n"
+SAME = "5 sessions: 5 the same, 0 diverge\n"
 
 
 class Compare(OfAGame):
@@ -38,7 +38,7 @@ class Compare(OfAGame):
         self.assertIn(f"session 0, both levels solved: frame 2, after input 1 ({names[self.entries[0][1][1][1]]})\n    column ", answer.out)
         self.assertIn("background player; the other: background wall\n", answer.out)
         self.assertIn("    | one       the other\n", answer.out)
-        self.assertTrue(answer.out.endswith("5 sessions: 4 the same, 1 part\n"))
+        self.assertTrue(answer.out.endswith("5 sessions: 4 the same, 1 diverges\n"))
 
     def test_another_kind_and_another_close_are_reported(self):
         self.assertIn("frame 1, after input 0: one shows move of 1 inputs, the other tick of 1", self.compare(self.changed(1, kind="tick")).out)
@@ -66,8 +66,8 @@ class Compare(OfAGame):
         answer = self.compare(self.changed(2, level=text.replace("player", "wall")), EXAMPLE, "--report", page, "--date", "today")
         self.assertEqual(answer.status, 1)
         index, session = (json.loads(re.search(f'id="{name}">(.*?)</script>', page.read_text(encoding="utf-8"))[1]) for name in ("index", "session-0"))
-        self.assertEqual((index["sessions"], index["closes"]), ([["session 0: both levels solved", "parts", 51]], ["parts"]))
-        self.assertEqual((index["result"], index["origin"][0]), ("5 sessions: 4 the same, 1 part", "Date: today."))
+        self.assertEqual((index["sessions"], index["closes"]), ([["session 0: both levels solved", "diverges", 51]], ["diverges"]))
+        self.assertEqual((index["result"], index["origin"][0]), ("5 sessions: 4 the same, 1 diverges", "Date: today."))
         self.assertEqual((session["opens"], session["beside"]), (2, "other.lines"))
         (one, frames), (other, others) = session["sides"]
         self.assertEqual((one, other, len(frames), len(others)), ("example.lines", "other.lines", 23, 23))

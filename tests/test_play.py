@@ -33,7 +33,7 @@ class DayOfPlaying(OfAGame):
     def test_a_game_that_is_refused_is_reported(self):
         self.with_rule("[ > Player | Create ] -> [ ]")
         self.assert_refused(run("play", self.game), "has a name that is not there: `Create` (near: `crate`)")
-        self.assert_refused(run("play", self.game, "--level", 3), "has 2 levels, and none of number 3")
+        self.assert_refused(run("play", self.game, "--level", 3), "has 2 levels, but no level 3")
         self.assert_refused(run("play", self.room / "nothing"), "can't be read")
 
     def test_a_key_takes_under_20_ms(self):

@@ -86,7 +86,7 @@ class Accept(OnSessions):
     def test_lines_of_the_other_order_are_not_accepted(self):
         sessions, lines = case("a-column-text-differs-with-order-rows")
         answer = run("accept", sessions, lines, "--order", "rows", "--only", "a")
-        self.assert_refused(answer, "in the other order than rows: play it in the order that it was recorded in; nothing is accepted")
+        self.assert_refused(answer, "in the other order, not by rows: play it in the order that it was recorded in; nothing is accepted")
 
     def test_lines_that_begin_in_the_other_order_are_refused(self):
         for verb in ("accept", "explain", "report", "junit"):

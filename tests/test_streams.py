@@ -81,7 +81,7 @@ class OnStreams(OnSessions):
     def test_numbers_of_workers_are_those_of_the_program(self):
         for number in ("0", "65", "-1", "two", "\u0662", "9" * 5000):
             answer = run("test", EXAMPLE, "--program", self.program, f"--workers={number}")
-            self.assert_refused(answer, "argument --workers: a number from 1 to 64 is wanted")
+            self.assert_refused(answer, "argument --workers: must be a number from 1 to 64")
 
     def test_a_pipe_that_nobody_reads_ends_quietly(self):
         for words in self.calls:

@@ -77,7 +77,7 @@ class DayOfTests(OfAGame):
     def test_a_filter_picks_sessions_and_must_pick_some(self):
         answer = run("test", self.game, self.recordings, "--filter", "the second*", "--filter", "there*")
         self.assertEqual((answer.status, answer.out.splitlines()[:2]), (0, [ENDS[1], ENDS[3]]))
-        self.assert_refused(run("test", self.game, self.recordings, "--filter", "level 9*"), "no session is named as --filter says")
+        self.assert_refused(run("test", self.game, self.recordings, "--filter", "level 9*"), "--filter fits no session (level 9*)")
 
     def test_of_many_failures_some_are_reported(self):
         answer = run("test", self.game, self.write_entries(self.entries[4:] * 3), "--max-fail", 1)

@@ -51,8 +51,8 @@ NO_ENTRIES = {
     "one of two": (f"[{ENTRY},\n[1]]", "line 2: no entry: "),
     "an input that is none": ('["a",["",[5],""]]', "line 1: no entry: its input 0 is neither"),
     "something behind": (f"{ENTRY}\nundefined", "line 2: no entry, where one or the end is wanted"),
-    "a letter beyond the last": (r'[["\u{110000}",["",[],""]]]', "line 1: a letter of number 110000"),
-    "many brackets": ("[" * 5000, "line 1: lists in one another"),
+    "a letter beyond the last": (r'[["\u{110000}",["",[],""]]]', "line 1: there is no character of number 110000"),
+    "many brackets": ("[" * 5000, "line 1: lists nested more than"),
     "two lists": ("[[]]\n[[]]", "line 1: no entry: "),
 }
 

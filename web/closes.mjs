@@ -7,7 +7,7 @@ const SHAPES = {
   differs: "M1.5 4.3H10.5M1.5 7.7H10.5M8 1.2 4 10.8",
   stopped: "M3 3H9V9H3Z",
   refused: "M2.5 2.5 9.5 9.5M9.5 2.5 2.5 9.5",
-  parts: "M6 11V6.5M6 6.5 2 1.5M6 6.5 10 1.5",
+  diverges: "M6 11V6.5M6 6.5 2 1.5M6 6.5 10 1.5",
 };
 const SVG = "http://www.w3.org/2000/svg";
 
@@ -24,4 +24,4 @@ export function shapeOf(close) {
 }
 
 // "3 passed", "1 differs", "2 differ".
-export const countOf = (close, count) => `${count} ${count !== 1 && (close === "differs" || close === "parts") ? close.replace(/s$/, "") : close}`;
+export const countOf = (close, count) => `${count} ${count !== 1 && (close === "differs" || close === "diverges") ? close.replace(/s$/, "") : close}`;

@@ -77,7 +77,7 @@ export function endingTold(ending) {
   if (reached === null) return "the level that was reached can't be read back, since a name of an object in it holds a comma";
   if (recorded === null) return "the recorded level is no level text";
   if (cells === null) return `the recorded level has ${plural(recorded.cells.length, "cell")}, and the one that was reached ${reached.cells.length}`;
-  const order = reached.order, turned = ending.isTurned ? `; the recorded level is this one in the other order than ${order}` : "";
+  const order = reached.order, turned = ending.isTurned ? `; the recorded level is this one listed in the other order, not by ${order}` : "";
   const size = `(${reached.width} wide, ${reached.cells.length / reached.width} high)`;
   return `${cells.length} of ${plural(reached.cells.length, "cell")} ${size} ${cells.length === 1 ? "differs" : "differ"} from the recorded level${turned}`;
 }
@@ -86,5 +86,5 @@ export function endingTold(ending) {
 export function obstacleTold(run, ending) {
   if (run.cause !== null) return `it was ${run.close}, and not played to its end`;
   if (ending.reached === null) return endingTold(ending);
-  return ending.isTurned ? `the recorded level is the reached one in the other order than ${ending.reached.order}: play it in the order that it was recorded in` : null;
+  return ending.isTurned ? `the recorded level is the reached one listed in the other order, not by ${ending.reached.order}: play it in the order that it was recorded in` : null;
 }

@@ -13,12 +13,12 @@ const STOPS = {
 // What is wrong with the line that a fault names; `{line}` is that line.
 const FAULTS = {
   TooLong: "the source is longer than 1,048,576 bytes",
-  Section: "the heading on {line} stands out of its order, or is there twice",
+  Section: "the heading on {line} is out of order, or is there twice",
   OutsideProfile: "{line} has what is not played here: `random`, `randomdir`, `rigid`, `realtime_interval`, or a row with two `...`",
-  BadObject: "the object on {line} has no colours directly behind its name, or a sprite that is not five rows of five",
-  Duplicate: "{line} gives a name that is there already",
+  BadObject: "the object on {line} has no colours directly after its name, or a sprite that is not five rows of five",
+  Duplicate: "{line} defines a name that is there already",
   TooLarge: "{line} is one too many, or too large: objects, names, layers, levels, the sides of a level and of a rule have limits",
-  BadLegend: "{line} is no definition of the legend, or defines a name by itself",
+  BadLegend: "{line} is no definition of the legend, or defines a name in terms of itself",
   Unknown: "{line} has a name that is not there",
   Mixed: "{line} has an aggregate (a name joined by `and`) where none may stand, or a property (one joined by `or`) in an aggregate",
   Missing: "`background` or `player` is not there, or is joined by `and`",
@@ -27,9 +27,9 @@ const FAULTS = {
   BadGlyph: "{line} is a row of a level with a letter that draws nothing",
   NoLevel: "it has no level",
   BadRule: "{line} is no rule",
-  Shape: "the two sides of the rule on {line} have not the same shape",
+  Shape: "the two sides of the rule on {line} don't have the same shape",
   LateMovement: "the late rule on {line} has a movement word",
-  AmbiguousRight: "on the right of the rule on {line} it is open which choice of the left is meant",
+  AmbiguousRight: "the right of the rule on {line} doesn't say which choice of the left it means",
   TooManyRules: "with {line} the rules have more than 65,536 pairs of a direction and a choice",
   RightClash: "the right of the rule on {line} places in one cell what can't stand there together",
 };

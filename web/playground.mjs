@@ -253,7 +253,7 @@ class Playground {
     for (const button of at("pad").querySelectorAll("button")) button.disabled = this.recording.frames.length === 0;
   }
 
-  // How the session that is open closed, and where it parts from another engine's.
+  // How the session that is open closed, and where it diverges from another engine's.
   tellSession() {
     const { cause } = this.recording, entry = this.session, run = entry === null ? null : this.runs?.[this.opened] ?? null;
     if (cause !== null) return this.tell(`Stopped: ${this.causeTold(cause)}.`, "stopped");
@@ -480,7 +480,7 @@ class Playground {
     this.partings = others.map((other, number) => partingOf(this.runWithFrames(number), other));
     const parting = this.partings.filter((it) => it !== null).length;
     this.choose("sessions");
-    this.tellFile(`Compared with ${name}: ${others.length - parting} the same, ${parting} ${parting === 1 ? "parts" : "part"}.`, parting === 0 ? "passed" : "differs");
+    this.tellFile(`Compared with ${name}: ${others.length - parting} the same, ${parting} ${parting === 1 ? "diverges" : "diverge"}.`, parting === 0 ? "passed" : "differs");
     const first = this.partings.findIndex((it) => it !== null);
     if (first >= 0) this.openSession(first);
     else this.showList();

@@ -67,7 +67,7 @@ function showResult() {
 const whenOpen = (act) => () => { if (player.isOpen) act(); };
 
 const KEYS = {
-  ArrowLeft: ["left arrow, right arrow", "a frame back, a frame on", whenOpen(() => player.goTo(player.at - 1))],
+  ArrowLeft: ["left arrow, right arrow", "a frame back, a frame forward", whenOpen(() => player.goTo(player.at - 1))],
   ArrowRight: [null, null, whenOpen(() => player.goTo(player.at + 1))],
   Home: ["Home, End", "the first frame, the last", whenOpen(() => player.goTo(0))],
   End: [null, null, whenOpen(() => player.goTo(player.last))],

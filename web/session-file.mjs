@@ -18,7 +18,7 @@ const isInput = (value) => WORDS.includes(value) || (Number.isInteger(value) && 
 function faultOf(entry) {
   if (!Array.isArray(entry) || typeof entry[0] !== "string" || !Array.isArray(entry[1])) return "it is no list of a name and a list";
   const [source, inputs, level, index = null] = entry[1];
-  if (typeof source !== "string" || !Array.isArray(inputs) || typeof level !== "string") return "behind its name there is no list of a source, a list of inputs and a level text";
+  if (typeof source !== "string" || !Array.isArray(inputs) || typeof level !== "string") return "after its name there is no list of a source, a list of inputs and a level text";
   const bad = inputs.findIndex((input) => !isInput(input));
   if (bad >= 0) return `its input ${bad} is neither 0 to 4 nor undo, restart or tick`;
   if (index !== null && !(Number.isInteger(index) && index >= 0 && index <= MOST_INDEX)) return "its index is no whole number";

@@ -6,14 +6,14 @@ import { windowAround } from "./recording.mjs";
 const MOST_ROWS = 1000; // rows that stand in the list at once
 const LETTERS = 200; // of a name
 
-// The rows that are listed: those of a close (or "all", "parts") whose names have a text in them.
+// The rows that are listed: those of a close (or "all", "diverges") whose names have a text in them.
 export function listed(rows, close, text) {
   const wanted = text.toLowerCase();
-  const isWanted = (row) => close === "all" || (close === "parts" ? row.parting !== null : row.close === close);
+  const isWanted = (row) => close === "all" || (close === "diverges" ? row.parting !== null : row.close === close);
   return rows.map((_, number) => number).filter((number) => isWanted(rows[number]) && rows[number].name.toLowerCase().includes(wanted));
 }
 
-// Whether a session needs a look: it did not pass, or parts from the run that it is compared with.
+// Whether a session needs a look: it did not pass, or diverges from the run that it is compared with.
 export const isFailure = (row) => row.parting !== null || (row.close !== null && row.close !== "passed");
 
 // The next of some numbers behind (or before) one that is open, round and round; null where there is none.
@@ -37,7 +37,7 @@ export class SessionList {
   show(rows, current) {
     this.rows = rows;
     this.current = current;
-    if (this.close === "parts" && !rows.some((row) => row.parting !== null)) this.close = "all";
+    if (this.close === "diverges" && !rows.some((row) => row.parting !== null)) this.close = "all";
     this.showCounts();
     this.showRows();
   }
@@ -62,15 +62,15 @@ export class SessionList {
   showCounts() {
     const of = (close) => listed(this.rows, close, "").length;
     const buttons = [this.count("all", plural(this.rows.length, "session"), this.rows.length), ...CLOSES.map((close) => this.count(close, countOf(close, of(close)), of(close)))];
-    const parting = of("parts");
-    if (parting > 0) buttons.push(this.count("parts", `${parting} ${parting === 1 ? "parts" : "part"}`, parting));
+    const parting = of("diverges");
+    if (parting > 0) buttons.push(this.count("diverges", `${parting} ${parting === 1 ? "diverges" : "diverge"}`, parting));
     at("counts").replaceChildren(...buttons);
   }
 
   row(number) {
     const { name, close, frames, parting, isLookedAt } = this.rows[number];
     const button = makeButton(close ?? "unplayed", "", () => this.open(number));
-    const told = [close ?? "not played", ...(parting === null ? [] : [`parts at frame ${parting.frame}`]), ...(isLookedAt ? ["seen"] : [])].join(", ");
+    const told = [close ?? "not played", ...(parting === null ? [] : [`diverges at frame ${parting.frame}`]), ...(isLookedAt ? ["seen"] : [])].join(", ");
     button.title = `${cut(name, LETTERS)}: ${told}`;
     button.dataset.number = number;
     const shape = close === null ? make("span", "shape", "") : shapeOf(close);

@@ -9,16 +9,16 @@ from saxtegun.commands import fail, parser, serve
 VERBS = {
     "test": "plays recordings, with a game's text or without, and says what did not pass and what is solved",
     "add": "adds recordings as an editor's console prints them, once they are played",
-    "compare": "tells at which frame two runs of the same sessions part",
-    "shrink": "makes the smallest session on which two programs still part, as a case of conformance/",
-    "coverage": "tells which rules and win lines no session needs",
+    "compare": "names the first frame at which two runs of the same sessions diverge",
+    "shrink": "makes the smallest session on which two programs still diverge, as a case of conformance/",
+    "coverage": "finds rules and win lines that no session needs",
     "play": "plays a game in the terminal, and saves it as a recording",
     "lines": "plays recordings and writes the program's lines",
-    "explain": "tells in words which sessions did not pass, and why",
+    "explain": "says in words which sessions did not pass, and why",
     "report": "writes a page that shows each session frame by frame",
     "junit": "writes lines as a JUnit file",
     "accept": "takes what was reached as the new recorded level",
-    "source": "puts an edited game under recordings",
+    "source": "makes an edited game the source of recordings",
     "testdata": "turns published test data, or what an editor's console prints, into a sessions file",
     "split": "splits a sessions file into parts",
     "join": "joins the lines of the parts",
@@ -30,7 +30,7 @@ def overview() -> str:
     room = max(map(len, VERBS)) + 2
     rows = "".join(f"  {verb.ljust(room)}{told}\n" for verb, told in VERBS.items())
     return (
-        f"usage: saxtegun VERB ..\n\n{rows}\n`saxtegun VERB --help` tells more of each. "
+        f"usage: saxtegun VERB ..\n\n{rows}\n`saxtegun VERB --help` describes a verb. "
         "Exit status: 0 all is well, 1 something differs, 2 there is no answer.\n"
     )
 
@@ -41,10 +41,10 @@ def main() -> int:
         sys.stdout.write(overview())
         return 0
     if not words:
-        fail("saxtegun", f"a verb is wanted, one of {', '.join(VERBS)}")
+        fail("saxtegun", f"a verb is missing: one of {', '.join(VERBS)}")
         return 2
     if words[0] not in VERBS:
-        fail("saxtegun", f"there is no verb {words[0]!r}; there are {', '.join(VERBS)}")
+        fail("saxtegun", f"there is no verb {words[0]!r}; the verbs are {', '.join(VERBS)}")
         return 2
     verb = importlib.import_module(f"saxtegun.verbs.{words[0]}")
     reader = parser(f"saxtegun {words[0]}", f"saxtegun {verb.USAGE}", verb.__doc__ or "")

@@ -60,7 +60,7 @@ class Words(argparse.ArgumentParser):
         sys.stdout.flush()
 
     def error(self, message: str) -> NoReturn:
-        raise Refused(f"{message} ({self.prog} --help tells how it is called)")
+        raise Refused(f"{message} ({self.prog} --help says how to call it)")
 
 
 def parser(name: str, usage: str, text: str) -> Words:
@@ -69,20 +69,20 @@ def parser(name: str, usage: str, text: str) -> Words:
 
 
 def add_order(words: argparse.ArgumentParser) -> None:
-    words.add_argument("--order", choices=ORDERS, default="columns", help="the order of cells that the lines have (columns)")
+    words.add_argument("--order", choices=ORDERS, default="columns", help="the order in which levels list their cells (columns)")
 
 
 def workers_in(word: str) -> int:
     """A number of workers, as the program takes it."""
     if not (word.isascii() and word.isdigit() and 1 <= int(word[-9:]) <= MOST_WORKERS and len(word) < 9):
-        raise argparse.ArgumentTypeError(f"a number from 1 to {MOST_WORKERS} is wanted")
+        raise argparse.ArgumentTypeError(f"must be a number from 1 to {MOST_WORKERS}")
     return int(word)
 
 
 def add_playing(words: argparse.ArgumentParser) -> None:
     """The words of verbs that play: in which order, by how many workers, and with which program."""
     add_order(words)
-    words.add_argument("--workers", metavar="N", type=workers_in, help="so many threads play (2)")
+    words.add_argument("--workers", metavar="N", type=workers_in, help="the number of threads that play (2)")
     words.add_argument("--program", metavar="PROGRAM", help="play with this program (./replay, or what SAXTEGUN_PROGRAM names)")
 
 

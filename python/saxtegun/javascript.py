@@ -61,7 +61,7 @@ def read_text(text: str, at: int) -> Tuple[str, int]:
         if not code:
             return ESCAPES.get(escape[4], escape[4])
         if len(code.lstrip("0")) > 6 or int(code, 16) > 0x10FFFF:
-            refuse(text, at, f"a letter of number {code[:12]}, which is none")
+            refuse(text, at, f"there is no character of number {code[:12]}")
         return chr(int(code, 16))
 
     return json.dumps(ESCAPE.sub(unescaped, match[0][1:-1])), match.end()
@@ -99,7 +99,7 @@ def read_list(text: str, at: int) -> Tuple[List[Value], int]:
             at += 1
         elif text[at : at + 1] == "[":
             if len(depth) > MOST_DEPTH:
-                refuse(text, at, f"lists in one another, more than {MOST_DEPTH} deep")
+                refuse(text, at, f"lists nested more than {MOST_DEPTH} deep")
             depth.append((at, []))
             at = skip(text, at + 1)
             continue

@@ -14,7 +14,7 @@ DIGITS = 16
 
 
 def add_date(words: ArgumentParser) -> None:
-    words.add_argument("--date", metavar="TEXT", help="a date for the page, which has none by itself")
+    words.add_argument("--date", metavar="TEXT", help="a date for the page (none)")
 
 
 def digest_of(data: bytes) -> str:

@@ -195,7 +195,7 @@ class Report:
         """Adds a session of which two runs part, with the names of the two."""
         entry = self.sessions.entries[one.number]
         game = self.game(entry.source) if one.frames and other.frames else None
-        self.put(f"session {one.number}: {one.name}", "parts", max(len(one.frames), len(other.frames)), pair_of(entry, parting, one, other, game, names))
+        self.put(f"session {one.number}: {one.name}", "diverges", max(len(one.frames), len(other.frames)), pair_of(entry, parting, one, other, game, names))
 
     def page(self) -> str:
         more = len(self.notes) - MOST_NOTES
@@ -210,5 +210,5 @@ class Report:
 def comparison(sessions: Sessions, order: str, origin: Sequence[str] = ()) -> Report:
     """A report of sessions of which two runs part."""
     report = Report(sessions, order, origin)
-    report.title, report.closes = "two runs compared", ["parts"]
+    report.title, report.closes = "two runs compared", ["diverges"]
     return report

@@ -55,7 +55,7 @@ def next_mark(text: str, at: int, marks: str) -> Tuple[str, int]:
     """The mark that stands next, which must be one of these, and where the text goes on behind it."""
     at = after_space(text, at)
     if text[at : at + 1] not in marks or at == len(text):
-        raise json.JSONDecodeError(f"{' or '.join(marks)} is wanted", text, at)
+        raise json.JSONDecodeError(f"{' or '.join(marks)} is missing", text, at)
     return text[at], after_space(text, at + 1)
 
 
@@ -84,7 +84,7 @@ def fault_of(entry: Any) -> Optional[str]:
         return "it is no list of a name and a list"
     body = entry[1]
     if len(body) < 3 or not isinstance(body[0], str) or not isinstance(body[1], list) or not isinstance(body[2], str):
-        return "behind its name there is no list of a source, a list of inputs and a level text"
+        return "after its name there is no list of a source, a list of inputs and a level text"
     for place, it in enumerate(body[1]):
         if not (is_number(it, 4) or (isinstance(it, str) and it in WORDS)):
             return f"its input {place} is neither 0 to 4 nor undo, restart or tick"
@@ -110,11 +110,11 @@ def sessions_in(path: str, text: str) -> Sessions:
     """The sessions of a file's text."""
     try:
         if text.startswith(MARK):
-            raise Refused(f"{path}, line 1: a mark of byte order stands before the list, which is no JSON; save the file without it")
+            raise Refused(f"{path}, line 1: a byte order mark stands before the list, which JSON doesn't allow; save the file without it")
         items, end = items_of(text, 0)
         end = after_space(text, end)
         if end != len(text):
-            raise json.JSONDecodeError("something stands behind the list", text, end)
+            raise json.JSONDecodeError("something stands after the list", text, end)
         return Sessions(path, text, [entry_of(path, text, number, *item) for number, item in enumerate(items)])
     except json.JSONDecodeError as why:
         raise Refused(f"{path}, line {why.lineno}, letter {why.colno}: no JSON list of sessions ({why.msg})") from None

@@ -128,7 +128,7 @@ test("a session is added, replaced and removed", () => {
 test("what is no sessions file is refused with its place", () => {
   const refusals = [
     ["{}", "f is no JSON list of sessions"], ['[["a",["s",[5],""]]]', "f, session 0: its input 0 is neither 0 to 4 nor undo, restart or tick"],
-    ['[["a",["s",[],"",0]],["b",["s",[]]]]', "f, session 1: behind its name there is no list of a source, a list of inputs and a level text"],
+    ['[["a",["s",[],"",0]],["b",["s",[]]]]', "f, session 1: after its name there is no list of a source, a list of inputs and a level text"],
     ["[1]", "f, session 0: it is no list of a name and a list"], ['[["a",["s",[],"",-1]]]', "f, session 0: its index is no whole number"],
     ['[["\\ud800",["s",[],""]]]', "f, session 0: a text of it holds half a letter (a lone surrogate)"], ['[["a",["s",["left"],""]]]', "f, session 0: its input 0 is neither 0 to 4 nor undo, restart or tick"],
   ];
@@ -187,7 +187,7 @@ test("a parting is told with its input", () => {
 test("the level that was reached is held against the recorded one", () => {
   const told = (reached, recorded, order = "columns") => endingTold(new Ending(reached, recorded, order));
   assert.equal(told("a:0,b:1,\n0,0,\n", "a:0,0,0,0,"), "1 of 4 cells (2 wide, 2 high) differs from the recorded level");
-  assert.equal(told("a:0,b:1,\n0,0,\n", "a:0,0,b:1,0,"), "2 of 4 cells (2 wide, 2 high) differ from the recorded level; the recorded level is this one in the other order than columns");
+  assert.equal(told("a:0,b:1,\n0,0,\n", "a:0,0,b:1,0,"), "2 of 4 cells (2 wide, 2 high) differ from the recorded level; the recorded level is this one listed in the other order, not by columns");
   assert.equal(told("a:0,0,\n", "a:0,"), "the recorded level has 1 cell, and the one that was reached 2");
   assert.equal(told("a:0,0,\n", "a"), "the recorded level is no level text");
   assert.match(told("a,b:0,0,\n", "a:0,"), /^the level that was reached can't be read back/);
@@ -197,7 +197,7 @@ test("what can't be recorded is told", () => {
   const ending = (recorded) => new Ending("a:0,b:1,\n0,0,\n", recorded, "columns");
   assert.equal(obstacleTold(run([], "differs"), ending("a:0,0,0,0,")), null);
   assert.equal(obstacleTold(run([], "stopped", "loop-limit"), ending("a:0,0,0,0,")), "it was stopped, and not played to its end");
-  assert.match(obstacleTold(run([], "differs"), ending("a:0,0,b:1,0,")), /in the other order than columns/);
+  assert.match(obstacleTold(run([], "differs"), ending("a:0,0,b:1,0,")), /in the other order, not by columns/);
 });
 
 test("level texts are read as docs/sessions.md has them", () => {
@@ -225,7 +225,7 @@ test("a list is filtered by close and by name", () => {
   assert.deepEqual(listed(ROWS, "all", ""), [0, 1, 2, 3]);
   assert.deepEqual(listed(ROWS, "all", "LEVEL"), [0, 1]);
   assert.deepEqual(listed(ROWS, "differs", ""), [1]);
-  assert.deepEqual(listed(ROWS, "parts", ""), [2]);
+  assert.deepEqual(listed(ROWS, "diverges", ""), [2]);
   assert.deepEqual(ROWS.map(isFailure), [false, true, true, false]);
 });
 

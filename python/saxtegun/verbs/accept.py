@@ -4,9 +4,9 @@ to their end.
 SESSIONS is the file that was played, and LINES what the program wrote for it.
 Without LINES the sessions are played now. Each session that differs gets the
 level of its last frame as its recorded level; --only takes those whose names
-fit (`level 2*`). All else stays letter by letter. The new file goes to standard
-output, or with --in-place into the place of SESSIONS once it is whole. Standard
-error says which sessions changed, and which could not: one that was stopped or
+fit (`level 2*`). All else stays unchanged. The new file goes to standard
+output, or with --in-place it replaces SESSIONS once it is whole. Standard error
+says which sessions changed, and which could not: one that was stopped or
 refused was not played to its end.
 
 Look first at what you accept, by `saxtegun report` or `saxtegun explain`. Or
@@ -15,8 +15,8 @@ let --review show one after the other, with both levels, and ask.
 Nothing is changed if a session was played in another order than it was recorded
 in. That shows if LINES don't begin with the level that the source draws in this
 order (they may be over another source too), or if the recorded level is the
-reached one in the other order. It can't be told of levels that are the same in
-both orders.
+reached one in the other order. With levels that are the same in both orders it
+doesn't show.
 
 Exit status: 0; 1 a session that --only names could not be changed; 2 a file is
 refused."""
@@ -40,7 +40,7 @@ ASKED = "accept it? y: yes, n: no, a: it and all that follow, q: none of those t
 def add_words(words: ArgumentParser) -> None:
     words.add_argument("sessions", metavar="SESSIONS")
     words.add_argument("lines", metavar="LINES", nargs="?")
-    words.add_argument("--only", metavar="PATTERN", action="append", help="accept sessions whose names fit; may be said again")
+    words.add_argument("--only", metavar="PATTERN", action="append", help="accept sessions whose names fit; may be repeated")
     words.add_argument("--game", metavar="GAME.txt", help="the text of recordings whose source is the empty text")
     words.add_argument("--review", action="store_true")
     words.add_argument("--in-place", action="store_true")
@@ -55,7 +55,7 @@ def obstacle(entry: Entry, run: Run, order: str) -> Optional[str]:
     if ending.reached is None:
         return UNREADABLE
     if ending.is_turned_in(order):
-        why = f"the recorded level is the reached one in the other order than {order}: play it in the order that it was recorded in"
+        why = f"the recorded level is the reached one listed in the other order, not by {order}: play it in the order that it was recorded in"
         raise Refused(f"{heading(run)}: {why}; nothing is accepted")
     return None
 
@@ -85,11 +85,11 @@ class Review:
 
 def main(given: Namespace) -> int:
     if given.review and (given.lines == "-" or given.sessions == "-"):
-        raise Refused("--review asks on standard input, which can't be a file that is read too")
+        raise Refused("--review asks on standard input, so no file can be read from it")
     if given.review and sys.stdin is None:
         raise Refused("standard input is closed, so --review can't ask")
     if given.in_place and given.sessions == "-":
-        raise Refused("--in-place wants a file, and standard input is none")
+        raise Refused("--in-place needs a file, and standard input is none")
     if not given.in_place:
         guard_output(given.sessions, *([given.lines] if given.lines else []))
     sessions = read_sessions(given.sessions)

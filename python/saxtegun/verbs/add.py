@@ -1,7 +1,7 @@
 """Adds recordings to a sessions file, as an editor's console prints them or as
 published test data has them.
 
-CONSOLE.txt (`-`, or no word: standard input) has one entry or several, with or
+CONSOLE.txt (`-` or nothing: standard input) has one entry or several, with or
 without commas, or a list of them. They are read as JavaScript and played before
 they are added. If something is no entry, or if a source is refused or a session
 stops, nothing is added. A recording that differs is refused too, unless you say
@@ -9,8 +9,8 @@ stops, nothing is added. A recording that differs is refused too, unless you say
 
 With --game GAME.txt an entry with that source gets the empty text in its place;
 `saxtegun test GAME.txt SESSIONS.json` plays it. Without --game entries keep
-their sources. SESSIONS.json is made if it isn't there. What stands in it stays
-letter by letter; the new file is written beside it and renamed.
+their sources. SESSIONS.json is made if it isn't there. The entries in it stay
+unchanged; the new file is written beside it and renamed.
 
 Exit status: 0 all were added, 1 a recording did not pass and so none was, 2 a
 file is refused."""
@@ -66,7 +66,7 @@ def with_more(old: Sessions, new: List[str]) -> str:
 
 def main(given: Namespace) -> int:
     if given.sessions == "-":
-        raise Refused("a sessions file is wanted, to which something can be added")
+        raise Refused("name a sessions file: nothing can be added to standard input")
     is_there = os.path.exists(given.sessions)
     old = read_sessions(given.sessions) if is_there else Sessions(given.sessions, "[]\n", [])
     new = read_new(given.console)

@@ -1,4 +1,4 @@
-"""Tells where two runs of the same sessions part: the first frame, after which
+"""Says where two runs of the same sessions diverge: the first frame, after which
 input, which cells, and both levels.
 
     saxtegun compare ONE.lines OTHER.lines [SESSIONS]
@@ -9,9 +9,9 @@ input, which cells, and both levels.
         plays one program over two texts of a game
 
 With --report F it also writes a page that shows both runs side by side, from
-the frame at which they part. Frames and inputs are counted from 0.
+the frame at which they diverge. Frames and inputs are counted from 0.
 
-Exit status: 0 all are the same, 1 some part, 2 something is refused."""
+Exit status: 0 all are the same, 1 some diverge, 2 something is refused."""
 from __future__ import annotations
 
 import sys
@@ -53,7 +53,7 @@ def pairs_of(one: Iterator[Run], other: Iterator[Run], paths: Sequence[str]) -> 
     """Two runs of each session, tested to be of the same."""
     for left, right in zip_longest(one, other):
         if left is None or right is None:
-            raise Refused(f"{paths[0]} and {paths[1]} have not equally many sessions")
+            raise Refused(f"{paths[0]} and {paths[1]} don't have the same number of sessions")
         if left.name != right.name:
             raise Refused(f"session {left.number} is named {left.name!r} in {paths[0]}, and {right.name!r} in {paths[1]}")
         yield left, right
@@ -62,15 +62,15 @@ def pairs_of(one: Iterator[Run], other: Iterator[Run], paths: Sequence[str]) -> 
 def runs_to_compare(given: Namespace, stack: ExitStack) -> Tuple[Optional[Sessions], Iterator[Tuple[Run, Run]]]:
     files = given.files
     if given.engines and given.sources:
-        raise Refused("--engines or --sources is wanted, and not both")
+        raise Refused("--engines and --sources exclude each other")
     if not given.engines and not given.sources:
         if len(files) not in (2, 3):
-            raise Refused("two files of lines are wanted, and then the sessions or nothing")
+            raise Refused("name two files of lines, and after them at most the sessions file")
         sessions = read_sessions(files[2]) if len(files) == 3 else None
         # the close of either may be that of another recording, so names and inputs alone are held against the sessions
         return sessions, pairs_of(read_runs(files[0], sessions, NAMES_ALONE), read_runs(files[1], sessions, NAMES_ALONE), files)
     if len(files) != 1:
-        raise Refused("one file of sessions is wanted")
+        raise Refused("name one sessions file")
     sessions = read_sessions(files[0])
     entries = [over(sessions, it) for it in given.sources] if given.sources else [sessions.entries, sessions.entries]
     programs = given.engines or [given.program, given.program]
@@ -93,7 +93,7 @@ def main(given: Namespace) -> int:
     with ExitStack() as stack:
         sessions, pairs = runs_to_compare(given, stack)
         if given.report and sessions is None:
-            raise Refused("--report wants the sessions beside the lines")
+            raise Refused("--report needs the sessions file after the lines")
         names = names_of(given)
         if given.report and sessions:
             report = comparison(sessions, given.order, origin_of(sessions, given, f"Compared: {names[0]} with {names[1]}"))
@@ -109,7 +109,7 @@ def main(given: Namespace) -> int:
             parted += 1
             if report:
                 report.add_pair(parting, one, other, names)
-    result = f"{plural(count, 'session')}: {count - parted} the same, {parted} part"
+    result = f"{plural(count, 'session')}: {count - parted} the same, {parted} {'diverges' if parted == 1 else 'diverge'}"
     print(result)
     sys.stdout.flush()
     if report:

@@ -1,16 +1,16 @@
-"""Tells which rules and win lines no session needs: leaves out each in turn, and
+"""Finds rules and win lines that no session needs: leaves out each in turn, and
 plays the suite again.
 
     saxtegun coverage SESSIONS.json
     saxtegun coverage GAME.txt SESSIONS.json
-        the game's text goes under each recording whose source is the empty text
+        the game's text is the source of each recording whose source is empty
 
-A session notices that a line is gone if it closes otherwise; a win line also if
-it wins otherwise. Not tried are the lines of a game whose sessions are all
-refused, and lines without which the rest is refused.
+A session notices that a line is gone if it closes differently; with a win line
+also if it wins differently. The lines of a game whose sessions are all refused
+are not tried, nor are lines without which the rest is refused.
 
-Exit status: 0 some session notices each line, 1 none notices some line, 2 there
-is no whole answer."""
+Exit status: 0 each line is noticed by some session, 1 some line by none, 2
+there is no whole answer."""
 from __future__ import annotations
 
 import sys
@@ -120,7 +120,7 @@ class Coverage:
 
 def main(given: Namespace) -> int:
     if len(given.files) > 2:
-        raise Refused("a sessions file is wanted, and before it a game's text or nothing")
+        raise Refused("name a sessions file, and before it at most a game's text")
     guard_output(*given.files)
     game, sessions = given.files[0] if len(given.files) == 2 else "", read_sessions(given.files[-1])
     if game:

@@ -1,4 +1,4 @@
-"""Tells in words which sessions did not pass, and why.
+"""Says in words which sessions did not pass, and why.
 
 SESSIONS is the file that was played, and LINES what the program wrote for it
 (`-`: standard input). Without LINES the sessions are played now. Each session

@@ -28,7 +28,7 @@ def add_words(words: ArgumentParser) -> None:
 
 def main(given: Namespace) -> int:
     if len(given.files) > 2:
-        raise Refused("one or two files are wanted: the sessions, and the lines")
+        raise Refused("name one or two files: the lines, or the sessions and then the lines")
     guard_output(*given.files)
     sessions = read_sessions(given.files[0]) if len(given.files) == 2 else None
     sys.stdout.write(junit_of(read_runs(given.files[-1], sessions, Tests(order=given.order)), Path(given.files[0]).name, sessions, given.order, given.refused))

@@ -1,11 +1,12 @@
 """Plays sessions and writes the program's lines: the program itself, with its
-failures told in words.
+failures explained.
 
-SESSIONS is a sessions file (`-`, or no word: standard input). docs/sessions.md
-tells what the lines hold.
+SESSIONS is a sessions file (`-` or nothing: standard input). docs/sessions.md
+describes the lines.
 
-Exit status, as of ./replay: 0 every session passed, 1 some did not, 2 there is
-no whole output. Then a line on standard error says which file, and where in it."""
+Exit status, as that of ./replay: 0 every session passed, 1 some did not, 2
+there is no whole output. Then a line on standard error says which file, and
+where in it."""
 from __future__ import annotations
 
 import sys

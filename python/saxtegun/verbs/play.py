@@ -1,8 +1,8 @@
 """Plays a game in the terminal, each key by the program itself, and saves what you
 played as a recording.
 
-Arrows or w a s d move, x or space acts, z or u takes back, r begins again, t is
-a tick, q ends. The level is drawn in the game's colours, or with --letters by
+Arrows or w a s d move, x or space acts, z or u undoes, r restarts, t is a tick,
+q ends. The level is drawn in the game's colours, or with --letters by
 its letters. --level N starts at the N-th level; messages don't count.
 
 With --save NAME SESSIONS.json what you played is added there at the end. Its
@@ -34,7 +34,7 @@ from saxtegun.terminal import CLEAR, KEYS, lettered, painted
 from saxtegun.verbs.add import with_more
 
 USAGE = "play GAME.txt [--level N] [--save NAME SESSIONS.json] [--letters]"
-HELP = "arrows move, x acts, z takes back, r begins again, t ticks, q ends"
+HELP = "arrows move, x acts, z undoes, r restarts, t ticks, q ends"
 
 
 def add_words(words: ArgumentParser) -> None:
@@ -78,7 +78,7 @@ class Play:
         levels = entries_of_levels(self.source)
         places = [place for place, it in enumerate(levels) if it.rows]
         if given.level < 1 or (places and given.level > len(places)):
-            raise Refused(f"{given.game} has {plural(count_of_levels(self.source), 'level')}, and none of number {given.level}")
+            raise Refused(f"{given.game} has {plural(count_of_levels(self.source), 'level')}, but no level {given.level}")
         self.index = places[given.level - 1] if places else 0
         self.inputs: List[Input] = []
         self.frames: List[Frame] = []

@@ -3,7 +3,7 @@ what was recorded.
 
 SESSIONS is the file that was played, and LINES what the program wrote for it
 (`-`: standard input). Without LINES the sessions are played now, and one that
-hangs is played further, to find out in what. --order must be the order of the
+hangs is played further, to find out where. --order must be the order of the
 lines. The page opens from the disk in any browser, and needs no network. The
 same files give the same page; only --date puts a date there.
 

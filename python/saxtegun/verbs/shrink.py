@@ -1,17 +1,17 @@
-"""Makes the smallest session on which two programs still part in the same way, as
-a case of conformance/.
+"""Makes the smallest session on which two programs still diverge in the same way,
+as a case of conformance/.
 
 P and Q are programs with our command line. NAME is a session of SESSIONS, or a
-pattern (`level 2*`): then the first that parts is taken. It leaves out inputs,
-then rules, levels and objects, then other lines, while the programs part in the
-same way: with the same kinds of frames, or with the same closes.
+pattern (`level 2*`): then the first on which they diverge is taken. It leaves
+out inputs, then rules, levels and objects, then other lines, while the programs
+diverge in the same way: with the same kinds of frames, or with the same closes.
 
 FOLDER, which must not be there yet, gets the five files of a case. Its stdout
 is what P wrote, and P may be wrong: read it against the rule before you keep
 it.
 
-Exit status: 0 a case was written, 1 the programs don't part, 2 something is
-refused."""
+Exit status: 0 a case was written, 1 the programs don't diverge, 2 something
+is refused."""
 from __future__ import annotations
 
 import os
@@ -40,7 +40,7 @@ def add_words(words: ArgumentParser) -> None:
     words.add_argument("other", metavar="Q")
     words.add_argument("sessions", metavar="SESSIONS")
     words.add_argument("name", metavar="NAME")
-    words.add_argument("folder", metavar="FOLDER", nargs="?", help="where the case is written (by the session's name)")
+    words.add_argument("folder", metavar="FOLDER", nargs="?", help="where the case is written (a folder named after the session)")
     words.add_argument("--game", metavar="GAME.txt", help="the text of recordings whose source is the empty text")
     words.add_argument("--workers", metavar="N", type=workers_in)
     add_order(words)

@@ -1,12 +1,12 @@
-"""Puts an edited game under recordings: which of them still pass?
+"""Makes an edited game the source of recordings, to see which still pass.
 
 Writes SESSIONS with the text of GAME.txt as the source of each session; --only
-takes those whose names fit. All else stays letter by letter. Standard error
-says how many sessions got the source. For recordings whose source is the empty
-text, `saxtegun test GAME.txt SESSIONS` does the same and plays them at once.
+takes those whose names fit. All else stays unchanged. Standard error says how
+many sessions got the source. For recordings whose source is the empty text,
+`saxtegun test GAME.txt SESSIONS` does the same and plays them at once.
 
-Exit status: 0, or 2 if a file is refused or no session has a name. It is also 2
-if sessions of different games would get this source: name those of the game
+Exit status: 0, or 2 if a file is refused or --only fits no session. It is also
+2 if sessions of different games would get this source: name those of the game
 with --only, or say --all."""
 from __future__ import annotations
 
@@ -24,7 +24,7 @@ USAGE = "source GAME.txt SESSIONS [--only PATTERN..] [--all] >NEW"
 def add_words(words: ArgumentParser) -> None:
     words.add_argument("game", metavar="GAME.txt")
     words.add_argument("sessions", metavar="SESSIONS")
-    words.add_argument("--only", metavar="PATTERN", action="append", help="change sessions whose names fit; may be said again")
+    words.add_argument("--only", metavar="PATTERN", action="append", help="change sessions whose names fit; may be repeated")
     words.add_argument("--all", action="store_true", help="also where they are of different games, by their titles")
 
 

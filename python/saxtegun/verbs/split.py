@@ -1,4 +1,4 @@
-"""Splits a sessions file into parts, to be played apart and joined again by
+"""Splits a sessions file into parts, to be played separately and joined again by
 `saxtegun join`.
 
 FOLDER must not be there yet. Each part is a sessions file, FOLDER/NUMBER.json,
@@ -111,7 +111,7 @@ def write_parts(count: int, entries: List[Cut], folder: str) -> None:
 
 def main(given: Namespace) -> int:
     if given.parts < 1:
-        raise Refused("1 part or more is wanted")
+        raise Refused("PARTS must be 1 or more")
     try:
         entries = entries_in(read_text(given.sessions))
     except (ValueError, RecursionError) as why:

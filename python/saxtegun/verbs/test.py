@@ -1,14 +1,14 @@
 """Plays recordings and says what did not pass, and how each session ended.
 
     saxtegun test game.txt recordings.json
-        the game's text goes under each recording whose source is the empty text
+        the game's text is the source of each recording whose source is empty
     saxtegun test suite.json other.json
-        recordings that have their sources
+        recordings that have their own sources
 
 `passed` says that the last level is as recorded, not that it was won. So each
 session also says whether it is solved (all levels), solved up to a level, or
 not. A session that --solved names must be solved, and so must an entry with a
-further element, [name, [..], "solved"]; else it fails as no longer solved. With
+further element, [name, [..], "solved"]; otherwise it fails. With
 --watch all is played again at each save of a file that was read, until you stop
 it.
 
@@ -43,10 +43,10 @@ PAUSE = 0.2
 
 def add_words(words: ArgumentParser) -> None:
     words.add_argument("files", metavar="FILE", nargs="+", help="a game's text (a first file that doesn't end with .json), and sessions files")
-    words.add_argument("--filter", metavar="PATTERN", action="append", help="play sessions whose names fit ('level 2*'); may be said again")
-    words.add_argument("--solved", metavar="PATTERN", action="append", default=[], help="sessions whose names fit must be solved; may be said again")
-    words.add_argument("--quiet", action="store_true", help="counts and failures alone")
-    words.add_argument("--max-fail", metavar="N", type=int, help="tell N failures, and count the others")
+    words.add_argument("--filter", metavar="PATTERN", action="append", help="play sessions whose names fit ('level 2*'); may be repeated")
+    words.add_argument("--solved", metavar="PATTERN", action="append", default=[], help="sessions whose names fit must be solved; may be repeated")
+    words.add_argument("--quiet", action="store_true", help="show only counts and failures")
+    words.add_argument("--max-fail", metavar="N", type=int, help="show N failures, and count the others")
     words.add_argument("--watch", action="store_true", help="play again at each save of a file")
     words.add_argument("--junit", metavar="F", help="write a JUnit file")
     words.add_argument("--report", metavar="F", help="write a page that shows each session frame by frame")
@@ -98,7 +98,7 @@ def played(given: Namespace) -> Suite:
         runs += [it._replace(number=first + it.number) for it in shown]
         solved.update({first + place: it for place, it in ended.items()})
     if given.filter and not entries:
-        raise Refused(f"no session is named as --filter says ({', '.join(given.filter)})")
+        raise Refused(f"--filter fits no session ({', '.join(given.filter)})")
     return Suite(Sessions(", ".join(Path(it).name for it in paths), "", entries), runs, solved, files)
 
 
@@ -214,9 +214,9 @@ def watch(given: Namespace) -> int:
 
 def main(given: Namespace) -> int:
     if given.max_fail is not None and given.max_fail < 0:
-        raise Refused("--max-fail wants a number that is not below 0")
+        raise Refused("--max-fail can't be negative")
     if "-" in given.files and (given.watch or given.files.count("-") > 1):
-        raise Refused("standard input is read once: it can be one sessions file, and not be watched")
+        raise Refused("standard input can be read only once: name it once, and without --watch")
     guard_files((given.junit, given.report, given.markdown), given.files)
     guard_output(*given.files)
     return watch(given) if given.watch else test(given)

@@ -3,7 +3,7 @@ console prints, into a sessions file.
 
 Test data is JavaScript: `var testdata = [ .. ];`, a list of entries [name,
 [source, inputs, level, index, seed]]. An editor's console prints such entries
-bare, with a comma behind each. Entries are written again as JSON, one a line;
+bare, with a comma after each. Entries are written again as JSON, one a line;
 nothing in them is changed or left out.
 
 It reads lists, texts in any of the three quotes, numbers, true, false, null,
