@@ -15,8 +15,11 @@ use std::alloc::{AllocError, Global};
 use std::collections::HashMap;
 use std::marker::Model;
 
-/// The texts of the sets of a game's objects that were met. Where a set stands among the known ones is a hint: it is looked at
-/// before it is believed.
+/// How many sets are looked at one after another: with so few this is cheaper than a hash, and most levels have no more.
+const FEW: usize = 8;
+
+/// The texts of the sets of a game's objects that were met. Where a set behind the first few stands among the known ones is a hint: it is
+/// looked at before it is believed.
 pub(crate) struct LabelTable<'a> {
     game: &'a Game,
     texts: KnownTexts,
@@ -69,17 +72,29 @@ impl<'a> LabelTable<'a> {
         &self.texts
     }
 
-    /// The label of a set that was met.
-    fn known(&self, objects: &NumberSet) -> Option<usize>
+    /// The label of the set of a place among the known ones, if it is this one.
+    fn known_at(&self, place: usize, objects: &NumberSet) -> Option<usize>
         ensures { IfSome result (λ label. IsLabelOf self.now.game.objects self.now.texts objects.now label) }
     {
-        let place = self.places.get(objects)?;
-        let known = self.known.get(*place)?;
+        let known = self.known.get(place)?;
         if known.objects.same(objects) {
             Some(known.label)
         } else {
             None
         }
+    }
+
+    /// The label of a set that was met.
+    fn known(&self, objects: &NumberSet) -> Option<usize>
+        ensures { IfSome result (λ label. IsLabelOf self.now.game.objects self.now.texts objects.now label) }
+    {
+        for place in 0..self.known.len().min(FEW) {
+            if let Some(label) = self.known_at(place, objects) {
+                return Some(label);
+            }
+        }
+        let place = self.places.get(objects)?;
+        self.known_at(*place, objects)
     }
 
     /// The label of the text of the set that stands at a position.
@@ -108,7 +123,9 @@ impl<'a> LabelTable<'a> {
     {
         let place = self.known.len();
         self.known.push(LabelledSet { objects, label })?;
-        self.places.insert(objects, place)?;
+        if place >= FEW {
+            self.places.insert(objects, place)?;
+        }
         Ok(())
     }
 
