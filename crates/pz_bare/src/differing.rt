@@ -12,7 +12,7 @@ impl BareLevel {
     pub fn same_size(&self, other: &BareLevel) -> bool
         ensures { IsTrue result ↔ SameSize self.now.grid other.now.grid }
     {
-        match (&self.sheet, &other.sheet) {
+        match (&*self.sheet, &*other.sheet) {
             (AnySheet::Small(sheet), AnySheet::Small(other)) => sheet.same_size(other),
             (AnySheet::Middle(sheet), AnySheet::Middle(other)) => sheet.same_size(other),
             (AnySheet::Large(sheet), AnySheet::Large(other)) => sheet.same_size(other),
@@ -28,7 +28,7 @@ impl BareLevel {
     {
         // (brings the proof the law of the level)
         let _ = self.width();
-        match (&self.sheet, &other.sheet) {
+        match (&*self.sheet, &*other.sheet) {
             (AnySheet::Small(sheet), AnySheet::Small(other)) => sheet.next_change(other, from),
             (AnySheet::Middle(sheet), AnySheet::Middle(other)) => sheet.next_change(other, from),
             (AnySheet::Large(sheet), AnySheet::Large(other)) => sheet.next_change(other, from),
@@ -42,7 +42,7 @@ impl BareLevel {
         requires within { index < length self.old.grid.cells }
         ensures { self.new.grid ≡ with_cell self.old.grid (cell_there other.now.grid index) }
     {
-        match (&mut self.sheet, &other.sheet) {
+        match (&mut *self.sheet, &*other.sheet) {
             (AnySheet::Small(sheet), AnySheet::Small(other)) => sheet.take_cell(other, index),
             (AnySheet::Middle(sheet), AnySheet::Middle(other)) => sheet.take_cell(other, index),
             (AnySheet::Large(sheet), AnySheet::Large(other)) => sheet.take_cell(other, index),

@@ -50,10 +50,17 @@ impl Drop for AnySheet {
     }
 }
 
-/// A level without its marks: what stands in its cells, and where it heads.
-#[derive(Drop)]
+/// A level without its marks: what stands in its cells, and where it heads. Boxed, so that moving one is cheap.
 pub struct BareLevel {
-    sheet: AnySheet,
+    sheet: Box<AnySheet>,
+}
+
+/// Written out, so that each place where one goes out of scope is one call.
+impl Drop for BareLevel {
+    fn drop(self) {
+        let BareLevel { sheet } = self;
+        drop(sheet);
+    }
 }
 
 impl Model for BareLevel {
@@ -62,9 +69,9 @@ impl Model for BareLevel {
 
     ghost Value = { BareState };
 
-    ghost view = { λ b. state_in b.sheet };
+    ghost view = { λ b. state_in b.sheet.value };
 
-    ghost invariant = { λ b. IsFitting b.sheet };
+    ghost invariant = { λ b. IsFitting b.sheet.value };
 }
 
 impl BareLevel {
@@ -72,18 +79,19 @@ impl BareLevel {
     pub fn sheet(&self) -> &AnySheet
         ensures { state_in result.now ≡ self.now }
     {
-        &self.sheet
+        &*self.sheet
     }
 
     /// A copy of the level. Err: memory was refused.
     pub fn copy(&self) -> Result<BareLevel, AllocError>
         ensures copied { IfOk result (λ bare. bare.grid ≡ self.now.grid) }
     {
-        let sheet = match &self.sheet {
+        let sheet = match &*self.sheet {
             AnySheet::Small(sheet) => AnySheet::Small(sheet.copy()?),
             AnySheet::Middle(sheet) => AnySheet::Middle(sheet.copy()?),
             AnySheet::Large(sheet) => AnySheet::Large(sheet.copy()?),
         };
+        let sheet = Box::new(*Box::allocator(&self.sheet), sheet)?;
         Ok(BareLevel { sheet })
     }
 
@@ -92,7 +100,7 @@ impl BareLevel {
         ensures copied { OnOk result (self.new.grid ≡ other.now.grid) }
         ensures kept { OnErr result (self.new.grid ≡ self.old.grid) }
     {
-        match (&mut self.sheet, &other.sheet) {
+        match (&mut *self.sheet, &*other.sheet) {
             (AnySheet::Small(sheet), AnySheet::Small(other)) => sheet.copy_from(other),
             (AnySheet::Middle(sheet), AnySheet::Middle(other)) => sheet.copy_from(other),
             (AnySheet::Large(sheet), AnySheet::Large(other)) => sheet.copy_from(other),
@@ -107,7 +115,7 @@ impl BareLevel {
     pub fn equals(&self, other: &BareLevel) -> bool
         ensures { IsTrue result ↔ (self.now.grid ≡ other.now.grid) }
     {
-        match (&self.sheet, &other.sheet) {
+        match (&*self.sheet, &*other.sheet) {
             (AnySheet::Small(sheet), AnySheet::Small(other)) => sheet.equals(other),
             (AnySheet::Middle(sheet), AnySheet::Middle(other)) => sheet.equals(other),
             (AnySheet::Large(sheet), AnySheet::Large(other)) => sheet.equals(other),
@@ -120,7 +128,7 @@ impl BareLevel {
         ensures width { result ≡ self.now.grid.width }
         ensures lawful { IsLawful self.now.grid }
     {
-        match &self.sheet {
+        match &*self.sheet {
             AnySheet::Small(sheet) => sheet.width(),
             AnySheet::Middle(sheet) => sheet.width(),
             AnySheet::Large(sheet) => sheet.width(),
@@ -132,7 +140,7 @@ impl BareLevel {
         ensures height { result ≡ self.now.grid.height }
         ensures lawful { IsLawful self.now.grid }
     {
-        match &self.sheet {
+        match &*self.sheet {
             AnySheet::Small(sheet) => sheet.height(),
             AnySheet::Middle(sheet) => sheet.height(),
             AnySheet::Large(sheet) => sheet.height(),
@@ -143,7 +151,7 @@ impl BareLevel {
     pub fn depth(&self) -> usize
         ensures { result ≡ self.now.grid.depth }
     {
-        match &self.sheet {
+        match &*self.sheet {
             AnySheet::Small(sheet) => sheet.depth(),
             AnySheet::Middle(sheet) => sheet.depth(),
             AnySheet::Large(sheet) => sheet.depth(),
@@ -154,7 +162,7 @@ impl BareLevel {
     pub fn cell_count(&self) -> usize
         ensures { result ≡ length self.now.grid.cells }
     {
-        match &self.sheet {
+        match &*self.sheet {
             AnySheet::Small(sheet) => sheet.cell_count(),
             AnySheet::Middle(sheet) => sheet.cell_count(),
             AnySheet::Large(sheet) => sheet.cell_count(),
@@ -166,7 +174,7 @@ impl BareLevel {
         requires { index < length self.now.grid.cells }
         ensures { result ≡ is_in (cell_of self.now.grid index) object }
     {
-        match &self.sheet {
+        match &*self.sheet {
             AnySheet::Small(sheet) => sheet.is_in(index, object),
             AnySheet::Middle(sheet) => sheet.is_in(index, object),
             AnySheet::Large(sheet) => sheet.is_in(index, object),
@@ -177,7 +185,7 @@ impl BareLevel {
     pub fn objects_at(&self, x: u32, y: u32) -> NumberSet
         ensures { (object : ℕ) → member result object ≡ stands self.now.grid x y object }
     {
-        match &self.sheet {
+        match &*self.sheet {
             AnySheet::Small(sheet) => sheet.objects_at(x, y),
             AnySheet::Middle(sheet) => sheet.objects_at(x, y),
             AnySheet::Large(sheet) => sheet.objects_at(x, y),
@@ -188,7 +196,7 @@ impl BareLevel {
     pub fn piece(&self, x: u32, y: u32, object: usize) -> Option<Piece>
         ensures { MatchOption result (standing_at self.now.grid x y object ≡ None) (λ piece. standing_at self.now.grid x y object ≡ Some piece.heading) }
     {
-        match &self.sheet {
+        match &*self.sheet {
             AnySheet::Small(sheet) => sheet.piece(x, y, object),
             AnySheet::Middle(sheet) => sheet.piece(x, y, object),
             AnySheet::Large(sheet) => sheet.piece(x, y, object),
@@ -204,7 +212,7 @@ impl BareLevel {
         ensures put { self.new.grid ≡ with_place self.old.grid x y layer place }
         ensures there { place_at self.new.grid x y layer ≡ place }
     {
-        match &mut self.sheet {
+        match &mut *self.sheet {
             AnySheet::Small(sheet) => sheet.put(x, y, layer, place),
             AnySheet::Middle(sheet) => sheet.put(x, y, layer, place),
             AnySheet::Large(sheet) => sheet.put(x, y, layer, place),
@@ -216,7 +224,7 @@ impl BareLevel {
         requires of_game { IsRowOf self.now.grid.layers row.now }
         ensures { All (HoldsSomewhere self.now.grid) row.now.cells → result ≡ true }
     {
-        match &self.sheet {
+        match &*self.sheet {
             AnySheet::Small(sheet) => sheet.may_hold(row),
             AnySheet::Middle(sheet) => sheet.may_hold(row),
             AnySheet::Large(sheet) => sheet.may_hold(row),
@@ -228,7 +236,7 @@ impl BareLevel {
     pub fn may_head_in(&self, asked: &[u128]) -> bool
         ensures { (cells : List (List Item)) → All (AreOf self.now.grid.layers) cells → AsksAmong asked.now cells → All (HoldsSomewhere self.now.grid) cells → result ≡ true }
     {
-        match &self.sheet {
+        match &*self.sheet {
             AnySheet::Small(sheet) => sheet.may_head_in(asked),
             AnySheet::Middle(sheet) => sheet.may_head_in(asked),
             AnySheet::Large(sheet) => sheet.may_head_in(asked),
@@ -244,7 +252,7 @@ impl BareLevel {
         ensures level { self.new.grid ≡ with_rewritten self.old.grid x y left.now right.now }
         ensures changed { result ≡ changes self.old.grid x y left.now right.now }
     {
-        match &mut self.sheet {
+        match &mut *self.sheet {
             AnySheet::Small(sheet) => sheet.rewrite(x, y, left, right),
             AnySheet::Middle(sheet) => sheet.rewrite(x, y, left, right),
             AnySheet::Large(sheet) => sheet.rewrite(x, y, left, right),
@@ -256,7 +264,7 @@ impl BareLevel {
         ensures pushed { self.new.grid ≡ pushed players.now dir self.old.grid }
         ensures lawful { IsLawful self.new.grid }
     {
-        match &mut self.sheet {
+        match &mut *self.sheet {
             AnySheet::Small(sheet) => sheet.push_all(players, dir),
             AnySheet::Middle(sheet) => sheet.push_all(players, dir),
             AnySheet::Large(sheet) => sheet.push_all(players, dir),
@@ -269,7 +277,7 @@ impl BareLevel {
         requires y_in { y < self.now.grid.height }
         ensures { result ≡ true → cell_at self.now.grid x y ≡ map still_place (cell_at self.now.grid x y) }
     {
-        match &self.sheet {
+        match &*self.sheet {
             AnySheet::Small(sheet) => sheet.is_still(x, y),
             AnySheet::Middle(sheet) => sheet.is_still(x, y),
             AnySheet::Large(sheet) => sheet.is_still(x, y),
@@ -281,7 +289,7 @@ impl BareLevel {
         ensures stilled { self.new.grid ≡ stilled self.old.grid }
         ensures lawful { IsLawful self.new.grid }
     {
-        match &mut self.sheet {
+        match &mut *self.sheet {
             AnySheet::Small(sheet) => sheet.still_all(),
             AnySheet::Middle(sheet) => sheet.still_all(),
             AnySheet::Large(sheet) => sheet.still_all(),
@@ -293,7 +301,7 @@ impl BareLevel {
         requires { line.number < line_count self.now.grid line.axis }
         ensures { (object : ℕ) → member result object ≡ in_line self.now.grid line object }
     {
-        match &self.sheet {
+        match &*self.sheet {
             AnySheet::Small(sheet) => sheet.line_objects(line),
             AnySheet::Middle(sheet) => sheet.line_objects(line),
             AnySheet::Large(sheet) => sheet.line_objects(line),
@@ -305,7 +313,7 @@ impl BareLevel {
         requires { x < self.now.grid.width }
         ensures { result ≡ true → (y : ℕ) → y < self.now.grid.height → cell_at self.now.grid x y ≡ map still_place (cell_at self.now.grid x y) }
     {
-        match &self.sheet {
+        match &*self.sheet {
             AnySheet::Small(sheet) => sheet.is_column_still(x),
             AnySheet::Middle(sheet) => sheet.is_column_still(x),
             AnySheet::Large(sheet) => sheet.is_column_still(x),
@@ -316,7 +324,7 @@ impl BareLevel {
     pub fn some_holds(&self, objects: &[usize], others: &[usize]) -> bool
         ensures { result ≡ list_any (holds_both objects.now others.now) self.now.grid.cells }
     {
-        match &self.sheet {
+        match &*self.sheet {
             AnySheet::Small(sheet) => sheet.some_holds(objects, others),
             AnySheet::Middle(sheet) => sheet.some_holds(objects, others),
             AnySheet::Large(sheet) => sheet.some_holds(objects, others),
@@ -327,7 +335,7 @@ impl BareLevel {
     pub fn all_hold(&self, objects: &[usize], others: &[usize]) -> bool
         ensures { result ≡ list_all (holds_if objects.now others.now) self.now.grid.cells }
     {
-        match &self.sheet {
+        match &*self.sheet {
             AnySheet::Small(sheet) => sheet.all_hold(objects, others),
             AnySheet::Middle(sheet) => sheet.all_hold(objects, others),
             AnySheet::Large(sheet) => sheet.all_hold(objects, others),

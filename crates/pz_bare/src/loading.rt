@@ -37,14 +37,20 @@ impl BareLevel {
         let depth = game.depth();
         if objects <= 128 && depth <= 25 {
             let sheet = AnySheet::Small(sheet_from(alloc, game, drawing)?);
-            return Ok(BareLevel { sheet });
+            return Ok(BareLevel {
+                sheet: Box::new(alloc, sheet)?,
+            });
         }
         if objects <= 256 && depth <= 50 {
             let sheet = AnySheet::Middle(sheet_from(alloc, game, drawing)?);
-            return Ok(BareLevel { sheet });
+            return Ok(BareLevel {
+                sheet: Box::new(alloc, sheet)?,
+            });
         }
         let sheet = AnySheet::Large(sheet_from(alloc, game, drawing)?);
-        Ok(BareLevel { sheet })
+        Ok(BareLevel {
+            sheet: Box::new(alloc, sheet)?,
+        })
     }
 }
 

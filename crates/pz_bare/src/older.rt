@@ -43,7 +43,7 @@ impl BareLevel {
         ensures leads { IfOk result (λ way. Leads way newer.now.grid self.old.grid) }
         ensures given { IfOk result (λ way. given_back way newer.now.grid ≡ self.old.grid) }
     {
-        match (&mut self.sheet, &newer.sheet) {
+        match (&mut *self.sheet, &*newer.sheet) {
             (AnySheet::Small(sheet), AnySheet::Small(newer)) => sheet
                 .go_on(newer)
                 .map(Older::Small),
@@ -75,7 +75,7 @@ impl BareLevel {
         requires of_level { All (IsChangeOf self.old.grid) changes.now }
         ensures { self.new.grid ≡ restored (changes_seen self.old.grid changes.now) self.old.grid }
     {
-        match &mut self.sheet {
+        match &mut *self.sheet {
             AnySheet::Small(sheet) => sheet.take_changes(changes),
             _ => unreachable!(),
         }
@@ -86,7 +86,7 @@ impl BareLevel {
         requires of_level { All (IsChangeOf self.old.grid) changes.now }
         ensures { self.new.grid ≡ restored (changes_seen self.old.grid changes.now) self.old.grid }
     {
-        match &mut self.sheet {
+        match &mut *self.sheet {
             AnySheet::Middle(sheet) => sheet.take_changes(changes),
             _ => unreachable!(),
         }
@@ -97,7 +97,7 @@ impl BareLevel {
         requires of_level { All (IsChangeOf self.old.grid) changes.now }
         ensures { self.new.grid ≡ restored (changes_seen self.old.grid changes.now) self.old.grid }
     {
-        match &mut self.sheet {
+        match &mut *self.sheet {
             AnySheet::Large(sheet) => sheet.take_changes(changes),
             _ => unreachable!(),
         }

@@ -26,7 +26,7 @@ pub fn glyph_cells<const N: usize>(
 {
     // (brings the proof the law of the layers)
     let _ = layers.depth();
-    let mut cells = Vec::new(alloc);
+    let mut cells = Vec::with_capacity(alloc, numbers.len())?;
     for number in numbers {
         cells.push(glyph_cell(game, layers, *number))?;
     }

@@ -158,7 +158,26 @@ fn bring_forward(sources: &mut [Source<'_>]) -> usize
     count
 }
 
-/// The different sources of the entries, read by so many threads. Of those with the same rules one is expanded.
+/// Expands one source of each set of rules, by so many threads.
+fn expand_each_kind<R: Threads + Sync>(
+    rt: &R,
+    alloc: Global,
+    sources: &mut [Source<'_>],
+    workers: usize,
+)
+    requires { 0 < workers }
+{
+    let count = bring_forward(sources);
+    thread::for_each_mut(
+        rt,
+        &mut sources[..count],
+        workers,
+        &|_, source| source.expand(alloc),
+    );
+}
+
+/// The different sources of the entries, read by so many threads. Where there are several, one of those with the same rules is expanded:
+/// a single thread does that as it comes to a game.
 pub(crate) fn read_sources<'a, R: Threads + Sync>(
     rt: &R,
     alloc: Global,
@@ -173,12 +192,8 @@ pub(crate) fn read_sources<'a, R: Threads + Sync>(
         threads,
         &|_, source| source.read(alloc),
     );
-    let count = bring_forward(sources.as_mut_slice());
-    thread::for_each_mut(
-        rt,
-        &mut sources[..count],
-        workers.max(1),
-        &|_, source| source.expand(alloc),
-    );
+    if workers > 1 {
+        expand_each_kind(rt, alloc, sources.as_mut_slice(), workers);
+    }
     Ok(sources)
 }

@@ -115,13 +115,15 @@ impl<'a> CellLabels<'a> {
         Ok(())
     }
 
-    /// Forgets all cells.
-    fn clear(&mut self)
+    /// Forgets all cells, and makes room for so many.
+    fn make_room(&mut self, count: usize) -> Result<(), AllocError>
         ensures cells { self.new.cells ≡ [] }
         ensures table { self.new.table ≡ self.old.table }
         ensures order { self.new.order ≡ self.old.order }
     {
         self.labels.clear();
+        self.labels.reserve(count)?;
+        Ok(())
     }
 
     /// Labels each cell of a level. Err: memory was refused.
@@ -130,7 +132,7 @@ impl<'a> CellLabels<'a> {
         ensures game { self.new.table.game ≡ self.old.table.game }
         ensures order { self.new.order ≡ self.old.order }
     {
-        self.clear();
+        self.make_room(level.cell_count())?;
         for number in 0..level.width() * level.height() {
             let (x, y) = position(self.order, level, number);
             let label = self.label_at(level, x, y)?;

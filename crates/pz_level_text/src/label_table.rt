@@ -15,6 +15,10 @@ use std::alloc::{AllocError, Global};
 use std::collections::HashMap;
 use std::marker::Model;
 
+/// How many sets are compared one after another before the hash map is asked. So few are cheaper to compare than to hash, and most levels
+/// have no more.
+const FEW: usize = 8;
+
 /// The texts of the sets of a game's objects that were seen so far. `places` only gives hints: the set at a place is compared before its
 /// label is used.
 pub(crate) struct LabelTable<'a> {
@@ -69,17 +73,29 @@ impl<'a> LabelTable<'a> {
         &self.texts
     }
 
-    /// The label of a set, if it was seen before.
-    fn known(&self, objects: &NumberSet) -> Option<usize>
+    /// The label of the set at this place among the known ones, if it is this set.
+    fn known_at(&self, place: usize, objects: &NumberSet) -> Option<usize>
         ensures { IfSome result (λ label. IsLabelOf self.now.game.objects self.now.texts objects.now label) }
     {
-        let place = self.places.get(objects)?;
-        let known = self.known.get(*place)?;
+        let known = self.known.get(place)?;
         if known.objects.same(objects) {
             Some(known.label)
         } else {
             None
         }
+    }
+
+    /// The label of a set, if it was seen before.
+    fn known(&self, objects: &NumberSet) -> Option<usize>
+        ensures { IfSome result (λ label. IsLabelOf self.now.game.objects self.now.texts objects.now label) }
+    {
+        for place in 0..self.known.len().min(FEW) {
+            if let Some(label) = self.known_at(place, objects) {
+                return Some(label);
+            }
+        }
+        let place = self.places.get(objects)?;
+        self.known_at(*place, objects)
     }
 
     /// Writes the text of the set that stands at a position, and gives its label. Err: memory was refused.
@@ -108,7 +124,9 @@ impl<'a> LabelTable<'a> {
     {
         let place = self.known.len();
         self.known.push(LabelledSet { objects, label })?;
-        self.places.insert(objects, place)?;
+        if place >= FEW {
+            self.places.insert(objects, place)?;
+        }
         Ok(())
     }
 

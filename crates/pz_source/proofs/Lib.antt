@@ -5,6 +5,7 @@ pub mod RuleLemmas
 pub mod ReadingExamples
 pub mod DrawnLemmas
 pub mod GameLemmas
+pub mod ProfileLemmas
 pub mod LineLemmas
 pub mod FaultLines
 pub mod RuleNumbers

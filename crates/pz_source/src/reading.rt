@@ -16,8 +16,7 @@ ghost use Rattle.pz_source.specs.Reading.{first_names, game_with, game_over, gam
 use crate::layers::read_layers;
 use crate::levels::read_levels;
 use crate::missing::missing_name;
-use crate::profile::{check_profile, options_of};
-use crate::rules::rule_lines;
+use crate::profile::{options_of, read_rules};
 use crate::wins::read_wins;
 use pz_base::fault::SourceFault;
 use pz_base::listed::Listed;
@@ -71,20 +70,6 @@ fn first_names(alloc: Global, objects: &[NameLine]) -> Result<Listed<Name>, Allo
     Ok(Listed::new(firsts))
 }
 
-/// The first names of the objects, and the rule lines.
-fn names_and_rules(
-    alloc: Global,
-    lines: &[Line],
-    objects: &[NameLine],
-) -> Result<(Listed<Name>, Vec<RuleLine>), AllocError>
-    ensures names { IfOk result (λ r. r.0 ≡ first_names objects.now) }
-    ensures rules { IfOk result (λ r. r.1.items ≡ rule_lines (lines_in section.Rules lines.now)) }
-{
-    let firsts = first_names(alloc, objects)?;
-    let rules = rule_lines(alloc, lines_in(Section::Rules, lines))?;
-    Ok((firsts, rules))
-}
-
 /// The win lines and the entries of LEVELS, or their first fault. Faults of win lines come first.
 fn wins_and_levels(
     alloc: Global,
@@ -102,19 +87,21 @@ fn wins_and_levels(
     Ok((wins, levels))
 }
 
-/// What the sections after LEGEND give with these objects and names, or their first fault: `Missing`, then those of the layers, of the win
-/// lines and of the levels.
+/// What the sections after LEGEND give with these objects and names, and the rule lines that were read, or their first fault: `Missing`, then
+/// those of the layers, of the win lines and of the levels.
 fn read_sections(
     alloc: Global,
     lines: &[Line],
     objects: &[NameLine],
     names: &NameSet,
     values: &[Denotation],
+    rules: Vec<RuleLine>,
 ) -> Result<Sections, SourceFault>
     requires few { length objects.now ≤ MAX_OBJECTS }
     requires named { All IsNamed objects.now }
     requires all { length values.now ≡ length names.now }
     requires denoted { All (IsDenoted (length objects.now)) values.now }
+    requires rules { rules.items ≡ rule_lines (lines_in section.Rules lines.now) }
     ensures read { IfOk result (λ sections. game_over lines.now objects.now names.now values.now ≡ Ok (game_with names.now values.now sections)) }
     ensures game { IfOk result (λ sections. IsGame (game_with names.now values.now sections)) }
     ensures refused { IfErr result (λ fault. fault.code ≢ code.Memory → game_over lines.now objects.now names.now values.now ≡ Err fault) }
@@ -131,7 +118,7 @@ fn read_sections(
         lines_in(Section::Layers, lines),
     )?;
     let (wins, levels) = wins_and_levels(alloc, lines, names, values)?;
-    let (firsts, rules) = names_and_rules(alloc, lines, objects)?;
+    let firsts = first_names(alloc, objects)?;
     Ok(Sections {
         objects: firsts,
         layers: Listed::new(layers),
@@ -175,16 +162,18 @@ fn read_over(
     objects: &[NameLine],
     names: NameSet,
     values: Vec<Denotation>,
+    rules: Vec<RuleLine>,
 ) -> Result<Game, SourceFault>
     requires few { length objects.now ≤ MAX_OBJECTS }
     requires named { All IsNamed objects.now }
     requires all { length values.items ≡ length names }
     requires denoted { All (IsDenoted (length objects.now)) values.items }
+    requires rules { rules.items ≡ rule_lines (lines_in section.Rules lines.now) }
     ensures read { IfOk result (λ game. game_over lines.now objects.now names values.items ≡ Ok game) }
     ensures refused { IfErr result (λ fault. fault.code ≢ code.Memory → game_over lines.now objects.now names values.items ≡ Err fault) }
     ensures whole { IfErr result (λ fault. fault.code ≡ code.Memory → fault.line ≡ 0) }
 {
-    let sections = read_sections(alloc, lines, objects, &names, values.as_slice())?;
+    let sections = read_sections(alloc, lines, objects, &names, values.as_slice(), rules)?;
     Ok(Game::new(game_with(names, values, sections)))
 }
 
@@ -194,16 +183,18 @@ fn read_over_objects(
     lines: &[Line],
     objects: &[NameLine],
     mut names: NameSet,
+    rules: Vec<RuleLine>,
 ) -> Result<Game, SourceFault>
     requires few { length objects.now ≤ MAX_OBJECTS }
     requires named { All IsNamed objects.now }
     requires names { names ≡ object_names objects.now }
+    requires rules { rules.items ≡ rule_lines (lines_in section.Rules lines.now) }
     ensures read { IfOk result (λ game. game_of_objects lines.now objects.now ≡ Ok game) }
     ensures refused { IfErr result (λ fault. fault.code ≢ code.Memory → game_of_objects lines.now objects.now ≡ Err fault) }
     ensures whole { IfErr result (λ fault. fault.code ≡ code.Memory → fault.line ≡ 0) }
 {
     let values = read_legend(alloc, objects, &mut names, lines_in(Section::Legend, lines))?;
-    read_over(alloc, lines, objects, names, values)
+    read_over(alloc, lines, objects, names, values, rules)
 }
 
 /// The game of lines whose headings are in order, or its first fault: `OutsideProfile`, then those of the objects, then those of what
@@ -213,9 +204,9 @@ fn read_game_of_lines(alloc: Global, lines: &[Line]) -> Result<Game, SourceFault
     ensures refused { IfErr result (λ fault. fault.code ≢ code.Memory → game_of_lines lines.now ≡ Err fault) }
     ensures whole { IfErr result (λ fault. fault.code ≡ code.Memory → fault.line ≡ 0) }
 {
-    check_profile(alloc, lines)?;
+    let rules = read_rules(alloc, lines)?;
     let (objects, names) = read_objects(alloc, lines_in(Section::Objects, lines))?;
-    read_over_objects(alloc, lines, objects.as_slice(), names)
+    read_over_objects(alloc, lines, objects.as_slice(), names, rules)
 }
 
 /// Reads a source: gives its game, or its first fault. That is the fault of the first check that names a line, at the first such line.

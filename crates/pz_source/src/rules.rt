@@ -5,15 +5,13 @@ ghost use Rattle.pz_base.specs.Name.{name_of};
 ghost use Rattle.pz_text.specs.Characters.{trimmed};
 ghost use Rattle.pz_text.specs.Comment.{ends_word, word_after, is_first_after};
 ghost use Rattle.pz_text.specs.declared.line.Section.TheVariants.{Rules};
-ghost use Rattle.pz_source.specs.Rules.{closed, ended, words_from, rule_words, rule_lines};
+ghost use Rattle.pz_source.specs.Rules.{closed, ended, words_from, rule_words};
 
 use pz_base::listed::Listed;
 use pz_base::name::Name;
-use pz_game::rule_line::RuleLine;
-use pz_names::objects::is_blank;
 use pz_text::characters::trimmed;
 use pz_text::comment::Cursor;
-use pz_text::line::{Line, Section};
+use pz_text::line::Section;
 use std::alloc::{AllocError, Global};
 
 /// Adds a word, folded.
@@ -121,21 +119,4 @@ pub fn rule_words(alloc: Global, text: &[char]) -> Result<Listed<Name>, AllocErr
     let mut cursor = Cursor::new(alloc);
     push_words(alloc, &mut words, &mut cursor, text)?;
     Ok(Listed::new(words))
-}
-
-/// The rule lines: the lines that are not blank, cut into words.
-pub fn rule_lines(alloc: Global, lines: &[Line]) -> Result<Vec<RuleLine>, AllocError>
-    ensures { IfOk result (λ rules. rules.items ≡ rule_lines lines.now) }
-{
-    let mut rules = Vec::new(alloc);
-    for line in lines {
-        if is_blank(line) {
-            continue;
-        }
-        rules.push(RuleLine {
-            number: line.number,
-            words: rule_words(alloc, line.text.items())?,
-        })?;
-    }
-    Ok(rules)
 }

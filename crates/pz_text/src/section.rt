@@ -1,6 +1,6 @@
 //! The lines of a section.
 
-ghost use Rattle.std.specs.Prelude.{◌≡◌, ◌<◌};
+ghost use Rattle.std.specs.Prelude.{◌≡◌, ◌<◌, ◌≤◌, ◌-◌, ◌++◌, length, drop};
 ghost use Rattle.pz_text.specs.Section.{place_of, is_heading_of, before_heading, behind_heading, lines_in};
 
 use crate::line::{Line, Section};
@@ -53,12 +53,32 @@ fn behind_heading(section: Section, lines: &[Line]) -> &[Line]
     rest
 }
 
+/// The lines from the first one of a section on.
+fn lines_from(section: Section, lines: &[Line]) -> &[Line]
+    ensures begins { before_heading result.now ≡ lines_in section lines.now }
+    ensures short { length result.now ≤ length lines.now }
+    ensures end { drop (length lines.now - length result.now) lines.now ≡ result.now }
+{
+    match section {
+        Section::Prelude => lines,
+        _ => behind_heading(section, lines),
+    }
+}
+
 /// The lines of a section, without its heading. The prelude has those before the first heading.
 pub fn lines_in(section: Section, lines: &[Line]) -> &[Line]
     ensures { result.now ≡ lines_in section lines.now }
 {
-    match section {
-        Section::Prelude => before_heading(lines),
-        _ => before_heading(behind_heading(section, lines)),
-    }
+    before_heading(lines_from(section, lines))
+}
+
+/// The lines before those of a section, with its heading; its own; and the lines behind them.
+pub fn around(section: Section, lines: &[Line]) -> (&[Line], &[Line], &[Line])
+    ensures own { result.1.now ≡ lines_in section lines.now }
+    ensures whole { lines.now ≡ result.0.now ++ (result.1.now ++ result.2.now) }
+{
+    let begun = lines_from(section, lines);
+    let (before, rest) = lines.split_at(lines.len() - begun.len());
+    let (own, behind) = rest.split_at(before_heading(begun).len());
+    (before, own, behind)
 }

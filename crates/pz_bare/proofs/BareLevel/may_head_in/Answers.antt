@@ -12,10 +12,10 @@ abbrev Tells : List ℕ → Bool → BareState → Type 0
 Tells asked may state = (cells : List (List Item)) → All (AreOf state.grid.layers) cells → AsksAmong asked cells → All (HoldsSomewhere state.grid) cells → may ≡ true
 
 pub returns-in-Small : goal.returns-in-Small
-returns-in-Small c = subst (Tells c.args.asked.now c.may_head_in.result) (sym (ap state_in c.in-Small.is) ∙ c.self.view_is) c.may_head_in.ensures
+returns-in-Small c = subst (Tells c.args.asked.now c.may_head_in.result) (sym (ap state_in c.in-Small.is) ∙ ap state_in c.deref.ensures ∙ c.self.view_is) c.may_head_in.ensures
 
 pub returns-in-Middle : goal.returns-in-Middle
-returns-in-Middle c = subst (Tells c.args.asked.now c.may_head_in-in-Middle.result) (sym (ap state_in c.in-Middle.is) ∙ c.self.view_is) c.may_head_in-in-Middle.ensures
+returns-in-Middle c = subst (Tells c.args.asked.now c.may_head_in-in-Middle.result) (sym (ap state_in c.in-Middle.is) ∙ ap state_in c.deref.ensures ∙ c.self.view_is) c.may_head_in-in-Middle.ensures
 
 pub returns-in-Large : goal.returns-in-Large
-returns-in-Large c = subst (Tells c.args.asked.now c.may_head_in-in-Large.result) (sym (ap state_in c.in-Large.is) ∙ c.self.view_is) c.may_head_in-in-Large.ensures
+returns-in-Large c = subst (Tells c.args.asked.now c.may_head_in-in-Large.result) (sym (ap state_in c.in-Large.is) ∙ ap state_in c.deref.ensures ∙ c.self.view_is) c.may_head_in-in-Large.ensures

@@ -10,7 +10,7 @@ returns-clause-read c =
     let objects = c.as_slice.result.now in
     let part = c.lines_in.result.now in
     let read = c.in_ok-objects.ensures.read ∙ ap (λ os. Ok os) (sym c.as_slice.ensures.value) in
-    let same = behind_objects lines objects part c.lines_in.ensures c.in_ok-check_profile.ensures.sound read in
+    let same = behind_objects lines objects part c.lines_in.ensures c.in_ok-rules.ensures.sound read in
     subst (λ v. IfOk c.read_over_objects.result (λ game. v ≡ Ok game)) (sym same) c.read_over_objects.ensures.read
 
 pub returns-clause-refused : goal.returns-clause-refused
@@ -19,5 +19,5 @@ returns-clause-refused c =
     let objects = c.as_slice.result.now in
     let part = c.lines_in.result.now in
     let read = c.in_ok-objects.ensures.read ∙ ap (λ os. Ok os) (sym c.as_slice.ensures.value) in
-    let same = behind_objects lines objects part c.lines_in.ensures c.in_ok-check_profile.ensures.sound read in
+    let same = behind_objects lines objects part c.lines_in.ensures c.in_ok-rules.ensures.sound read in
     subst (λ v. IfErr c.read_over_objects.result (λ fault. fault.code ≢ code.Memory → v ≡ Err fault)) (sym same) c.read_over_objects.ensures.refused

@@ -30,7 +30,7 @@ returns-clause-game c =
     let needed : fault_of_needs names values ≡ None = sym c.in_default.ensures in
     is_game c.args.objects.now names values c.requires.few c.requires.named c.requires.all c.requires.denoted needed c.lines_in.result.now c.in_ok-layers.ensures.sound
     (lines_in section.Levels c.args.lines.now) c.new-4.result (c.in_ok-wins.ensures.levels ∙ ap (λ es. Ok es) (sym c.new-4.ensures)) c.new-2.result c.new-3.result c.options_of.result
-    c.in_ok-firsts.firsts values c.new.result c.in_ok-layers.depth c.in_ok-firsts.ensures.names refl (c.new.ensures ∙ c.in_ok-layers.ensures.layers) c.in_ok-layers.ensures.depth
+    c.in_ok-firsts.firsts values c.new.result c.in_ok-layers.depth c.in_ok-firsts.ensures refl (c.new.ensures ∙ c.in_ok-layers.ensures.layers) c.in_ok-layers.ensures.depth
 
 pub returns-clause-read : goal.returns-clause-read
 returns-clause-read c =
@@ -40,5 +40,5 @@ returns-clause-read c =
     let needed : fault_of_needs names values ≡ None = sym c.in_default.ensures in
     at_game lines c.args.objects.now names values values refl needed c.lines_in.result.now c.lines_in.ensures (lines_in section.Wins lines) (lines_in section.Levels lines) c.new-3.result c.new-4.result refl refl
     c.in_ok-layers.ensures.sound (c.in_ok-wins.ensures.wins ∙ ap (λ ws. Ok ws) (sym c.new-3.ensures)) (c.in_ok-wins.ensures.levels ∙ ap (λ es. Ok es) (sym c.new-4.ensures))
-    c.in_ok-firsts.firsts values c.new.result c.in_ok-layers.depth c.new-2.result c.options_of.result c.in_ok-firsts.ensures.names refl (c.new.ensures ∙ c.in_ok-layers.ensures.layers)
-    c.in_ok-layers.ensures.depth (c.new-2.ensures ∙ c.in_ok-firsts.ensures.rules) (c.options_of.ensures ∙ ap options_of c.lines_in-2.ensures)
+    c.in_ok-firsts.firsts values c.new.result c.in_ok-layers.depth c.new-2.result c.options_of.result c.in_ok-firsts.ensures refl (c.new.ensures ∙ c.in_ok-layers.ensures.layers)
+    c.in_ok-layers.ensures.depth (c.new-2.ensures ∙ c.requires.rules) (c.options_of.ensures ∙ ap options_of c.lines_in-2.ensures)
