@@ -55,11 +55,15 @@ impl<const N: usize> Sheet<N> {
         ensures of_level { IfOk result (λ changes. All (IsChangeOf self.now.grid) changes.items) }
         ensures way_back { IfOk result (λ changes. restored (changes_seen self.now.grid changes.items) self.now.grid ≡ older.now.grid) }
     {
-        // (brings the proof the law of the older level)
-        let _ = older.width();
+        let are_still = are_empty(&self.notes, &older.notes);
         let mut changes = Vec::new(*self.cells.allocator());
         let mut from = 0;
-        'changes: while let Some(index) = self.next_change(older, from) {
+        'changes: while let Some(index) = next_differing(
+            &self.cells,
+            &older.cells,
+            are_still,
+            from,
+        ) {
             let cell = *older.cell(index);
             changes.push(Change { index, cell })?;
             from = index + 1;
