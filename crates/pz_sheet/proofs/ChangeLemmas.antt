@@ -14,7 +14,7 @@ use Rattle.pz_cells.specs.Sameness.{same_cell}
 use Rattle.pz_cells.proofs.SameLemmas.{same_cell_is, same_cell_self}
 use Rattle.pz_sheet.specs.Changes.{CellChange, changed_from, changed_cells, with_cell, restored, differ_in, cell_there}
 use Rattle.pz_cells.specs.Differing.{IsNextDiffering}
-use Rattle.pz_sheet.specs.Grid.{Grid, BareState, IsLawful, SameSize}
+use Rattle.pz_sheet.specs.Grid.{Grid, IsLawful, SameSize}
 use Rattle.pz_sheet.specs.Presence.{cell_of}
 use Rattle.pz_sets.specs.Next.{IsNext}
 use Rattle.pz_cells.specs.Lists.{seen, IsSound, AreAlike}
@@ -148,10 +148,6 @@ pub record AreBoth (N wa ha : ℕ) (la : Layering) (ca : List (Cell N)) (wb hb :
   pub stored : IsStored N wa ha la ca notes
   pub stored_other : IsStored N wb hb lb cb notes_other
 
-pub both_of : {N wa ha : ℕ} {la : Layering} {ca : List (Cell N)} {na : HeadingSets} {wb hb : ℕ} {lb : Layering} {cb : List (Cell N)} {nb : HeadingSets} {level other : BareState} → SameSize level.grid other.grid
-    → record { grid = grid_of wa ha la ca } ≡ level → record { grid = grid_of wb hb lb cb } ≡ other → IsStored N wa ha la ca na → IsStored N wb hb lb cb nb → AreBoth N wa ha la ca wb hb lb cb level.grid other.grid
-both_of size is is_other stored stored_other = record { size = size; is = ap (λ (s : BareState). s.grid) is; is_other = ap (λ (s : BareState). s.grid) is_other; notes = _; notes_other = _; stored = stored; stored_other = stored_other }
-
 module _ (N wa ha : ℕ) (la : Layering) (ca : List (Cell N)) (wb hb : ℕ) (lb : Layering) (cb : List (Cell N)) (grid other : Grid) (a : AreBoth N wa ha la ca wb hb lb cb grid other) where
   many : length grid.cells ≡ length ca
   many = ap (λ (g : Grid). length g.cells) (sym a.is) ∙ length-map ca (seen la)
@@ -201,6 +197,3 @@ module _ (N wa ha : ℕ) (la : Layering) (ca : List (Cell N)) (wb hb : ℕ) (lb 
     ap not (sym (same_there found false n.1 (λ (e : false ≡ true). cc, λ same. absurd (n.2 (no_cell N) (no_cell N) same)))),
     λ number low high. alike_same number (omega (arith, high, n.1)) (n.3 number (no_cell N) (no_cell N) low high),
   )
-
-  pub next_read : (here there : List (Cell N)) (from : ℕ) (found : Option ℕ) → here ≡ ca → there ≡ cb → IsNextDiffering here there from found → IsNext (differ_in grid other) from (length grid.cells) found
-  next_read here there from found e f next = next_is from found (subst (λ (cells : List (Cell N)). IsNextDiffering ca cells from found) f (subst (λ (cells : List (Cell N)). IsNextDiffering cells there from found) e next))

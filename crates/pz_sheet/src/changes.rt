@@ -55,15 +55,11 @@ impl<const N: usize> Sheet<N> {
         ensures of_level { IfOk result (λ changes. All (IsChangeOf self.now.grid) changes.items) }
         ensures way_back { IfOk result (λ changes. restored (changes_seen self.now.grid changes.items) self.now.grid ≡ older.now.grid) }
     {
-        let are_still = are_empty(&self.notes, &older.notes);
+        // (brings the proof the law of the older level)
+        let _ = older.width();
         let mut changes = Vec::new(*self.cells.allocator());
         let mut from = 0;
-        'changes: while let Some(index) = next_differing(
-            &self.cells,
-            &older.cells,
-            are_still,
-            from,
-        ) {
+        'changes: while let Some(index) = self.next_change(older, from) {
             let cell = *older.cell(index);
             changes.push(Change { index, cell })?;
             from = index + 1;
