@@ -19,11 +19,14 @@ use pz_job::job::prepare_with;
 use pz_lines::output::Output;
 use pz_lines::writing::write_recording;
 use pz_record::limits::MOST_ENTRIES;
-use pz_replay::{Always, ReplayFault, replay};
+use pz_replay::{Always, ReplayFault, replay_with};
 use std::alloc::Global;
 use std::io::{self, ErrorKind, Read, Write};
 use std::sync::Wait;
 use std::thread::Threads;
+
+/// How many messages a lane holds: more than a worker sends of small sessions while the recorder pauses, so that it needn't wait.
+const LANE: usize = 256;
 
 /// Why there is no recording, as the program tells it.
 fn failure_of(fault: ReplayFault) -> Failure
@@ -53,7 +56,7 @@ fn record<T: Threads + Wait + Sync>(
     ensures refused { IfErr result (λ failure. (failure ≡ Failure.Memory) ⊎ (failure ≡ Failure.LaneLost)) }
 {
     let job = prepare_with(rt, alloc, entries, options.order, options.workers)?;
-    match replay(rt, alloc, &job, options.workers, &Always) {
+    match replay_with(rt, alloc, &job, options.workers, LANE, &Always) {
         Ok(recording) => Ok(recording),
         Err(fault) => Err(failure_of(fault)),
     }
