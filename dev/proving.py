@@ -14,6 +14,7 @@ from crates import lanes_for_checks, read_uses
 
 TOP = Path(__file__).resolve().parent.parent
 PROGRAM, LIBRARY = "src/main.rt", "src/lib.rt"
+SOURCES = ("src", "specs", "proofs")
 # A line of dev/proof-seconds.txt: a crate, and how many seconds its proof takes. One that has no line is taken for a middling one.
 SECONDS = re.compile(r"^(\w+) (\d+)$", re.M)
 MIDDLING = 60
@@ -103,6 +104,28 @@ def in_lanes(crates, names, prove):
                     return name
                 left.remove(name)
     return None
+
+
+def library_of(name):
+    """Where `rt ci` leaves the library of a crate that it proves in this checkout."""
+    return TOP / "crates" / name / "out" / "rlib" / f"{name}.rlib"
+
+
+def is_proved_here(name):
+    """Whether `rt ci` has left the library of a crate, and no source of the crate is newer."""
+    library = library_of(name)
+    sources = [it for folder in SOURCES for it in (TOP / "crates" / name / folder).rglob("*") if it.is_file()]
+    return library.is_dir() and all(it.stat().st_mtime <= library.stat().st_mtime for it in sources)
+
+
+def take_proved(names, room):
+    """Puts the libraries that `rt ci` has proved in this checkout into an empty folder, as NAME.rlib. Answers whether it did: it does so for all of these
+    crates, or for none."""
+    if not all(is_proved_here(it) for it in names):
+        return False
+    for it in names:
+        (room / f"{it}.rlib").symlink_to(library_of(it))
+    return True
 
 
 def new_log(name):

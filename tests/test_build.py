@@ -1,4 +1,5 @@
-"""dev/build: on a repository of a program and the library that it stands on."""
+"""dev/build: on a repository of a program and the library that it stands on; and what is taken as `rt ci` has proved it."""
+import os
 import subprocess
 import unittest
 
@@ -40,6 +41,43 @@ class Build(OnSmallCrates):
         for name in ("low", "none"):
             answer = run(self.tool, name)
             self.assertEqual((answer.status, answer.out), (2, ""))
+
+
+class Taken(OnSmallCrates):
+    """`take_proved` of dev/proving.py, by which engine/build --after-ci leaves out what the gate has proved."""
+
+    def setUp(self):
+        super().setUp()
+        self.found("build", "low:\nhigh: low\n")
+        self.libraries = [self.room / f"crates/{name}/out/rlib/{name}.rlib" for name in ("low", "high")]
+        for library in self.libraries:
+            library.mkdir(parents=True)
+        self.taken = self.room / "taken"
+        self.taken.mkdir()
+
+    def take(self):
+        """What `take_proved` answers of both crates, and the names of what it put into the folder."""
+        file = self.write("dev/taking.py", "import sys, pathlib, proving\nprint(proving.take_proved(['low', 'high'], pathlib.Path(sys.argv[1])))\n")
+        answer = run(file, self.taken)
+        self.assertEqual(answer.status, 0, answer.errors)
+        return answer.out.strip(), sorted(it.name for it in self.taken.iterdir())
+
+    def test_libraries_that_are_newer_than_their_sources_are_taken(self):
+        self.assertEqual(self.take(), ("True", ["high.rlib", "low.rlib"]))
+        self.assertEqual((self.taken / "low.rlib").resolve(), self.libraries[0].resolve())
+
+    def test_none_is_taken_where_one_is_missing(self):
+        self.libraries[1].rmdir()
+        self.assertEqual(self.take(), ("False", []))
+
+    def test_none_is_taken_where_a_source_is_newer(self):
+        for folder in ("src", "specs", "proofs"):
+            file = self.room / "crates/low" / folder / "Newer.antt"
+            self.write(f"crates/low/{folder}/Newer.antt", "")
+            os.utime(file, (2**32, 2**32))
+            with self.subTest(folder):
+                self.assertEqual(self.take(), ("False", []))
+            file.unlink()
 
 
 if __name__ == "__main__":

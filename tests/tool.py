@@ -79,3 +79,4 @@ class OnSmallCrates(InARoom):
         file = self.room / path
         file.parent.mkdir(parents=True, exist_ok=True)
         file.write_text(text, encoding="utf-8")
+        return file
