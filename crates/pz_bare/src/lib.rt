@@ -2,14 +2,14 @@
 //! Also the past of a level.
 #![tactic(auto)]
 
-ghost use Rattle.std.specs.Prelude.{◌≡◌, ℕ, ◌<◌, ◌↔◌, List, IsTrue, true, map, length, All, IfOk, OnOk, OnErr, Some, None, MatchOption};
+ghost use Rattle.std.specs.Prelude.{◌≡◌, ℕ, ◌<◌, ◌≤◌, ◌↔◌, List, IsTrue, true, map, length, All, IfOk, OnOk, OnErr, Some, None, MatchOption};
 ghost use Rattle.std.specs.List.{list_any, list_all};
 ghost use Rattle.pz_sets.specs.Sets.{member};
 ghost use Rattle.pz_game.specs.declared.pattern.Item.{Item};
 ghost use Rattle.pz_game.specs.Pattern.{AreOf, AsksAmong, IsRowOf};
-ghost use Rattle.pz_cells.specs.Cell.{IsOnLayer, still_place};
-ghost use Rattle.pz_sheet.specs.Grid.{IsLawful, cell_at, place_at, with_place};
-ghost use Rattle.pz_sheet.specs.Movement.{stilled};
+ghost use Rattle.pz_cells.specs.Cell.{IsOnLayer};
+ghost use Rattle.pz_sheet.specs.Grid.{IsLawful, place_at, with_place};
+ghost use Rattle.pz_sheet.specs.Movement.{stilled, AreStill};
 ghost use Rattle.pz_sheet.specs.Presence.{is_in, cell_of, holds_both, holds_if, in_line};
 ghost use Rattle.pz_sheet.specs.Line.{line_count};
 ghost use Rattle.pz_sheet.specs.Pushing.{pushed};
@@ -271,16 +271,16 @@ impl BareLevel {
         }
     }
 
-    /// Whether nothing at a position of the map heads anywhere.
-    pub fn is_still(&self, x: u32, y: u32) -> bool
-        requires x_in { x < self.now.grid.width }
-        requires y_in { y < self.now.grid.height }
-        ensures { result ≡ true → cell_at self.now.grid x y ≡ map still_place (cell_at self.now.grid x y) }
+    /// The first row, from `from` on, in which something in a column of the map may head somewhere.
+    pub fn next_heading(&self, x: u32, from: u32) -> Option<u32>
+        requires { x < self.now.grid.width }
+        ensures next { MatchOption result (AreStill self.now.grid x from self.now.grid.height) (λ y. (from ≤ y) × (y < self.now.grid.height) × AreStill self.now.grid x from y) }
+        ensures lawful { IsLawful self.now.grid }
     {
         match &*self.sheet {
-            AnySheet::Small(sheet) => sheet.is_still(x, y),
-            AnySheet::Middle(sheet) => sheet.is_still(x, y),
-            AnySheet::Large(sheet) => sheet.is_still(x, y),
+            AnySheet::Small(sheet) => sheet.next_heading(x, from),
+            AnySheet::Middle(sheet) => sheet.next_heading(x, from),
+            AnySheet::Large(sheet) => sheet.next_heading(x, from),
         }
     }
 
@@ -305,18 +305,6 @@ impl BareLevel {
             AnySheet::Small(sheet) => sheet.line_objects(line),
             AnySheet::Middle(sheet) => sheet.line_objects(line),
             AnySheet::Large(sheet) => sheet.line_objects(line),
-        }
-    }
-
-    /// Whether no heading is noted for a column of the map. If so, nothing in it heads anywhere.
-    pub fn is_column_still(&self, x: u32) -> bool
-        requires { x < self.now.grid.width }
-        ensures { result ≡ true → (y : ℕ) → y < self.now.grid.height → cell_at self.now.grid x y ≡ map still_place (cell_at self.now.grid x y) }
-    {
-        match &*self.sheet {
-            AnySheet::Small(sheet) => sheet.is_column_still(x),
-            AnySheet::Middle(sheet) => sheet.is_column_still(x),
-            AnySheet::Large(sheet) => sheet.is_column_still(x),
         }
     }
 

@@ -1,11 +1,12 @@
--- A cell in which nothing heads anywhere is left as it is by a pass, and so is a column of such cells.
-use Rattle.std.proofs.Common.{◌≡◌, ℕ, zero, suc, ◌+◌, ◌<◌, List, [], ◌∷◌, Bool, Option, Some, None, map, get_or, arith, refl, ap, ◌∙◌}
+-- A cell in which nothing heads anywhere is left as it is by a pass, and so are rows of such cells.
+use Rattle.std.proofs.Common.{◌≡◌, ℕ, zero, suc, ◌+◌, ◌-◌, ◌≤◌, List, [], ◌∷◌, Bool, Option, Some, None, map, get_or, arith, refl, ap, sym, ◌∙◌}
 use Rattle.std.specs.List.{range_with_len}
 use Rattle.std.specs.Prelude.{fold}
 use Rattle.pz_game.specs.declared.direction.Dir.{Dir}
 use Rattle.pz_cells.specs.declared.piece.Piece.{Piece}
 use Rattle.pz_cells.specs.Cell.{still_piece, still_place}
 use Rattle.pz_sheet.specs.Grid.{Grid, cell_at, place_at}
+use Rattle.pz_sheet.specs.Movement.{AreStill}
 use Rattle.pz_grid.specs.Movement.{Pass, Spot, spot, in_pass, heading_goal, moved_to, move_place, move_at, spots_at, Stays}
 use Rattle.pz_grid.proofs.GatherLemmas.{gather}
 use Rattle.pz_grid.proofs.MovementLemmas.{fold_gather_more}
@@ -40,13 +41,20 @@ all_stay grid moved x y (layer ∷ layers) is =
     let first : move_at (in_pass grid moved) (spot x y layer) ≡ in_pass grid moved = stays (in_pass grid moved) (spot x y layer) (place_at grid x y layer) here in
     ap (λ (pass : Pass). fold move_at pass (map (spot x y) layers)) first ∙ all_stay grid moved x y layers is
 
-pub column_stays : (grid : Grid) (moved : Bool) (x depth n : ℕ) → ((y : ℕ) → y < n → cell_at grid x y ≡ map still_place (cell_at grid x y))
-    → fold move_at (in_pass grid moved) (gather (spots_at depth x) n) ≡ in_pass grid moved
-column_stays grid moved x depth zero still = refl
-column_stays grid moved x depth (suc n) still =
-    let start = in_pass grid moved in
+rows_on : (start : Pass) (grid : Grid) (moved : Bool) (x depth from n : ℕ) → fold move_at start (gather (spots_at depth x) from) ≡ in_pass grid moved → AreStill grid x from (from + n)
+    → fold move_at start (gather (spots_at depth x) (from + n)) ≡ in_pass grid moved
+rows_on start grid moved x depth from zero so_far still = ap (λ (k : ℕ). fold move_at start (gather (spots_at depth x) k)) (let e : from + zero ≡ from = omega arith in e) ∙ so_far
+rows_on start grid moved x depth from (suc n) so_far still =
     let cell = spots_at depth x in
-    ap (λ (k : ℕ). fold move_at start (gather cell k)) (let e : suc n ≡ n + 1 = omega arith in e)
-    ∙ fold_gather_more move_at start cell n
-    ∙ ap (λ (pass : Pass). fold move_at pass (cell n)) (column_stays grid moved x depth n (λ y below. still y (omega (arith, below))))
-    ∙ all_stay grid moved x n (range_with_len 0 depth) (still n (omega arith))
+    ap (λ (k : ℕ). fold move_at start (gather cell k)) (let e : from + suc n ≡ (from + n) + 1 = omega arith in e)
+    ∙ fold_gather_more move_at start cell (from + n)
+    ∙ ap (λ (pass : Pass). fold move_at pass (cell (from + n))) (rows_on start grid moved x depth from n so_far (λ y low below. still y low (omega (arith, below))))
+    ∙ all_stay grid moved x (from + n) (range_with_len 0 depth) (still (from + n) (omega arith) (omega arith))
+
+-- rows of a column in which nothing heads anywhere leave a pass as it is
+pub rows_stay : (start : Pass) (grid : Grid) (moved : Bool) (x depth from end : ℕ) → from ≤ end → fold move_at start (gather (spots_at depth x) from) ≡ in_pass grid moved
+    → AreStill grid x from end → fold move_at start (gather (spots_at depth x) end) ≡ in_pass grid moved
+rows_stay start grid moved x depth from end low so_far still =
+    let split : from + (end - from) ≡ end = omega (arith, low) in
+    ap (λ (k : ℕ). fold move_at start (gather (spots_at depth x) k)) (sym split)
+    ∙ rows_on start grid moved x depth from (end - from) so_far (λ y late below. still y late (omega (arith, below, split)))

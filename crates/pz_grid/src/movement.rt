@@ -1,13 +1,13 @@
 //! The movement of a step.
 
-ghost use Rattle.std.specs.Prelude.{◌≡◌, ℕ, ◌<◌, IfSome, MatchOption, fold, map, nat_eq, true};
-ghost use Rattle.pz_cells.specs.Cell.{IsOnLayer, still_place};
-ghost use Rattle.pz_sheet.specs.Grid.{cell_at, IsLawful, IsOfGame, SameSize, place_at, with_place};
+ghost use Rattle.std.specs.Prelude.{◌≡◌, ◌<◌, ◌≤◌, IfSome, MatchOption, fold, map, nat_eq, true};
+ghost use Rattle.pz_cells.specs.Cell.{IsOnLayer};
+ghost use Rattle.pz_sheet.specs.Grid.{IsLawful, IsOfGame, SameSize, place_at, with_place};
 ghost use Rattle.pz_sheet.specs.Presence.{in_row, in_column};
 ghost use Rattle.pz_grid.specs.Marks.{IsMarked, IsMarkedAt, IsWidened};
 ghost use Rattle.pz_grid.specs.Staying.{IsMove};
 ghost use Rattle.pz_grid.specs.Movement.{neighbour, heading_goal, spot, in_pass, move_at, spots_at, spots_in, pass_of, moving, settle, resolved, Stays, Leaves};
-ghost use Rattle.pz_sheet.specs.Movement.{stilled};
+ghost use Rattle.pz_sheet.specs.Movement.{stilled, AreStill};
 
 use crate::Level;
 use pz_bare::AnySheet;
@@ -117,21 +117,13 @@ impl Level {
         }
     }
 
-    /// Whether nothing at a position of the map heads anywhere.
-    fn is_still(&self, x: u32, y: u32) -> bool
-        requires x_in { x < self.now.grid.width }
-        requires y_in { y < self.now.grid.height }
-        ensures { result ≡ true → cell_at self.now.grid x y ≡ map still_place (cell_at self.now.grid x y) }
-    {
-        self.bare.is_still(x, y)
-    }
-
-    /// Whether no heading is noted for a column of the map. If so, nothing in it heads anywhere.
-    fn is_column_still(&self, x: u32) -> bool
+    /// The first row, from `from` on, in which something in a column of the map may head somewhere.
+    fn next_heading(&self, x: u32, from: u32) -> Option<u32>
         requires { x < self.now.grid.width }
-        ensures { result ≡ true → (y : ℕ) → y < self.now.grid.height → cell_at self.now.grid x y ≡ map still_place (cell_at self.now.grid x y) }
+        ensures next { MatchOption result (AreStill self.now.grid x from self.now.grid.height) (λ y. (from ≤ y) × (y < self.now.grid.height) × AreStill self.now.grid x from y) }
+        ensures lawful { IsLawful self.now.grid }
     {
-        self.bare.is_column_still(x)
+        self.bare.next_heading(x, from)
     }
 
     /// Puts a piece, or nothing, on a layer of a position of the map. The piece's object must be marked there.
@@ -187,9 +179,6 @@ impl Level {
         ensures size { SameSize self.old.grid self.new.grid }
         ensures marks { IsMove self.old self.new }
     {
-        if self.is_still(x, y) {
-            return moved_before;
-        }
         let mut moved = moved_before;
         for layer in 0..self.depth() {
             moved = self.move_at(x, y, layer, moved);
@@ -203,12 +192,11 @@ impl Level {
         ensures size { SameSize self.old.grid self.new.grid }
         ensures marks { IsMove self.old self.new }
     {
-        if self.is_column_still(x) {
-            return moved_before;
-        }
         let mut moved = moved_before;
-        for y in 0..self.height() {
+        let mut from = 0;
+        'rows: while let Some(y) = self.next_heading(x, from) {
             moved = self.pass_at(x, y, moved);
+            from = y + 1;
         }
         moved
     }

@@ -1,7 +1,15 @@
--- A level in which nothing heads anywhere any more.
-use Rattle.std.specs.Prelude.{map}
+-- Where nothing heads anywhere: at a position of the map, in rows of a column, and in a level in which movement is over.
+use Rattle.std.specs.Prelude.{◌≡◌, ◌≤◌, ◌<◌, ℕ, map}
 use Rattle.pz_cells.specs.Cell.{still_place}
-use Rattle.pz_sheet.specs.Grid.{Grid}
+use Rattle.pz_sheet.specs.Grid.{Grid, cell_at}
+
+-- nothing at a position of the map heads anywhere
+abbrev pub IsStillAt : Grid → ℕ → ℕ → Type 0
+IsStillAt grid x y = cell_at grid x y ≡ map still_place (cell_at grid x y)
+
+-- nothing in a column heads anywhere in the rows from one on and before another
+abbrev pub AreStill : Grid → ℕ → ℕ → ℕ → Type 0
+AreStill grid x from end = (y : ℕ) → from ≤ y → y < end → IsStillAt grid x y
 
 abbrev pub stilled : Grid → Grid
 stilled grid = record grid { cells = map (map still_place) grid.cells }

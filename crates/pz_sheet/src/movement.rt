@@ -1,9 +1,9 @@
 //! The end of all movement.
 
-ghost use Rattle.std.specs.Prelude.{◌≡◌, ℕ, ◌<◌, true, map};
+ghost use Rattle.std.specs.Prelude.{◌≡◌, ◌<◌, ◌≤◌, true, MatchOption};
 ghost use Rattle.pz_cells.specs.Cell.{still_place};
-ghost use Rattle.pz_sheet.specs.Grid.{IsLawful, cell_at, place_at};
-ghost use Rattle.pz_sheet.specs.Movement.{stilled};
+ghost use Rattle.pz_sheet.specs.Grid.{IsLawful, place_at};
+ghost use Rattle.pz_sheet.specs.Movement.{stilled, IsStillAt, AreStill};
 
 use crate::Sheet;
 use crate::line::Axis;
@@ -12,10 +12,10 @@ use pz_planes::notes::is_empty;
 
 impl<const N: usize> Sheet<N> {
     /// Whether nothing at a position of the map heads anywhere.
-    pub fn is_still(&self, x: u32, y: u32) -> bool
+    fn is_still(&self, x: u32, y: u32) -> bool
         requires x_in { x < self.now.grid.width }
         requires y_in { y < self.now.grid.height }
-        ensures { result ≡ true → cell_at self.now.grid x y ≡ map still_place (cell_at self.now.grid x y) }
+        ensures { result ≡ true → IsStillAt self.now.grid x y }
     {
         let layers = self.layers();
         self.cell(self.index(x, y)).is_still(layers)
@@ -33,11 +33,29 @@ impl<const N: usize> Sheet<N> {
     }
 
     /// Whether no heading is noted for a column of the map. If so, nothing in it heads anywhere.
-    pub fn is_column_still(&self, x: u32) -> bool
+    fn is_column_still(&self, x: u32) -> bool
         requires { x < self.now.grid.width }
-        ensures { result ≡ true → (y : ℕ) → y < self.now.grid.height → cell_at self.now.grid x y ≡ map still_place (cell_at self.now.grid x y) }
+        ensures { result ≡ true → AreStill self.now.grid x 0 self.now.grid.height }
     {
         is_empty(self.notes.line(Axis::Vertical, x))
+    }
+
+    /// The first row, from `from` on, in which something in a column of the map may head somewhere.
+    pub fn next_heading(&self, x: u32, from: u32) -> Option<u32>
+        requires { x < self.now.grid.width }
+        ensures next { MatchOption result (AreStill self.now.grid x from self.now.grid.height) (λ y. (from ≤ y) × (y < self.now.grid.height) × AreStill self.now.grid x from y) }
+        ensures lawful { IsLawful self.now.grid }
+    {
+        let end = self.height();
+        if self.is_column_still(x) {
+            return None;
+        }
+        for y in from..end {
+            if !self.is_still(x, y) {
+                return Some(y);
+            }
+        }
+        None
     }
 
     /// Stills every piece.

@@ -1,15 +1,13 @@
-use Rattle.std.proofs.Common.{◌≡◌, ℕ, ◌+◌, ◌<◌, ◌≤◌, ◌++◌, List, Bool, true, false, cond, filter, length, arith, ap, sym, ◌∙◌, subst}
-use Rattle.std.specs.Prelude.{IfOk, OnOk, Result, Ok, Err}
+use Rattle.std.proofs.Common.{◌≡◌, ◌<◌, ◌++◌, List, filter, length, ap, sym, ◌∙◌, subst}
+use Rattle.std.specs.Prelude.{OnOk, Err}
 use Rattle.std.proofs.lemmas.List.{append-nil}
 use Rattle.pz_game.specs.Pattern.{IsRowOf}
 use Rattle.pz_sheet.specs.Grid.{LevelState}
-use Rattle.pz_grid.specs.declared.placing.GridFault.{GridFault}
 use Rattle.pz_grid.specs.declared.placing.GridFault.TheVariants.{MatchLimit}
 use Rattle.pz_grid.specs.declared.placing.Place.{Place}
 use Rattle.pz_grid.specs.declared.placing.TheConstants.{MATCH_LIMIT}
-use Rattle.pz_grid.specs.Places.{line_count, line_length, pairs_in, places, row_holds}
-use Rattle.pz_grid.specs.Admitted.{searches_line, starts_in}
-use Rattle.pz_grid.proofs.SkipLemmas.{found_nowhere, starts_nowhere, starts_in_line}
+use Rattle.pz_grid.specs.Places.{line_count, pairs_in, row_holds}
+use Rattle.pz_grid.proofs.SkipLemmas.{found_nowhere}
 use Rattle.pz_grid.proofs.Level.add_searched.Goals as goal
 
 pub search_line-requires-clause-of_game : goal.search_line-requires-clause-of_game

@@ -1,15 +1,8 @@
 use Rattle.std.proofs.Common.{ap, sym, ◌∙◌}
-use Rattle.std.specs.List.{range_with_len}
 use Rattle.pz_grid.specs.Movement.{Pass, in_pass, move_at, spot}
 use Rattle.pz_grid.proofs.MoveLemmas.{moves_on}
 use Rattle.pz_grid.proofs.MovementLemmas.{fold_map_more, same_size_on}
-use Rattle.pz_grid.proofs.StillLemmas.{all_stay}
 use Rattle.pz_grid.proofs.Level.pass_at.Goals as goal
-
-pub returns-then-is_still-clause-pass : goal.returns-then-is_still-clause-pass
-returns-then-is_still-clause-pass c =
-    let grid = c.args.self.now.grid in
-    sym (all_stay grid c.args.moved_before c.args.x c.args.y (range_with_len 0 grid.depth) (c.is_still.ensures c.if-is_still.true))
 
 pub loop-layer-preserved : goal.loop-layer-preserved
 loop-layer-preserved c =

@@ -1,4 +1,4 @@
-use Rattle.std.proofs.Common.{◌≡◌}
+use Rattle.std.proofs.Common.{◌≡◌, ◌≤◌, ◌-◌}
 use Rattle.std.specs.Prelude.{fold}
 use Rattle.pz_grid.specs.Movement.{in_pass, move_at, spots_at}
 use Rattle.pz_sheet.specs.Grid.{SameSize}
@@ -6,9 +6,13 @@ use Rattle.pz_grid.specs.Staying.{IsMove}
 use Rattle.pz_grid.proofs.GatherLemmas.{gather}
 use Rattle.pz_grid.proofs.Level.pass_in.Given as goal
 
-abbrev pub invariant-loop-y : goal.invariant-loop-y
-invariant-loop-y l = record {
-  so_far : in_pass l.self.grid l.moved ≡ fold move_at (in_pass l.initial.self.grid l.initial.moved) (gather (spots_at l.initial.self.grid.depth l.x) l.y);
+abbrev pub invariant-rows : goal.invariant-rows
+invariant-rows l = record {
+  within : l.from ≤ l.initial.self.grid.height;
+  so_far : in_pass l.self.grid l.moved ≡ fold move_at (in_pass l.initial.self.grid l.initial.moved) (gather (spots_at l.initial.self.grid.depth l.x) l.from);
   size : SameSize l.initial.self.grid l.self.grid;
   marks : IsMove l.initial.self l.self;
 }
+
+abbrev pub decreases-rows : goal.decreases-rows
+decreases-rows l = l.initial.self.grid.height - l.from

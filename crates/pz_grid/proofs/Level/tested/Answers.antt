@@ -1,4 +1,4 @@
-use Rattle.std.proofs.Common.{◌≡◌, ℕ, ◌<◌, ◌≤◌, Bool, true, cond, arith, ap, sym, ◌∙◌, subst}
+use Rattle.std.proofs.Common.{◌≡◌, ◌<◌, ◌≤◌, Bool, cond, arith, ap, sym, subst}
 use Rattle.pz_game.specs.Pattern.{IsRowOf}
 use Rattle.pz_sheet.specs.Grid.{LevelState}
 use Rattle.pz_grid.specs.Places.{line_count, line_length, places}

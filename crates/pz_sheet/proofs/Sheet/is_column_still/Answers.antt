@@ -6,7 +6,7 @@ use Rattle.pz_sheet.proofs.StillLemmas.{column_is_still}
 use Rattle.pz_sheet.proofs.Sheet.is_column_still.Goals as goal
 
 pub returns : goal.returns
-returns g c = λ still y y_in.
+returns g c = λ still y low y_in.
     let a = c.self.inside in
     let e = ap (λ (s : BareState). s.grid) c.self.view_is in
     let wide : c.args.x < a.width = omega (arith, c.requires, ap (λ (grid : Grid). grid.width) e) in
