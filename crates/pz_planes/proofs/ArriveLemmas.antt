@@ -1,8 +1,9 @@
 -- Objects that are noted one after another.
-use Rattle.std.proofs.Common.{◌≡◌, ◌≢◌, inl, inr, ℕ, ◌+◌, ◌-◌, ◌*◌, ◌/◌, ◌%◌, ◌<◌, ◌≤◌, List, Bool, true, false, not, ◌&&◌, ◌||◌, nat_eq, eq-eqb, length, get_or, arith, ap, sym, ◌∙◌, refl, subst}
+use Rattle.std.proofs.Common.{◌≡◌, ◌≢◌, inl, inr, ℕ, ◌+◌, ◌-◌, ◌*◌, ◌/◌, ◌%◌, ◌<◌, ◌≤◌, List, [], Bool, true, false, not, ◌&&◌, ◌||◌, nat_eq, eq-eqb, length, get_or, arith, ap, sym, ◌∙◌, refl, subst}
 use Rattle.std.specs.Prelude.{nat_lt}
 use Rattle.std.proofs.lemmas.Bool.{cases_eq, cases_lt, ne_eqb, lt-ltb, le-ltb}
 use Rattle.pz_sets.specs.Sets.{member}
+use Rattle.pz_sets.proofs.WordLemmas.{in_word-zero}
 use Rattle.pz_game.specs.declared.pattern.Item.{Item}
 use Rattle.pz_game.specs.Items.{names}
 use Rattle.pz_planes.specs.Planes.{LineSets, PlaneSets, stands_in, AreChanged, IsInside, IsKnown, AreItemsOf, MayHold}
@@ -26,37 +27,37 @@ low_object object count within short = omega (arith, within, short)
 pub less_left : (from object : ℕ) → from ≤ object → object + 1 ≤ 512 → 512 - (object + 1) < 512 - from
 less_left from object above low = omega (arith, above, low)
 
--- ---- the objects of a set that are below a number
-abbrev pub below_in : ℕ → List ℕ → ℕ → Bool
-below_in from objects object = nat_lt object from && member objects object
+-- ---- the objects below a number that pass a test
+abbrev pub below : ℕ → (ℕ → Bool) → ℕ → Bool
+below from test object = nat_lt object from && test object
 
-pub below_none : (objects : List ℕ) (object : ℕ) → below_in 0 objects object ≡ false
-below_none objects object = ap (λ (b : Bool). b && member objects object) (le-ltb object 0 (omega arith))
+pub below_none : (test : ℕ → Bool) (object : ℕ) → below 0 test object ≡ false
+below_none test object = ap (λ (b : Bool). b && test object) (le-ltb object 0 (omega arith))
 
 -- one object more
-pub below_more : (from found : ℕ) (objects : List ℕ) → from ≤ found → member objects found ≡ true → ((number : ℕ) → from ≤ number → number < found → member objects number ≡ false) → (object : ℕ) → below_in (found + 1) objects object ≡ (nat_eq object found || below_in from objects object)
-below_more from found objects above is none object = elim (cases_eq object found) [
-  | inl same ↦ ap (λ (b : Bool). b && member objects object) (lt-ltb object (found + 1) (omega (arith, same))) ∙ ap (member objects) same ∙ is ∙ sym (ap (λ (b : Bool). b || below_in from objects object) (eq-eqb object found same))
-  | inr other ↦ below_other other ∙ sym (ap (λ (b : Bool). b || below_in from objects object) (ne_eqb object found other))
+pub below_more : (from found : ℕ) (test : ℕ → Bool) → from ≤ found → test found ≡ true → ((number : ℕ) → from ≤ number → number < found → test number ≡ false) → (object : ℕ) → below (found + 1) test object ≡ (nat_eq object found || below from test object)
+below_more from found test above is none object = elim (cases_eq object found) [
+  | inl same ↦ ap (λ (b : Bool). b && test object) (lt-ltb object (found + 1) (omega (arith, same))) ∙ ap test same ∙ is ∙ sym (ap (λ (b : Bool). b || below from test object) (eq-eqb object found same))
+  | inr other ↦ below_other other ∙ sym (ap (λ (b : Bool). b || below from test object) (ne_eqb object found other))
 ] where
-  none_of : (a : Bool) → member objects object ≡ false → (a && member objects object) ≡ false
+  none_of : (a : Bool) → test object ≡ false → (a && test object) ≡ false
   none_of true e = e
   none_of false e = refl
 
-  below_other : object ≢ found → below_in (found + 1) objects object ≡ below_in from objects object
+  below_other : object ≢ found → below (found + 1) test object ≡ below from test object
   below_other other = elim (cases_lt object from) [
-    | inl low ↦ ap (λ (b : Bool). b && member objects object) (lt-ltb object (found + 1) (omega (arith, low, above)) ∙ sym (lt-ltb object from low))
+    | inl low ↦ ap (λ (b : Bool). b && test object) (lt-ltb object (found + 1) (omega (arith, low, above)) ∙ sym (lt-ltb object from low))
     | inr high ↦ elim (cases_lt object found) [
       | inl between ↦ none_of (nat_lt object (found + 1)) (none object high between) ∙ sym (none_of (nat_lt object from) (none object high between))
-      | inr past ↦ ap (λ (b : Bool). b && member objects object) (le-ltb object (found + 1) (omega (arith, past, other)) ∙ sym (le-ltb object from high))
+      | inr past ↦ ap (λ (b : Bool). b && test object) (le-ltb object (found + 1) (omega (arith, past, other)) ∙ sym (le-ltb object from high))
     ]
   ]
 
 -- all of them
-pub below_all : (from : ℕ) (objects : List ℕ) → ((number : ℕ) → from ≤ number → member objects number ≡ false) → (object : ℕ) → below_in from objects object ≡ member objects object
-below_all from objects none object = elim (cases_lt object from) [
-  | inl low ↦ ap (λ (b : Bool). b && member objects object) (lt-ltb object from low)
-  | inr high ↦ ap (λ (b : Bool). b && member objects object) (le-ltb object from high) ∙ sym (none object high)
+pub below_all : (from : ℕ) (test : ℕ → Bool) → ((number : ℕ) → from ≤ number → test number ≡ false) → (object : ℕ) → below from test object ≡ test object
+below_all from test none object = elim (cases_lt object from) [
+  | inl low ↦ ap (λ (b : Bool). b && test object) (lt-ltb object from low)
+  | inr high ↦ ap (λ (b : Bool). b && test object) (le-ltb object from high) ∙ sym (none object high)
 ]
 
 -- ---- what is noted there, one object after another
@@ -64,14 +65,23 @@ pub arrived : (one rest was : Bool) → (one || (rest || was)) ≡ ((one || rest
 arrived true rest was = refl
 arrived false rest was = refl
 
-pub left : (one rest stays was : Bool) → (not (one && not stays) && (not (rest && not stays) && was)) ≡ (not ((one || rest) && not stays) && was)
-left true true true was = refl
-left true false true was = refl
-left true rest false was = refl
-left false rest stays was = refl
+pub left : (one rest was : Bool) → (not one && (not rest && was)) ≡ (not (one || rest) && was)
+left true rest was = refl
+left false rest was = refl
+
+pub has_first : (a b : Bool) → (a && b) ≡ true → a ≡ true
+has_first true b e = refl
+has_first false b e = e
+
+-- where nothing was before, all is new
+pub all_new : (objects : List ℕ) (object : ℕ) (was : Bool) → ((member objects object && not (member [] object)) || was) ≡ (member objects object || was)
+all_new objects object was = ap (λ (b : Bool). (member objects object && not b) || was) (in_word-zero (object % 128)) ∙ as_it_is (member objects object) where
+  as_it_is : (a : Bool) → ((a && true) || was) ≡ (a || was)
+  as_it_is true = refl
+  as_it_is false = refl
 
 -- where those of a cell were there, those of the next one are
-pub replaced : (before after : Bool) → (after || (not (before && not after) && before)) ≡ after
+pub replaced : (before after : Bool) → ((after && not before) || (not (before && not after) && before)) ≡ after
 replaced true true = refl
 replaced true false = refl
 replaced false true = refl

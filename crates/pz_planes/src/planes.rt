@@ -267,17 +267,6 @@ impl Planes {
         self.columns.remove(object, x, y);
     }
 
-    /// Drops the note of an object, unless it is one of `after`.
-    fn remove_unless(&mut self, object: usize, x: usize, y: usize, after: &[u128])
-        requires inside { IsInside self.old x y }
-        requires known { IsKnown self.old object }
-        ensures { AreChanged self.old self.new x y (λ other was. not (nat_eq other object && not (member after.now other)) && was) }
-    {
-        if !words::contains(after, object) {
-            self.remove(object, x, y);
-        }
-    }
-
     /// Drops the notes of the objects that a cell had in `before` and hasn't in `after`.
     fn leave(&mut self, x: usize, y: usize, before: &[u128], after: &[u128])
         requires short { length before.now ≤ 4 }
@@ -286,21 +275,21 @@ impl Planes {
         ensures { AreChanged self.old self.new x y (λ object was. not (member before.now object && not (member after.now object)) && was) }
     {
         let mut from = 0;
-        'objects: while let Some(object) = words::next(before, from) {
-            self.remove_unless(object, x, y, after);
+        'objects: while let Some(object) = words::next_only(before, after, from) {
+            self.remove(object, x, y);
             from = object + 1;
         }
     }
 
-    /// Notes the objects of a cell.
-    fn arrive(&mut self, x: usize, y: usize, objects: &[u128])
-        requires short { length objects.now ≤ 4 }
+    /// Notes the objects that a cell has in `after` and hadn't in `before`.
+    fn arrive(&mut self, x: usize, y: usize, before: &[u128], after: &[u128])
+        requires short { length after.now ≤ 4 }
         requires inside { IsInside self.old x y }
-        requires known { AreKnown self.old objects.now }
-        ensures { AreChanged self.old self.new x y (λ object was. member objects.now object || was) }
+        requires known { AreKnown self.old after.now }
+        ensures { AreChanged self.old self.new x y (λ object was. (member after.now object && not (member before.now object)) || was) }
     {
         let mut from = 0;
-        'objects: while let Some(object) = words::next(objects, from) {
+        'objects: while let Some(object) = words::next_only(after, before, from) {
             self.insert(object, x, y);
             from = object + 1;
         }
@@ -322,7 +311,7 @@ impl Planes {
             return;
         }
         self.leave(x, y, before, after);
-        self.arrive(x, y, after);
+        self.arrive(x, y, before, after);
     }
 
     /// The same at the cell of this number. Cells are numbered row by row.
@@ -349,7 +338,7 @@ impl Planes {
         ensures { AreChanged self.old self.new (index % self.old.columns.count) (index / self.old.columns.count) (λ object was. member objects.now object || was) }
     {
         let width = self.columns.count();
-        self.arrive(index % width, index / width, objects);
+        self.arrive(index % width, index / width, &[], objects);
     }
 
     /// Drops all notes. The numbers of objects and lines stay.

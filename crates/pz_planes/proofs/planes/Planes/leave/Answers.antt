@@ -1,26 +1,29 @@
 use Rattle.std.proofs.Common.{ℕ, ◌+◌, Bool, ◌&&◌, not, nat_eq, arith, ap, sym, ◌∙◌}
 use Rattle.pz_sets.specs.Sets.{member}
-use Rattle.pz_planes.proofs.ArriveLemmas.{inside_still, object_still, low_object, less_left, below_in, below_none, below_more, below_all, left}
+use Rattle.pz_planes.proofs.ArriveLemmas.{inside_still, object_still, low_object, less_left, below, below_none, below_more, below_all, left, has_first}
 use Rattle.pz_planes.proofs.PlaneLemmas.{changed_same, changed_on, changed_as}
 use Rattle.pz_planes.proofs.planes.Planes.leave.Goals as goal
 
 pub objects-init : goal.objects-init
-objects-init c = record {
-  changed = changed_same c.args.self.now c.args.x c.args.y (λ object was. not (below_in 0 c.args.before.now object && not (member c.args.after.now object)) && was)
-      (λ object was. ap (λ (b : Bool). not (b && not (member c.args.after.now object)) && was) (below_none c.args.before.now object));
-  low = omega arith;
-}
+objects-init c =
+    let test = λ (object : ℕ). member c.args.before.now object && not (member c.args.after.now object) in
+    record {
+      changed = changed_same c.args.self.now c.args.x c.args.y (λ object was. not (below 0 test object) && was) (λ object was. ap (λ (b : Bool). not b && was) (below_none test object));
+      low = omega arith;
+    }
 
-pub next-requires : goal.next-requires
-next-requires c = record { short = c.requires.short; low = c.objects.invariant.low }
+pub next_only-requires : goal.next_only-requires
+next_only-requires c = record { short = c.requires.short; low = c.objects.invariant.low }
 
-pub remove_unless-requires : goal.remove_unless-requires
-remove_unless-requires c =
-    let noted = λ (object : ℕ) (was : Bool). not (below_in c.objects.from c.args.before.now object && not (member c.args.after.now object)) && was in
+pub remove-requires : goal.remove-requires
+remove-requires c =
+    let test = λ (object : ℕ). member c.args.before.now object && not (member c.args.after.now object) in
+    let noted = λ (object : ℕ) (was : Bool). not (below c.objects.from test object) && was in
     let changed = c.objects.invariant.changed in
+    let object = c.in-Some.object in
     record {
       inside = inside_still c.args.self.now c.objects.self c.args.x c.args.y noted changed c.requires.inside;
-      known = object_still c.args.self.now c.objects.self c.args.x c.args.y c.in-Some.object noted changed (c.requires.known c.in-Some.object c.in-Some.ensures.2);
+      known = object_still c.args.self.now c.objects.self c.args.x c.args.y object noted changed (c.requires.known object (has_first (member c.args.before.now object) (not (member c.args.after.now object)) c.in-Some.ensures.2));
     }
 
 pub overflow_add-from : goal.overflow_add-from
@@ -31,23 +34,21 @@ objects-smaller c = less_left c.objects.from c.in-Some.object c.in-Some.ensures.
 
 pub objects-preserved : goal.objects-preserved
 objects-preserved c =
-    let before = c.args.before.now in
-    let stays = member c.args.after.now in
+    let test = λ (object : ℕ). member c.args.before.now object && not (member c.args.after.now object) in
     let from = c.objects.from in
     let found = c.in-Some.object in
     let there = c.in-Some.ensures in
     record {
-      changed = changed_on c.args.self.now c.objects.self c.remove_unless.new.self c.args.x c.args.y
-          (λ object was. not (below_in from before object && not (stays object)) && was) (λ object was. not (nat_eq object found && not (stays object)) && was) (λ object was. not (below_in (found + 1) before object && not (stays object)) && was)
-          c.objects.invariant.changed c.remove_unless.ensures
-          (λ object was. left (nat_eq object found) (below_in from before object) (stays object) was ∙ ap (λ (b : Bool). not (b && not (stays object)) && was) (sym (below_more from found before there.0 there.2 there.3 object)));
+      changed = changed_on c.args.self.now c.objects.self c.remove.new.self c.args.x c.args.y
+          (λ object was. not (below from test object) && was) (λ object was. not (nat_eq object found) && was) (λ object was. not (below (found + 1) test object) && was)
+          c.objects.invariant.changed c.remove.ensures
+          (λ object was. left (nat_eq object found) (below from test object) was ∙ ap (λ (b : Bool). not b && was) (sym (below_more from found test there.0 there.2 there.3 object)));
       low = low_object c.in-Some.object _ c.in-Some.ensures.1 c.requires.short;
     }
 
 pub returns : goal.returns
 returns c =
-    let before = c.args.before.now in
-    let stays = member c.args.after.now in
+    let test = λ (object : ℕ). member c.args.before.now object && not (member c.args.after.now object) in
     let from = c.objects.from in
-    changed_as c.args.self.now c.objects.self c.args.x c.args.y (λ object was. not (below_in from before object && not (stays object)) && was) (λ object was. not (member before object && not (stays object)) && was) c.objects.invariant.changed
-    (λ object was. ap (λ (b : Bool). not (b && not (stays object)) && was) (below_all from before c.in_default.ensures object))
+    changed_as c.args.self.now c.objects.self c.args.x c.args.y (λ object was. not (below from test object) && was) (λ object was. not (test object) && was) c.objects.invariant.changed
+    (λ object was. ap (λ (b : Bool). not b && was) (below_all from test c.in_default.ensures object))

@@ -34,6 +34,6 @@ returns c =
     let after = member c.args.after.now in
     let start = c.args.self.now in
     let end = c.arrive.new.self in
-    changed_from start end c.args.x c.args.y before after (λ object was. after object || (not (before object && not (after object)) && was)) c.requires.there
-    (changed_on start c.leave.new.self end c.args.x c.args.y (λ object was. not (before object && not (after object)) && was) (λ object was. after object || was) (λ object was. after object || (not (before object && not (after object)) && was)) c.leave.ensures c.arrive.ensures (λ object was. refl))
+    changed_from start end c.args.x c.args.y before after (λ object was. (after object && not (before object)) || (not (before object && not (after object)) && was)) c.requires.there
+    (changed_on start c.leave.new.self end c.args.x c.args.y (λ object was. not (before object && not (after object)) && was) (λ object was. (after object && not (before object)) || was) (λ object was. (after object && not (before object)) || (not (before object && not (after object)) && was)) c.leave.ensures c.arrive.ensures (λ object was. refl))
     (λ object. replaced (before object) (after object))
