@@ -48,9 +48,22 @@ fn send<R: Wait>(rt: &R, sender: &mut Sender, message: Message)
     unreachable!()
 }
 
+/// How many bytes a worker asks for at once.
+const STEP: usize = 98_304;
+
+/// How many items it sends before it asks for as many again.
+const ITEMS: u64 = 64;
+
+/// Asks for memory and gives it back. The C library then has it for the items to come; else it would ask the system for one page after
+/// another.
+fn make_room(alloc: Global) {
+    drop(Vec::<u8>::with_capacity(alloc, STEP));
+}
+
 /// Sends the items that are still to come in a run, as long as there is memory to play on and the gate lets them pass.
 fn send_items<U: Playing, R: Wait, G: Gate>(
     rt: &R,
+    alloc: Global,
     sender: &mut Sender,
     session: usize,
     run: &mut U,
@@ -63,6 +76,9 @@ fn send_items<U: Playing, R: Wait, G: Gate>(
     ensures closed { IfErr result (λ end. end ≡ GateClosed → HasStopIn (G.may_stop gate.now) session (length (U.left run.old))) }
 {
     for number in 0..u64::MAX {
+        if number % ITEMS == 0 {
+            make_room(alloc);
+        }
         match run.next() {
             Ok(Some(item)) => {
                 if !gate.pass(session, number) {
@@ -98,7 +114,7 @@ fn play<P: Playable, R: Wait, G: Gate>(
     let Ok(mut run) = duty.played.begin(duty.alloc, session) else {
         return Err(End::Memory);
     };
-    send_items(rt, sender, session, &mut run, duty.gate)
+    send_items(rt, duty.alloc, sender, session, &mut run, duty.gate)
 }
 
 /// Sends the last message, and hands back what the worker has.
