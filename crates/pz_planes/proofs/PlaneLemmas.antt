@@ -3,7 +3,7 @@ use Rattle.std.proofs.Common.{◌≡◌, ◌≢◌, inl, inr, ℕ, zero, suc, �
 use Rattle.std.proofs.lemmas.Bool.{cases_eq, ne_eqb}
 use Rattle.std.proofs.lemmas.Nat.{div_below, same_from_place}
 use Rattle.pz_sets.specs.Sets.{member}
-use Rattle.pz_planes.specs.Planes.{LineSets, PlaneSets, stands_in, IsEmpty, IsChanged, AreChanged, IsInside, AreThere, HaveSameLines, AreKnown, IsFor}
+use Rattle.pz_planes.specs.Planes.{LineSets, PlaneSets, stands_in, IsEmpty, IsChanged, AreChanged, AreThere, HaveSameLines, AreKnown, IsFor}
 
 -- ---- sets that are changed at one position
 -- nothing is noted past the room of a line

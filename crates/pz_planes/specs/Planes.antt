@@ -40,6 +40,10 @@ stands_in sets object line at = member sets.words ((object * sets.count + line) 
 abbrev pub IsMissingIn : LineSets → ℕ → ℕ → Type 0
 IsMissingIn sets line object = (at : ℕ) → object < sets.objects → at < 128 → stands_in sets object line at ≡ false
 
+-- the same objects are noted at a position of a line, of those that both have
+abbrev pub AreSameAt : LineSets → LineSets → ℕ → ℕ → Type 0
+AreSameAt sets other line at = (object : ℕ) → object < sets.objects → stands_in sets object line at ≡ stands_in other object line at
+
 -- nothing is noted at all
 abbrev pub IsEmpty : LineSets → Type 0
 IsEmpty sets = (object line at : ℕ) → stands_in sets object line at ≡ false
