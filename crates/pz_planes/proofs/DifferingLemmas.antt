@@ -1,8 +1,10 @@
 -- The positions at which the objects that are noted differ.
-use Rattle.std.proofs.Common.{◌≡◌, inl, inr, ℕ, ◌+◌, ◌<◌, Bool, true, false, not, ◌||◌, cond, arith, ap, sym, ◌∙◌, refl}
+use Rattle.std.proofs.Common.{◌≡◌, inl, inr, ℕ, ◌+◌, ◌-◌, ◌*◌, ◌/◌, ◌%◌, ◌<◌, ◌≤◌, Bool, true, false, not, ◌||◌, cond, arith, ap, sym, ◌∙◌, refl, subst}
 use Rattle.std.specs.Prelude.{◌↔◌}
-use Rattle.std.proofs.lemmas.Bool.{cases_eq}
-use Rattle.pz_planes.specs.Planes.{LineSets, stands_in}
+use Rattle.std.proofs.lemmas.Bool.{cases_eq, cases_lt}
+use Rattle.std.proofs.lemmas.Nat.{div-mul-add, mod-mul-add}
+use Rattle.pz_sets.specs.Sets.{in_word}
+use Rattle.pz_planes.specs.Planes.{LineSets, stands_in, AreSameAt, AreSameBetween}
 
 pub xor_no : (x y z : Bool) → z ≡ cond x (not y) y → (z ≡ false) ↔ (x ≡ y)
 xor_no true true z e = (λ no. refl, λ same. e)
@@ -31,3 +33,26 @@ same_more object sets other line at before here new rest one is = (
   ],
   λ same. is ∙ no_or before here (rest.1 (λ k low. same k (omega (arith, low)))) (one.1 (same object (omega arith))),
 )
+
+-- ---- the positions of one line after another, each of this many
+module _ (sets other : LineSets) (long line places : ℕ) (short : long ≤ 128) (tells : (at : ℕ) → at < 128 → (in_word places at ≡ false) ↔ AreSameAt sets other line at) where
+  at_number : (at : ℕ) → at < long → AreSameAt sets other line at → AreSameAt sets other ((line * long + at) / long) ((line * long + at) % long)
+  at_number at low = subst (λ (y : ℕ). AreSameAt sets other line at → AreSameAt sets other y ((line * long + at) % long)) (sym (div-mul-add line long at low)) (subst (λ (x : ℕ). AreSameAt sets other line at → AreSameAt sets other line x) (sym (mod-mul-add line long at low)) (λ same. same))
+
+  -- the word tells of the line up to a position
+  pub same_to : (from start end : ℕ) → start ≡ from - line * long → end ≤ long → ((at : ℕ) → start ≤ at → at < end → in_word places at ≡ false) → AreSameBetween sets other long from (line * long) → AreSameBetween sets other long from (line * long + end)
+  same_to from start end is low none before number above below = elim (cases_lt number (line * long)) [
+    | inl early ↦ before number above early
+    | inr late ↦
+        let at = number - line * long in
+        let is_number : line * long + at ≡ number = omega (arith, late) in
+        let small : at < end = omega (arith, below, late) in
+        subst (λ (k : ℕ). AreSameAt sets other (k / long) (k % long)) is_number
+        (at_number at (omega (arith, small, low)) ((tells at (omega (arith, small, low, short))).0 (none at (omega (arith, above, is)) small)))
+  ]
+
+  -- and differs there
+  pub differ_there : (at : ℕ) → at < long → in_word places at ≡ true → AreSameAt sets other ((line * long + at) / long) ((line * long + at) % long) → ⊥
+  differ_there at low there same =
+      let here : AreSameAt sets other line at = subst (AreSameAt sets other line) (mod-mul-add line long at low) (subst (λ (y : ℕ). AreSameAt sets other y ((line * long + at) % long)) (div-mul-add line long at low) same) in
+      let f : true ≡ false = sym there ∙ (tells at (omega (arith, low, short))).1 here in cc
