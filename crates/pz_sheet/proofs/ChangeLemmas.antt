@@ -152,11 +152,14 @@ module _ (N wa ha : ℕ) (la : Layering) (ca : List (Cell N)) (wb hb : ℕ) (lb 
   many : length grid.cells ≡ length ca
   many = ap (λ (g : Grid). length g.cells) (sym a.is) ∙ length-map ca (seen la)
 
+  pub same_width : wa ≡ wb
+  same_width = ap (λ (g : Grid). g.width) a.is ∙ (sym a.size.width ∙ sym (ap (λ (g : Grid). g.width) a.is_other))
+
+  pub same_height : ha ≡ hb
+  same_height = ap (λ (g : Grid). g.height) a.is ∙ (sym a.size.height ∙ sym (ap (λ (g : Grid). g.height) a.is_other))
+
   pub as_many : length ca ≡ length cb
-  as_many =
-      let width : wa ≡ wb = ap (λ (g : Grid). g.width) a.is ∙ (sym a.size.width ∙ sym (ap (λ (g : Grid). g.width) a.is_other)) in
-      let height : ha ≡ hb = ap (λ (g : Grid). g.height) a.is ∙ (sym a.size.height ∙ sym (ap (λ (g : Grid). g.height) a.is_other)) in
-      as_long wa ha wb hb (length ca) (length cb) width height a.stored.covers a.stored_other.covers
+  as_many = as_long wa ha wb hb (length ca) (length cb) same_width same_height a.stored.covers a.stored_other.covers
 
   pub over_layers : la ≡ lb
   over_layers =
