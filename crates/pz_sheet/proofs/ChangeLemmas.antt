@@ -21,7 +21,7 @@ use Rattle.pz_cells.specs.Lists.{seen, IsSound, AreAlike}
 use Rattle.pz_planes.specs.Notes.{HeadingSets}
 use Rattle.pz_sheet.specs.Seen.{grid_of, IsStored}
 use Rattle.pz_cells.proofs.ListLemmas.{no_cell, sound_at}
-use Rattle.pz_sheet.proofs.SameLemmas.{seen_alike, alike_seen}
+use Rattle.pz_sheet.proofs.SameLemmas.{seen_alike, alike_seen, are_same}
 use Rattle.pz_sheet.proofs.SheetLemmas.{seen_at}
 
 -- ---- cells put back
@@ -70,10 +70,6 @@ way_back_by grid older changes size lawful lawful_older e =
 -- what is left from a cell on
 abbrev pub left_from : Grid → Grid → ℕ → List CellChange
 left_from grid older index = changed_from index (drop index grid.cells) (drop index older.cells)
-
-are_same : (b : Bool) → not b ≡ false → b ≡ true
-are_same true h = refl
-are_same false h = cc
 
 are_other : (b : Bool) → not b ≡ true → b ≡ false
 are_other true h = cc
