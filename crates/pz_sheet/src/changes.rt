@@ -95,9 +95,23 @@ impl<const N: usize> Sheet<N> {
         }
     }
 
+    /// Makes this level equal to another of the same size by the cells in which they differ.
+    pub(crate) fn take_all(&mut self, other: &Sheet<N>)
+        requires size { SameSize self.old.grid other.now.grid }
+        ensures { self.new.grid ≡ other.now.grid }
+    {
+        // (brings the proof the law of both levels)
+        let _ = (self.width(), other.width());
+        let mut from = 0;
+        'changes: while let Some(index) = self.next_change(other, from) {
+            self.take_cell(other, index);
+            from = index + 1;
+        }
+    }
+
     /// Whether the planes tell what stands in each cell with less work than the cells: a row fits in a word, and the game has no more
     /// objects than a row has cells.
-    fn is_told_by_planes(&self) -> bool
+    pub(crate) fn is_told_by_planes(&self) -> bool
         ensures { result ≡ true → self.now.grid.width ≤ 128 }
     {
         self.width <= bits::ROOM && self.layers.object_count() <= self.width as usize
