@@ -1,13 +1,12 @@
 -- Two lists of cells are walked side by side, up to the first cell in which they differ.
-use Rattle.std.proofs.Common.{◌≡◌, inl, inr, ℕ, ◌+◌, ◌<◌, List, Option, Some, None, Bool, true, false, not, length, get_or, ap, sym, ◌∙◌, refl, subst, arith}
-use Rattle.std.specs.Prelude.{IsTrue, ◌↔◌, is_some}
+use Rattle.std.proofs.Common.{◌≡◌, inl, inr, ℕ, ◌+◌, ◌<◌, List, Bool, true, false, length, get_or, ap, sym, ◌∙◌, refl, subst, arith}
+use Rattle.std.specs.Prelude.{IsTrue, ◌↔◌}
 use Rattle.std.proofs.lemmas.List.{get_or_default}
 use Rattle.std.proofs.lemmas.Bool.{cases_eq}
 use Rattle.pz_sets.specs.Sets.{member, AreSame}
 use Rattle.pz_cells.specs.declared.cell.Cell.{Cell}
-use Rattle.pz_cells.specs.Differing.{AreAlikeBetween, Differ, IsNextDiffering}
-use Rattle.pz_cells.specs.Lists.{AreAlike, HaveSame, HeadNowhere}
-use Rattle.pz_cells.proofs.ListLemmas.{no_cell}
+use Rattle.pz_cells.specs.Differing.{AreAlikeBetween, Differ}
+use Rattle.pz_cells.specs.Lists.{AreAlike, HeadNowhere}
 
 -- a cell of both lists, and whether their words have the same numbers
 pub record AreRead (N : ℕ) (a b : List (Cell N)) (index : ℕ) (x y : Cell N) (r : Bool) : Type 0 where
@@ -53,10 +52,3 @@ read_objects N a b index x y r within long is_x is_y still others_still decides 
       is_y = is_y;
       decides = (λ t. (same.0 t, λ number. none_x number ∙ sym (none_y number)), λ alike. same.1 alike.0);
     }
-
--- none is found exactly where all are the same
-pub none_differs : (N : ℕ) (a b : List (Cell N)) (found : Option ℕ) (r : Bool) → length a ≡ length b → is_some found ≡ not r → IsNextDiffering a b 0 found → IsTrue r ↔ HaveSame a b
-none_differs N a b None true long e same = (λ t. record { long = long; alike = λ k cell other h. same k cell other (omega arith) h }, λ all. refl)
-none_differs N a b None false long e same = absurd (let f : false ≡ true = e in cc)
-none_differs N a b (Some found) true long e next = absurd (let f : true ≡ false = e in cc)
-none_differs N a b (Some found) false long e next = (λ (f : false ≡ true). cc, λ all. absurd (next.2 (no_cell N) (no_cell N) (all.alike found (no_cell N) (no_cell N) next.1)))

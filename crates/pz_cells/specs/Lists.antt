@@ -31,11 +31,6 @@ pub record AreMapped {N : ℕ} (layering : Layering) (f : List (Option Piece) �
 abbrev pub AreAlike : {N : ℕ} → Cell N → Cell N → Type 0
 AreAlike cell other = AreSame cell.objects other.objects × AreSame cell.movement other.movement
 
--- lists of cells that are alike, one by one
-pub record HaveSame {N : ℕ} (a b : List (Cell N)) : Type 0 where
-  pub long : length a ≡ length b
-  pub alike : (index : ℕ) (cell other : Cell N) → index < length a → AreAlike (slice_index_or a index cell) (slice_index_or b index other)
-
 -- what stands on a layer, by the words of a cell
 abbrev pub place_in : {N : ℕ} → Layering → Cell N → ℕ → Option Piece
 place_in layering cell layer = place_of layering.layers cell.objects cell.movement layer

@@ -1,8 +1,8 @@
-//! The next cell in which two lists of cells differ, and whether there is one.
+//! The next cell in which two lists of cells differ.
 
-ghost use Rattle.std.specs.Prelude.{◌≡◌, ◌≤◌, ◌↔◌, IsTrue, true, length};
+ghost use Rattle.std.specs.Prelude.{◌≡◌, ◌≤◌, true, length};
 ghost use Rattle.pz_cells.specs.Differing.{IsNextDiffering};
-ghost use Rattle.pz_cells.specs.Lists.{HaveSame, HeadNowhere};
+ghost use Rattle.pz_cells.specs.Lists.{HeadNowhere};
 
 use crate::cell::Cell;
 use pz_sets::words::same;
@@ -63,14 +63,4 @@ fn next_of_cells<const N: usize>(
         }
     }
     None
-}
-
-/// Whether two lists have the same cells. If no cell of either heads anywhere, only the objects are compared.
-pub fn same_cells<const N: usize>(a: &[Cell<N>], b: &[Cell<N>], are_still: bool) -> bool
-    requires short { N ≤ 4 }
-    requires still { are_still ≡ true → HeadNowhere a.now }
-    requires others_still { are_still ≡ true → HeadNowhere b.now }
-    ensures { IsTrue result ↔ HaveSame a.now b.now }
-{
-    a.len() == b.len() && next_differing(a, b, are_still, 0).is_none()
 }

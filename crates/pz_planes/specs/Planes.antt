@@ -1,6 +1,6 @@
 -- At which positions of each row and each column the objects of a level stand. The planes have exactly the positions below 128,
 -- and no others.
-use Rattle.std.specs.Prelude.{◌≡◌, ◌≢◌, ℕ, ◌+◌, ◌*◌, ◌<◌, ◌≤◌, List, Bool, true, false, length, slice_index_or, All}
+use Rattle.std.specs.Prelude.{◌≡◌, ◌≢◌, ℕ, ◌+◌, ◌*◌, ◌/◌, ◌%◌, ◌<◌, ◌≤◌, List, Bool, true, false, Option, Some, None, length, slice_index_or, All}
 use Rattle.pz_sets.specs.Sets.{member}
 use Rattle.pz_game.specs.declared.limits.TheConstants.{MAX_OBJECTS, MAX_SIDE}
 use Rattle.pz_game.specs.declared.pattern.Item.{Item}
@@ -39,6 +39,21 @@ stands_in sets object line at = member sets.words ((object * sets.count + line) 
 -- an object is noted at no position of a line
 abbrev pub IsMissingIn : LineSets → ℕ → ℕ → Type 0
 IsMissingIn sets line object = (at : ℕ) → object < sets.objects → at < 128 → stands_in sets object line at ≡ false
+
+-- the same objects are noted at a position of a line, of those that both have
+abbrev pub AreSameAt : LineSets → LineSets → ℕ → ℕ → Type 0
+AreSameAt sets other line at = (object : ℕ) → object < sets.objects → stands_in sets object line at ≡ stands_in other object line at
+
+-- the same objects are noted at the positions from one number to before another; they are numbered line by line, and each line
+-- has this many
+abbrev pub AreSameBetween : LineSets → LineSets → ℕ → ℕ → ℕ → Type 0
+AreSameBetween sets other long from end = (number : ℕ) → from ≤ number → number < end → AreSameAt sets other (number / long) (number % long)
+
+-- the first position, from a number on, at which other objects are noted, if there is one
+abbrev pub IsNextDiffering : LineSets → LineSets → ℕ → ℕ → Option ℕ → Type 0
+IsNextDiffering sets other long from None = AreSameBetween sets other long from (sets.count * long)
+IsNextDiffering sets other long from (Some found) =
+    (from ≤ found) × (found < sets.count * long) × (AreSameAt sets other (found / long) (found % long) → ⊥) × AreSameBetween sets other long from found
 
 -- nothing is noted at all
 abbrev pub IsEmpty : LineSets → Type 0

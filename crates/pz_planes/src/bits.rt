@@ -1,6 +1,6 @@
 //! Positions of a line as the bits of a word: the position n, counted from 0, is in the set if bit n of the word is set.
 
-ghost use Rattle.std.specs.Prelude.{◌≡◌, ℕ, ◌<◌, ◌≤◌, ◌&&◌, true, false, not};
+ghost use Rattle.std.specs.Prelude.{◌≡◌, ℕ, ◌<◌, ◌≤◌, ◌↔◌, ◌&&◌, ◌||◌, true, false, not};
 ghost use Rattle.pz_sets.specs.Sets.{in_word};
 ghost use Rattle.pz_sets.specs.Next.{IsNext};
 ghost use Rattle.pz_planes.specs.Line.{step_to, room_from};
@@ -30,6 +30,20 @@ pub fn both(set: u128, other: u128) -> u128
     ensures { (at : ℕ) → in_word result at ≡ (in_word set at && in_word other at) }
 {
     set & other
+}
+
+/// The positions of one set or the other.
+pub fn either(set: u128, other: u128) -> u128
+    ensures { (at : ℕ) → in_word result at ≡ (in_word set at || in_word other at) }
+{
+    set | other
+}
+
+/// The positions that are in one set and not in the other.
+pub fn differing(set: u128, other: u128) -> u128
+    ensures { (at : ℕ) → (in_word result at ≡ false) ↔ (in_word set at ≡ in_word other at) }
+{
+    set ^ other
 }
 
 /// The positions that are not in the set.

@@ -1,11 +1,11 @@
 //! At which positions of each row and each column the objects of a level stand, so that lines can be searched fast. Objects, columns and
 //! rows are counted from 0. A position of a row is a column, and a position of a column is a row.
 
-ghost use Rattle.std.specs.Prelude.{◌≡◌, ℕ, ◌+◌, ◌*◌, ◌/◌, ◌%◌, ◌<◌, ◌≤◌, ◌&&◌, ◌||◌, true, false, not, nat_eq, All, length, IfOk};
+ghost use Rattle.std.specs.Prelude.{◌≡◌, ℕ, ◌+◌, ◌*◌, ◌/◌, ◌%◌, ◌<◌, ◌≤◌, ◌↔◌, ◌&&◌, ◌||◌, true, false, not, nat_eq, All, length, IfOk};
 ghost use Rattle.pz_game.specs.declared.limits.TheConstants.{MAX_OBJECTS, MAX_SIDE};
 ghost use Rattle.pz_game.specs.Items.{names};
 ghost use Rattle.pz_sets.specs.Sets.{in_word, member};
-ghost use Rattle.pz_planes.specs.Planes.{stands_in, IsMissingIn, IsEmpty, IsChanged, AreChanged, IsInside, IsKnown, AreKnown, AreThere, HaveSameLines, HasRoomOf, IsFor, AreItemsOf, MayHold, MayRun, lines_of};
+ghost use Rattle.pz_planes.specs.Planes.{stands_in, AreSameAt, IsMissingIn, IsEmpty, IsChanged, AreChanged, IsInside, IsKnown, AreKnown, AreThere, HaveSameLines, HasRoomOf, IsFor, AreItemsOf, MayHold, MayRun, IsNextDiffering, lines_of};
 
 use crate::bits;
 use crate::line::{Axis, Way};
@@ -167,6 +167,48 @@ impl LinePlanes {
             starts = bits::both(starts, bits::from_which(places, way, index));
         }
         starts
+    }
+
+    /// The positions of a line at which an object is noted.
+    fn places_of(&self, object: usize, line: usize) -> u128
+        requires object_in { object < self.now.objects }
+        requires line_in { line < self.now.count }
+        ensures { (at : ℕ) → at < 128 → in_word result at ≡ stands_in self.now object line at }
+    {
+        self.words[self.index(object, line)]
+    }
+
+    /// The positions of a line at which other objects are noted than in another of as many objects and lines.
+    fn differing(&self, other: &LinePlanes, line: usize) -> u128
+        requires room { HasRoomOf self.now other.now }
+        requires line_in { line < self.now.count }
+        ensures { (at : ℕ) → at < 128 → (in_word result at ≡ false) ↔ AreSameAt self.now other.now line at }
+    {
+        let mut places = 0;
+        for object in 0..self.objects {
+            let here = self.places_of(object, line);
+            let there = other.places_of(object, line);
+            places = bits::either(places, bits::differing(here, there));
+        }
+        places
+    }
+
+    /// The first position, from number `from` on, at which other objects are noted than in another of as many objects and lines. Each line
+    /// has `long` positions, and they are numbered line by line.
+    pub fn next_differing(&self, other: &LinePlanes, long: u32, from: usize) -> Option<usize>
+        requires room { HasRoomOf self.now other.now }
+        requires some { 0 < long }
+        requires short { long ≤ 128 }
+        ensures { IsNextDiffering self.now other.now long from result }
+    {
+        let wide = long as usize;
+        for line in from / wide..self.count {
+            let start = from.saturating_sub(line * wide) as u32;
+            if let Some(at) = bits::next(self.differing(other, line), start, long) {
+                return Some(line * wide + at as usize);
+            }
+        }
+        None
     }
 
     /// Whether an object is noted in a line.

@@ -21,7 +21,7 @@ use Rattle.pz_cells.specs.Lists.{seen, IsSound, AreAlike}
 use Rattle.pz_planes.specs.Notes.{HeadingSets}
 use Rattle.pz_sheet.specs.Seen.{grid_of, IsStored}
 use Rattle.pz_cells.proofs.ListLemmas.{no_cell, sound_at}
-use Rattle.pz_sheet.proofs.SameLemmas.{seen_alike, alike_seen}
+use Rattle.pz_sheet.proofs.SameLemmas.{seen_alike, alike_seen, are_same}
 use Rattle.pz_sheet.proofs.SheetLemmas.{seen_at}
 
 -- ---- cells put back
@@ -70,10 +70,6 @@ way_back_by grid older changes size lawful lawful_older e =
 -- what is left from a cell on
 abbrev pub left_from : Grid → Grid → ℕ → List CellChange
 left_from grid older index = changed_from index (drop index grid.cells) (drop index older.cells)
-
-are_same : (b : Bool) → not b ≡ false → b ≡ true
-are_same true h = refl
-are_same false h = cc
 
 are_other : (b : Bool) → not b ≡ true → b ≡ false
 are_other true h = cc
@@ -152,11 +148,14 @@ module _ (N wa ha : ℕ) (la : Layering) (ca : List (Cell N)) (wb hb : ℕ) (lb 
   many : length grid.cells ≡ length ca
   many = ap (λ (g : Grid). length g.cells) (sym a.is) ∙ length-map ca (seen la)
 
+  pub same_width : wa ≡ wb
+  same_width = ap (λ (g : Grid). g.width) a.is ∙ (sym a.size.width ∙ sym (ap (λ (g : Grid). g.width) a.is_other))
+
+  pub same_height : ha ≡ hb
+  same_height = ap (λ (g : Grid). g.height) a.is ∙ (sym a.size.height ∙ sym (ap (λ (g : Grid). g.height) a.is_other))
+
   pub as_many : length ca ≡ length cb
-  as_many =
-      let width : wa ≡ wb = ap (λ (g : Grid). g.width) a.is ∙ (sym a.size.width ∙ sym (ap (λ (g : Grid). g.width) a.is_other)) in
-      let height : ha ≡ hb = ap (λ (g : Grid). g.height) a.is ∙ (sym a.size.height ∙ sym (ap (λ (g : Grid). g.height) a.is_other)) in
-      as_long wa ha wb hb (length ca) (length cb) width height a.stored.covers a.stored_other.covers
+  as_many = as_long wa ha wb hb (length ca) (length cb) same_width same_height a.stored.covers a.stored_other.covers
 
   pub over_layers : la ≡ lb
   over_layers =

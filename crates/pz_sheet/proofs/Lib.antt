@@ -17,3 +17,4 @@ pub mod AxisLemmas
 pub mod NewerLemmas
 pub mod NextLemmas
 pub mod CountLemmas
+pub mod TellLemmas

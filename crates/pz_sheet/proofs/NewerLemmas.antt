@@ -1,14 +1,17 @@
 -- A level becomes a newer one if it gets the newer one's cells wherever the changes that lead back say that the two differ.
-use Rattle.std.proofs.Common.{◌≡◌, ℕ, ◌+◌, ◌*◌, List, [], ◌∷◌, ◌++◌, Option, Bool, true, false, cond, set, length, get_or, ap, sym, ◌∙◌, refl, arith}
+use Rattle.std.proofs.Common.{◌≡◌, inl, inr, ℕ, ◌+◌, ◌*◌, ◌<◌, List, [], ◌∷◌, ◌++◌, Option, Some, None, Bool, true, false, not, cond, set, length, get_or, ap, sym, ◌∙◌, refl, arith, get_or-set_same, get_or-set_other}
 use Rattle.std.specs.Prelude.{fold}
+use Rattle.std.proofs.lemmas.Bool.{cases_eq, cases_lt}
 use Rattle.std.proofs.lemmas.List.{length-append}
 use Rattle.std.proofs.Math.Seq.{set-append_seam}
+use Rattle.pz_sets.specs.Next.{IsNext}
 use Rattle.pz_cells.specs.declared.piece.Piece.{Piece}
 use Rattle.pz_cells.specs.Sameness.{same_cell}
-use Rattle.pz_cells.proofs.SameLemmas.{same_cell_is}
+use Rattle.pz_cells.proofs.SameLemmas.{same_cell_is, same_cell_self}
 use Rattle.pz_sheet.specs.declared.changes.Change.{Change}
-use Rattle.pz_sheet.specs.Changes.{CellChange, changed_from, changed_cells, changes_seen, with_cell, cell_there}
+use Rattle.pz_sheet.specs.Changes.{CellChange, changed_from, changed_cells, changes_seen, with_cell, differ_in, cell_there}
 use Rattle.pz_sheet.specs.Grid.{Grid, IsLawful, SameSize}
+use Rattle.pz_sheet.specs.Presence.{cell_of}
 use Rattle.pz_sheet.proofs.ChangeLemmas.{shift}
 
 -- cells of a newer level put where changes say
@@ -66,3 +69,27 @@ all_taken N newer grid changes size lawful lawful_older e =
 
 pub size_back : (newer grid : Grid) → SameSize newer grid → SameSize grid newer
 size_back newer grid size = record { width = sym size.width; height = sym size.height; depth = sym size.depth; layers = sym size.layers }
+
+-- ---- cells taken where two levels differ, one after another
+-- up to the next cell that differs, and with it taken, none does
+pub same_before : (grid other : Grid) (from index : ℕ) → IsNext (differ_in grid other) from (length grid.cells) (Some index) → ((number : ℕ) → number < from → differ_in grid other number ≡ false)
+    → (number : ℕ) → number < index + 1 → differ_in (with_cell grid (cell_there other index)) other number ≡ false
+same_before grid other from index next before number below =
+    let there = cell_of other index in
+    let same = λ (k : ℕ) (cell : List (Option Piece)). not (same_cell cell (cell_of other k)) in
+    elim (cases_eq number index) [
+      | inl here ↦
+          ap (λ (k : ℕ). differ_in (with_cell grid (cell_there other index)) other k) here ∙ ap (same index) (get_or-set_same grid.cells index there [] next.1)
+          ∙ ap not (same_cell_self there)
+      | inr apart ↦ ap (same number) (get_or-set_other grid.cells index number there [] apart) ∙ elim (cases_lt number from) [
+        | inl early ↦ before number early
+        | inr late ↦ next.3 number late (omega (arith, below, apart))
+      ]
+    ]
+
+-- and from there on none
+pub same_all : (grid other : Grid) (from : ℕ) → IsNext (differ_in grid other) from (length grid.cells) None → ((number : ℕ) → number < from → differ_in grid other number ≡ false) → (number : ℕ) → number < length grid.cells → differ_in grid other number ≡ false
+same_all grid other from none before number within = elim (cases_lt number from) [
+  | inl early ↦ before number early
+  | inr late ↦ none number late within
+]

@@ -1,13 +1,15 @@
 //! The cells in which a level differs from an older one, and the way back to that.
 
-ghost use Rattle.std.specs.Prelude.{◌≡◌, true, ◌<◌, ◌+◌, All, IfOk, OnOk, OnErr, length};
+ghost use Rattle.std.specs.Prelude.{◌≡◌, true, ◌<◌, ◌≤◌, ◌+◌, All, IfOk, OnOk, OnErr, length};
 ghost use Rattle.pz_sheet.specs.Changes.{changed_cells, changes_seen, IsChangeOf, with_cell, restored, differ_in, cell_there};
 ghost use Rattle.pz_sheet.specs.Grid.{SameSize};
 ghost use Rattle.pz_sets.specs.Next.{IsNext};
 
 use crate::Sheet;
+use crate::line::Axis;
 use pz_cells::cell::Cell;
 use pz_cells::differing::next_differing;
+use pz_planes::bits;
 use pz_planes::notes::are_empty;
 use std::alloc::AllocError;
 
@@ -84,7 +86,35 @@ impl<const N: usize> Sheet<N> {
         ensures { IsNext (differ_in self.now.grid other.now.grid) from (length self.now.grid.cells) result }
     {
         let are_still = are_empty(&self.notes, &other.notes);
-        next_differing(&self.cells, &other.cells, are_still, from)
+        if are_still && self.is_told_by_planes() {
+            let rows = self.planes.lines(Axis::Horizontal);
+            let others = other.planes.lines(Axis::Horizontal);
+            rows.next_differing(others, self.width, from)
+        } else {
+            next_differing(&self.cells, &other.cells, are_still, from)
+        }
+    }
+
+    /// Makes this level equal to another of the same size by the cells in which they differ.
+    pub(crate) fn take_all(&mut self, other: &Sheet<N>)
+        requires size { SameSize self.old.grid other.now.grid }
+        ensures { self.new.grid ≡ other.now.grid }
+    {
+        // (brings the proof the law of both levels)
+        let _ = (self.width(), other.width());
+        let mut from = 0;
+        'changes: while let Some(index) = self.next_change(other, from) {
+            self.take_cell(other, index);
+            from = index + 1;
+        }
+    }
+
+    /// Whether the planes tell what stands in each cell with less work than the cells: a row fits in a word, and the game has no more
+    /// objects than a row has cells.
+    pub(crate) fn is_told_by_planes(&self) -> bool
+        ensures { result ≡ true → self.now.grid.width ≤ 128 }
+    {
+        self.width <= bits::ROOM && self.layers.object_count() <= self.width as usize
     }
 
     /// Copies the cell of this number from another level of the same size.

@@ -3,8 +3,6 @@
 ghost use Rattle.std.specs.Prelude.{◌≡◌, ◌↔◌, IsTrue};
 
 use crate::Sheet;
-use pz_cells::differing::same_cells;
-use pz_planes::notes::are_empty;
 
 impl<const N: usize> Sheet<N> {
     /// Whether both have the same size and the same layers.
@@ -20,7 +18,8 @@ impl<const N: usize> Sheet<N> {
     pub fn equals(&self, other: &Sheet<N>) -> bool
         ensures { IsTrue result ↔ (self.now.grid ≡ other.now.grid) }
     {
-        let are_still = are_empty(&self.notes, &other.notes);
-        self.same_size(other) && same_cells(&self.cells, &other.cells, are_still)
+        // (brings the proof the law of both levels)
+        let _ = (self.width(), other.width());
+        self.same_size(other) && self.next_change(other, 0).is_none()
     }
 }

@@ -1,0 +1,58 @@
+-- The positions at which the objects that are noted differ.
+use Rattle.std.proofs.Common.{◌≡◌, inl, inr, ℕ, ◌+◌, ◌-◌, ◌*◌, ◌/◌, ◌%◌, ◌<◌, ◌≤◌, Bool, true, false, not, ◌||◌, cond, arith, ap, sym, ◌∙◌, refl, subst}
+use Rattle.std.specs.Prelude.{◌↔◌}
+use Rattle.std.proofs.lemmas.Bool.{cases_eq, cases_lt}
+use Rattle.std.proofs.lemmas.Nat.{div-mul-add, mod-mul-add}
+use Rattle.pz_sets.specs.Sets.{in_word}
+use Rattle.pz_planes.specs.Planes.{LineSets, stands_in, AreSameAt, AreSameBetween}
+
+pub xor_no : (x y z : Bool) → z ≡ cond x (not y) y → (z ≡ false) ↔ (x ≡ y)
+xor_no true true z e = (λ no. refl, λ same. e)
+xor_no true false z e = (λ no. sym e ∙ no, λ same. e ∙ same)
+xor_no false true z e = (λ no. sym no ∙ e, λ same. e ∙ sym same)
+xor_no false false z e = (λ no. refl, λ same. e)
+
+or_no : (x y : Bool) → (x || y) ≡ false → (x ≡ false) × (y ≡ false)
+or_no false y e = (refl, e)
+or_no true y e = cc
+
+no_or : (x y : Bool) → x ≡ false → y ≡ false → (x || y) ≡ false
+no_or x y e f = ap (λ (b : Bool). b || y) e ∙ f
+
+-- of the objects below one the same are noted at a position of a line
+abbrev pub AreSameBelow : ℕ → LineSets → LineSets → ℕ → ℕ → Type 0
+AreSameBelow end sets other line at = (object : ℕ) → object < end → stands_in sets object line at ≡ stands_in other object line at
+
+-- one object more
+pub same_more : (object : ℕ) (sets other : LineSets) (line at : ℕ) (before here new : Bool) → (before ≡ false) ↔ AreSameBelow object sets other line at → (here ≡ false) ↔ (stands_in sets object line at ≡ stands_in other object line at) → new ≡ (before || here)
+    → (new ≡ false) ↔ AreSameBelow (object + 1) sets other line at
+same_more object sets other line at before here new rest one is = (
+  λ no. let both = or_no before here (sym is ∙ no) in λ k low. elim (cases_eq k object) [
+    | inl same ↦ ap (λ (o : ℕ). stands_in sets o line at) same ∙ one.0 both.1 ∙ ap (λ (o : ℕ). stands_in other o line at) (sym same)
+    | inr apart ↦ rest.0 both.0 k (omega (arith, low, apart))
+  ],
+  λ same. is ∙ no_or before here (rest.1 (λ k low. same k (omega (arith, low)))) (one.1 (same object (omega arith))),
+)
+
+-- ---- the positions of one line after another, each of this many
+module _ (sets other : LineSets) (long line places : ℕ) (short : long ≤ 128) (tells : (at : ℕ) → at < 128 → (in_word places at ≡ false) ↔ AreSameAt sets other line at) where
+  at_number : (at : ℕ) → at < long → AreSameAt sets other line at → AreSameAt sets other ((line * long + at) / long) ((line * long + at) % long)
+  at_number at low = subst (λ (y : ℕ). AreSameAt sets other line at → AreSameAt sets other y ((line * long + at) % long)) (sym (div-mul-add line long at low)) (subst (λ (x : ℕ). AreSameAt sets other line at → AreSameAt sets other line x) (sym (mod-mul-add line long at low)) (λ same. same))
+
+  -- the word tells of the line up to a position
+  pub same_to : (from start end : ℕ) → start ≡ from - line * long → end ≤ long → ((at : ℕ) → start ≤ at → at < end → in_word places at ≡ false) → AreSameBetween sets other long from (line * long) → AreSameBetween sets other long from (line * long + end)
+  same_to from start end is low none before number above below = elim (cases_lt number (line * long)) [
+    | inl early ↦ before number above early
+    | inr late ↦
+        let at = number - line * long in
+        let is_number : line * long + at ≡ number = omega (arith, late) in
+        let small : at < end = omega (arith, below, late) in
+        subst (λ (k : ℕ). AreSameAt sets other (k / long) (k % long)) is_number
+        (at_number at (omega (arith, small, low)) ((tells at (omega (arith, small, low, short))).0 (none at (omega (arith, above, is)) small)))
+  ]
+
+  -- and differs there
+  pub differ_there : (at : ℕ) → at < long → in_word places at ≡ true → AreSameAt sets other ((line * long + at) / long) ((line * long + at) % long) → ⊥
+  differ_there at low there same =
+      let here : AreSameAt sets other line at = subst (AreSameAt sets other line) (mod-mul-add line long at low) (subst (λ (y : ℕ). AreSameAt sets other y ((line * long + at) % long)) (div-mul-add line long at low) same) in
+      let f : true ≡ false = sym there ∙ (tells at (omega (arith, low, short))).1 here in cc

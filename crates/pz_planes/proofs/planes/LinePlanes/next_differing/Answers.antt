@@ -1,0 +1,26 @@
+use Rattle.std.proofs.Common.{◌≡◌, ◌+◌, ◌*◌, ◌<◌, arith, subst}
+use Rattle.std.proofs.lemmas.Nat.{mul-add-lt}
+use Rattle.pz_planes.specs.Planes.{LineSets, AreSameBetween}
+use Rattle.pz_planes.proofs.DifferingLemmas.{same_to, differ_there}
+use Rattle.pz_planes.proofs.planes.LinePlanes.next_differing.Goals as goal
+
+pub returns-in-Some : goal.returns-in-Some
+returns-in-Some c =
+    let line = c.loop-line.line in
+    let at = c.in-Some.at in
+    let found = c.in-Some.ensures in
+    let start = c.saturating_sub-start.ensures in
+    let line_in = subst (λ (sets : LineSets). line < sets.count) c.self.view_is c.loop-line-test.true in (
+      omega (arith, found.0, start),
+      omega (arith, mul-add-lt line c.args.long at c.args.self.now.count line_in found.1),
+      differ_there c.args.self.now c.args.other.now c.args.long line c.differing.result c.requires.short c.differing.ensures at found.1 found.2,
+      same_to c.args.self.now c.args.other.now c.args.long line c.differing.result c.requires.short c.differing.ensures c.args.from c.saturating_sub-start.result at start (omega (arith, found.1)) found.3 c.loop-line.invariant,
+    )
+
+pub loop-line-preserved : goal.loop-line-preserved
+loop-line-preserved c =
+    let line = c.loop-line.line in
+    let long = c.args.long in
+    let next : line * long + long ≡ (line + 1) * long = omega arith in
+    subst (AreSameBetween c.args.self.now c.args.other.now long c.args.from) next
+    (same_to c.args.self.now c.args.other.now long line c.differing.result c.requires.short c.differing.ensures c.args.from c.saturating_sub-start.result long c.saturating_sub-start.ensures (omega arith) c.in_default.ensures c.loop-line.invariant)
