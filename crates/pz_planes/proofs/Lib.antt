@@ -1,3 +1,4 @@
 pub mod BitLemmas
 pub mod PlaneLemmas
 pub mod ArriveLemmas
+pub mod MarkLemmas

@@ -17,3 +17,5 @@ pub mod AxisLemmas
 pub mod NewerLemmas
 pub mod NextLemmas
 pub mod CountLemmas
+pub mod EndLemmas
+pub mod MarkLemmas
