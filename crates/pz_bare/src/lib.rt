@@ -10,8 +10,9 @@ ghost use Rattle.pz_game.specs.Pattern.{AreOf, AsksAmong, IsRowOf};
 ghost use Rattle.pz_cells.specs.Cell.{IsOnLayer};
 ghost use Rattle.pz_sheet.specs.Grid.{IsLawful, place_at, with_place};
 ghost use Rattle.pz_sheet.specs.Movement.{stilled, AreStill};
-ghost use Rattle.pz_sheet.specs.Presence.{is_in, cell_of, holds_both, holds_if, in_line};
+ghost use Rattle.pz_sheet.specs.Presence.{is_in, cell_of, holds_both, holds_if};
 ghost use Rattle.pz_sheet.specs.Line.{line_count};
+ghost use Rattle.pz_sheet.specs.Marks.{AreMarksOf};
 ghost use Rattle.pz_sheet.specs.Pushing.{pushed};
 ghost use Rattle.pz_sheet.specs.Rewriting.{with_rewritten, changes};
 ghost use Rattle.pz_sheet.specs.Searching.{HoldsSomewhere};
@@ -23,7 +24,7 @@ use pz_game::direction::Dir;
 use pz_game::pattern::{Pattern, Row};
 use pz_sets::set::NumberSet;
 use pz_sheet::Sheet;
-use pz_sheet::line::Line;
+use pz_sheet::line::Axis;
 use std::alloc::AllocError;
 use std::marker::Model;
 
@@ -296,15 +297,16 @@ impl BareLevel {
         }
     }
 
-    /// The objects that stand in a line of the map.
-    pub fn line_objects(&self, line: Line) -> NumberSet
-        requires { line.number < line_count self.now.grid line.axis }
-        ensures { (object : ℕ) → member result object ≡ in_line self.now.grid line object }
+    /// Sets the marks of each row, or of each column, to the objects that stand there.
+    pub fn mark_lines(&self, axis: Axis, marks: &mut [NumberSet])
+        requires { length marks.old ≡ line_count self.now.grid axis }
+        ensures count { length marks.new ≡ length marks.old }
+        ensures exact { AreMarksOf self.now.grid axis marks.new }
     {
         match &*self.sheet {
-            AnySheet::Small(sheet) => sheet.line_objects(line),
-            AnySheet::Middle(sheet) => sheet.line_objects(line),
-            AnySheet::Large(sheet) => sheet.line_objects(line),
+            AnySheet::Small(sheet) => sheet.mark_lines(axis, marks),
+            AnySheet::Middle(sheet) => sheet.mark_lines(axis, marks),
+            AnySheet::Large(sheet) => sheet.mark_lines(axis, marks),
         }
     }
 

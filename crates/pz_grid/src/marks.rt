@@ -17,7 +17,7 @@ use pz_game::game::Game;
 use pz_game::masks::names;
 use pz_game::pattern::{Item, Pattern};
 use pz_sets::set::NumberSet;
-use pz_sheet::line::{Axis, Line};
+use pz_sheet::line::Axis;
 use std::alloc::{AllocError, Global};
 
 impl Level {
@@ -146,12 +146,7 @@ fn mark_rows(bare: &BareLevel, marks: &mut Vec<NumberSet>)
     ensures count { length marks.new.items ≡ length marks.old.items }
     ensures exact { (line object : ℕ) → line < bare.now.grid.height → is_marked marks.new.items line object ≡ in_row bare.now.grid line object }
 {
-    for line in 0..bare.height() {
-        marks[line as usize] = bare.line_objects(Line {
-            axis: Axis::Horizontal,
-            number: line,
-        });
-    }
+    bare.mark_lines(Axis::Horizontal, marks.as_mut_slice());
 }
 
 /// Sets the marks of each column to the objects that stand there.
@@ -160,12 +155,7 @@ fn mark_columns(bare: &BareLevel, marks: &mut Vec<NumberSet>)
     ensures count { length marks.new.items ≡ length marks.old.items }
     ensures exact { (line object : ℕ) → line < bare.now.grid.width → is_marked marks.new.items line object ≡ in_column bare.now.grid line object }
 {
-    for line in 0..bare.width() {
-        marks[line as usize] = bare.line_objects(Line {
-            axis: Axis::Vertical,
-            number: line,
-        });
-    }
+    bare.mark_lines(Axis::Vertical, marks.as_mut_slice());
 }
 
 /// A set with at least the objects of these sets.

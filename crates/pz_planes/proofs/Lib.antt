@@ -2,3 +2,4 @@ pub mod BitLemmas
 pub mod PlaneLemmas
 pub mod ArriveLemmas
 pub mod DifferingLemmas
+pub mod MarkLemmas

@@ -1,3 +1,4 @@
 pub mod Line
 pub mod Notes
 pub mod Planes
+pub mod Marks

@@ -150,9 +150,9 @@ fn widen(sets: &mut Vec<NumberSet>, line: usize, headings: &NumberSet)
 }
 
 /// Empties each set.
-fn clear(sets: &mut Vec<NumberSet>)
-    ensures count { length sets.new.items ≡ length sets.old.items }
-    ensures none { (line number : ℕ) → line < length sets.old.items → member (slice_index_or sets.new.items line []) number ≡ false }
+pub(crate) fn clear(sets: &mut [NumberSet])
+    ensures count { length sets.new ≡ length sets.old }
+    ensures none { (line number : ℕ) → line < length sets.old → member (slice_index_or sets.new line []) number ≡ false }
 {
     for line in 0..sets.len() {
         sets[line] = NumberSet::empty();

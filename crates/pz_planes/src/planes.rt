@@ -1,16 +1,19 @@
 //! At which positions of each row and each column the objects of a level stand, so that lines can be searched fast. Objects, columns and
 //! rows are counted from 0. A position of a row is a column, and a position of a column is a row.
 
-ghost use Rattle.std.specs.Prelude.{◌≡◌, ℕ, ◌+◌, ◌*◌, ◌/◌, ◌%◌, ◌<◌, ◌≤◌, ◌↔◌, ◌&&◌, ◌||◌, true, false, not, nat_eq, All, length, IfOk};
+ghost use Rattle.std.specs.Prelude.{◌≡◌, ℕ, ◌+◌, ◌*◌, ◌/◌, ◌%◌, ◌<◌, ◌≤◌, ◌↔◌, ◌&&◌, ◌||◌, [], true, false, not, nat_eq, All, length, slice_index, slice_index_or, IfOk};
 ghost use Rattle.pz_game.specs.declared.limits.TheConstants.{MAX_OBJECTS, MAX_SIDE};
 ghost use Rattle.pz_game.specs.Items.{names};
 ghost use Rattle.pz_sets.specs.Sets.{in_word, member};
+ghost use Rattle.pz_sets.specs.declared.set.TheConstants.{CAPACITY};
+ghost use Rattle.pz_planes.specs.Marks.{AreMarks};
 ghost use Rattle.pz_planes.specs.Planes.{stands_in, AreSameAt, IsMissingIn, IsEmpty, IsChanged, AreChanged, IsInside, IsKnown, AreKnown, AreThere, HaveSameLines, HasRoomOf, IsFor, AreItemsOf, MayHold, MayRun, IsNextDiffering, lines_of};
 
-use crate::bits;
 use crate::line::{Axis, Way};
+use crate::{bits, notes};
 use pz_game::masks::names;
 use pz_game::pattern::{Item, Pattern};
+use pz_sets::set::NumberSet;
 use pz_sets::words;
 use std::alloc::{AllocError, Global};
 use std::marker::Model;
@@ -232,6 +235,19 @@ impl LinePlanes {
         false
     }
 
+    /// Sets the marks of each line to the objects that are noted in it. There is one set for each line.
+    pub fn mark(&self, marks: &mut [NumberSet])
+        requires { length marks.old ≡ self.now.count }
+        ensures count { length marks.new ≡ length marks.old }
+        ensures exact { AreMarks self.now marks.new }
+    {
+        let words: &[u128] = &self.words;
+        notes::clear(marks);
+        for object in 0..self.objects {
+            mark_object(words, object * self.count, object, marks);
+        }
+    }
+
     /// Whether another has as many objects and lines, so that it fits in this one's memory.
     fn has_room_of(&self, other: &LinePlanes) -> bool
         ensures { result ≡ true → HasRoomOf self.now other.now }
@@ -427,5 +443,20 @@ fn clear(words: &mut [u128])
 {
     for index in 0..words.len() {
         words[index] = 0;
+    }
+}
+
+/// Adds an object to the marks of the lines in which it is noted. Its words, one for each line, begin at `start`.
+#[inline(always)]
+fn mark_object(words: &[u128], start: usize, object: usize, marks: &mut [NumberSet])
+    requires covers { start + length marks.old ≤ length words.now }
+    requires low { object < CAPACITY }
+    ensures count { length marks.new ≡ length marks.old }
+    ensures marked { (line other : ℕ) → line < length marks.old → member (slice_index_or marks.new line []) other ≡ ((nat_eq other object && not (nat_eq (slice_index words.now (start + line)) 0)) || member (slice_index_or marks.old line []) other) }
+{
+    for line in 0..marks.len() {
+        if words[start + line] != 0 {
+            marks[line].insert(object);
+        }
     }
 }

@@ -18,3 +18,5 @@ pub mod NewerLemmas
 pub mod NextLemmas
 pub mod CountLemmas
 pub mod TellLemmas
+pub mod EndLemmas
+pub mod MarkLemmas

@@ -9,7 +9,8 @@ use Rattle.pz_sets.specs.Sets.{member}
 use Rattle.pz_planes.specs.Planes.{PlaneSets, AreChanged, AreThere, HaveSameLines, AreKnown, IsFor}
 use Rattle.pz_planes.proofs.PlaneLemmas.{AreThereAt, there_now, still_there, still_there_at, number_of, column_in, row_in, known_of}
 use Rattle.pz_cells.specs.declared.cell.Cell.{Cell}
-use Rattle.pz_sheet.specs.Noting.{AreAllThere, ArePlaced}
+use Rattle.pz_sheet.specs.Noting.{AreAllThere, ArePlaced, EndWithin}
+use Rattle.pz_sheet.proofs.EndLemmas.{ends_still}
 use Rattle.pz_cells.specs.Lists.{IsSound, HaveSameObjects}
 
 -- the objects of one more cell are noted
@@ -47,6 +48,7 @@ placed_set N objects width height planes next cells at x y new s number x_in y_i
     column_count = changed.columns.count ∙ s.fits.column_count;
   };
   there = each;
+  ends = ends_still width height planes next x y (λ object was. member new.objects object) x_in y_in s.fits.column_count s.fits.row_count changed s.ends;
 } where
   each : AreAllThere N width height next (set cells at new)
   each p q cell p_in q_in = elim (cases_eq (q * width + p) at) [
@@ -68,6 +70,7 @@ pub placed_same : (N objects width height : ℕ) (planes : PlaneSets) (old new :
 placed_same N objects width height planes old new same s = record {
   fits = s.fits;
   there = λ x y cell x_in y_in. subst (λ (words : List ℕ). AreThere planes x y (member words)) (sym (same (y * width + x) cell)) (s.there x y cell x_in y_in);
+  ends = s.ends;
 }
 
 -- ---- a cell of a level whose objects are noted
@@ -89,8 +92,8 @@ placed_at N objects width height planes next cells at new s within covers change
     (subst (λ (w : ℕ). AreChanged planes next (at % w) (at / w) (λ object was. member new.objects object)) s.fits.column_count changed)
 
 -- all cells anew
-pub placed_all : (N objects width height : ℕ) (planes next : PlaneSets) (cells : List (Cell N)) → IsFor objects width height planes → HaveSameLines planes next → AreAllThere N planes.columns.count planes.rows.count next cells → ArePlaced N objects width height next cells
-placed_all N objects width height planes next cells fits size there = record {
+pub placed_all : (N objects width height : ℕ) (planes next : PlaneSets) (cells : List (Cell N)) → IsFor objects width height planes → HaveSameLines planes next → AreAllThere N planes.columns.count planes.rows.count next cells → EndWithin planes.columns.count planes.rows.count next → ArePlaced N objects width height next cells
+placed_all N objects width height planes next cells fits size there ends = record {
   fits = record {
     row_objects = size.row_objects ∙ fits.row_objects;
     row_count = size.row_count ∙ fits.row_count;
@@ -98,6 +101,7 @@ placed_all N objects width height planes next cells fits size there = record {
     column_count = size.column_count ∙ fits.column_count;
   };
   there = subst (λ (w : ℕ). AreAllThere N w height next cells) fits.column_count (subst (λ (h : ℕ). AreAllThere N planes.columns.count h next cells) fits.row_count there);
+  ends = subst (λ (w : ℕ). EndWithin w height next) fits.column_count (subst (λ (h : ℕ). EndWithin planes.columns.count h next) fits.row_count ends);
 }
 
 pub all_known : (N : ℕ) (layering : Layering) (width height : ℕ) (planes : PlaneSets) (cells : List (Cell N)) → IsFor (length layering.layers) width height planes → All (IsSound layering) cells → All (λ cell. AreKnown planes cell.objects) cells

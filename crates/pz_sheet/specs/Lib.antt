@@ -13,3 +13,4 @@ pub mod Rewriting
 pub mod Searching
 pub mod Runs
 pub mod Line
+pub mod Marks

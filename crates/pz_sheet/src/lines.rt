@@ -1,17 +1,65 @@
-//! Which objects stand in a line.
+//! Which objects stand in the lines.
 
-ghost use Rattle.std.specs.Prelude.{◌≡◌, ◌<◌, ℕ};
+ghost use Rattle.std.specs.Prelude.{◌≡◌, ◌<◌, ◌≤◌, ℕ, length};
 ghost use Rattle.pz_sets.specs.Sets.{member};
-ghost use Rattle.pz_sheet.specs.Line.{line_count};
+ghost use Rattle.pz_sheet.specs.Line.{line_length, line_count};
+ghost use Rattle.pz_sheet.specs.Marks.{AreMarksOf};
 ghost use Rattle.pz_sheet.specs.Presence.{in_line};
 
 use crate::Sheet;
-use crate::line::Line;
+use crate::line::{Axis, Line};
+use pz_planes::bits;
 use pz_sets::set::NumberSet;
 
 impl<const N: usize> Sheet<N> {
+    /// Sets the marks of each row, or of each column, to the objects that stand there. Where the game has no more objects than a line has
+    /// cells, the planes tell them with less work than the cells.
+    pub fn mark_lines(&self, axis: Axis, marks: &mut [NumberSet])
+        requires { length marks.old ≡ line_count self.now.grid axis }
+        ensures count { length marks.new ≡ length marks.old }
+        ensures exact { AreMarksOf self.now.grid axis marks.new }
+    {
+        let long = self.line_length(axis);
+        if long <= bits::ROOM && self.layers.object_count() <= long as usize {
+            self.mark_by_planes(axis, marks);
+        } else {
+            self.mark_by_cells(axis, marks);
+        }
+    }
+
+    /// The same by what the planes have of each object.
+    fn mark_by_planes(&self, axis: Axis, marks: &mut [NumberSet])
+        requires short { line_length self.now.grid axis ≤ 128 }
+        requires count { length marks.old ≡ line_count self.now.grid axis }
+        ensures count { length marks.new ≡ length marks.old }
+        ensures exact { AreMarksOf self.now.grid axis marks.new }
+    {
+        self.planes.lines(axis).mark(marks);
+    }
+
+    /// The same, cell by cell.
+    fn mark_by_cells(&self, axis: Axis, marks: &mut [NumberSet])
+        requires { length marks.old ≡ line_count self.now.grid axis }
+        ensures count { length marks.new ≡ length marks.old }
+        ensures exact { AreMarksOf self.now.grid axis marks.new }
+    {
+        for number in 0..self.line_count(axis) {
+            marks[number as usize] = self.line_objects(Line { axis, number });
+        }
+    }
+
+    /// How many lines there are.
+    fn line_count(&self, axis: Axis) -> u32
+        ensures { result ≡ line_count self.now.grid axis }
+    {
+        match axis {
+            Axis::Horizontal => self.height(),
+            Axis::Vertical => self.width(),
+        }
+    }
+
     /// The objects that stand in a line of the map.
-    pub fn line_objects(&self, line: Line) -> NumberSet
+    fn line_objects(&self, line: Line) -> NumberSet
         requires { line.number < line_count self.now.grid line.axis }
         ensures { (object : ℕ) → member result object ≡ in_line self.now.grid line object }
     {

@@ -5,7 +5,7 @@ ghost use Rattle.pz_game.specs.declared.limits.TheConstants.{MAX_SIDE};
 ghost use Rattle.pz_cells.specs.Lists.{IsSound};
 ghost use Rattle.pz_planes.specs.Notes.{IsWider};
 ghost use Rattle.pz_planes.specs.Planes.{AreKnown, HaveSameLines};
-ghost use Rattle.pz_sheet.specs.Noting.{AreAllThere, ArePlaced};
+ghost use Rattle.pz_sheet.specs.Noting.{AreAllThere, ArePlaced, EndWithin};
 ghost use Rattle.pz_sheet.specs.Seen.{IsNoted, AreNoted};
 
 use pz_cells::cell::Cell;
@@ -70,6 +70,7 @@ pub(crate) fn note_all<const N: usize>(planes: &mut Planes, layers: &Layers<N>, 
     requires known { All (λ cell. AreKnown planes.old cell.objects) cells.now }
     ensures size { HaveSameLines planes.old planes.new }
     ensures there { AreAllThere N planes.old.columns.count planes.old.rows.count planes.new cells.now }
+    ensures ends { EndWithin planes.old.columns.count planes.old.rows.count planes.new }
 {
     planes.clear();
     for index in 0..cells.len() {

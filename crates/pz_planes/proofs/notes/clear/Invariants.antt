@@ -4,6 +4,6 @@ use Rattle.pz_planes.proofs.notes.clear.Given as goal
 
 abbrev pub invariant-loop-line : goal.invariant-loop-line
 invariant-loop-line l = record {
-  count : length l.sets.items ≡ length l.initial.sets.items;
-  none : (line number : ℕ) → line < l.line → member (get_or l.sets.items line []) number ≡ false;
+  count : length l.sets ≡ length l.initial.sets;
+  none : (line number : ℕ) → line < l.line → member (get_or l.sets line []) number ≡ false;
 }

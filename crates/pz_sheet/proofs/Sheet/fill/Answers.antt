@@ -45,7 +45,7 @@ invariant_of-self g c =
           c.fill_cells.ensures
           (noted_read _ a.width a.height _ _ c.renew_notes.new.notes cells c.deref.result.now c.self.invariant.stored.noted.column_count c.self.invariant.stored.noted.row_count c.deref.ensures.value c.renew_notes.ensures);
       placed = placed_all _ (length a.layers.layers) a.width a.height a.planes c.note_all.new.planes cells c.self.invariant.placed.fits c.note_all.ensures.size
-          (subst (AreAllThere g.row.N a.planes.columns.count a.planes.rows.count c.note_all.new.planes) c.deref-2.ensures.value c.note_all.ensures.there);
+          (subst (AreAllThere g.row.N a.planes.columns.count a.planes.rows.count c.note_all.new.planes) c.deref-2.ensures.value c.note_all.ensures.there) c.note_all.ensures.ends;
     }
 
 pub returns-clause-lawful : goal.returns-clause-lawful

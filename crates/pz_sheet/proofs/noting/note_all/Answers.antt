@@ -3,7 +3,8 @@ use Rattle.pz_sets.specs.Sets.{member}
 use Rattle.pz_cells.specs.declared.cell.Cell.{Cell}
 use Rattle.pz_planes.specs.Planes.{AreKnown, HaveSameLines, PlaneSets}
 use Rattle.pz_planes.proofs.PlaneLemmas.{none_there, still_there_at, known_still, same_lines}
-use Rattle.pz_sheet.specs.Noting.{AreAllThere}
+use Rattle.pz_sheet.specs.Noting.{AreAllThere, EndWithin}
+use Rattle.pz_sheet.proofs.EndLemmas.{ends_none, ends_still_at}
 use Rattle.pz_sheet.proofs.PlacedLemmas.{all_there_more, all_there}
 use Rattle.pz_sheet.proofs.noting.note_all.Goals as goal
 
@@ -16,6 +17,7 @@ loop-index-init g c = record {
   size = record { row_objects = refl; row_count = refl; column_objects = refl; column_count = refl };
   there = λ k cell below. absurd (omega (arith, below));
   none = λ k above inside. none_there c.clear.new.self c.clear.new.self k c.clear.ensures.rows c.clear.ensures.columns;
+  ends = ends_none c.clear.new.self.columns.count c.clear.new.self.rows.count c.clear.new.self c.clear.ensures.rows c.clear.ensures.columns;
 }
 
 pub arrive_at-requires : goal.arrive_at-requires
@@ -46,6 +48,7 @@ loop-index-preserved g c =
       size = same_lines start old new _ _ noted i.size c.arrive_at.ensures;
       there = all_there_more g.row.N start old new c.args.cells.now index cell c.loop-index-test.true c.index-cells-index.is i.size all c.arrive_at.ensures (i.none index (omega arith) (omega (arith, c.loop-index-test.true, all))) i.there;
       none = λ k above inside. still_there_at start old new index k noted (λ object. false) i.size inside (omega (arith, above)) c.arrive_at.ensures (i.none k (omega (arith, above)) inside);
+      ends = ends_still_at start old new index noted i.size (omega (arith, c.loop-index-test.true, all)) c.arrive_at.ensures i.ends;
     }
 
 pub returns-clause-size : goal.returns-clause-size
@@ -67,3 +70,11 @@ returns-clause-there g c =
     let there = all_there g.row.N start planes c.args.cells.now c.loop-index.index (omega (arith, c.loop-index-test.false)) (covers c.args.planes.now start (length c.args.cells.now) c.clear.ensures.size c.requires.covers) c.loop-index.invariant.there in
     subst (λ (w : ℕ). AreAllThere g.row.N w c.args.planes.now.rows.count planes c.args.cells.now) first.column_count
     (subst (λ (h : ℕ). AreAllThere g.row.N start.columns.count h planes c.args.cells.now) first.row_count there)
+
+pub returns-clause-ends : goal.returns-clause-ends
+returns-clause-ends g c =
+    let first = c.clear.ensures.size in
+    let start = c.clear.new.self in
+    let planes = c.loop-index.planes in
+    subst (λ (w : ℕ). EndWithin w c.args.planes.now.rows.count planes) first.column_count
+    (subst (λ (h : ℕ). EndWithin start.columns.count h planes) first.row_count c.loop-index.invariant.ends)

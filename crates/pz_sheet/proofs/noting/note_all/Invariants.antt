@@ -3,6 +3,7 @@ use Rattle.pz_sets.specs.Sets.{member}
 use Rattle.pz_cells.specs.declared.cell.Cell.{Cell}
 use Rattle.pz_planes.specs.Planes.{HaveSameLines}
 use Rattle.pz_planes.proofs.PlaneLemmas.{AreThereAt}
+use Rattle.pz_sheet.specs.Noting.{EndWithin}
 use Rattle.pz_sheet.proofs.noting.note_all.Given as goal
 
 abbrev pub invariant-loop-index : goal.invariant-loop-index
@@ -10,4 +11,5 @@ invariant-loop-index g l = record {
   size : HaveSameLines l.initial.planes l.planes;
   there : (k : ℕ) (cell : Cell g.row.N) → k < l.index → AreThereAt l.initial.planes l.planes k (member (get_or l.cells k cell).objects);
   none : (k : ℕ) → l.index ≤ k → k < l.initial.planes.columns.count * l.initial.planes.rows.count → AreThereAt l.initial.planes l.planes k (λ object. false);
+  ends : EndWithin l.initial.planes.columns.count l.initial.planes.rows.count l.planes;
 }

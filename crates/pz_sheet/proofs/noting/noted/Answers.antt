@@ -26,4 +26,4 @@ pub returns-clause-planes : goal.returns-clause-planes
 returns-clause-planes g c =
     let planes = c.in_ok-planes.planes in
     let fits = subst (λ (count : ℕ). IsFor count c.args.width c.args.height planes) c.object_count-objects.ensures.count c.in_ok-planes.ensures.size in
-    placed_all g.row.N (length c.args.layers.now.layers) c.args.width c.args.height planes c.note_all.new.planes c.args.cells.now fits c.note_all.ensures.size c.note_all.ensures.there
+    placed_all g.row.N (length c.args.layers.now.layers) c.args.width c.args.height planes c.note_all.new.planes c.args.cells.now fits c.note_all.ensures.size c.note_all.ensures.there c.note_all.ensures.ends
