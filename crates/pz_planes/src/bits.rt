@@ -77,7 +77,7 @@ pub fn next(set: u128, from: u32, end: u32) -> Option<u32>
     requires { end ≤ 128 }
     ensures { IsNext (in_word set) from end result }
 {
-    if from >= end {
+    if is_empty(set) || from >= end {
         return None;
     }
     match words::next(&[set], from as usize) {

@@ -172,15 +172,6 @@ impl LinePlanes {
         starts
     }
 
-    /// The positions of a line at which an object is noted.
-    fn places_of(&self, object: usize, line: usize) -> u128
-        requires object_in { object < self.now.objects }
-        requires line_in { line < self.now.count }
-        ensures { (at : ℕ) → at < 128 → in_word result at ≡ stands_in self.now object line at }
-    {
-        self.words[self.index(object, line)]
-    }
-
     /// The positions of a line at which other objects are noted than in another of as many objects and lines.
     fn differing(&self, other: &LinePlanes, line: usize) -> u128
         requires room { HasRoomOf self.now other.now }
@@ -189,8 +180,9 @@ impl LinePlanes {
     {
         let mut places = 0;
         for object in 0..self.objects {
-            let here = self.places_of(object, line);
-            let there = other.places_of(object, line);
+            // (both have the word at one number, which is worked out once)
+            let index = self.index(object, line);
+            let (here, there) = (self.words[index], other.words[index]);
             places = bits::either(places, bits::differing(here, there));
         }
         places
@@ -241,9 +233,10 @@ impl LinePlanes {
         ensures count { length marks.new ≡ length marks.old }
         ensures exact { AreMarks self.now marks.new }
     {
+        let objects = self.objects;
         let words: &[u128] = &self.words;
         notes::clear(marks);
-        for object in 0..self.objects {
+        for object in 0..objects {
             mark_object(words, object * self.count, object, marks);
         }
     }
