@@ -1,11 +1,15 @@
 //! Copies of levels.
 
-ghost use Rattle.std.specs.Prelude.{◌≡◌, IfOk, OnOk, OnErr};
+ghost use Rattle.std.specs.Prelude.{◌≡◌, true, IfOk, OnOk, OnErr};
+ghost use Rattle.pz_sheet.specs.Grid.{SameSize};
 
 use crate::Sheet;
 use pz_planes::copying::{make_room, refill, renew};
 use pz_planes::notes::are_empty;
 use std::alloc::AllocError;
+
+/// From so many cells on it may pay to look for those that differ, in place of copying all.
+const MANY_CELLS: usize = 512;
 
 impl<const N: usize> Sheet<N> {
     /// A copy of the level. Err: memory was refused.
@@ -28,14 +32,23 @@ impl<const N: usize> Sheet<N> {
         Ok(copy)
     }
 
-    /// Makes this level equal to another. It reuses its memory if that is enough. Where both are of one size, nothing heads in either and
-    /// the planes tell which cells differ, only those are copied. Err: memory was refused, and the level is unchanged.
+    /// Whether another level is of the same size, and the cells that differ are found with less work than all are copied.
+    fn is_near(&self, other: &Sheet<N>) -> bool
+        ensures { result ≡ true → SameSize self.now.grid other.now.grid }
+    {
+        self.cells.len() >= MANY_CELLS
+            && are_empty(&self.notes, &other.notes)
+            && self.is_told_by_planes()
+            && self.same_size(other)
+    }
+
+    /// Makes this level equal to another. It reuses its memory if that is enough. Of one that is near only the cells that differ are copied.
+    /// Err: memory was refused, and the level is unchanged.
     pub fn copy_from(&mut self, other: &Sheet<N>) -> Result<(), AllocError>
         ensures copied { OnOk result (self.new.grid ≡ other.now.grid) }
         ensures kept { OnErr result (self.new.grid ≡ self.old.grid) }
     {
-        let are_still = are_empty(&self.notes, &other.notes);
-        if are_still && self.is_told_by_planes() && self.same_size(other) {
+        if self.is_near(other) {
             self.take_all(other);
             return Ok(());
         }
