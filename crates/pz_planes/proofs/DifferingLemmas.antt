@@ -1,10 +1,23 @@
 -- The positions at which the objects that are noted differ.
-use Rattle.std.proofs.Common.{◌≡◌, inl, inr, ℕ, ◌+◌, ◌-◌, ◌*◌, ◌/◌, ◌%◌, ◌<◌, ◌≤◌, Bool, true, false, not, ◌||◌, cond, arith, ap, sym, ◌∙◌, refl, subst}
+use Rattle.std.proofs.Common.{◌≡◌, inl, inr, ℕ, ◌+◌, ◌-◌, ◌*◌, ◌/◌, ◌%◌, ◌<◌, ◌≤◌, Bool, true, false, not, ◌||◌, cond, length, get_or, arith, ap, sym, ◌∙◌, refl, subst}
 use Rattle.std.specs.Prelude.{◌↔◌}
 use Rattle.std.proofs.lemmas.Bool.{cases_eq, cases_lt}
+use Rattle.std.proofs.lemmas.List.{get_or_default}
 use Rattle.std.proofs.lemmas.Nat.{div-mul-add, mod-mul-add}
 use Rattle.pz_sets.specs.Sets.{in_word}
-use Rattle.pz_planes.specs.Planes.{LineSets, stands_in, AreSameAt, AreSameBetween}
+use Rattle.pz_planes.specs.Planes.{LineSets, HasLines, HasRoomOf, stands_in, AreSameAt, AreSameBetween}
+
+-- sets of as many objects and lines have as many words
+pub same_length : (sets other : LineSets) → HasLines sets.objects sets.count sets.words → HasLines other.objects other.count other.words → HasRoomOf sets other → length sets.words ≡ length other.words
+same_length sets other has others room = has.covers ∙ ap (λ (n : ℕ). n * sets.count) room.objects ∙ ap (λ (n : ℕ). other.objects * n) room.count ∙ sym others.covers
+
+-- the word of an object and a line has the positions at which the object is noted
+pub word_tells : (sets : LineSets) (object line number word at : ℕ) → at < 128 → number ≡ object * sets.count + line → number < length sets.words → word ≡ get_or sets.words number word → in_word word at ≡ stands_in sets object line at
+word_tells sets object line number word at low is within read =
+    let start = object * sets.count + line in
+    ap (λ (w : ℕ). in_word w at) (read ∙ get_or_default sets.words number word 0 within)
+    ∙ ap (λ (k : ℕ). in_word (get_or sets.words k 0) at) (is ∙ sym (div-mul-add start 128 at low))
+    ∙ ap (in_word (get_or sets.words ((start * 128 + at) / 128) 0)) (sym (mod-mul-add start 128 at low))
 
 pub xor_no : (x y z : Bool) → z ≡ cond x (not y) y → (z ≡ false) ↔ (x ≡ y)
 xor_no true true z e = (λ no. refl, λ same. e)

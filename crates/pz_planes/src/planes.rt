@@ -180,9 +180,10 @@ impl LinePlanes {
     {
         let mut places = 0;
         for object in 0..self.objects {
-            // (both have the word at one number, which is worked out once)
-            let index = self.index(object, line);
-            let (here, there) = (self.words[index], other.words[index]);
+            // (the number of the word is the same in both, and worked out once)
+            let number = self.index(object, line);
+            let here = self.words[number];
+            let there = other.words[number];
             places = bits::either(places, bits::differing(here, there));
         }
         places

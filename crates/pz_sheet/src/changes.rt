@@ -109,12 +109,12 @@ impl<const N: usize> Sheet<N> {
         }
     }
 
-    /// Whether the planes tell what stands in each cell with less work than the cells: a row fits in a word, and has more than three cells
+    /// Whether the planes tell what stands in each cell with less work than the cells: a row fits in a word, and has more than two cells
     /// for each object of the game.
     pub(crate) fn is_told_by_planes(&self) -> bool
         ensures { result ≡ true → self.now.grid.width ≤ 128 }
     {
-        self.width <= bits::ROOM && self.layers.object_count() < self.width as usize / 3
+        self.width <= bits::ROOM && self.layers.object_count() < self.width as usize / 2
     }
 
     /// Copies the cell of this number from another level of the same size.

@@ -9,7 +9,7 @@ use pz_planes::notes::are_empty;
 use std::alloc::AllocError;
 
 /// From so many cells on it may pay to look for those that differ, in place of copying all.
-const MANY_CELLS: usize = 512;
+const MANY_CELLS: usize = 256;
 
 impl<const N: usize> Sheet<N> {
     /// A copy of the level. Err: memory was refused.
