@@ -1,0 +1,211 @@
+//! A text of cells that is written part by part, and may take over parts of the text before.
+
+ghost use Rattle.std.specs.Prelude.{◌≡◌, ℕ, ◌+◌, ◌-◌, ◌*◌, ◌<◌, ◌≤◌, ◌^◌, ◌++◌, List, [], length, map, replicate, take, None, All, OnOk};
+ghost use Rattle.pz_base.specs.NameSet.{number_in};
+ghost use Rattle.pz_record.specs.declared.written.Written.{Written};
+ghost use Rattle.pz_record.specs.Labels.{AreDistinct, text_at};
+ghost use Rattle.pz_record.specs.Written.{IsBegun, IsWhole, IsSameBut};
+
+use crate::changed::Changed;
+use crate::escaped::{write_bytes, write_up_to};
+use crate::labels::KnownTexts;
+use crate::written::Written;
+use std::alloc::{AllocError, Global};
+
+/// After how many cells it is noted how much of the text is written.
+pub(crate) const STEP: usize = 16;
+
+/// A text of cells, as far as it is written. The text stands at the front of `json`, escaped as in a JSON string. `firsts` has the labels of
+/// the texts that have a number, in the order of the numbers, and `marks` how much was written after each `STEP` cells.
+pub(crate) struct Draft {
+    pub json: Vec<u8>,
+    pub at: Written,
+    pub firsts: Vec<usize>,
+    pub marks: Vec<Written>,
+}
+
+/// Written out: where one goes out of scope, the prover then sees one call.
+impl Drop for Draft {
+    fn drop(self) {
+        let Draft {
+            json,
+            at: _,
+            firsts,
+            marks,
+        } = self;
+        drop(json);
+        drop(firsts);
+        drop(marks);
+    }
+}
+
+/// Nothing is written.
+fn start() -> Written
+    ensures { result ≡ record { end = 0; cells = 0; known = 0; column = 0 } }
+{
+    Written {
+        end: 0,
+        cells: 0,
+        known: 0,
+        column: 0,
+    }
+}
+
+impl Draft {
+    pub fn new(alloc: Global) -> Draft
+        ensures end { result.at.end ≡ 0 }
+        ensures firsts { result.firsts.items ≡ [] }
+        ensures marks { result.marks.items ≡ [] }
+    {
+        Draft {
+            json: Vec::new(alloc),
+            at: start(),
+            firsts: Vec::new(alloc),
+            marks: Vec::new(alloc),
+        }
+    }
+}
+
+/// Clears the numbers: no label has one yet.
+fn clear_numbers(numbers: &mut Vec<Option<usize>>, count: usize) -> Result<(), AllocError>
+    ensures { OnOk result (numbers.new.items ≡ replicate count None) }
+{
+    numbers.clear();
+    numbers.resize(count, None)?;
+    Ok(())
+}
+
+/// Gives the labels of `firsts` the numbers from 0 on, and no number to others. Err: memory was refused.
+fn number_labels(
+    numbers: &mut Vec<Option<usize>>,
+    texts: &KnownTexts,
+    firsts: &[usize],
+) -> Result<(), AllocError>
+    requires within { All (λ label. label < length texts.now) firsts.now }
+    requires distinct { AreDistinct (map (text_at texts.now) firsts.now) }
+    ensures { OnOk result (numbers.new.items ≡ map (number_in (map (text_at texts.now) firsts.now)) texts.now) }
+{
+    clear_numbers(numbers, texts.len())?;
+    for (number, label) in firsts.iter().enumerate() {
+        numbers[*label] = Some(number);
+    }
+    Ok(())
+}
+
+/// Forgets what is written. Err: memory was refused.
+pub(crate) fn restart(
+    draft: &mut Draft,
+    numbers: &mut Vec<Option<usize>>,
+    texts: &KnownTexts,
+) -> Result<(), AllocError>
+    ensures begun { OnOk result ((width : ℕ) (all : List (List ℕ)) → 0 < width → IsBegun width all texts.now draft.new numbers.new.items) }
+    ensures start { OnOk result (draft.new.at.cells ≡ 0) }
+    ensures marks { OnOk result (length draft.new.marks.items ≡ 0) }
+{
+    draft.at = start();
+    draft.firsts.clear();
+    draft.marks.clear();
+    clear_numbers(numbers, texts.len())?;
+    Ok(())
+}
+
+/// Takes over the front of another text, up to a mark with so many marks before it. Err: memory was refused.
+fn take_front(
+    draft: &mut Draft,
+    last: &Draft,
+    mark: Written,
+    count: usize,
+) -> Result<(), AllocError>
+    requires json { mark.end ≤ length last.now.json.items }
+    requires firsts { mark.known ≤ length last.now.firsts.items }
+    requires marks { count ≤ length last.now.marks.items }
+    ensures room { OnOk result (mark.end ≤ length draft.new.json.items) }
+    ensures json { OnOk result (take mark.end draft.new.json.items ≡ take mark.end last.now.json.items) }
+    ensures at { OnOk result (draft.new.at ≡ mark) }
+    ensures firsts { OnOk result (draft.new.firsts.items ≡ take mark.known last.now.firsts.items) }
+    ensures marks { OnOk result (draft.new.marks.items ≡ take count last.now.marks.items) }
+{
+    write_bytes(&mut draft.json, 0, &last.json[..mark.end])?;
+    draft.at = mark;
+    draft.firsts.clear();
+    draft.firsts.extend_from_slice(&last.firsts[..mark.known])?;
+    draft.marks.clear();
+    draft.marks.extend_from_slice(&last.marks[..count])?;
+    Ok(())
+}
+
+/// Writes the cells before the cell `to` that aren't written yet. Err: memory was refused.
+pub(crate) fn write_cells(
+    draft: &mut Draft,
+    numbers: &mut Vec<Option<usize>>,
+    texts: &KnownTexts,
+    labels: &[usize],
+    width: usize,
+    to: usize,
+) -> Result<(), AllocError>
+    requires from { draft.old.at.cells ≤ to }
+    requires to { to ≤ length labels.now }
+    requires within { All (λ label. label < length texts.now) labels.now }
+    requires begun { IsBegun width (map (text_at texts.now) labels.now) texts.now draft.old numbers.old.items }
+    requires mark { draft.old.at.cells ≡ length draft.old.marks.items * STEP }
+    ensures begun { OnOk result (IsBegun width (map (text_at texts.now) labels.now) texts.now draft.new numbers.new.items) }
+    ensures to { OnOk result (draft.new.at.cells ≡ to) }
+{
+    'parts: while draft.at.cells < to {
+        draft.marks.push(draft.at)?;
+        let stop = to.min(draft.at.cells + STEP);
+        let at = write_up_to(
+            &mut draft.json,
+            numbers,
+            &mut draft.firsts,
+            texts,
+            labels,
+            width,
+            stop,
+            draft.at,
+        )?;
+        draft.at = at;
+    }
+    Ok(())
+}
+
+/// Writes the text of all cells. Err: memory was refused.
+pub(crate) fn write_all(
+    draft: &mut Draft,
+    numbers: &mut Vec<Option<usize>>,
+    texts: &KnownTexts,
+    labels: &[usize],
+    width: usize,
+) -> Result<(), AllocError>
+    requires wide { 0 < width }
+    requires within { All (λ label. label < length texts.now) labels.now }
+    ensures { OnOk result (IsWhole width (map (text_at texts.now) labels.now) texts.now draft.new) }
+{
+    restart(draft, numbers, texts)?;
+    write_cells(draft, numbers, texts, labels, width, labels.len())?;
+    Ok(())
+}
+
+/// Writes the text of all cells, after the text of others: the front of that text is taken over, up to a mark before the first cell that
+/// has changed. Err: memory was refused.
+pub(crate) fn write_after(
+    draft: &mut Draft,
+    numbers: &mut Vec<Option<usize>>,
+    last: &Draft,
+    texts: &KnownTexts,
+    labels: &[usize],
+    width: usize,
+    changed: Changed,
+) -> Result<(), AllocError>
+    requires wide { 0 < width }
+    requires within { All (λ label. label < length texts.now) labels.now }
+    requires some { changed.first < changed.end }
+    requires last { (before : List (List ℕ)) × IsWhole width before texts.now last.now × IsSameBut changed.first changed.end before (map (text_at texts.now) labels.now) }
+    ensures { OnOk result (IsWhole width (map (text_at texts.now) labels.now) texts.now draft.new) }
+{
+    let count = changed.first / STEP;
+    take_front(draft, last, last.marks[count], count)?;
+    number_labels(numbers, texts, draft.firsts.as_slice())?;
+    write_cells(draft, numbers, texts, labels, width, labels.len())?;
+    Ok(())
+}
