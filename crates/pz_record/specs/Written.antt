@@ -1,5 +1,5 @@
 -- The first cells of a level, as they are written.
-use Rattle.std.specs.Prelude.{◌≡◌, ℕ, ◌+◌, ◌*◌, ◌≤◌, ◌<◌, ◌%◌, List, length, map, take, drop, slice_index_or, All, Option}
+use Rattle.std.specs.Prelude.{◌≡◌, ℕ, ◌+◌, ◌-◌, ◌*◌, ◌≤◌, ◌<◌, ◌%◌, List, length, map, take, drop, slice_index_or, All, Option}
 use Rattle.json.specs.Print.{escape}
 use Rattle.pz_base.specs.NameSet.{number_in}
 use Rattle.pz_record.specs.declared.draft.Draft.{Draft}
@@ -29,6 +29,10 @@ pub record AreFirsts (all texts : List (List ℕ)) (cells : ℕ) (firsts : List 
 -- how much is written with the first cells
 abbrev pub written_to : ℕ → List (List ℕ) → ℕ → Written
 written_to width all cells = record { end = length (escape (text_to width all cells)); cells = cells; known = length (known_of (take cells all)); column = cells % width }
+
+-- as much, where what ended at `from` ends at `to`
+abbrev pub moved : ℕ → ℕ → Written → Written
+moved from to written = record written { end = written.end - from + to }
 
 -- how much was written after each `STEP` cells, from the start on, up to so many cells
 pub record AreMarks (width : ℕ) (all : List (List ℕ)) (cells : ℕ) (marks : List Written) : Type 0 where

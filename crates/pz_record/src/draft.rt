@@ -1,10 +1,10 @@
 //! A text of cells that is written part by part, and may take over parts of the text before.
 
-ghost use Rattle.std.specs.Prelude.{◌≡◌, ℕ, ◌+◌, ◌-◌, ◌*◌, ◌<◌, ◌≤◌, ◌^◌, ◌++◌, List, [], length, map, replicate, take, None, All, OnOk};
+ghost use Rattle.std.specs.Prelude.{◌≡◌, ℕ, ◌+◌, ◌-◌, ◌*◌, ◌<◌, ◌≤◌, ◌^◌, ◌++◌, List, [], length, map, replicate, take, drop, None, All, OnOk};
 ghost use Rattle.pz_base.specs.NameSet.{number_in};
 ghost use Rattle.pz_record.specs.declared.written.Written.{Written};
 ghost use Rattle.pz_record.specs.Labels.{AreDistinct, text_at};
-ghost use Rattle.pz_record.specs.Written.{IsBegun, IsWhole, IsSameBut};
+ghost use Rattle.pz_record.specs.Written.{IsBegun, IsWhole, IsSameBut, moved};
 
 use crate::changed::Changed;
 use crate::escaped::{write_bytes, write_up_to};
@@ -186,8 +186,112 @@ pub(crate) fn write_all(
     Ok(())
 }
 
-/// Writes the text of all cells, after the text of others: the front of that text is taken over, up to a mark before the first cell that
-/// has changed. Err: memory was refused.
+/// Adds marks of another text, moved: what ended at `from` there ends at `to` here. Err: memory was refused.
+fn take_marks(
+    marks: &mut Vec<Written>,
+    rest: &[Written],
+    from: usize,
+    to: usize,
+) -> Result<(), AllocError>
+    requires ends { All (λ mark. from ≤ mark.end) rest.now }
+    requires fits { All (λ mark. mark.end + to < 2 ^ 64) rest.now }
+    ensures { OnOk result (marks.new.items ≡ marks.old.items ++ map (moved from to) rest.now) }
+{
+    for mark in rest {
+        marks.push(Written {
+            end: mark.end - from + to,
+            cells: mark.cells,
+            known: mark.known,
+            column: mark.column,
+        })?;
+    }
+    Ok(())
+}
+
+/// Takes over the rest of another text, behind a mark with so many marks before it. Err: memory was refused.
+fn take_rest(draft: &mut Draft, last: &Draft, mark: Written, count: usize) -> Result<(), AllocError>
+    requires within { draft.old.at.end ≤ length draft.old.json.items }
+    requires json { last.now.at.end ≤ length last.now.json.items }
+    requires mark { mark.end ≤ last.now.at.end }
+    requires firsts { mark.known ≤ length last.now.firsts.items }
+    requires marks { count ≤ length last.now.marks.items }
+    requires ends { All (λ next. (mark.end ≤ next.end) × (next.end ≤ last.now.at.end)) (drop count last.now.marks.items) }
+    ensures room { OnOk result (draft.new.at.end ≤ length draft.new.json.items) }
+    ensures json { OnOk result (take draft.new.at.end draft.new.json.items ≡ take draft.old.at.end draft.old.json.items ++ drop mark.end (take last.now.at.end last.now.json.items)) }
+    ensures firsts { OnOk result (draft.new.firsts.items ≡ draft.old.firsts.items ++ drop mark.known last.now.firsts.items) }
+    ensures marks { OnOk result (draft.new.marks.items ≡ draft.old.marks.items ++ map (moved mark.end draft.old.at.end) (drop count last.now.marks.items)) }
+{
+    take_marks(
+        &mut draft.marks,
+        &last.marks[count..],
+        mark.end,
+        draft.at.end,
+    )?;
+    draft.firsts.extend_from_slice(&last.firsts[mark.known..])?;
+    let text = &last.json[..last.at.end];
+    let end = write_bytes(&mut draft.json, draft.at.end, &text[mark.end..])?;
+    draft.at.end = end;
+    Ok(())
+}
+
+/// Writes the cells of a text that is begun up to a mark with so many marks before it, behind which the cells are as in another text. If the
+/// same texts have a number there, the rest of that text is taken over, otherwise it is written too. Err: memory was refused.
+fn finish_at(
+    draft: &mut Draft,
+    numbers: &mut Vec<Option<usize>>,
+    last: &Draft,
+    texts: &KnownTexts,
+    labels: &[usize],
+    width: usize,
+    count: usize,
+) -> Result<(), AllocError>
+    requires within { All (λ label. label < length texts.now) labels.now }
+    requires begun { IsBegun width (map (text_at texts.now) labels.now) texts.now draft.old numbers.old.items }
+    requires mark { draft.old.at.cells ≡ length draft.old.marks.items * STEP }
+    requires from { draft.old.at.cells ≤ count * STEP }
+    requires count { count < length last.now.marks.items }
+    requires last { (before : List (List ℕ)) × IsWhole width before texts.now last.now × IsSameBut 0 (count * STEP) before (map (text_at texts.now) labels.now) }
+    ensures { OnOk result (IsWhole width (map (text_at texts.now) labels.now) texts.now draft.new) }
+{
+    let mark = last.marks[count];
+    write_cells(draft, numbers, texts, labels, width, mark.cells)?;
+    if draft.firsts.as_slice() == &last.firsts[..mark.known] {
+        take_rest(draft, last, mark, count)?;
+        return Ok(());
+    }
+    write_cells(draft, numbers, texts, labels, width, labels.len())?;
+    Ok(())
+}
+
+/// Writes the cells of a text that is begun, and takes over what it can behind the cells that have changed. Err: memory was refused.
+fn finish(
+    draft: &mut Draft,
+    numbers: &mut Vec<Option<usize>>,
+    last: &Draft,
+    texts: &KnownTexts,
+    labels: &[usize],
+    width: usize,
+    changed: Changed,
+) -> Result<(), AllocError>
+    requires within { All (λ label. label < length texts.now) labels.now }
+    requires begun { IsBegun width (map (text_at texts.now) labels.now) texts.now draft.old numbers.old.items }
+    requires mark { draft.old.at.cells ≡ length draft.old.marks.items * STEP }
+    requires from { draft.old.at.cells ≤ changed.first }
+    requires some { changed.first < changed.end }
+    requires last { (before : List (List ℕ)) × IsWhole width before texts.now last.now × IsSameBut changed.first changed.end before (map (text_at texts.now) labels.now) }
+    ensures { OnOk result (IsWhole width (map (text_at texts.now) labels.now) texts.now draft.new) }
+{
+    // (the number of the first mark behind the last of these cells)
+    let count = (changed.end - 1) / STEP + 1;
+    if count < last.marks.len() {
+        return finish_at(draft, numbers, last, texts, labels, width, count);
+    }
+    write_cells(draft, numbers, texts, labels, width, labels.len())?;
+    Ok(())
+}
+
+/// Writes the text of all cells, after the text of others. The front of that text is taken over, up to a mark before the first cell that
+/// has changed, and so is its rest, if it can be. Err: memory was refused.
 pub(crate) fn write_after(
     draft: &mut Draft,
     numbers: &mut Vec<Option<usize>>,
@@ -206,6 +310,6 @@ pub(crate) fn write_after(
     let count = changed.first / STEP;
     take_front(draft, last, last.marks[count], count)?;
     number_labels(numbers, texts, draft.firsts.as_slice())?;
-    write_cells(draft, numbers, texts, labels, width, labels.len())?;
+    finish(draft, numbers, last, texts, labels, width, changed)?;
     Ok(())
 }
