@@ -1,6 +1,6 @@
 //! Which cells of a level have changed.
 
-ghost use Rattle.std.specs.Prelude.{◌≡◌, min, max};
+ghost use Rattle.std.specs.Prelude.{◌≡◌, ◌-◌, ◌^◌, min, max};
 
 /// The numbers of cells among which those are that have changed: from `first` on, and before `end`.
 #[derive(Clone, Copy)]
@@ -12,7 +12,7 @@ pub struct Changed {
 impl Changed {
     /// No cell.
     pub fn none() -> Changed
-        ensures { result.end ≡ 0 }
+        ensures { result ≡ record { first = 2 ^ 64 - 1; end = 0 } }
     {
         Changed {
             first: usize::MAX,

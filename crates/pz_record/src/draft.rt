@@ -4,10 +4,10 @@ ghost use Rattle.std.specs.Prelude.{◌≡◌, ℕ, ◌+◌, ◌-◌, ◌*◌, �
 ghost use Rattle.pz_base.specs.NameSet.{number_in};
 ghost use Rattle.pz_record.specs.declared.written.Written.{Written};
 ghost use Rattle.pz_record.specs.Labels.{AreDistinct, text_at};
-ghost use Rattle.pz_record.specs.Written.{IsBegun, IsWhole, IsSameBut, moved};
+ghost use Rattle.pz_record.specs.Written.{AreFirsts, AreWritten, IsBegun, IsWhole, IsSameBut, moved};
 
 use crate::changed::Changed;
-use crate::escaped::{write_bytes, write_up_to};
+use crate::escaped::{make_way, write_bytes, write_cell, write_known};
 use crate::labels::KnownTexts;
 use crate::written::Written;
 use std::alloc::{AllocError, Global};
@@ -134,6 +134,52 @@ fn take_front(
     Ok(())
 }
 
+/// Writes the cells before the cell `stop` that aren't written yet, and sets no mark. Err: memory was refused.
+fn write_part(
+    draft: &mut Draft,
+    numbers: &mut Vec<Option<usize>>,
+    texts: &KnownTexts,
+    labels: &[usize],
+    width: usize,
+    stop: usize,
+) -> Result<(), AllocError>
+    requires from { draft.old.at.cells ≤ stop }
+    requires stop { stop ≤ length labels.now }
+    requires within { All (λ label. label < length texts.now) labels.now }
+    requires written { AreWritten width (map (text_at texts.now) labels.now) texts.now draft.old.at draft.old.json.items numbers.old.items }
+    requires firsts { AreFirsts (map (text_at texts.now) labels.now) texts.now draft.old.at.cells draft.old.firsts.items }
+    ensures written { OnOk result (AreWritten width (map (text_at texts.now) labels.now) texts.now draft.new.at draft.new.json.items numbers.new.items) }
+    ensures firsts { OnOk result (AreFirsts (map (text_at texts.now) labels.now) texts.now draft.new.at.cells draft.new.firsts.items) }
+    ensures stop { OnOk result (draft.new.at.cells ≡ stop) }
+    ensures marks { draft.new.marks ≡ draft.old.marks }
+{
+    'cells: while draft.at.cells < stop {
+        make_way(&mut draft.json, draft.at.end, 5 * (stop - draft.at.cells))?;
+        draft.at = write_known(
+            draft.json.as_mut_slice(),
+            numbers.as_slice(),
+            texts,
+            labels,
+            width,
+            stop,
+            draft.at,
+        );
+        if draft.at.cells < stop {
+            let next = write_cell(
+                &mut draft.json,
+                numbers,
+                &mut draft.firsts,
+                texts,
+                labels,
+                width,
+                draft.at,
+            )?;
+            draft.at = next;
+        }
+    }
+    Ok(())
+}
+
 /// Writes the cells before the cell `to` that aren't written yet. Err: memory was refused.
 pub(crate) fn write_cells(
     draft: &mut Draft,
@@ -154,17 +200,7 @@ pub(crate) fn write_cells(
     'parts: while draft.at.cells < to {
         draft.marks.push(draft.at)?;
         let stop = to.min(draft.at.cells + STEP);
-        let at = write_up_to(
-            &mut draft.json,
-            numbers,
-            &mut draft.firsts,
-            texts,
-            labels,
-            width,
-            stop,
-            draft.at,
-        )?;
-        draft.at = at;
+        write_part(draft, numbers, texts, labels, width, stop)?;
     }
     Ok(())
 }

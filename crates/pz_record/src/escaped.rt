@@ -13,7 +13,7 @@ use itoa::Buffer;
 use std::alloc::AllocError;
 
 /// Makes room for `more` bytes after the text, which ends at `end`. Err: memory was refused.
-fn make_way(json: &mut Vec<u8>, end: usize, more: usize) -> Result<(), AllocError>
+pub(crate) fn make_way(json: &mut Vec<u8>, end: usize, more: usize) -> Result<(), AllocError>
     requires within { end ≤ length json.old.items }
     requires few { more < 2 ^ 63 }
     ensures room { OnOk result (end + more ≤ length json.new.items) }
@@ -114,7 +114,7 @@ fn end_line(json: &mut [u8], end: usize, width: usize, column: usize) -> (usize,
 
 /// Writes cells whose text has a number of one or two digits, up to the first other cell, and at most up to the cell `stop`. `numbers` has
 /// the number of each label's text, if it has one.
-fn write_known(
+pub(crate) fn write_known(
     json: &mut [u8],
     numbers: &[Option<usize>],
     texts: &KnownTexts,
@@ -183,7 +183,7 @@ fn put_new(
 }
 
 /// Writes the next cell, whatever its text. `firsts` has the labels of the texts that have a number. Err: memory was refused.
-fn write_cell(
+pub(crate) fn write_cell(
     json: &mut Vec<u8>,
     numbers: &mut Vec<Option<usize>>,
     firsts: &mut Vec<usize>,
@@ -220,45 +220,6 @@ fn write_cell(
         known,
         column,
     })
-}
-
-/// Writes the cells before the cell `stop` that aren't written yet. Err: memory was refused.
-pub(crate) fn write_up_to(
-    json: &mut Vec<u8>,
-    numbers: &mut Vec<Option<usize>>,
-    firsts: &mut Vec<usize>,
-    texts: &KnownTexts,
-    labels: &[usize],
-    width: usize,
-    stop: usize,
-    from: Written,
-) -> Result<Written, AllocError>
-    requires before { from.cells ≤ stop }
-    requires stop { stop ≤ length labels.now }
-    requires within { All (λ label. label < length texts.now) labels.now }
-    requires from { AreWritten width (map (text_at texts.now) labels.now) texts.now from json.old.items numbers.old.items }
-    requires firsts { AreFirsts (map (text_at texts.now) labels.now) texts.now from.cells firsts.old.items }
-    ensures written { IfOk result (λ at. AreWritten width (map (text_at texts.now) labels.now) texts.now at json.new.items numbers.new.items) }
-    ensures firsts { IfOk result (λ at. AreFirsts (map (text_at texts.now) labels.now) texts.now at.cells firsts.new.items) }
-    ensures stop { IfOk result (λ at. at.cells ≡ stop) }
-{
-    let mut at = from;
-    'cells: while at.cells < stop {
-        make_way(json, at.end, 5 * (stop - at.cells))?;
-        at = write_known(
-            json.as_mut_slice(),
-            numbers.as_slice(),
-            texts,
-            labels,
-            width,
-            stop,
-            at,
-        );
-        if at.cells < stop {
-            at = write_cell(json, numbers, firsts, texts, labels, width, at)?;
-        }
-    }
-    Ok(at)
 }
 
 /// Writes bytes after the text, which ends at `end`, and gives its new end. Err: memory was refused.
