@@ -16,7 +16,8 @@ use std::alloc::{AllocError, Global};
 pub(crate) const STEP: usize = 16;
 
 /// A text of cells, as far as it is written. The text stands at the front of `json`, escaped as in a JSON string. `firsts` has the labels of
-/// the texts that have a number, in the order of the numbers, and `marks` how much was written after each `STEP` cells.
+/// the texts that have a number, in the order of the numbers, and `marks` how much was written after each `STEP` cells. Once all cells are
+/// written, `at` only says where the text ends.
 pub(crate) struct Draft {
     pub json: Vec<u8>,
     pub at: Written,
