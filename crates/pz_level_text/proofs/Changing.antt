@@ -1,9 +1,8 @@
 -- The texts of a level's cells, where one cell has changed since it was seen.
-use Rattle.std.proofs.Common.{◌≡◌, ◌≢◌, ℕ, ◌+◌, ◌*◌, ◌/◌, ◌%◌, ◌<◌, ◌≤◌, List, [], ◌∷◌, Option, None, Bool, true, false, not, ◌&&◌, cond, length, take, map, set, get_or, All, refl, ap, ap₂, sym, ◌∙◌, arith, inl, inr, is_some, get_or-set_same, get_or-set_other}
+use Rattle.std.proofs.Common.{◌≡◌, ◌≢◌, ℕ, ◌+◌, ◌*◌, ◌/◌, ◌%◌, ◌<◌, ◌≤◌, List, [], Option, None, Bool, true, false, not, ◌&&◌, cond, length, set, get_or, refl, ap, ap₂, sym, ◌∙◌, arith, inl, inr, is_some, get_or-set_same, get_or-set_other}
 use Rattle.std.specs.Prelude.{nat_lt}
 use Rattle.std.proofs.lemmas.Bool.{cases_eq, cases_lt}
-use Rattle.std.proofs.lemmas.List.{length-take, get_or-take, length-set, ext_get_or}
-use Rattle.std.proofs.lemmas.List.Elements.{All-head, All-tail}
+use Rattle.std.proofs.lemmas.List.{length-set, ext_get_or}
 use Rattle.std.proofs.Math.Nat.{div-lt_iff_lt-mul}
 use Rattle.std.proofs.lemmas.Nat.{div-add-mod', div-mul-add, mod-mul-add}
 use Rattle.pz_cells.specs.declared.piece.Piece.{Piece}
@@ -21,30 +20,11 @@ use Rattle.pz_record.specs.declared.order.Order.TheVariants.{Rows, Columns}
 use Rattle.pz_record.specs.CellNames.{set_of}
 use Rattle.pz_level_text.specs.LevelNames.{standing_names}
 use Rattle.pz_record.specs.CellTexts.{joined}
-use Rattle.pz_record.specs.Labels.{text_at}
 use Rattle.pz_level_text.specs.Labels.{set_text, texts_in}
 use Rattle.pz_level_text.specs.CellOrder.{column_of, row_of, number_of}
 use Rattle.pz_level_text.proofs.Labelling.{chosen_same, named_at}
 use Rattle.pz_level_text.proofs.Ordered.{text_at_number, length-texts_in}
 use Rattle.pz_level_text.proofs.Walking.{on_map}
-
--- ---- labels among more texts
-text_still : (texts more : List (List ℕ)) (label : ℕ) → take (length texts) more ≡ texts → label < length texts → (label < length more) × (text_at more label ≡ text_at texts label)
-text_still texts more label e h =
-    let at : get_or (take (length texts) more) label [] ≡ get_or more label [] = get_or-take (length texts) more label [] h in
-    let long : length (take (length texts) more) ≡ length texts = ap length e in
-    (omega (arith, h, long, length-take (length texts) more), sym at ∙ ap (λ (l : List (List ℕ)). get_or l label []) e)
-
-abbrev Known : List (List ℕ) → ℕ → Type 0
-Known texts label = label < length texts
-
-pub labels_still : (texts more : List (List ℕ)) (labels : List ℕ) → All (Known texts) labels → take (length texts) more ≡ texts → map (text_at more) labels ≡ map (text_at texts) labels
-labels_still texts more [] all e = refl
-labels_still texts more (label ∷ labels) all e =
-    ap₂ (λ x xs. x ∷ xs) (text_still texts more label e (All-head (Known texts) label labels all)).1 (labels_still texts more labels (All-tail (Known texts) label labels all) e)
-
-pub known_still : (texts more : List (List ℕ)) (labels : List ℕ) → All (Known texts) labels → take (length texts) more ≡ texts → All (Known more) labels
-known_still texts more labels all e = λ k other h. (text_still texts more (get_or labels k other) e (all k other h)).0
 
 -- the text of the objects that stand at a position
 pub set_standing : (names : List (List ℕ)) (grid : Grid) (x y : ℕ) (objects : List ℕ) → ((object : ℕ) → member objects object ≡ stands grid x y object) → set_text names objects ≡ joined (set_of (standing_names names grid (x, y)))

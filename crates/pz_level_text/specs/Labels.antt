@@ -5,7 +5,7 @@ use Rattle.pz_sheet.specs.Grid.{Grid}
 use Rattle.pz_sets.specs.Sets.{member}
 use Rattle.pz_record.specs.declared.order.Order.{Order}
 use Rattle.pz_record.specs.CellNames.{set_of}
-use Rattle.pz_record.specs.CellTexts.{joined, text_of_cells}
+use Rattle.pz_record.specs.CellTexts.{joined}
 use Rattle.pz_record.specs.Labels.{text_at}
 use Rattle.pz_level_text.specs.LevelNames.{chosen_from, sets_in}
 
@@ -20,10 +20,6 @@ texts_in game order grid = map joined (sets_in game order grid)
 -- a set of objects has the text of this label
 abbrev pub IsLabelOf : List (List ℕ) → List (List ℕ) → List ℕ → ℕ → Type 0
 IsLabelOf names texts objects label = (label < length texts) × (text_at texts label ≡ set_text names objects)
-
--- the text is that of a level of this width whose cells have these texts
-abbrev pub IsTextOf : List (List ℕ) → ℕ → List ℕ → Type 0
-IsTextOf cells width text = text ≡ text_of_cells width cells
 
 -- the texts that are known of a game
 pub record TableView : Type 0 where

@@ -1,6 +1,6 @@
 //! The labels of the cells of a level, in the order of its text.
 
-ghost use Rattle.std.specs.Prelude.{◌≡◌, ◌*◌, ◌<◌, ◌++◌, ◌∷◌, [], length, map, slice_set, false, All, IfOk, OnOk};
+ghost use Rattle.std.specs.Prelude.{◌≡◌, ◌*◌, ◌<◌, ◌++◌, ◌∷◌, ◌+◌, [], length, map, take, slice_set, All, IfOk, OnOk};
 ghost use Rattle.pz_sheet.specs.Changes.{with_cell, cell_there};
 ghost use Rattle.pz_sheet.specs.Grid.{SameSize};
 ghost use Rattle.pz_record.specs.CellNames.{set_of};
@@ -8,12 +8,14 @@ ghost use Rattle.pz_record.specs.Labels.{text_at};
 ghost use Rattle.pz_level_text.specs.Labels.{texts_in};
 ghost use Rattle.pz_level_text.specs.LevelNames.{standing_names};
 ghost use Rattle.pz_record.specs.CellTexts.{joined};
+ghost use Rattle.pz_record.specs.Written.{IsSameBut};
 
 use crate::cell_order::{number_at, position};
 use crate::label_table::LabelTable;
 use pz_bare::BareLevel;
 use pz_game::game::Game;
 use pz_grid::Level;
+use pz_record::changed::Changed;
 use pz_record::labels::KnownTexts;
 use pz_record::order::Order;
 use std::alloc::{AllocError, Global};
@@ -85,6 +87,7 @@ impl<'a> CellLabels<'a> {
         ensures known { IfOk result (λ label. label < length self.new.table.texts) }
         ensures text { IfOk result (λ label. text_at self.new.table.texts label ≡ joined (set_of (standing_names self.old.table.game.objects level.now.grid (x, y)))) }
         ensures cells { self.new.cells ≡ self.old.cells }
+        ensures kept { take (length self.old.table.texts) self.new.table.texts ≡ self.old.table.texts }
         ensures game { self.new.table.game ≡ self.old.table.game }
         ensures order { self.new.order ≡ self.old.order }
     {
@@ -141,15 +144,22 @@ impl<'a> CellLabels<'a> {
         Ok(())
     }
 
-    /// Labels the cell of this number again, because it may have changed since the level was seen. Here cells are numbered row by row. Err:
-    /// memory was refused.
-    fn look(&mut self, seen: &mut BareLevel, level: &Level, index: usize) -> Result<(), AllocError>
+    /// Labels the cell of this number again, because it may have changed since the level was seen, and gives its number in the order of the
+    /// text. Here cells are numbered row by row. Err: memory was refused.
+    fn look(
+        &mut self,
+        seen: &mut BareLevel,
+        level: &Level,
+        index: usize,
+    ) -> Result<Changed, AllocError>
         requires size { SameSize seen.old.grid level.now.grid }
         requires within { index < length seen.old.grid.cells }
         requires on_map { index < level.now.grid.width * level.now.grid.height }
         requires known { self.old.cells ≡ texts_in self.old.table.game self.old.order seen.old.grid }
         ensures known { OnOk result (self.new.cells ≡ texts_in self.old.table.game self.old.order seen.new.grid) }
         ensures seen { OnOk result (seen.new.grid ≡ with_cell seen.old.grid (cell_there level.now.grid index)) }
+        ensures changed { IfOk result (λ changed. IsSameBut changed.first changed.end self.old.cells self.new.cells) }
+        ensures kept { take (length self.old.table.texts) self.new.table.texts ≡ self.old.table.texts }
         ensures game { self.new.table.game ≡ self.old.table.game }
         ensures order { self.new.order ≡ self.old.order }
     {
@@ -160,30 +170,36 @@ impl<'a> CellLabels<'a> {
         let number = number_at(self.order, level, x, y);
         self.put(number, label);
         seen.take_cell(level.bare(), index);
-        Ok(())
+        Ok(Changed {
+            first: number,
+            end: number + 1,
+        })
     }
 
-    /// Labels each cell that has changed since the level was seen, and says whether there was one. Err: memory was refused.
+    /// Labels each cell that has changed since the level was seen, and says which these are. Err: memory was refused.
     pub fn look_at_changes(
         &mut self,
         seen: &mut BareLevel,
         level: &Level,
-    ) -> Result<bool, AllocError>
+    ) -> Result<Changed, AllocError>
         requires size { SameSize seen.old.grid level.now.grid }
         requires known { self.old.cells ≡ texts_in self.old.table.game self.old.order seen.old.grid }
         ensures cells { OnOk result (self.new.cells ≡ texts_in self.old.table.game self.old.order level.now.grid) }
         ensures seen { OnOk result (seen.new.grid ≡ level.now.grid) }
-        ensures same { IfOk result (λ changed. changed ≡ false → self.new.cells ≡ self.old.cells) }
+        ensures changed { IfOk result (λ changed. IsSameBut changed.first changed.end self.old.cells self.new.cells) }
+        ensures kept { take (length self.old.table.texts) self.new.table.texts ≡ self.old.table.texts }
         ensures game { self.new.table.game ≡ self.old.table.game }
         ensures order { self.new.order ≡ self.old.order }
     {
         // (brings the proof the law of the level)
         let _ = level.width();
+        let mut changed = Changed::none();
         let mut from = 0;
         'changes: while let Some(index) = seen.next_change(level.bare(), from) {
-            self.look(seen, level, index)?;
+            let next = self.look(seen, level, index)?;
+            changed = changed.and(next);
             from = index + 1;
         }
-        Ok(from > 0)
+        Ok(changed)
     }
 }

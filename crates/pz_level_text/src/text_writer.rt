@@ -3,8 +3,9 @@
 
 ghost use Rattle.std.specs.Prelude.{◌≡◌, ◌<◌, [], IfOk, IfSome, OnOk};
 ghost use Rattle.pz_sheet.specs.Grid.{SameSize};
-ghost use Rattle.pz_level_text.specs.Labels.{IsTextOf, texts_in};
+ghost use Rattle.pz_level_text.specs.Labels.{texts_in};
 ghost use Rattle.pz_record.specs.CellTexts.{text_of_cells};
+ghost use Rattle.pz_record.specs.Written.{HasTextBut};
 ghost use Rattle.pz_level_text.specs.LevelText.{text_of_level};
 
 use crate::cell_labels::CellLabels;
@@ -12,6 +13,7 @@ use pz_bare::BareLevel;
 use pz_base::text::Text;
 use pz_game::game::Game;
 use pz_grid::Level;
+use pz_record::changed::Changed;
 use pz_record::order::Order;
 use pz_record::plain::plain_text;
 use pz_record::quoted::QuotedText;
@@ -20,14 +22,21 @@ use std::alloc::{AllocError, Global};
 use std::marker::Model;
 
 /// Writes the texts of a game's levels, with the cells in an order. It remembers the sets of objects seen so far, the last level, and its
-/// text. So only changed cells are looked at, and the text of a level without a changed cell isn't made again. `room` has the last text if
-/// `last` has the width of its level.
+/// text. So only changed cells are looked at, and of a text only what may have changed is written again. `room` has a text if `last` says
+/// which.
 pub struct TextWriter<'a> {
     alloc: Global,
     cells: CellLabels<'a>,
     seen: Option<BareLevel>,
     room: TextRoom,
-    last: Option<u32>,
+    last: Option<LastText>,
+}
+
+/// What the room has: the text of a level of this width whose cells were as they are now, but for those that have changed since.
+#[derive(Clone, Copy)]
+struct LastText {
+    width: u32,
+    changed: Changed,
 }
 
 /// Written out: where one goes out of scope, the prover then sees one call.
@@ -48,37 +57,40 @@ impl Drop for TextWriter<'_> {
 
 impl<'a> Model for TextWriter<'a> {
     ghost use Rattle.std.specs.Prelude.{◌≡◌, IfSome};
-    ghost use Rattle.pz_level_text.specs.Labels.{WriterView, IsTextOf, texts_in};
+    ghost use Rattle.pz_record.specs.Written.{HasTextBut};
+    ghost use Rattle.pz_level_text.specs.Labels.{WriterView, texts_in};
 
     ghost Value = { WriterView };
 
     ghost view = { λ t. t.cells };
 
-    ghost invariant = { λ t. IfSome t.seen (λ seen. t.cells.cells ≡ texts_in t.cells.table.game t.cells.order seen.grid) × IfSome t.last (λ width. IsTextOf t.cells.cells width t.room) };
+    ghost invariant = { λ t. IfSome t.seen (λ seen. t.cells.cells ≡ texts_in t.cells.table.game t.cells.order seen.grid) × IfSome t.last (λ last. HasTextBut last.width last.changed.first last.changed.end t.cells.cells t.cells.table.texts t.room) };
 }
 
-/// Writes the text of cells into the room, unless it is there already. It stays there: callers get copies, because a recording keeps its
-/// texts.
+/// Writes the text of cells into the room, after the last text only what may have changed. It stays there: callers get copies, because a
+/// recording keeps its texts.
 fn fill(
     room: &mut TextRoom,
-    last: &mut Option<u32>,
+    last: &mut Option<LastText>,
     cells: &CellLabels<'_>,
     width: u32,
 ) -> Result<(), AllocError>
     requires wide { 0 < width }
-    requires known { IfSome last.old (λ width. IsTextOf cells.now.cells width room.old) }
-    ensures text { OnOk result (room.new ≡ text_of_cells width cells.now.cells) }
-    ensures known { IfSome last.new (λ width. IsTextOf cells.now.cells width room.new) }
+    requires known { IfSome last.old (λ last. HasTextBut last.width last.changed.first last.changed.end cells.now.cells cells.now.table.texts room.old) }
+    ensures text { OnOk result (room.new.text ≡ text_of_cells width cells.now.cells) }
+    ensures known { IfSome last.new (λ last. HasTextBut last.width last.changed.first last.changed.end cells.now.cells cells.now.table.texts room.new) }
 {
-    match *last {
-        Some(kept) if kept == width => Ok(()),
-        _ => {
-            *last = None;
-            room.write(cells.texts(), cells.labels(), width as usize)?;
-            *last = Some(width);
-            Ok(())
+    match last.take() {
+        Some(kept) if kept.width == width => {
+            room.rewrite(cells.texts(), cells.labels(), width as usize, kept.changed)?
         }
+        _ => room.write(cells.texts(), cells.labels(), width as usize)?,
     }
+    *last = Some(LastText {
+        width,
+        changed: Changed::none(),
+    });
+    Ok(())
 }
 
 /// The text of cells, not quoted. No copy of it is kept.
@@ -130,9 +142,13 @@ impl<'a> TextWriter<'a> {
         self.seen = None;
         let changed = self.cells.look_at_changes(&mut now, level)?;
         self.seen = Some(now);
-        if !changed {
-            self.last = last;
-        }
+        self.last = match last {
+            Some(last) => Some(LastText {
+                width: last.width,
+                changed: last.changed.and(changed),
+            }),
+            None => None,
+        };
         Ok(())
     }
 

@@ -59,7 +59,7 @@ back x y e = by (bytes_eq x y) refl
     by true h = absurd (true≢false (sym ((bytes_eq-Decides y x).1 (sym ((bytes_eq-Decides x y).0 h))) ∙ e))
     by false h = refl
 
-none_at : (t : List ℕ) (ts : List (List ℕ)) (k : ℕ) → list_any (λ other. bytes_eq other t) ts ≡ false → k < length ts → bytes_eq (text_at ts k) t ≡ false
+pub none_at : (t : List ℕ) (ts : List (List ℕ)) (k : ℕ) → list_any (λ other. bytes_eq other t) ts ≡ false → k < length ts → bytes_eq (text_at ts k) t ≡ false
 none_at t [] k h l = absurd (omega arith)
 none_at t (u ∷ ts) zero h l = (or_parts (bytes_eq u t) (list_any (λ other. bytes_eq other t) ts) h).0
 none_at t (u ∷ ts) (suc k) h l = none_at t ts k (or_parts (bytes_eq u t) (list_any (λ other. bytes_eq other t) ts) h).1 (omega arith)

@@ -7,3 +7,6 @@ pub mod Walking
 pub mod Quoting
 pub mod Escaping
 pub mod WrittenCells
+pub mod Keeping
+pub mod Drafts
+pub mod Changes

@@ -1,9 +1,11 @@
--- Worked cases: the texts of cells, and names as sets.
-use Rattle.std.proofs.Common.{◌≡◌, ℕ, List, [], ◌∷◌, ◌++◌, codes, true, false, refl}
+-- Worked cases: the texts of cells, how much of them is written, and names as sets.
+use Rattle.std.proofs.Common.{◌≡◌, ℕ, List, [], ◌∷◌, ◌++◌, codes, true, false, ◌<◌, get_or, refl, ap, arith}
+use Rattle.std.proofs.lemmas.List.Elements.{All-nil, All-cons}
 use Rattle.std.specs.Fmt.{digits}
 use Rattle.json.specs.Print.{escape, escape_byte}
 use Rattle.pz_record.specs.CellNames.{with_name, set_of, same_set}
 use Rattle.pz_record.specs.CellTexts.{joined, text_of_cells, piece, with_cell}
+use Rattle.pz_record.specs.Written.{AreFirsts, IsSameBut, moved, written_to}
 
 abbrev background : List ℕ
 background = codes "background"
@@ -27,6 +29,29 @@ in_columns = refl
 as_json : escape (text_of_cells 2 (codes "wa\"ll" ∷ codes "wa\"ll" ∷ [])) ≡ codes "wa" ++ 92 ∷ 34 ∷ codes "ll:0,0," ++ 92 ∷ 110 ∷ []
 unfolding piece with_cell digits escape_byte
 as_json = refl
+
+-- how much is written with the first three of four cells, in two columns: the end of a line counts as two bytes
+three_written : written_to 2 (background ∷ joined (background ∷ player ∷ []) ∷ background ∷ background ∷ []) 3 ≡ record { end = 37; cells = 3; known = 2; column = 1 }
+unfolding piece with_cell digits escape_byte
+three_written = refl
+
+-- what ended at 40 ends at 38
+two_bytes_less : moved 40 38 (record { end = 57; cells = 32; known = 4; column = 2 }) ≡ record { end = 55; cells = 32; known = 4; column = 2 }
+two_bytes_less = refl
+
+-- cells of which the second alone has changed
+second_changed : IsSameBut 1 2 (background ∷ player ∷ wall ∷ []) (background ∷ wall ∷ wall ∷ [])
+second_changed = record { front = refl; back = refl; count = refl; within = omega arith }
+
+not_the_third_alone : IsSameBut 2 3 (background ∷ player ∷ wall ∷ []) (background ∷ wall ∷ wall ∷ []) → ⊥
+not_the_third_alone same =
+    let byte : 112 ≡ 119 = ap (λ (l : List (List ℕ)). get_or (get_or l 1 []) 0 0) same.front in
+    omega (arith, byte)
+
+-- the labels of the texts that have a number after three cells
+two_firsts : AreFirsts (wall ∷ player ∷ wall ∷ background ∷ []) (background ∷ wall ∷ player ∷ []) 3 (1 ∷ 2 ∷ [])
+unfolding with_cell
+two_firsts = record { known = refl; within = All-cons (λ l. l < 3) 1 (2 ∷ []) (omega arith) (All-cons (λ l. l < 3) 2 [] (omega arith) (All-nil (λ l. l < 3))) }
 
 sorted : set_of (wall ∷ player ∷ background ∷ player ∷ []) ≡ background ∷ player ∷ wall ∷ []
 unfolding with_name

@@ -1,13 +1,13 @@
 -- One more cell is written.
-use Rattle.std.proofs.Common.{◌≡◌, ℕ, ◌+◌, ◌≤◌, ◌<◌, ◌%◌, ◌++◌, [], List, Option, All, length, take, get_or, map, refl, ap, sym, ◌∙◌, subst, arith}
-use Rattle.std.proofs.lemmas.List.{get_or-map, get_or_default, length-map}
-use Rattle.std.proofs.lemmas.List.Elements.{All-get_or}
+use Rattle.std.proofs.Common.{◌≡◌, ℕ, ◌+◌, ◌≤◌, ◌<◌, ◌%◌, ◌++◌, ◌∷◌, [], List, Option, All, length, take, get_or, map, refl, ap, sym, ◌∙◌, subst, arith}
+use Rattle.std.proofs.lemmas.List.{get_or-map, get_or_default, length-map, map_push}
+use Rattle.std.proofs.lemmas.List.Elements.{All-get_or, All-push}
 use Rattle.json.specs.Print.{escape}
 use Rattle.pz_base.specs.NameSet.{number_in}
 use Rattle.pz_record.specs.declared.written.Written.{Written}
 use Rattle.pz_record.specs.Labels.{text_at}
 use Rattle.pz_record.specs.CellTexts.{known_of, piece, with_cell, line_end, text_to}
-use Rattle.pz_record.specs.Written.{AreWritten}
+use Rattle.pz_record.specs.Written.{AreWritten, AreFirsts}
 use Rattle.pz_record.proofs.Escaping.{escape-append}
 use Rattle.pz_record.proofs.KnownCells.{cell_written, cell_known}
 
@@ -61,3 +61,21 @@ labelled texts labels k here within =
 pub numbered_at : (texts known : List (List ℕ)) (given : List (Option ℕ)) (label : ℕ) (d : Option ℕ) → given ≡ map (number_in known) texts → label < length texts
     → get_or given label d ≡ number_in known (text_at texts label)
 numbered_at texts known given label d e within = ap (λ l. get_or l label d) e ∙ get_or-map (number_in known) texts label [] d within
+
+-- the labels of the texts that have a number, with one more cell
+pub firsts_known : (all texts : List (List ℕ)) (k : ℕ) (firsts : List ℕ) (cell : List ℕ) → AreFirsts all texts k firsts → k < length all → get_or all k [] ≡ cell
+    → with_cell (known_of (take k all)) cell ≡ known_of (take k all) → AreFirsts all texts (k + 1) firsts
+firsts_known all texts k firsts cell before here item same = record {
+  known = before.known ∙ sym same ∙ cell_known all k (known_of (take k all)) (with_cell (known_of (take k all)) cell) cell here refl item refl;
+  within = before.within;
+}
+
+pub firsts_new : (all texts : List (List ℕ)) (k : ℕ) (firsts : List ℕ) (label : ℕ) → AreFirsts all texts k firsts → k < length all → get_or all k [] ≡ text_at texts label → label < length texts
+    → with_cell (known_of (take k all)) (text_at texts label) ≡ known_of (take k all) ++ text_at texts label ∷ [] → AreFirsts all texts (k + 1) (firsts ++ label ∷ [])
+firsts_new all texts k firsts label before here item within new =
+    let cell = text_at texts label in
+    let P : ℕ → Type 0 = λ l. l < length texts in
+    record {
+      known = map_push (text_at texts) firsts label ∙ ap (λ l. l ++ cell ∷ []) before.known ∙ sym new ∙ cell_known all k (known_of (take k all)) (with_cell (known_of (take k all)) cell) cell here refl item refl;
+      within = All-push P firsts label before.within within;
+    }

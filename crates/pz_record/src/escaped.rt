@@ -1,10 +1,10 @@
 //! The text of cells as it stands in a JSON string, escaped. It is written into memory that is reused from text to text.
 
-ghost use Rattle.std.specs.Prelude.{◌≡◌, ℕ, ◌+◌, ◌-◌, ◌*◌, ◌%◌, ◌^◌, ◌<◌, ◌≤◌, ◌++◌, ◌∷◌, [], length, map, replicate, take, None, All, IfOk, OnOk, decimal};
+ghost use Rattle.std.specs.Prelude.{◌≡◌, ℕ, ◌+◌, ◌-◌, ◌*◌, ◌%◌, ◌^◌, ◌<◌, ◌≤◌, ◌++◌, ◌∷◌, [], length, map, take, All, IfOk, OnOk, decimal};
 ghost use Rattle.json.specs.Print.{escape};
 ghost use Rattle.pz_record.specs.Labels.{text_at};
-ghost use Rattle.pz_record.specs.CellTexts.{line_end, text_of_cells};
-ghost use Rattle.pz_record.specs.Written.{AreWritten};
+ghost use Rattle.pz_record.specs.CellTexts.{line_end, known_of};
+ghost use Rattle.pz_record.specs.Written.{AreWritten, AreFirsts};
 
 use crate::labels::KnownTexts;
 use crate::quoted::QuotedText;
@@ -13,7 +13,7 @@ use itoa::Buffer;
 use std::alloc::AllocError;
 
 /// Makes room for `more` bytes after the text, which ends at `end`. Err: memory was refused.
-fn make_way(json: &mut Vec<u8>, end: usize, more: usize) -> Result<(), AllocError>
+pub(crate) fn make_way(json: &mut Vec<u8>, end: usize, more: usize) -> Result<(), AllocError>
     requires within { end ≤ length json.old.items }
     requires few { more < 2 ^ 63 }
     ensures room { OnOk result (end + more ≤ length json.new.items) }
@@ -112,24 +112,29 @@ fn end_line(json: &mut [u8], end: usize, width: usize, column: usize) -> (usize,
     (end + 2, 0)
 }
 
-/// Writes cells whose text has a number of one or two digits, up to the first other cell. `numbers` has the number of each label's text, if
-/// it has one.
-fn write_known(
+/// Writes cells whose text has a number of one or two digits, up to the first other cell, and at most up to the cell `stop`. `numbers` has
+/// the number of each label's text, if it has one.
+pub(crate) fn write_known(
     json: &mut [u8],
     numbers: &[Option<usize>],
     texts: &KnownTexts,
     labels: &[usize],
     width: usize,
+    stop: usize,
     from: Written,
 ) -> Written
-    requires room { from.end + 5 * (length labels.now - from.cells) ≤ length json.old }
+    requires room { from.end + 5 * (stop - from.cells) ≤ length json.old }
+    requires before { from.cells ≤ stop }
+    requires stop { stop ≤ length labels.now }
     requires within { All (λ label. label < length texts.now) labels.now }
     requires from { AreWritten width (map (text_at texts.now) labels.now) texts.now from json.old numbers.now }
     ensures written { AreWritten width (map (text_at texts.now) labels.now) texts.now result json.new numbers.now }
     ensures onward { from.cells ≤ result.cells }
+    ensures stop { result.cells ≤ stop }
+    ensures same { known_of (take result.cells (map (text_at texts.now) labels.now)) ≡ known_of (take from.cells (map (text_at texts.now) labels.now)) }
 {
     let mut at = from;
-    'cells: while at.cells < labels.len() {
+    'cells: while at.cells < stop {
         let given = numbers[labels[at.cells]];
         let number = match given {
             Some(number) if number < 100 => number,
@@ -177,10 +182,11 @@ fn put_new(
     Ok(end)
 }
 
-/// Writes the next cell, whatever its text.
-fn write_cell(
+/// Writes the next cell, whatever its text. `firsts` has the labels of the texts that have a number. Err: memory was refused.
+pub(crate) fn write_cell(
     json: &mut Vec<u8>,
     numbers: &mut Vec<Option<usize>>,
+    firsts: &mut Vec<usize>,
     texts: &KnownTexts,
     labels: &[usize],
     width: usize,
@@ -189,7 +195,9 @@ fn write_cell(
     requires here { at.cells < length labels.now }
     requires within { All (λ label. label < length texts.now) labels.now }
     requires at { AreWritten width (map (text_at texts.now) labels.now) texts.now at json.old.items numbers.old.items }
+    requires firsts { AreFirsts (map (text_at texts.now) labels.now) texts.now at.cells firsts.old.items }
     ensures written { IfOk result (λ next. AreWritten width (map (text_at texts.now) labels.now) texts.now next json.new.items numbers.new.items) }
+    ensures firsts { IfOk result (λ next. AreFirsts (map (text_at texts.now) labels.now) texts.now next.cells firsts.new.items) }
     ensures onward { IfOk result (λ next. next.cells ≡ at.cells + 1) }
 {
     let label = labels[at.cells];
@@ -199,6 +207,7 @@ fn write_cell(
         None => {
             let end = put_new(json, at.end, texts.quoted(label), known)?;
             numbers[label] = Some(known);
+            firsts.push(label)?;
             known += 1;
             end
         }
@@ -213,47 +222,13 @@ fn write_cell(
     })
 }
 
-/// Clears the numbers: no label has one yet.
-fn clear_numbers(numbers: &mut Vec<Option<usize>>, count: usize) -> Result<(), AllocError>
-    ensures { OnOk result (numbers.new.items ≡ replicate count None) }
+/// Writes bytes after the text, which ends at `end`, and gives its new end. Err: memory was refused.
+pub(crate) fn write_bytes(json: &mut Vec<u8>, end: usize, bytes: &[u8]) -> Result<usize, AllocError>
+    requires { end ≤ length json.old.items }
+    ensures end { IfOk result (λ next. next ≡ end + length bytes.now) }
+    ensures room { IfOk result (λ next. next ≤ length json.new.items) }
+    ensures written { IfOk result (λ next. take next json.new.items ≡ take end json.old.items ++ bytes.now) }
 {
-    numbers.clear();
-    numbers.resize(count, None)?;
-    Ok(())
-}
-
-/// Writes the text of cells with these labels over what was written before, and gives its end. `numbers` is memory for the numbers of the
-/// labels. Err: memory was refused.
-pub(crate) fn write_labels(
-    json: &mut Vec<u8>,
-    numbers: &mut Vec<Option<usize>>,
-    texts: &KnownTexts,
-    labels: &[usize],
-    width: usize,
-) -> Result<usize, AllocError>
-    requires wide { 0 < width }
-    requires within { All (λ label. label < length texts.now) labels.now }
-    ensures end { IfOk result (λ end. end ≤ length json.new.items) }
-    ensures text { IfOk result (λ end. take end json.new.items ≡ escape (text_of_cells width (map (text_at texts.now) labels.now))) }
-{
-    clear_numbers(numbers, texts.len())?;
-    let mut at = Written {
-        end: 0,
-        cells: 0,
-        known: 0,
-        column: 0,
-    };
-    'cells: while at.cells < labels.len() {
-        let next = write_cell(json, numbers, texts, labels, width, at)?;
-        make_way(json, next.end, 5 * (labels.len() - next.cells))?;
-        at = write_known(
-            json.as_mut_slice(),
-            numbers.as_slice(),
-            texts,
-            labels,
-            width,
-            next,
-        );
-    }
-    Ok(at.end)
+    make_way(json, end, bytes.len())?;
+    Ok(put(json.as_mut_slice(), end, bytes))
 }

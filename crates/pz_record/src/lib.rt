@@ -2,6 +2,8 @@
 #![tactic(auto)]
 
 pub mod cell_names;
+pub mod changed;
+mod draft;
 mod escaped;
 pub mod input;
 pub mod labels;

@@ -2,19 +2,21 @@
 
 ghost use Rattle.std.specs.Prelude.{◌≡◌, ◌<◌, [], length, map, All, IfOk, OnOk};
 ghost use Rattle.pz_record.specs.Labels.{text_at};
-ghost use Rattle.pz_record.specs.CellTexts.{text_of_cells};
+ghost use Rattle.pz_record.specs.Written.{HasTextOf, HasTextBut};
 
-use crate::escaped::write_labels;
+use crate::changed::Changed;
+use crate::draft::{Draft, write_after, write_all};
 use crate::labels::KnownTexts;
 use crate::quoted::QuotedText;
 use std::alloc::{AllocError, Global};
 use std::marker::Model;
+use std::mem::swap;
 
 /// Memory for the text of a level, and for the numbers that the text gives to sets of names. It is reused from text to text, so most texts
-/// are written without asking for memory. The text stands at the front, escaped as in a JSON string, and ends at `end`.
+/// are written without asking for memory. A text is written beside the last one, `last`, and takes its place once it is whole.
 pub struct TextRoom {
-    json: Vec<u8>,
-    end: usize,
+    last: Draft,
+    next: Draft,
     numbers: Vec<Option<usize>>,
 }
 
@@ -22,48 +24,49 @@ pub struct TextRoom {
 impl Drop for TextRoom {
     fn drop(self) {
         let TextRoom {
-            json,
-            end: _,
+            last,
+            next,
             numbers,
         } = self;
-        drop(json);
+        drop(last);
+        drop(next);
         drop(numbers);
     }
 }
 
 impl Model for TextRoom {
-    ghost use Rattle.std.specs.Prelude.{◌≡◌, ◌≤◌, List, ℕ, length, take};
+    ghost use Rattle.std.specs.Prelude.{◌≡◌, ◌≤◌, length, take};
     ghost use Rattle.json.specs.Print.{escape};
     ghost use Rattle.pz_record.specs.Quoted.{escaped_says};
+    ghost use Rattle.pz_record.specs.Written.{RoomView, room_of};
 
-    ghost Value = { List ℕ };
+    ghost Value = { RoomView };
 
-    ghost view = { λ r. escaped_says (take r.end r.json.items) };
+    ghost view = { λ r. room_of r.last };
 
-    ghost invariant = { λ r. (r.end ≤ length r.json.items) × (take r.end r.json.items ≡ escape (escaped_says (take r.end r.json.items))) };
+    ghost invariant = { λ r. (r.last.at.end ≤ length r.last.json.items) × (take r.last.at.end r.last.json.items ≡ escape (escaped_says (take r.last.at.end r.last.json.items))) };
 }
 
 impl TextRoom {
     /// Room with an empty text.
     pub fn new(alloc: Global) -> TextRoom
-        ensures { result ≡ [] }
+        ensures { result ≡ record { text = []; firsts = []; marks = [] } }
     {
         TextRoom {
-            json: Vec::new(alloc),
-            end: 0,
+            last: Draft::new(alloc),
+            next: Draft::new(alloc),
             numbers: Vec::new(alloc),
         }
     }
 
     /// A copy of the last text, quoted. Err: memory was refused.
     pub fn text(&self, alloc: Global) -> Result<QuotedText, AllocError>
-        ensures { IfOk result (λ text. text ≡ self.now) }
+        ensures { IfOk result (λ text. text ≡ self.now.text) }
     {
-        QuotedText::of_escaped(alloc, &self.json[..self.end])
+        QuotedText::of_escaped(alloc, &self.last.json[..self.last.at.end])
     }
 
-    /// Writes the text of cells with these labels, for a level of this width, over the last text. Err: memory was refused, and no text is
-    /// left.
+    /// Writes the text of cells with these labels, for a level of this width, in place of the last text. Err: memory was refused.
     pub fn write(
         &mut self,
         texts: &KnownTexts,
@@ -72,12 +75,40 @@ impl TextRoom {
     ) -> Result<(), AllocError>
         requires wide { 0 < width }
         requires within { All (λ label. label < length texts.now) labels.now }
-        ensures { OnOk result (self.new ≡ text_of_cells width (map (text_at texts.now) labels.now)) }
+        ensures { OnOk result (HasTextOf width (map (text_at texts.now) labels.now) texts.now self.new) }
     {
-        // (if there isn't enough memory, nothing is written)
-        self.end = 0;
-        let end = write_labels(&mut self.json, &mut self.numbers, texts, labels, width)?;
-        self.end = end;
+        write_all(&mut self.next, &mut self.numbers, texts, labels, width)?;
+        swap(&mut self.last, &mut self.next);
+        Ok(())
+    }
+
+    /// Writes the text of cells with these labels, after a text of the same width whose cells were the same but for those that have changed.
+    /// What the two texts share isn't written again. Err: memory was refused.
+    pub fn rewrite(
+        &mut self,
+        texts: &KnownTexts,
+        labels: &[usize],
+        width: usize,
+        changed: Changed,
+    ) -> Result<(), AllocError>
+        requires wide { 0 < width }
+        requires within { All (λ label. label < length texts.now) labels.now }
+        requires last { HasTextBut width changed.first changed.end (map (text_at texts.now) labels.now) texts.now self.old }
+        ensures { OnOk result (HasTextOf width (map (text_at texts.now) labels.now) texts.now self.new) }
+    {
+        if changed.end <= changed.first {
+            return Ok(());
+        }
+        write_after(
+            &mut self.next,
+            &mut self.numbers,
+            &self.last,
+            texts,
+            labels,
+            width,
+            changed,
+        )?;
+        swap(&mut self.last, &mut self.next);
         Ok(())
     }
 }

@@ -4,12 +4,12 @@ use Rattle.pz_base.specs.NameSet.{number_in}
 use Rattle.pz_record.specs.declared.written.Written.{Written}
 use Rattle.pz_record.specs.Labels.{text_at}
 use Rattle.pz_record.specs.CellTexts.{known_of, line_end, piece, with_cell}
-use Rattle.pz_record.specs.Written.{AreWritten}
+use Rattle.pz_record.specs.Written.{AreWritten, AreFirsts}
 use Rattle.pz_record.proofs.Escaping.{lent}
 use Rattle.pz_record.proofs.LabelTexts.{known_piece, new_piece, numbers_more, one_known}
-use Rattle.pz_record.proofs.WrittenCells.{cell_more, numbered_at, labelled}
+use Rattle.pz_record.proofs.WrittenCells.{cell_more, firsts_known, firsts_new, numbered_at, labelled}
 use Rattle.pz_record.proofs.escaped.write_cell.Goals as goal
-use Rattle.pz_record.proofs.escaped.write_cell.Goals.{in-Some+in_ok-end-in-Some, in-None+in_ok-end-in-None}
+use Rattle.pz_record.proofs.escaped.write_cell.Goals.{in-Some+in_ok-end-in-Some, in-None+in_ok-end-in-None+in_ok-push-in-None}
 
 pub returns-clause-written : goal.returns-clause-written
 returns-clause-written c =
@@ -31,7 +31,7 @@ returns-clause-written c =
       | in-Some+in_ok-end-in-Some w ↦
           let parts = known_piece known cell w.in-Some.number (sym found ∙ w.in-Some.is) in
           (rw (w.end-is, w.json-is, parts.0) w.in_ok-end-in-Some.ensures.written, (rw (w.numbers-is, parts.1) before.numbers, (rw (w.known-is, parts.1) before.known, omega (arith, w.known-is, before.few))))
-      | in-None+in_ok-end-in-None w ↦
+      | in-None+in_ok-end-in-None+in_ok-push-in-None w ↦
           let none : number_in known cell ≡ None = sym found ∙ w.in-None.is in
           let parts = new_piece known cell none in
           let count : c.args.at.known ≡ length known = before.known in
@@ -61,3 +61,26 @@ returns-clause-written c =
     after.1.1.1
     (c.end_line-end.ensures.column k before.column)
     c.end_line-end.ensures.line)
+
+pub returns-clause-firsts : goal.returns-clause-firsts
+returns-clause-firsts c =
+    let texts = c.args.texts.now in
+    let items = c.args.labels.now in
+    let all = map (text_at texts) items in
+    let k = c.args.at.cells in
+    let label : ℕ = get_or items k 0 in
+    let cell = text_at texts label in
+    let known = known_of (take k all) in
+    let before = c.requires.at in
+    let is = labelled texts items k c.requires.here c.requires.within in
+    let found : c.index.result.now ≡ number_in known cell = c.index.ensures ∙ numbered_at texts known c.args.numbers.now.items label c.index.result.now before.numbers is.1 in
+    elim c.match-index.branch [
+      | in-Some+in_ok-end-in-Some w ↦
+          let parts = known_piece known cell w.in-Some.number (sym found ∙ w.in-Some.is) in
+          subst (λ (v : Vec ℕ Global). AreFirsts all texts (k + 1) v.items) (sym w.firsts-is) (firsts_known all texts k c.args.firsts.now.items cell c.requires.firsts is.0 is.2 parts.1)
+      | in-None+in_ok-end-in-None+in_ok-push-in-None w ↦
+          let none : number_in known cell ≡ None = sym found ∙ w.in-None.is in
+          let parts = new_piece known cell none in
+          let pushed : c.match-index.firsts.items ≡ c.args.firsts.now.items ++ label ∷ [] = ap (λ (v : Vec ℕ Global). v.items) w.firsts-is ∙ w.in_ok-push-in-None.ensures.items in
+          subst (AreFirsts all texts (k + 1)) (sym pushed) (firsts_new all texts k c.args.firsts.now.items label c.requires.firsts is.0 is.2 is.1 parts.1)
+    ]

@@ -1,14 +1,17 @@
-use Rattle.std.proofs.Common.{◌+◌, ◌*◌, ◌-◌, ◌≤◌, length, map}
+use Rattle.std.proofs.Common.{◌≡◌, ◌+◌, ◌*◌, ◌-◌, ◌≤◌, length, map, take}
+use Rattle.pz_record.specs.CellTexts.{known_of}
 use Rattle.pz_record.specs.Labels.{text_at}
 use Rattle.pz_record.specs.Written.{AreWritten}
 use Rattle.pz_record.proofs.escaped.write_known.Given as goal
 
 abbrev pub invariant-cells : goal.invariant-cells
 invariant-cells l = record {
-  room : l.at.end + 5 * (length l.labels - l.at.cells) ≤ length l.json;
+  room : l.at.end + 5 * (l.stop - l.at.cells) ≤ length l.json;
   onward : l.fn.from.cells ≤ l.at.cells;
+  stop : l.at.cells ≤ l.stop;
   written : AreWritten l.width (map (text_at l.texts) l.labels) l.texts l.at l.json l.numbers;
+  same : known_of (take l.at.cells (map (text_at l.texts) l.labels)) ≡ known_of (take l.fn.from.cells (map (text_at l.texts) l.labels));
 }
 
 abbrev pub decreases-cells : goal.decreases-cells
-decreases-cells l = length l.labels - l.at.cells
+decreases-cells l = l.stop - l.at.cells

@@ -1,7 +1,8 @@
 use Rattle.std.proofs.Common.{ap, ◌∙◌}
 use Rattle.pz_game.specs.declared.game.GameParts.{GameParts}
 use Rattle.pz_level_text.specs.Labels.{WriterView, set_text}
-use Rattle.pz_level_text.proofs.Changing.{known_still, labels_still, set_standing}
+use Rattle.pz_record.proofs.Changes.{known_still, labels_still}
+use Rattle.pz_level_text.proofs.Changing.{set_standing}
 use Rattle.pz_level_text.proofs.cell_labels.CellLabels.label_at.Goals as goal
 
 pub invariant_of-self : goal.invariant_of-self

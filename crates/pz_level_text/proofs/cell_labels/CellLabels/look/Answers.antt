@@ -1,5 +1,8 @@
-use Rattle.std.proofs.Common.{◌≡◌, length, slice_set, arith, ap, sym, ◌∙◌}
+use Rattle.std.proofs.Common.{◌≡◌, ◌+◌, ◌<◌, List, ℕ, length, slice_set, arith, ap, sym, subst, ◌∙◌}
 use Rattle.pz_record.specs.declared.order.Order.{Order}
+use Rattle.pz_record.specs.Labels.{text_at}
+use Rattle.pz_record.specs.Written.{IsSameBut}
+use Rattle.pz_record.proofs.Changes.{one_changed}
 use Rattle.pz_sheet.specs.Changes.{with_cell, cell_there}
 use Rattle.pz_sheet.specs.Grid.{Grid}
 use Rattle.pz_level_text.specs.Labels.{WriterView, texts_in}
@@ -42,3 +45,21 @@ returns-clause-known c =
     c.put.ensures.cells
     ∙ ((λ i. slice_set (before i) (number i) (c.in_ok-label.ensures.text i))
     ∙ (looked game order seen level c.args.index x y c.requires.size c.requires.within read ∙ ap (texts_in game order) (sym (c.take_cell.ensures ∙ ap (λ (g : Grid). with_cell seen (cell_there g c.args.index)) c.bare.ensures))))
+
+pub returns-clause-changed : goal.returns-clause-changed
+returns-clause-changed c =
+    let game = c.args.self.now.table.game in
+    let order = c.args.self.now.order in
+    let level = c.args.level.now.grid in
+    let seen = c.args.seen.now.grid in
+    let x = c.position-x.result.0 in
+    let y = c.position-x.result.1 in
+    let cells = c.args.self.now.cells in
+    let text = text_at c.label_at.new.self.table.texts c.in_ok-label.label in
+    let read = read_at c.args.level.now.grid c.args.index c.position-x.result.0 c.position-x.result.1 c.width.ensures.lawful c.requires.on_map c.position-x.ensures.column c.position-x.ensures.row in
+    let kept : c.self.inside.order ≡ order = ap (λ (s : WriterView). s.order) c.self.view_is ∙ c.label_at.ensures.order in
+    let n = c.number_at-number.result in
+    let number : n ≡ number_of order level x y = c.number_at-number.ensures ∙ ap (λ (o : Order). number_of o level x y) kept in
+    let within : n < length cells = omega (arith, number, look_within game order seen level c.args.index x y c.requires.size read, ap length c.requires.known) in
+    let put : c.put.new.self.cells ≡ slice_set cells n text = c.put.ensures.cells ∙ ap (λ (l : List (List ℕ)). slice_set l n text) c.label_at.ensures.cells in
+    subst (IsSameBut n (n + 1) cells) (sym put) (one_changed cells n text within)

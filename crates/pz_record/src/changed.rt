@@ -1,0 +1,33 @@
+//! Which cells of a level have changed.
+
+ghost use Rattle.std.specs.Prelude.{◌≡◌, ◌-◌, ◌^◌, min, max};
+
+/// The numbers of cells among which those are that have changed: from `first` on, and before `end`.
+#[derive(Clone, Copy)]
+pub struct Changed {
+    pub first: usize,
+    pub end: usize,
+}
+
+impl Changed {
+    /// No cell.
+    pub fn none() -> Changed
+        ensures { result ≡ record { first = 2 ^ 64 - 1; end = 0 } }
+    {
+        Changed {
+            first: usize::MAX,
+            end: 0,
+        }
+    }
+
+    /// These cells and others.
+    pub fn and(self, other: Changed) -> Changed
+        ensures first { result.first ≡ min self.first other.first }
+        ensures end { result.end ≡ max self.end other.end }
+    {
+        Changed {
+            first: self.first.min(other.first),
+            end: self.end.max(other.end),
+        }
+    }
+}
