@@ -49,35 +49,6 @@ fn put_marked(json: &mut [u8], end: usize, bytes: &[u8], mark: u8) -> usize
     next + 1
 }
 
-/// Writes a number of one digit.
-#[inline(always)]
-fn put_digit(json: &mut [u8], end: usize, digit: usize) -> usize
-    requires digit { digit < 10 }
-    requires room { end < length json.old }
-    ensures end { result ≡ end + 1 }
-    ensures written { take result json.new ≡ take end json.old ++ decimal digit }
-    ensures room { length json.new ≡ length json.old }
-{
-    json[end] = b'0' + digit as u8;
-    end + 1
-}
-
-/// Writes a number of one digit or two.
-#[inline(always)]
-fn put_short(json: &mut [u8], end: usize, number: usize) -> usize
-    requires number { number < 100 }
-    requires room { end + 2 ≤ length json.old }
-    ensures end { result ≤ end + 2 }
-    ensures written { take result json.new ≡ take end json.old ++ decimal number }
-    ensures room { length json.new ≡ length json.old }
-{
-    if number < 10 {
-        return put_digit(json, end, number);
-    }
-    let next = put_digit(json, end, number / 10);
-    put_digit(json, next, number % 10)
-}
-
 /// Writes a number of one digit or two and a comma.
 #[inline(always)]
 fn put_number(json: &mut [u8], end: usize, number: usize) -> usize
@@ -87,9 +58,12 @@ fn put_number(json: &mut [u8], end: usize, number: usize) -> usize
     ensures written { take result json.new ≡ take end json.old ++ escape (decimal number ++ 44 ∷ []) }
     ensures room { length json.new ≡ length json.old }
 {
-    let next = put_short(json, end, number);
-    json[next] = b',';
-    next + 1
+    if number < 10 {
+        return put(json, end, &[b'0' + number as u8, b',']);
+    }
+    let tens = b'0' + (number / 10) as u8;
+    let ones = b'0' + (number % 10) as u8;
+    put(json, end, &[tens, ones, b','])
 }
 
 /// Counts one more cell in the last line, and ends the line if it then has as many cells as the level is wide. Gives the new end of the

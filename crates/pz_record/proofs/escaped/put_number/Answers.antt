@@ -1,14 +1,24 @@
-use Rattle.std.proofs.Common.{refl, ◌++◌, ◌+◌, ◌∷◌, [], take, decimal, ap, arith, sym, ◌∙◌}
-use Rattle.std.proofs.lemmas.Grind.{take-set_at}
-use Rattle.std.proofs.lemmas.List.{append_assoc}
+use Rattle.std.proofs.Common.{◌≡◌, ℕ, List, ◌++◌, ◌+◌, ◌/◌, ◌%◌, ◌<◌, ◌∷◌, [], take, decimal, ap, arith, sym, ◌∙◌}
+use Rattle.std.proofs.lemmas.Fmt.{decimal_digit, decimal_step}
+use Rattle.json.specs.Print.{escape}
 use Rattle.pz_record.proofs.Escaping.{escape-number}
 use Rattle.pz_record.proofs.escaped.put_number.Goals as goal
 
+pub returns-then-number-lt10-clause-written : goal.returns-then-number-lt10-clause-written
+returns-then-number-lt10-clause-written c =
+    let n = c.args.number in
+    let old = take c.args.end c.args.json.now in
+    let text : escape (decimal n ++ 44 ∷ []) ≡ (48 + n) ∷ 44 ∷ [] =
+    escape-number n (omega (arith, c.ranges.number.fits)) ∙ ap (λ (l : List ℕ). l ++ 44 ∷ []) (decimal_digit n c.if-number-lt10.true) in
+    c.put.ensures.written ∙ ap (λ (l : List ℕ). old ++ l) (sym text)
+
 pub returns-clause-written : goal.returns-clause-written
 returns-clause-written c =
+    let n = c.args.number in
     let old = take c.args.end c.args.json.now in
-    let next = c.put_short-next.result in
-    take-set_at c.put_short-next.new.json next (next + 1) 44 refl (omega arith)
-    ∙ ap (λ l. l ++ 44 ∷ []) c.put_short-next.ensures.written
-    ∙ append_assoc old (decimal c.args.number) (44 ∷ [])
-    ∙ ap (λ l. old ++ l) (sym (escape-number c.args.number (omega (arith, c.ranges.number.fits))))
+    let tens : n / 10 < 10 = omega (arith, c.requires.number) in
+    let digits : decimal n ≡ (48 + n / 10) ∷ (48 + n % 10) ∷ [] =
+    decimal_step n (omega arith) (omega (arith, c.ranges.number.fits)) ∙ ap (λ (l : List ℕ). l ++ (48 + n % 10) ∷ []) (decimal_digit (n / 10) tens) in
+    let text : escape (decimal n ++ 44 ∷ []) ≡ (48 + n / 10) ∷ (48 + n % 10) ∷ 44 ∷ [] =
+    escape-number n (omega (arith, c.ranges.number.fits)) ∙ ap (λ (l : List ℕ). l ++ 44 ∷ []) digits in
+    c.put-2.ensures.written ∙ ap (λ (l : List ℕ). old ++ l) (sym text)
