@@ -172,6 +172,21 @@ impl LinePlanes {
         starts
     }
 
+    /// Whether each object is noted at the same positions of a line as in another of as many objects and lines.
+    fn is_same_in(&self, other: &LinePlanes, line: usize) -> bool
+        requires room { HasRoomOf self.now other.now }
+        requires line_in { line < self.now.count }
+        ensures { result ≡ true → (at : ℕ) → at < 128 → AreSameAt self.now other.now line at }
+    {
+        for object in 0..self.objects {
+            let number = self.index(object, line);
+            if self.words[number] != other.words[number] {
+                return false;
+            }
+        }
+        true
+    }
+
     /// The positions of a line at which other objects are noted than in another of as many objects and lines.
     fn differing(&self, other: &LinePlanes, line: usize) -> u128
         requires room { HasRoomOf self.now other.now }
@@ -199,6 +214,9 @@ impl LinePlanes {
     {
         let wide = long as usize;
         for line in from / wide..self.count {
+            if self.is_same_in(other, line) {
+                continue;
+            }
             let start = from.saturating_sub(line * wide) as u32;
             if let Some(at) = bits::next(self.differing(other, line), start, long) {
                 return Some(line * wide + at as usize);

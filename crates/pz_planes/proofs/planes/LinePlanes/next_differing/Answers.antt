@@ -1,6 +1,9 @@
-use Rattle.std.proofs.Common.{◌≡◌, ◌+◌, ◌*◌, ◌<◌, arith, subst}
+use Rattle.std.proofs.Common.{◌≡◌, ℕ, ◌+◌, ◌-◌, ◌*◌, ◌<◌, false, refl, arith, subst}
+use Rattle.std.specs.Prelude.{◌↔◌}
 use Rattle.std.proofs.lemmas.Nat.{mul-add-lt}
-use Rattle.pz_planes.specs.Planes.{LineSets, AreSameBetween}
+use Rattle.pz_sets.specs.Sets.{in_word}
+use Rattle.pz_sets.proofs.WordLemmas.{in_word-zero}
+use Rattle.pz_planes.specs.Planes.{LineSets, AreSameAt, AreSameBetween}
 use Rattle.pz_planes.proofs.DifferingLemmas.{same_to, differ_there}
 use Rattle.pz_planes.proofs.planes.LinePlanes.next_differing.Goals as goal
 
@@ -24,3 +27,13 @@ loop-line-preserved c =
     let next : line * long + long ≡ (line + 1) * long = omega arith in
     subst (AreSameBetween c.args.self.now c.args.other.now long c.args.from) next
     (same_to c.args.self.now c.args.other.now long line c.differing.result c.requires.short c.differing.ensures c.args.from c.saturating_sub-start.result long c.saturating_sub-start.ensures (omega arith) c.in_default.ensures c.loop-line.invariant)
+
+pub loop-line-preserved-then-is_same_in : goal.loop-line-preserved-then-is_same_in
+loop-line-preserved-then-is_same_in c =
+    let line = c.loop-line.line in
+    let long = c.args.long in
+    let from = c.args.from in
+    let next : line * long + long ≡ (line + 1) * long = omega arith in
+    let tells : (at : ℕ) → at < 128 → (in_word 0 at ≡ false) ↔ AreSameAt c.args.self.now c.args.other.now line at = λ at low. (λ no. c.is_same_in.ensures c.if-is_same_in.true at low, λ same. in_word-zero at) in
+    subst (AreSameBetween c.args.self.now c.args.other.now long from) next
+    (same_to c.args.self.now c.args.other.now long line 0 c.requires.short tells from (from - line * long) long refl (omega arith) (λ at above below. in_word-zero at) c.loop-line.invariant)

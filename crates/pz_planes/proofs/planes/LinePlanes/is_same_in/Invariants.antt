@@ -1,0 +1,6 @@
+use Rattle.std.proofs.Common.{ℕ, ◌<◌}
+use Rattle.pz_planes.proofs.DifferingLemmas.{AreSameBelow}
+use Rattle.pz_planes.proofs.planes.LinePlanes.is_same_in.Given as goal
+
+abbrev pub invariant-loop-object : goal.invariant-loop-object
+invariant-loop-object l = (at : ℕ) → at < 128 → AreSameBelow l.object l.self l.other l.line at
