@@ -119,8 +119,8 @@ def is_proved_here(name):
 
 
 def take_proved(names, room):
-    """Puts the libraries that `rt ci` has proved in this checkout into an empty folder, as NAME.rlib. Answers whether it did: it does so for all of these
-    crates, or for none."""
+    """Puts links to the libraries that `rt ci` has proved in this checkout into an empty folder, as NAME.rlib. Answers whether it did: it does so for
+    all of these crates, or for none."""
     if not all(is_proved_here(it) for it in names):
         return False
     for it in names:

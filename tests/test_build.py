@@ -44,7 +44,7 @@ class Build(OnSmallCrates):
 
 
 class Taken(OnSmallCrates):
-    """`take_proved` of dev/proving.py, by which engine/build --after-ci leaves out what the gate has proved."""
+    """`take_proved` of dev/proving.py, by which engine/build --after-ci takes what `rt ci` has proved."""
 
     def setUp(self):
         super().setUp()

@@ -51,11 +51,11 @@ fn send<R: Wait>(rt: &R, sender: &mut Sender, message: Message)
 /// How many bytes a worker asks for at once.
 const STEP: usize = 98_304;
 
-/// How many items it sends before it asks for as many again.
+/// After how many items of a session a worker asks for that much again. It first asks at the start of the session.
 const ITEMS: u64 = 64;
 
-/// Asks for memory and gives it back. The C library then has it for the items to come; else it would ask the system for one page after
-/// another.
+/// Asks for memory and gives it back, so that the C library has it for the items to come. Otherwise that would ask the system for one page
+/// after another. If the memory is refused, nothing happens.
 fn make_room(alloc: Global) {
     drop(Vec::<u8>::with_capacity(alloc, STEP));
 }

@@ -144,8 +144,8 @@ impl<'a> CellLabels<'a> {
         Ok(())
     }
 
-    /// Labels the cell of this number again, because it may have changed since the level was seen, and gives its number in the order of the
-    /// text. Here cells are numbered row by row. Err: memory was refused.
+    /// Labels the cell of this number again, because it may have changed since the level was seen. Here cells are numbered row by row. The
+    /// answer has the cell's number in the order of the text. Err: memory was refused.
     fn look(
         &mut self,
         seen: &mut BareLevel,
@@ -176,7 +176,8 @@ impl<'a> CellLabels<'a> {
         })
     }
 
-    /// Labels each cell that has changed since the level was seen, and says which these are. Err: memory was refused.
+    /// Labels each cell that has changed since the level was seen. The answer is a range with these cells, in the order of the text. Err:
+    /// memory was refused.
     pub fn look_at_changes(
         &mut self,
         seen: &mut BareLevel,

@@ -22,8 +22,7 @@ use std::alloc::{AllocError, Global};
 use std::marker::Model;
 
 /// Writes the texts of a game's levels, with the cells in an order. It remembers the sets of objects seen so far, the last level, and its
-/// text. So only changed cells are looked at, and of a text only what may have changed is written again. `room` has a text if `last` says
-/// which.
+/// text. So only changed cells are looked at, and parts of the last text are copied. `room` has a text if `last` says which.
 pub struct TextWriter<'a> {
     alloc: Global,
     cells: CellLabels<'a>,
@@ -67,8 +66,8 @@ impl<'a> Model for TextWriter<'a> {
     ghost invariant = { λ t. IfSome t.seen (λ seen. t.cells.cells ≡ texts_in t.cells.table.game t.cells.order seen.grid) × IfSome t.last (λ last. HasTextBut last.width last.changed.first last.changed.end t.cells.cells t.cells.table.texts t.room) };
 }
 
-/// Writes the text of cells into the room, after the last text only what may have changed. It stays there: callers get copies, because a
-/// recording keeps its texts.
+/// Writes the text of cells into the room. After a text of the same width, parts of that one are copied. The text stays in the room:
+/// callers get copies, because a recording keeps its texts.
 fn fill(
     room: &mut TextRoom,
     last: &mut Option<LastText>,

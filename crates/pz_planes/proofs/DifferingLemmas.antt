@@ -32,7 +32,7 @@ or_no true y e = cc
 no_or : (x y : Bool) → x ≡ false → y ≡ false → (x || y) ≡ false
 no_or x y e f = ap (λ (b : Bool). b || y) e ∙ f
 
--- of the objects below one the same are noted at a position of a line
+-- of the objects below a number, the same are noted at a position of a line
 abbrev pub AreSameBelow : ℕ → LineSets → LineSets → ℕ → ℕ → Type 0
 AreSameBelow end sets other line at = (object : ℕ) → object < end → stands_in sets object line at ≡ stands_in other object line at
 

@@ -40,16 +40,16 @@ stands_in sets object line at = member sets.words ((object * sets.count + line) 
 abbrev pub IsMissingIn : LineSets → ℕ → ℕ → Type 0
 IsMissingIn sets line object = (at : ℕ) → object < sets.objects → at < 128 → stands_in sets object line at ≡ false
 
--- the same objects are noted at a position of a line, of those that both have
+-- at this position of a line both have the same objects noted, of those that the first is for
 abbrev pub AreSameAt : LineSets → LineSets → ℕ → ℕ → Type 0
 AreSameAt sets other line at = (object : ℕ) → object < sets.objects → stands_in sets object line at ≡ stands_in other object line at
 
--- the same objects are noted at the positions from one number to before another; they are numbered line by line, and each line
--- has this many
+-- the same objects are noted at the positions from one number on and before another; positions are numbered line by line, and
+-- each line has `long` of them
 abbrev pub AreSameBetween : LineSets → LineSets → ℕ → ℕ → ℕ → Type 0
 AreSameBetween sets other long from end = (number : ℕ) → from ≤ number → number < end → AreSameAt sets other (number / long) (number % long)
 
--- the first position, from a number on, at which other objects are noted, if there is one
+-- the first position, from a number on, at which other objects are noted in one than in the other, if there is one
 abbrev pub IsNextDiffering : LineSets → LineSets → ℕ → ℕ → Option ℕ → Type 0
 IsNextDiffering sets other long from None = AreSameBetween sets other long from (sets.count * long)
 IsNextDiffering sets other long from (Some found) =

@@ -32,14 +32,14 @@ pub fn both(set: u128, other: u128) -> u128
     set & other
 }
 
-/// The positions of one set or the other.
+/// The positions that are in one set, in the other, or in both.
 pub fn either(set: u128, other: u128) -> u128
     ensures { (at : ℕ) → in_word result at ≡ (in_word set at || in_word other at) }
 {
     set | other
 }
 
-/// The positions that are in one set and not in the other.
+/// The positions that are in exactly one of the sets.
 pub fn differing(set: u128, other: u128) -> u128
     ensures { (at : ℕ) → (in_word result at ≡ false) ↔ (in_word set at ≡ in_word other at) }
 {

@@ -172,7 +172,7 @@ impl LinePlanes {
         starts
     }
 
-    /// Whether each object is noted at the same positions of a line as in another of as many objects and lines.
+    /// Whether each object is noted at the same positions of a line as in other planes of as many objects and lines.
     fn is_same_in(&self, other: &LinePlanes, line: usize) -> bool
         requires room { HasRoomOf self.now other.now }
         requires line_in { line < self.now.count }
@@ -187,7 +187,7 @@ impl LinePlanes {
         true
     }
 
-    /// The positions of a line at which other objects are noted than in another of as many objects and lines.
+    /// The positions of a line at which other objects are noted than in other planes of as many objects and lines.
     fn differing(&self, other: &LinePlanes, line: usize) -> u128
         requires room { HasRoomOf self.now other.now }
         requires line_in { line < self.now.count }
@@ -204,8 +204,8 @@ impl LinePlanes {
         places
     }
 
-    /// The first position, from number `from` on, at which other objects are noted than in another of as many objects and lines. Each line
-    /// has `long` positions, and they are numbered line by line.
+    /// The first position, from number `from` on, at which other objects are noted than in other planes of as many objects and lines. Each
+    /// line has `long` positions, and they are numbered line by line.
     pub fn next_differing(&self, other: &LinePlanes, long: u32, from: usize) -> Option<usize>
         requires room { HasRoomOf self.now other.now }
         requires some { 0 < long }

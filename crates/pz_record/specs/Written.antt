@@ -30,11 +30,11 @@ pub record AreFirsts (all texts : List (List ℕ)) (cells : ℕ) (firsts : List 
 abbrev pub written_to : ℕ → List (List ℕ) → ℕ → Written
 written_to width all cells = record { end = length (escape (text_to width all cells)); cells = cells; known = length (known_of (take cells all)); column = cells % width }
 
--- as much, where what ended at `from` ends at `to`
+-- the same, in a text in which what ended at `from` ends at `to`
 abbrev pub moved : ℕ → ℕ → Written → Written
 moved from to written = record written { end = written.end - from + to }
 
--- how much was written after each `STEP` cells, from the start on, up to so many cells
+-- how much was written at the start and after each `STEP` cells, before the cell of this number
 pub record AreMarks (width : ℕ) (all : List (List ℕ)) (cells : ℕ) (marks : List Written) : Type 0 where
   pub at : (k : ℕ) (d : Written) → k < length marks → slice_index_or marks k d ≡ written_to width all (k * STEP)
   pub past : length marks * STEP < cells + STEP
@@ -60,7 +60,8 @@ pub record IsSameBut (first end : ℕ) (before all : List (List ℕ)) : Type 0 w
   pub count : length before ≡ length all
   pub within : end ≤ length all
 
--- what is kept of a text: the text itself, the labels of its texts, and how much of it is written after each `STEP` cells
+-- what is kept of a text: the text itself, the labels that have a number in it, and how much of it was written at the start and
+-- after each `STEP` cells
 pub record RoomView : Type 0 where
   pub text : List ℕ
   pub firsts : List ℕ
@@ -75,7 +76,7 @@ pub record HasTextOf (width : ℕ) (all texts : List (List ℕ)) (room : RoomVie
   pub firsts : AreFirsts all texts (length all) room.firsts
   pub marks : AreMarks width all (length all) room.marks
 
--- the room has the text of cells that were as these, but for some
+-- the room has the text of cells that were as these, but for those from one number on and before another
 pub record HasTextBut (width first end : ℕ) (all texts : List (List ℕ)) (room : RoomView) : Type 0 where
   pub before : List (List ℕ)
   pub text : HasTextOf width before texts room

@@ -1,8 +1,8 @@
-//! Which cells of a level have changed.
+//! Which cells of a level may have changed.
 
 ghost use Rattle.std.specs.Prelude.{◌≡◌, ◌-◌, ◌^◌, min, max};
 
-/// The numbers of cells among which those are that have changed: from `first` on, and before `end`.
+/// A range of cells, by their numbers: from `first` on, and before `end`. No cell outside it has changed.
 #[derive(Clone, Copy)]
 pub struct Changed {
     pub first: usize,
@@ -20,7 +20,7 @@ impl Changed {
         }
     }
 
-    /// These cells and others.
+    /// A range that has these cells and the others.
     pub fn and(self, other: Changed) -> Changed
         ensures first { result.first ≡ min self.first other.first }
         ensures end { result.end ≡ max self.end other.end }

@@ -1,4 +1,4 @@
-//! A text of cells that is written part by part, and may take over parts of the text before.
+//! A text of cells that is written part by part, and may take over parts of the last one.
 
 ghost use Rattle.std.specs.Prelude.{◌≡◌, ℕ, ◌+◌, ◌-◌, ◌*◌, ◌<◌, ◌≤◌, ◌^◌, ◌++◌, List, [], length, map, replicate, take, drop, None, All, OnOk};
 ghost use Rattle.pz_base.specs.NameSet.{number_in};
@@ -15,9 +15,9 @@ use std::alloc::{AllocError, Global};
 /// After how many cells it is noted how much of the text is written.
 pub(crate) const STEP: usize = 16;
 
-/// A text of cells, as far as it is written. The text stands at the front of `json`, escaped as in a JSON string. `firsts` has the labels of
-/// the texts that have a number, in the order of the numbers, and `marks` how much was written after each `STEP` cells. Once all cells are
-/// written, `at` only says where the text ends.
+/// A text of cells, as far as it is written. The text stands at the front of `json`, escaped as in a JSON string, and `at` says how much is
+/// written. `firsts` has the labels that have a number, in the order of the numbers. `marks` has how much was written before the first cell
+/// and after each `STEP` cells. Once all cells are written, only the end in `at` counts.
 pub(crate) struct Draft {
     pub json: Vec<u8>,
     pub at: Written,
@@ -67,7 +67,7 @@ impl Draft {
     }
 }
 
-/// Clears the numbers: no label has one yet.
+/// Makes room for the numbers of `count` labels, none of which has one yet. Err: memory was refused.
 fn clear_numbers(numbers: &mut Vec<Option<usize>>, count: usize) -> Result<(), AllocError>
     ensures { OnOk result (numbers.new.items ≡ replicate count None) }
 {
@@ -93,7 +93,7 @@ fn number_labels(
     Ok(())
 }
 
-/// Forgets what is written. Err: memory was refused.
+/// Forgets what is written, and the numbers of all labels. Err: memory was refused.
 pub(crate) fn restart(
     draft: &mut Draft,
     numbers: &mut Vec<Option<usize>>,
@@ -110,7 +110,7 @@ pub(crate) fn restart(
     Ok(())
 }
 
-/// Takes over the front of another text, up to a mark with so many marks before it. Err: memory was refused.
+/// Takes over the front of another text, up to a mark that has `count` marks before it. Err: memory was refused.
 fn take_front(
     draft: &mut Draft,
     last: &Draft,
@@ -181,7 +181,7 @@ fn write_part(
     Ok(())
 }
 
-/// Writes the cells before the cell `to` that aren't written yet. Err: memory was refused.
+/// Writes the cells before the cell `to` that aren't written yet, and sets the marks. Err: memory was refused.
 pub(crate) fn write_cells(
     draft: &mut Draft,
     numbers: &mut Vec<Option<usize>>,
@@ -245,7 +245,7 @@ fn take_marks(
     Ok(())
 }
 
-/// Takes over the rest of another text, behind a mark with so many marks before it. Err: memory was refused.
+/// Takes over the rest of another text, from a mark on that has `count` marks before it. Err: memory was refused.
 fn take_rest(draft: &mut Draft, last: &Draft, mark: Written, count: usize) -> Result<(), AllocError>
     requires within { draft.old.at.end ≤ length draft.old.json.items }
     requires json { last.now.at.end ≤ length last.now.json.items }
@@ -271,8 +271,9 @@ fn take_rest(draft: &mut Draft, last: &Draft, mark: Written, count: usize) -> Re
     Ok(())
 }
 
-/// Writes the cells of a text that is begun up to a mark with so many marks before it, behind which the cells are as in another text. If the
-/// same texts have a number there, the rest of that text is taken over, otherwise it is written too. Err: memory was refused.
+/// Finishes a text that is begun. In the last text a mark has `count` marks before it, and behind that mark the cells are the same. The
+/// cells up to the mark are written. If the same labels then have the same numbers, the rest of the last text is taken over. Otherwise the
+/// other cells are written too. Err: memory was refused.
 fn finish_at(
     draft: &mut Draft,
     numbers: &mut Vec<Option<usize>>,
@@ -300,7 +301,8 @@ fn finish_at(
     Ok(())
 }
 
-/// Writes the cells of a text that is begun, and takes over what it can behind the cells that have changed. Err: memory was refused.
+/// Finishes a text that is begun. Behind the cells that may have changed it takes over what it can of the last text. Err: memory was
+/// refused.
 fn finish(
     draft: &mut Draft,
     numbers: &mut Vec<Option<usize>>,
@@ -318,7 +320,7 @@ fn finish(
     requires last { (before : List (List ℕ)) × IsWhole width before texts.now last.now × IsSameBut changed.first changed.end before (map (text_at texts.now) labels.now) }
     ensures { OnOk result (IsWhole width (map (text_at texts.now) labels.now) texts.now draft.new) }
 {
-    // (the number of the first mark behind the last of these cells)
+    // (the number of the first mark behind all cells that may have changed)
     let count = (changed.end - 1) / STEP + 1;
     if count < last.marks.len() {
         return finish_at(draft, numbers, last, texts, labels, width, count);
@@ -327,8 +329,8 @@ fn finish(
     Ok(())
 }
 
-/// Writes the text of all cells, after the text of others. The front of that text is taken over, up to a mark before the first cell that
-/// has changed, and so is its rest, if it can be. Err: memory was refused.
+/// Writes the text of all cells. The front of the last text is taken over, up to the last mark that isn't behind the first changed cell. So
+/// is its rest behind the changed cells, if the numbers of labels allow it. Err: memory was refused.
 pub(crate) fn write_after(
     draft: &mut Draft,
     numbers: &mut Vec<Option<usize>>,

@@ -49,7 +49,7 @@ fn put_marked(json: &mut [u8], end: usize, bytes: &[u8], mark: u8) -> usize
     next + 1
 }
 
-/// Writes a number of one digit or two and a comma.
+/// Writes a number of one or two digits, and a comma.
 #[inline(always)]
 fn put_number(json: &mut [u8], end: usize, number: usize) -> usize
     requires number { number < 100 }
@@ -86,7 +86,7 @@ fn end_line(json: &mut [u8], end: usize, width: usize, column: usize) -> (usize,
     (end + 2, 0)
 }
 
-/// Writes cells whose text has a number of one or two digits, up to the first other cell, and at most up to the cell `stop`. `numbers` has
+/// Writes cells whose text has a number of one or two digits: those before the first other cell and before the cell `stop`. `numbers` has
 /// the number of each label's text, if it has one.
 pub(crate) fn write_known(
     json: &mut [u8],

@@ -82,8 +82,8 @@ impl TextRoom {
         Ok(())
     }
 
-    /// Writes the text of cells with these labels, after a text of the same width whose cells were the same but for those that have changed.
-    /// What the two texts share isn't written again. Err: memory was refused.
+    /// Writes the text of cells with these labels, in place of a text of the same width. Its cells were the same, but for those that have
+    /// changed. Parts that both texts have are copied. Err: memory was refused.
     pub fn rewrite(
         &mut self,
         texts: &KnownTexts,

@@ -76,7 +76,7 @@ module _ (N width height : ℕ) (layering : Layering) (cells others : List (Cell
         λ number cell other low high. alike_there number cell other (omega (arith, high, within)) (next.3 number low high),
       )
 
--- two levels of one size of which nothing heads
+-- two levels of one size in which nothing heads
 module _ (N wa ha : ℕ) (la : Layering) (ca : List (Cell N)) (pa : PlaneSets) (wb hb : ℕ) (lb : Layering) (cb : List (Cell N)) (pb : PlaneSets) (grid other : Grid) (both : AreBoth N wa ha la ca wb hb lb cb grid other) (short : wa ≤ 128) (placed : ArePlaced N (length la.layers) wa ha pa ca) (placed_other : ArePlaced N (length lb.layers) wb hb pb cb) where
   is_told : HeadNowhere ca → AreTold N wa ha la ca pa
   is_told still = record { short = short; covers = both.stored.covers; sound = both.stored.sound; still = still; placed = placed }

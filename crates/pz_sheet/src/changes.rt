@@ -95,7 +95,7 @@ impl<const N: usize> Sheet<N> {
         }
     }
 
-    /// Makes this level equal to another of the same size by the cells in which they differ.
+    /// Makes this level equal to another of the same size. Only the cells in which they differ are copied.
     pub(crate) fn take_all(&mut self, other: &Sheet<N>)
         requires size { SameSize self.old.grid other.now.grid }
         ensures { self.new.grid ≡ other.now.grid }
@@ -109,8 +109,8 @@ impl<const N: usize> Sheet<N> {
         }
     }
 
-    /// Whether the planes tell what stands in each cell with less work than the cells: a row fits in a word, and has more than two cells
-    /// for each object of the game.
+    /// Whether to read from the planes, rather than from the cells, what stands in each cell. It takes less work if a row fits in a word,
+    /// and half a row has more cells than the game has objects.
     pub(crate) fn is_told_by_planes(&self) -> bool
         ensures { result ≡ true → self.now.grid.width ≤ 128 }
     {

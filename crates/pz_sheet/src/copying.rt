@@ -8,7 +8,7 @@ use pz_planes::copying::{make_room, refill, renew};
 use pz_planes::notes::are_empty;
 use std::alloc::AllocError;
 
-/// From so many cells on it may pay to look for those that differ, in place of copying all.
+/// From this many cells on it may pay to look for those that differ, in place of copying all.
 const MANY_CELLS: usize = 256;
 
 impl<const N: usize> Sheet<N> {
@@ -32,7 +32,8 @@ impl<const N: usize> Sheet<N> {
         Ok(copy)
     }
 
-    /// Whether another level is of the same size, and the cells that differ are found with less work than all are copied.
+    /// Whether another level is of the same size, and finding the cells that differ should take less work than copying all. Nothing heads
+    /// anywhere in either then.
     fn is_near(&self, other: &Sheet<N>) -> bool
         ensures { result ≡ true → SameSize self.now.grid other.now.grid }
     {
@@ -42,8 +43,8 @@ impl<const N: usize> Sheet<N> {
             && self.same_size(other)
     }
 
-    /// Makes this level equal to another. It reuses its memory if that is enough. Of one that is near only the cells that differ are copied.
-    /// Err: memory was refused, and the level is unchanged.
+    /// Makes this level equal to another. It reuses its memory if that is enough. Of a level that is near, only the cells that differ are
+    /// copied. Err: memory was refused, and the level is unchanged.
     pub fn copy_from(&mut self, other: &Sheet<N>) -> Result<(), AllocError>
         ensures copied { OnOk result (self.new.grid ≡ other.now.grid) }
         ensures kept { OnErr result (self.new.grid ≡ self.old.grid) }

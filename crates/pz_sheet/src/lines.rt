@@ -12,8 +12,8 @@ use pz_planes::bits;
 use pz_sets::set::NumberSet;
 
 impl<const N: usize> Sheet<N> {
-    /// Sets the marks of each row, or of each column, to the objects that stand there. Where the game has no more objects than a line has
-    /// cells, the planes tell them with less work than the cells.
+    /// Sets the marks of each row, or of each column, to the objects that stand there. The planes tell them with less work than the cells
+    /// if a line fits in a word, and the game has no more objects than a line has cells.
     pub fn mark_lines(&self, axis: Axis, marks: &mut [NumberSet])
         requires { length marks.old ≡ line_count self.now.grid axis }
         ensures count { length marks.new ≡ length marks.old }
@@ -27,7 +27,7 @@ impl<const N: usize> Sheet<N> {
         }
     }
 
-    /// The same by what the planes have of each object.
+    /// The same, from what the planes have of each object.
     fn mark_by_planes(&self, axis: Axis, marks: &mut [NumberSet])
         requires short { line_length self.now.grid axis ≤ 128 }
         requires count { length marks.old ≡ line_count self.now.grid axis }
@@ -48,7 +48,7 @@ impl<const N: usize> Sheet<N> {
         }
     }
 
-    /// How many lines there are.
+    /// How many rows, or how many columns, there are.
     fn line_count(&self, axis: Axis) -> u32
         ensures { result ≡ line_count self.now.grid axis }
     {
