@@ -1,6 +1,6 @@
 //! Reused memory for the text of a level.
 
-ghost use Rattle.std.specs.Prelude.{◌≡◌, ◌<◌, [], length, map, All, IfOk, OnOk};
+ghost use Rattle.std.specs.Prelude.{◌≡◌, ◌<◌, [], length, map, All, IfOk, OnOk, OnErr};
 ghost use Rattle.pz_record.specs.Labels.{text_at};
 ghost use Rattle.pz_record.specs.Written.{HasTextOf, HasTextBut};
 
@@ -66,7 +66,8 @@ impl TextRoom {
         QuotedText::of_escaped(alloc, &self.last.json[..self.last.at.end])
     }
 
-    /// Writes the text of cells with these labels, for a level of this width, in place of the last text. Err: memory was refused.
+    /// Writes the text of cells with these labels, for a level of this width, in place of the last text. Err: memory was refused, and the
+    /// last text is still there.
     pub fn write(
         &mut self,
         texts: &KnownTexts,
@@ -75,7 +76,8 @@ impl TextRoom {
     ) -> Result<(), AllocError>
         requires wide { 0 < width }
         requires within { All (λ label. label < length texts.now) labels.now }
-        ensures { OnOk result (HasTextOf width (map (text_at texts.now) labels.now) texts.now self.new) }
+        ensures written { OnOk result (HasTextOf width (map (text_at texts.now) labels.now) texts.now self.new) }
+        ensures kept { OnErr result (self.new ≡ self.old) }
     {
         write_all(&mut self.next, &mut self.numbers, texts, labels, width)?;
         swap(&mut self.last, &mut self.next);
@@ -83,7 +85,7 @@ impl TextRoom {
     }
 
     /// Writes the text of cells with these labels, in place of a text of the same width. Its cells were the same, but for those that have
-    /// changed. Parts that both texts have are copied. Err: memory was refused.
+    /// changed. Parts that both texts have are copied. Err: memory was refused, and the last text is still there.
     pub fn rewrite(
         &mut self,
         texts: &KnownTexts,
@@ -94,7 +96,8 @@ impl TextRoom {
         requires wide { 0 < width }
         requires within { All (λ label. label < length texts.now) labels.now }
         requires last { HasTextBut width changed.first changed.end (map (text_at texts.now) labels.now) texts.now self.old }
-        ensures { OnOk result (HasTextOf width (map (text_at texts.now) labels.now) texts.now self.new) }
+        ensures written { OnOk result (HasTextOf width (map (text_at texts.now) labels.now) texts.now self.new) }
+        ensures kept { OnErr result (self.new ≡ self.old) }
     {
         if changed.end <= changed.first {
             return Ok(());

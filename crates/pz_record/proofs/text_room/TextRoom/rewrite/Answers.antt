@@ -4,8 +4,8 @@ use Rattle.pz_record.specs.Written.{IsWhole, HasTextOf}
 use Rattle.pz_record.proofs.Drafts.{all_same, room_whole, room_sound}
 use Rattle.pz_record.proofs.text_room.TextRoom.rewrite.Goals as goal
 
-pub returns-then-changed : goal.returns-then-changed
-returns-then-changed c =
+pub returns-then-changed-clause-written : goal.returns-then-changed-clause-written
+returns-then-changed-clause-written c =
     let last = c.requires.last in
     subst (λ (cells : List (List ℕ)). HasTextOf c.args.width cells c.args.texts.now c.args.self.now) (all_same c.args.changed.first c.args.changed.end last.before (map (text_at c.args.texts.now) c.args.labels.now) last.same c.if-changed.true) last.text
 
@@ -14,7 +14,7 @@ invariant_of-self-2 c =
     let all = map (text_at c.args.texts.now) c.args.labels.now in
     room_sound c.args.width all c.args.texts.now c.swap.new.x (subst (IsWhole c.args.width all c.args.texts.now) (sym c.swap.ensures.x_after) c.in_ok-write_after.ensures)
 
-pub returns : goal.returns
-returns c =
+pub returns-clause-written : goal.returns-clause-written
+returns-clause-written c =
     let all = map (text_at c.args.texts.now) c.args.labels.now in
     room_whole c.args.width all c.args.texts.now c.swap.new.x (subst (IsWhole c.args.width all c.args.texts.now) (sym c.swap.ensures.x_after) c.in_ok-write_after.ensures)

@@ -9,7 +9,7 @@ invariant_of-self-2 c =
     let all = map (text_at c.args.texts.now) c.args.labels.now in
     room_sound c.args.width all c.args.texts.now c.swap.new.x (subst (IsWhole c.args.width all c.args.texts.now) (sym c.swap.ensures.x_after) c.in_ok-write_all.ensures)
 
-pub returns : goal.returns
-returns c =
+pub returns-clause-written : goal.returns-clause-written
+returns-clause-written c =
     let all = map (text_at c.args.texts.now) c.args.labels.now in
     room_whole c.args.width all c.args.texts.now c.swap.new.x (subst (IsWhole c.args.width all c.args.texts.now) (sym c.swap.ensures.x_after) c.in_ok-write_all.ensures)
