@@ -1,5 +1,5 @@
 pub mod BitLemmas
 pub mod PlaneLemmas
-pub mod ArriveLemmas
+pub mod ToggleLemmas
 pub mod DifferingLemmas
 pub mod MarkLemmas

@@ -1,19 +1,9 @@
 -- What is noted of the objects of a level when a cell changes.
-use Rattle.std.proofs.Common.{◌≡◌, ◌≢◌, inl, inr, ℕ, zero, suc, ◌+◌, ◌*◌, ◌/◌, ◌%◌, ◌<◌, ◌≤◌, List, Bool, true, false, nat_eq, length, arith, ap, sym, ◌∙◌, refl, eq-eqb, mod-lt, div-add-mod'}
+use Rattle.std.proofs.Common.{◌≡◌, ◌≢◌, inl, inr, ℕ, zero, suc, ◌+◌, ◌*◌, ◌/◌, ◌%◌, ◌<◌, List, Bool, true, false, nat_eq, length, arith, ap, sym, ◌∙◌, refl, eq-eqb, mod-lt, div-add-mod'}
 use Rattle.std.proofs.lemmas.Bool.{cases_eq, ne_eqb}
 use Rattle.std.proofs.lemmas.Nat.{div_below, same_from_place}
 use Rattle.pz_sets.specs.Sets.{member}
 use Rattle.pz_planes.specs.Planes.{LineSets, PlaneSets, stands_in, IsEmpty, IsChanged, AreChanged, AreThere, HaveSameLines, AreKnown, IsFor}
-
--- ---- sets that are changed at one position
--- nothing is noted past the room of a line
-pub changed_past : (sets : LineSets) (line at : ℕ) (noted : ℕ → Bool → Bool) → 128 ≤ at → IsChanged sets sets line at noted
-changed_past sets line at noted past = record {
-  objects = refl;
-  count = refl;
-  here = λ object small. absurd (omega (arith, small, past));
-  others = λ object other place low small apart. refl;
-}
 
 -- what is noted there already
 pub changed_none : (planes : PlaneSets) (x y : ℕ) (noted : ℕ → Bool → Bool) → ((object : ℕ) → x < 128 → stands_in planes.rows object y x ≡ noted object (stands_in planes.rows object y x)) → ((object : ℕ) → y < 128 → stands_in planes.columns object x y ≡ noted object (stands_in planes.columns object x y)) → AreChanged planes planes x y noted
@@ -21,9 +11,6 @@ changed_none planes x y noted row column = record {
   rows = record { objects = refl; count = refl; here = row; others = λ object other place low small apart. refl };
   columns = record { objects = refl; count = refl; here = column; others = λ object other place low small apart. refl };
 }
-
-pub changed_same : (planes : PlaneSets) (x y : ℕ) (noted : ℕ → Bool → Bool) → ((object : ℕ) (was : Bool) → noted object was ≡ was) → AreChanged planes planes x y noted
-changed_same planes x y noted same = changed_none planes x y noted (λ object small. sym (same object (stands_in planes.rows object y x))) (λ object small. sym (same object (stands_in planes.columns object x y)))
 
 -- one change after another
 line_changed_on : (a b c : LineSets) (line at : ℕ) (f g h : ℕ → Bool → Bool) → IsChanged a b line at f → IsChanged b c line at g → ((object : ℕ) (was : Bool) → g object (f object was) ≡ h object was) → IsChanged a c line at h

@@ -1,6 +1,6 @@
 -- At which positions of each row and each column the objects of a level stand. The planes have exactly the positions below 128,
 -- and no others.
-use Rattle.std.specs.Prelude.{◌≡◌, ◌≢◌, ℕ, ◌+◌, ◌*◌, ◌/◌, ◌%◌, ◌<◌, ◌≤◌, List, Bool, true, false, Option, Some, None, length, slice_index_or, All}
+use Rattle.std.specs.Prelude.{◌≡◌, ◌≢◌, ℕ, ◌+◌, ◌*◌, ◌/◌, ◌%◌, ◌<◌, ◌≤◌, List, Bool, true, false, not, Option, Some, None, length, slice_index_or, All}
 use Rattle.pz_sets.specs.Sets.{member}
 use Rattle.pz_game.specs.declared.limits.TheConstants.{MAX_OBJECTS, MAX_SIDE}
 use Rattle.pz_game.specs.declared.pattern.Item.{Item}
@@ -54,6 +54,11 @@ abbrev pub IsNextDiffering : LineSets → LineSets → ℕ → ℕ → Option �
 IsNextDiffering sets other long from None = AreSameBetween sets other long from (sets.count * long)
 IsNextDiffering sets other long from (Some found) =
     (from ≤ found) × (found < sets.count * long) × (AreSameAt sets other (found / long) (found % long) → ⊥) × AreSameBetween sets other long from found
+
+-- a note that is toggled: it comes if it isn't there, and goes if it is
+abbrev pub toggled : Bool → Bool → Bool
+toggled true was = not was
+toggled false was = was
 
 -- nothing is noted at all
 abbrev pub IsEmpty : LineSets → Type 0

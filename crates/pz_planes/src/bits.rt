@@ -1,9 +1,10 @@
 //! Positions of a line as the bits of a word: the position n, counted from 0, is in the set if bit n of the word is set.
 
-ghost use Rattle.std.specs.Prelude.{◌≡◌, ℕ, ◌<◌, ◌≤◌, ◌↔◌, ◌&&◌, ◌||◌, true, false, not};
+ghost use Rattle.std.specs.Prelude.{◌≡◌, ℕ, ◌<◌, ◌≤◌, ◌↔◌, ◌&&◌, ◌||◌, true, false, not, nat_eq};
 ghost use Rattle.pz_sets.specs.Sets.{in_word};
 ghost use Rattle.pz_sets.specs.Next.{IsNext};
 ghost use Rattle.pz_planes.specs.Line.{step_to, room_from};
+ghost use Rattle.pz_planes.specs.Planes.{toggled};
 
 use crate::line::Way;
 use pz_sets::words;
@@ -44,6 +45,33 @@ pub fn differing(set: u128, other: u128) -> u128
     ensures { (at : ℕ) → (in_word result at ≡ false) ↔ (in_word set at ≡ in_word other at) }
 {
     set ^ other
+}
+
+/// The set with one position toggled: put in if it isn't there, and taken out if it is.
+pub fn toggled(set: u128, at: usize) -> u128
+    requires { at < 128 }
+    ensures { (other : ℕ) → in_word result other ≡ toggled (nat_eq other at) (in_word set other) }
+{
+    set ^ 1u128 << at
+}
+
+/// The set without a position that it has.
+pub fn without(set: u128, at: usize) -> u128
+    requires low { at < 128 }
+    requires there { in_word set at ≡ true }
+    ensures others { (other : ℕ) → other < 128 → in_word result other ≡ (not (nat_eq other at) && in_word set other) }
+    ensures fewer { result < set }
+{
+    set & !(1u128 << at)
+}
+
+/// The first position of a set that has one.
+pub fn first(set: u128) -> usize
+    requires { 0 < set }
+    ensures there { in_word set result ≡ true }
+    ensures low { result < 128 }
+{
+    set.trailing_zeros() as usize
 }
 
 /// The positions that are not in the set.

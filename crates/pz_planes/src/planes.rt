@@ -7,14 +7,13 @@ ghost use Rattle.pz_game.specs.Items.{names};
 ghost use Rattle.pz_sets.specs.Sets.{in_word, member};
 ghost use Rattle.pz_sets.specs.declared.set.TheConstants.{CAPACITY};
 ghost use Rattle.pz_planes.specs.Marks.{AreMarks};
-ghost use Rattle.pz_planes.specs.Planes.{stands_in, AreSameAt, IsMissingIn, IsEmpty, IsChanged, AreChanged, IsInside, IsKnown, AreKnown, AreThere, HaveSameLines, HasRoomOf, IsFor, AreItemsOf, MayHold, MayRun, IsNextDiffering, lines_of};
+ghost use Rattle.pz_planes.specs.Planes.{stands_in, AreSameAt, IsMissingIn, IsEmpty, IsChanged, AreChanged, IsInside, IsKnown, AreKnown, AreThere, HaveSameLines, HasRoomOf, IsFor, AreItemsOf, MayHold, MayRun, IsNextDiffering, lines_of, toggled};
 
 use crate::line::{Axis, Way};
 use crate::{bits, notes};
 use pz_game::masks::names;
 use pz_game::pattern::{Item, Pattern};
 use pz_sets::set::NumberSet;
-use pz_sets::words;
 use std::alloc::{AllocError, Global};
 use std::marker::Model;
 
@@ -96,27 +95,16 @@ impl LinePlanes {
         object * self.count + line
     }
 
-    /// Notes an object at a position of a line. From position 128 on nothing is noted.
-    fn insert(&mut self, object: usize, line: usize, at: usize)
+    /// Toggles the note of an object at a position of a line: notes it, or drops the note that is there. From position 128 on nothing is
+    /// noted.
+    fn toggle(&mut self, object: usize, line: usize, at: usize)
         requires object_in { object < self.old.objects }
         requires line_in { line < self.old.count }
-        ensures { IsChanged self.old self.new line at (λ other was. nat_eq other object || was) }
+        ensures { IsChanged self.old self.new line at (λ other was. toggled (nat_eq other object) was) }
     {
         if at < bits::ROOM as usize {
             let index = self.index(object, line);
-            words::insert(&mut self.words, index * 128 + at);
-        }
-    }
-
-    /// Drops the note of an object at a position of a line.
-    fn remove(&mut self, object: usize, line: usize, at: usize)
-        requires object_in { object < self.old.objects }
-        requires line_in { line < self.old.count }
-        ensures { IsChanged self.old self.new line at (λ other was. not (nat_eq other object) && was) }
-    {
-        if at < bits::ROOM as usize {
-            let index = self.index(object, line);
-            words::remove(&mut self.words, index * 128 + at);
+            self.words[index] = bits::toggled(self.words[index], at);
         }
     }
 
@@ -319,76 +307,54 @@ impl Planes {
         }
     }
 
-    fn insert(&mut self, object: usize, x: usize, y: usize)
+    /// Toggles the note of an object at a position of the map.
+    fn toggle(&mut self, object: usize, x: usize, y: usize)
         requires inside { IsInside self.old x y }
         requires known { IsKnown self.old object }
-        ensures { AreChanged self.old self.new x y (λ other was. nat_eq other object || was) }
+        ensures { AreChanged self.old self.new x y (λ other was. toggled (nat_eq other object) was) }
     {
-        self.rows.insert(object, y, x);
-        self.columns.insert(object, x, y);
+        self.rows.toggle(object, y, x);
+        self.columns.toggle(object, x, y);
     }
 
-    fn remove(&mut self, object: usize, x: usize, y: usize)
+    /// Toggles the notes of objects at a position of the map: those of one word of a set, the word of the number `index`.
+    #[inline(always)]
+    fn toggle_word(&mut self, x: usize, y: usize, index: usize, word: u128)
+        requires low { index < 4 }
         requires inside { IsInside self.old x y }
-        requires known { IsKnown self.old object }
-        ensures { AreChanged self.old self.new x y (λ other was. not (nat_eq other object) && was) }
+        requires known { (bit : ℕ) → bit < 128 → in_word word bit ≡ true → IsKnown self.old (index * 128 + bit) }
+        ensures { AreChanged self.old self.new x y (λ object was. toggled (nat_eq (object / 128) index && in_word word (object % 128)) was) }
     {
-        self.rows.remove(object, y, x);
-        self.columns.remove(object, x, y);
-    }
-
-    /// Drops the notes of the objects that a cell had in `before` and hasn't in `after`.
-    fn leave(&mut self, x: usize, y: usize, before: &[u128], after: &[u128])
-        requires short { length before.now ≤ 4 }
-        requires inside { IsInside self.old x y }
-        requires known { AreKnown self.old before.now }
-        ensures { AreChanged self.old self.new x y (λ object was. not (member before.now object && not (member after.now object)) && was) }
-    {
-        let mut from = 0;
-        'objects: while let Some(object) = words::next_only(before, after, from) {
-            self.remove(object, x, y);
-            from = object + 1;
+        let mut rest = word;
+        'objects: while rest != 0 {
+            let bit = bits::first(rest);
+            self.toggle(index * 128 + bit, x, y);
+            rest = bits::without(rest, bit);
         }
     }
 
-    /// Notes the objects that a cell has in `after` and hadn't in `before`.
-    fn arrive(&mut self, x: usize, y: usize, before: &[u128], after: &[u128])
-        requires short { length after.now ≤ 4 }
-        requires inside { IsInside self.old x y }
-        requires known { AreKnown self.old after.now }
-        ensures { AreChanged self.old self.new x y (λ object was. (member after.now object && not (member before.now object)) || was) }
-    {
-        let mut from = 0;
-        'objects: while let Some(object) = words::next_only(after, before, from) {
-            self.insert(object, x, y);
-            from = object + 1;
-        }
-    }
-
-    /// Notes at a position of the map the objects in `after` instead of those in `before`. Both sets have at most four words. (Inlined,
-    /// because the caller knows the number of words.)
+    /// Notes at a position of the map the objects in `after` instead of those in `before`. Both sets have as many words, at most four.
+    /// (Inlined, because the caller knows the number of words.)
     #[inline(always)]
     fn note(&mut self, x: usize, y: usize, before: &[u128], after: &[u128])
-        requires short_before { length before.now ≤ 4 }
         requires short { length after.now ≤ 4 }
+        requires long { length before.now ≡ length after.now }
         requires inside { IsInside self.old x y }
         requires known_before { AreKnown self.old before.now }
         requires known { AreKnown self.old after.now }
         requires there { AreThere self.old x y (member before.now) }
         ensures { AreChanged self.old self.new x y (λ object was. member after.now object) }
     {
-        if words::same(before, after) {
-            return;
+        for index in 0..after.len() {
+            self.toggle_word(x, y, index, bits::differing(before[index], after[index]));
         }
-        self.leave(x, y, before, after);
-        self.arrive(x, y, before, after);
     }
 
     /// The same at the cell of this number. Cells are numbered row by row.
     #[inline(always)]
     pub fn note_at(&mut self, index: usize, before: &[u128], after: &[u128])
-        requires short_before { length before.now ≤ 4 }
         requires short { length after.now ≤ 4 }
+        requires long { length before.now ≡ length after.now }
         requires within { index < self.old.columns.count * self.old.rows.count }
         requires known_before { AreKnown self.old before.now }
         requires known { AreKnown self.old after.now }
@@ -397,18 +363,6 @@ impl Planes {
     {
         let width = self.columns.count();
         self.note(index % width, index / width, before, after);
-    }
-
-    /// Notes objects at the cell of this number, besides those noted there already. The set has at most four words. Cells are numbered row
-    /// by row.
-    pub fn arrive_at(&mut self, index: usize, objects: &[u128])
-        requires short { length objects.now ≤ 4 }
-        requires within { index < self.old.columns.count * self.old.rows.count }
-        requires known { AreKnown self.old objects.now }
-        ensures { AreChanged self.old self.new (index % self.old.columns.count) (index / self.old.columns.count) (λ object was. member objects.now object || was) }
-    {
-        let width = self.columns.count();
-        self.arrive(index % width, index / width, &[], objects);
     }
 
     /// Drops all notes. The numbers of objects and lines stay.

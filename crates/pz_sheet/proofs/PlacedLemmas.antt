@@ -1,33 +1,37 @@
 -- The objects of the cells of a level, noted where they stand.
 use Rattle.pz_cells.specs.Layering.{Layering}
-use Rattle.std.proofs.Common.{◌≡◌, inl, inr, ℕ, ◌+◌, ◌*◌, ◌/◌, ◌%◌, ◌<◌, ◌≤◌, List, Bool, true, false, ◌||◌, set, length, get_or, arith, ap, sym, ◌∙◌, refl, subst, get_or-set_same, get_or-set_other}
+use Rattle.std.proofs.Common.{◌≡◌, inl, inr, ℕ, ◌+◌, ◌*◌, ◌/◌, ◌%◌, ◌<◌, ◌≤◌, List, Bool, true, false, set, length, get_or, replicate, arith, ap, sym, ◌∙◌, refl, subst, get_or-set_same, get_or-set_other}
 use Rattle.std.specs.List.{All}
 use Rattle.std.proofs.lemmas.Bool.{cases_eq}
 use Rattle.std.proofs.lemmas.List.{get_or_default}
 use Rattle.std.proofs.lemmas.Nat.{mul-add-lt, same_from_place, div-mul-add, mod-mul-add}
 use Rattle.pz_sets.specs.Sets.{member}
 use Rattle.pz_planes.specs.Planes.{PlaneSets, AreChanged, AreThere, HaveSameLines, AreKnown, IsFor}
-use Rattle.pz_planes.proofs.PlaneLemmas.{AreThereAt, there_now, still_there, still_there_at, number_of, column_in, row_in, known_of}
+use Rattle.pz_planes.proofs.PlaneLemmas.{AreThereAt, still_there, still_there_at, number_of, column_in, row_in, known_of}
 use Rattle.pz_cells.specs.declared.cell.Cell.{Cell}
 use Rattle.pz_sheet.specs.Noting.{AreAllThere, ArePlaced, EndWithin}
 use Rattle.pz_sheet.proofs.EndLemmas.{ends_still}
 use Rattle.pz_cells.specs.Lists.{IsSound, HaveSameObjects}
+use Rattle.pz_cells.proofs.DrawLemmas.{no_number}
 
 -- the objects of one more cell are noted
-pub all_there_more : (N : ℕ) (start old new : PlaneSets) (cells : List (Cell N)) (index : ℕ) (here : Cell N) → index < length cells → here ≡ get_or cells index here → HaveSameLines start old → length cells ≡ start.columns.count * start.rows.count → AreChanged old new (index % old.columns.count) (index / old.columns.count) (λ object was. member here.objects object || was) → AreThereAt start old index (λ object. false)
+pub all_there_more : (N : ℕ) (start old new : PlaneSets) (cells : List (Cell N)) (index : ℕ) (here : Cell N) → index < length cells → here ≡ get_or cells index here → HaveSameLines start old → length cells ≡ start.columns.count * start.rows.count → AreChanged old new (index % old.columns.count) (index / old.columns.count) (λ object was. member here.objects object)
     → ((k : ℕ) (cell : Cell N) → k < index → AreThereAt start old k (member (get_or cells k cell).objects)) → (k : ℕ) (cell : Cell N) → k < index + 1 → AreThereAt start new k (member (get_or cells k cell).objects)
-all_there_more N start old new cells index here within is size covers changed none before k cell below = elim (cases_eq k index) [
+all_there_more N start old new cells index here within is size covers changed before k cell below = elim (cases_eq k index) [
   | inl same ↦
       let here_is : here ≡ get_or cells k cell = is ∙ get_or_default cells index here cell within ∙ ap (λ (i : ℕ). get_or cells i cell) (sym same) in
+      let there = subst (λ (w : ℕ). AreChanged old new (index % w) (index / w) (λ object was. member here.objects object)) size.column_count changed in
       subst (λ (i : ℕ). AreThereAt start new i (member (get_or cells k cell).objects)) (sym same) (subst (λ (it : Cell N). AreThereAt start new index (member it.objects)) here_is
-      (there_now old new (index % start.columns.count) (index / start.columns.count) (λ object. false) (member here.objects) (λ object was. member here.objects object || was) none
-      (subst (λ (w : ℕ). AreChanged old new (index % w) (index / w) (λ object was. member here.objects object || was)) size.column_count changed) (λ object. or_false (member here.objects object))))
+      (record { row = there.rows.here; column = there.columns.here }))
   | inr other ↦
-      still_there_at start old new index k (λ object was. member here.objects object || was) (member (get_or cells k cell).objects) size (omega (arith, below, within, covers)) other changed (before k cell (omega (arith, below, other)))
-] where
-  or_false : (b : Bool) → (b || false) ≡ b
-  or_false true = refl
-  or_false false = refl
+      still_there_at start old new index k (λ object was. member here.objects object) (member (get_or cells k cell).objects) size (omega (arith, below, within, covers)) other changed (before k cell (omega (arith, below, other)))
+]
+
+-- where nothing is noted, exactly the objects of an empty set are
+pub none_of_empty : (N : ℕ) (start planes : PlaneSets) (index : ℕ) → HaveSameLines start planes → AreThereAt start planes index (λ object. false) → AreThere planes (index % planes.columns.count) (index / planes.columns.count) (member (replicate N 0))
+none_of_empty N start planes index size none =
+    subst (λ (w : ℕ). AreThere planes (index % w) (index / w) (member (replicate N 0))) (sym size.column_count)
+    (record { row = λ object small. none.row object small ∙ sym (no_number N object); column = λ object small. none.column object small ∙ sym (no_number N object) })
 
 pub all_there : (N : ℕ) (start now : PlaneSets) (cells : List (Cell N)) (index : ℕ) → length cells ≤ index → length cells ≡ start.columns.count * start.rows.count → ((k : ℕ) (cell : Cell N) → k < index → AreThereAt start now k (member (get_or cells k cell).objects)) → AreAllThere N start.columns.count start.rows.count now cells
 all_there N start now cells index past covers before x y cell x_in y_in =

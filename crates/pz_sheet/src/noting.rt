@@ -77,6 +77,6 @@ pub(crate) fn note_all<const N: usize>(planes: &mut Planes, layers: &Layers<N>, 
         let cell = &cells[index];
         // (brings the proof how many words a cell has)
         let _ = (layers.depth(), cell.word_count());
-        planes.arrive_at(index, &cell.objects);
+        planes.note_at(index, &[0; N], &cell.objects);
     }
 }

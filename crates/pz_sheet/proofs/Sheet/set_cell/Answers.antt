@@ -25,8 +25,8 @@ note_at-requires g c =
     let sound = sound_at a.layers a.cells.items at old c.self.invariant.stored.sound within c.index.ensures in
     let sound_new = subst (λ (grid : Grid). IsSound (layers_in grid) new) (sym e) c.requires.sound in
     record {
-      short_before = omega (arith, c.word_count.ensures.objects, c.self.invariant.stored.law.short);
       short = omega (arith, c.word_count-2.ensures.objects, c.self.invariant.stored.law.short);
+      long = c.word_count.ensures.objects ∙ sym c.word_count-2.ensures.objects;
       within = within_at _ a.width a.height at _ a.planes placed.fits within covers;
       known_before = known_of a.layers.layers a.width a.height a.planes old.objects placed.fits sound.of_game;
       known = known_of a.layers.layers a.width a.height a.planes new.objects placed.fits sound_new.of_game;

@@ -1,4 +1,4 @@
-use Rattle.pz_planes.proofs.ArriveLemmas.{item_of, item_admits, both_true}
+use Rattle.pz_planes.proofs.ToggleLemmas.{item_of, item_admits, both_true}
 use Rattle.pz_planes.proofs.planes.LinePlanes.places.Goals as goal
 
 pub loop-item-init : goal.loop-item-init

@@ -1,7 +1,7 @@
 use Rattle.std.proofs.Common.{◌≡◌, ℕ, ◌/◌, ◌%◌, ap, sym, ◌∙◌, subst}
 use Rattle.pz_sets.specs.Sets.{member}
 use Rattle.pz_planes.specs.Planes.{PlaneSets, AreThere, AreChanged}
-use Rattle.pz_planes.proofs.ArriveLemmas.{inside_at, wide_at}
+use Rattle.pz_planes.proofs.ToggleLemmas.{inside_at, wide_at}
 use Rattle.pz_planes.proofs.planes.Planes.note_at.Goals as goal
 
 pub nonzero_rem-index : goal.nonzero_rem-index
@@ -14,8 +14,8 @@ pub note-requires : goal.note-requires
 note-requires c =
     let width : c.count-width.result ≡ c.args.self.now.columns.count = c.count-width.ensures ∙ ap (λ (p : PlaneSets). p.columns.count) c.self.view_is in
     record {
-      short_before = c.requires.short_before;
       short = c.requires.short;
+      long = c.requires.long;
       inside = inside_at c.args.self.now c.args.index c.count-width.result width c.requires.within;
       known_before = c.requires.known_before;
       known = c.requires.known;
