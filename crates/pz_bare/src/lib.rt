@@ -9,7 +9,7 @@ ghost use Rattle.pz_game.specs.declared.pattern.Item.{Item};
 ghost use Rattle.pz_game.specs.Pattern.{AreOf, AsksAmong, IsRowOf};
 ghost use Rattle.pz_cells.specs.Cell.{IsOnLayer};
 ghost use Rattle.pz_sheet.specs.Grid.{IsLawful, place_at, with_place};
-ghost use Rattle.pz_sheet.specs.Movement.{stilled, AreStill};
+ghost use Rattle.pz_sheet.specs.Movement.{stilled, AreStill, AreColumnsStill};
 ghost use Rattle.pz_sheet.specs.Presence.{is_in, cell_of, holds_both, holds_if};
 ghost use Rattle.pz_sheet.specs.Line.{line_count};
 ghost use Rattle.pz_sheet.specs.Marks.{AreMarksOf};
@@ -269,6 +269,18 @@ impl BareLevel {
             AnySheet::Small(sheet) => sheet.push_all(players, dir),
             AnySheet::Middle(sheet) => sheet.push_all(players, dir),
             AnySheet::Large(sheet) => sheet.push_all(players, dir),
+        }
+    }
+
+    /// The first column, from `from` on, in which something may head somewhere.
+    pub fn next_column(&self, from: u32) -> Option<u32>
+        ensures next { MatchOption result (AreColumnsStill self.now.grid from self.now.grid.width) (λ x. (from ≤ x) × (x < self.now.grid.width) × AreColumnsStill self.now.grid from x) }
+        ensures lawful { IsLawful self.now.grid }
+    {
+        match &*self.sheet {
+            AnySheet::Small(sheet) => sheet.next_column(from),
+            AnySheet::Middle(sheet) => sheet.next_column(from),
+            AnySheet::Large(sheet) => sheet.next_column(from),
         }
     }
 

@@ -1,13 +1,13 @@
--- A cell in which nothing heads anywhere is left as it is by a pass, and so are rows of such cells.
-use Rattle.std.proofs.Common.{◌≡◌, ℕ, zero, suc, ◌+◌, ◌-◌, ◌≤◌, List, [], ◌∷◌, Bool, Option, Some, None, map, get_or, arith, refl, ap, sym, ◌∙◌}
+-- A cell in which nothing heads anywhere is left as it is by a pass, and so are rows of such cells, and columns of such rows.
+use Rattle.std.proofs.Common.{◌≡◌, ℕ, zero, suc, ◌+◌, ◌-◌, ◌≤◌, ◌<◌, List, [], ◌∷◌, Bool, Option, Some, None, map, get_or, arith, refl, ap, sym, ◌∙◌}
 use Rattle.std.specs.List.{range_with_len}
 use Rattle.std.specs.Prelude.{fold}
 use Rattle.pz_game.specs.declared.direction.Dir.{Dir}
 use Rattle.pz_cells.specs.declared.piece.Piece.{Piece}
 use Rattle.pz_cells.specs.Cell.{still_piece, still_place}
 use Rattle.pz_sheet.specs.Grid.{Grid, cell_at, place_at}
-use Rattle.pz_sheet.specs.Movement.{AreStill}
-use Rattle.pz_grid.specs.Movement.{Pass, Spot, spot, in_pass, heading_goal, moved_to, move_place, move_at, spots_at, Stays}
+use Rattle.pz_sheet.specs.Movement.{AreStill, AreColumnsStill}
+use Rattle.pz_grid.specs.Movement.{Pass, Spot, spot, in_pass, heading_goal, moved_to, move_place, move_at, spots_at, spots_in, Stays}
 use Rattle.pz_grid.proofs.GatherLemmas.{gather}
 use Rattle.pz_grid.proofs.MovementLemmas.{fold_gather_more}
 
@@ -41,20 +41,29 @@ all_stay grid moved x y (layer ∷ layers) is =
     let first : move_at (in_pass grid moved) (spot x y layer) ≡ in_pass grid moved = stays (in_pass grid moved) (spot x y layer) (place_at grid x y layer) here in
     ap (λ (pass : Pass). fold move_at pass (map (spot x y) layers)) first ∙ all_stay grid moved x y layers is
 
-rows_on : (start : Pass) (grid : Grid) (moved : Bool) (x depth from n : ℕ) → fold move_at start (gather (spots_at depth x) from) ≡ in_pass grid moved → AreStill grid x from (from + n)
-    → fold move_at start (gather (spots_at depth x) (from + n)) ≡ in_pass grid moved
-rows_on start grid moved x depth from zero so_far still = ap (λ (k : ℕ). fold move_at start (gather (spots_at depth x) k)) (let e : from + zero ≡ from = omega arith in e) ∙ so_far
-rows_on start grid moved x depth from (suc n) so_far still =
-    let cell = spots_at depth x in
-    ap (λ (k : ℕ). fold move_at start (gather cell k)) (let e : from + suc n ≡ (from + n) + 1 = omega arith in e)
-    ∙ fold_gather_more move_at start cell (from + n)
-    ∙ ap (λ (pass : Pass). fold move_at pass (cell (from + n))) (rows_on start grid moved x depth from n so_far (λ y low below. still y low (omega (arith, below))))
-    ∙ all_stay grid moved x (from + n) (range_with_len 0 depth) (still (from + n) (omega arith) (omega arith))
+-- parts that leave a pass as it is
+parts_on : (start here : Pass) (part : ℕ → List Spot) (from n : ℕ) → fold move_at start (gather part from) ≡ here → ((k : ℕ) → from ≤ k → k < from + n → fold move_at here (part k) ≡ here)
+    → fold move_at start (gather part (from + n)) ≡ here
+parts_on start here part from zero so_far stays = ap (λ (k : ℕ). fold move_at start (gather part k)) (let e : from + zero ≡ from = omega arith in e) ∙ so_far
+parts_on start here part from (suc n) so_far stays =
+    ap (λ (k : ℕ). fold move_at start (gather part k)) (let e : from + suc n ≡ (from + n) + 1 = omega arith in e)
+    ∙ fold_gather_more move_at start part (from + n)
+    ∙ ap (λ (pass : Pass). fold move_at pass (part (from + n))) (parts_on start here part from n so_far (λ k late below. stays k late (omega (arith, below))))
+    ∙ stays (from + n) (omega arith) (omega arith)
+
+parts_stay : (start here : Pass) (part : ℕ → List Spot) (from end : ℕ) → from ≤ end → fold move_at start (gather part from) ≡ here → ((k : ℕ) → from ≤ k → k < end → fold move_at here (part k) ≡ here)
+    → fold move_at start (gather part end) ≡ here
+parts_stay start here part from end low so_far stays =
+    let split : from + (end - from) ≡ end = omega (arith, low) in
+    ap (λ (k : ℕ). fold move_at start (gather part k)) (sym split) ∙ parts_on start here part from (end - from) so_far (λ k late below. stays k late (omega (arith, below, split)))
 
 -- rows of a column in which nothing heads anywhere leave a pass as it is
 pub rows_stay : (start : Pass) (grid : Grid) (moved : Bool) (x depth from end : ℕ) → from ≤ end → fold move_at start (gather (spots_at depth x) from) ≡ in_pass grid moved
     → AreStill grid x from end → fold move_at start (gather (spots_at depth x) end) ≡ in_pass grid moved
-rows_stay start grid moved x depth from end low so_far still =
-    let split : from + (end - from) ≡ end = omega (arith, low) in
-    ap (λ (k : ℕ). fold move_at start (gather (spots_at depth x) k)) (sym split)
-    ∙ rows_on start grid moved x depth from (end - from) so_far (λ y late below. still y late (omega (arith, below, split)))
+rows_stay start grid moved x depth from end low so_far still = parts_stay start (in_pass grid moved) (spots_at depth x) from end low so_far (λ y late below. all_stay grid moved x y (range_with_len 0 depth) (still y late below))
+
+-- and so do such columns
+pub columns_stay : (start : Pass) (grid : Grid) (moved : Bool) (depth height from end : ℕ) → grid.height ≡ height → from ≤ end → fold move_at start (gather (spots_in depth height) from) ≡ in_pass grid moved
+    → AreColumnsStill grid from end → fold move_at start (gather (spots_in depth height) end) ≡ in_pass grid moved
+columns_stay start grid moved depth height from end high low so_far still = parts_stay start (in_pass grid moved) (spots_in depth height) from end low so_far
+    (λ x late below. rows_stay (in_pass grid moved) grid moved x depth 0 height (omega arith) refl (λ y from_top y_in. still x late below y from_top (omega (arith, y_in, high))))

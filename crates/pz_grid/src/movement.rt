@@ -7,7 +7,7 @@ ghost use Rattle.pz_sheet.specs.Presence.{in_row, in_column};
 ghost use Rattle.pz_grid.specs.Marks.{IsMarked, IsMarkedAt, IsWidened};
 ghost use Rattle.pz_grid.specs.Staying.{IsMove};
 ghost use Rattle.pz_grid.specs.Movement.{neighbour, heading_goal, spot, in_pass, move_at, spots_at, spots_in, pass_of, moving, settle, resolved, Stays, Leaves};
-ghost use Rattle.pz_sheet.specs.Movement.{stilled, AreStill};
+ghost use Rattle.pz_sheet.specs.Movement.{stilled, AreStill, AreColumnsStill};
 
 use crate::Level;
 use pz_bare::AnySheet;
@@ -117,6 +117,14 @@ impl Level {
         }
     }
 
+    /// The first column, from `from` on, in which something may head somewhere.
+    fn next_column(&self, from: u32) -> Option<u32>
+        ensures next { MatchOption result (AreColumnsStill self.now.grid from self.now.grid.width) (λ x. (from ≤ x) × (x < self.now.grid.width) × AreColumnsStill self.now.grid from x) }
+        ensures lawful { IsLawful self.now.grid }
+    {
+        self.bare.next_column(from)
+    }
+
     /// The first row, from `from` on, in which something in a column of the map may head somewhere.
     fn next_heading(&self, x: u32, from: u32) -> Option<u32>
         requires { x < self.now.grid.width }
@@ -201,15 +209,17 @@ impl Level {
         moved
     }
 
-    /// Makes one pass, column by column, and says whether a piece moved.
+    /// Makes one pass, column by column, and says whether a piece moved. Columns in which nothing heads anywhere are left out.
     fn pass(&mut self) -> bool
         ensures pass { in_pass self.new.grid result ≡ pass_of self.old.grid }
         ensures size { SameSize self.old.grid self.new.grid }
         ensures marks { IsMove self.old self.new }
     {
         let mut moved = false;
-        for x in 0..self.width() {
+        let mut from = 0;
+        'columns: while let Some(x) = self.next_column(from) {
             moved = self.pass_in(x, moved);
+            from = x + 1;
         }
         moved
     }

@@ -1,5 +1,5 @@
 -- Where something may head in a level, by its lines. The notes have at least the headings that are there.
-use Rattle.std.specs.Prelude.{◌≡◌, ℕ, ◌<◌, List, [], false, length, nat_eq, ◌&&◌, ◌||◌, slice_index_or}
+use Rattle.std.specs.Prelude.{◌≡◌, ℕ, ◌≤◌, ◌<◌, List, [], false, length, nat_eq, ◌&&◌, ◌||◌, slice_index_or}
 use Rattle.pz_sets.specs.Sets.{member, IsWithin}
 use Rattle.pz_planes.specs.declared.line.Axis.{Axis}
 use Rattle.pz_planes.specs.declared.line.Axis.TheVariants.{Horizontal, Vertical}
@@ -20,6 +20,10 @@ pub record HaveNone (sets : HeadingSets) : Type 0 where
   pub whole : (number : ℕ) → member sets.whole number ≡ false
   pub rows : (line number : ℕ) → line < length sets.rows → member (slice_index_or sets.rows line []) number ≡ false
   pub columns : (line number : ℕ) → line < length sets.columns → member (slice_index_or sets.columns line []) number ≡ false
+
+-- no heading is noted for the lines from one number on and before another
+abbrev pub HaveNoneBetween : List (List ℕ) → ℕ → ℕ → Type 0
+HaveNoneBetween sets from end = (line number : ℕ) → from ≤ line → line < end → member (slice_index_or sets line []) number ≡ false
 
 -- the set of one line has got these headings; the others are unchanged
 pub record IsMoreIn (old new : List (List ℕ)) (line : ℕ) (headings : List ℕ) : Type 0 where

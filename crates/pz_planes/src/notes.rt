@@ -1,9 +1,9 @@
 //! Where something may head in a level. The whole level, each row and each column has a set of headings: a heading is a layer with a
 //! direction, as one number.
 
-ghost use Rattle.std.specs.Prelude.{◌≡◌, ◌<◌, ◌*◌, ◌/◌, ◌%◌, ◌||◌, ℕ, [], true, false, length, slice_index_or, IfOk, OnOk, OnErr};
+ghost use Rattle.std.specs.Prelude.{◌≡◌, ◌≤◌, ◌<◌, ◌*◌, ◌/◌, ◌%◌, ◌||◌, ℕ, [], true, false, length, slice_index_or, IfOk, OnOk, OnErr, MatchOption};
 ghost use Rattle.pz_sets.specs.Sets.{member};
-ghost use Rattle.pz_planes.specs.Notes.{HaveNone, IsMoreIn, headings_of};
+ghost use Rattle.pz_planes.specs.Notes.{HaveNone, HaveNoneBetween, IsMoreIn, headings_of};
 
 use crate::copying::{make_room, refill};
 use crate::line::Axis;
@@ -71,6 +71,18 @@ impl Notes {
             Axis::Horizontal => &self.rows[number as usize],
             Axis::Vertical => &self.columns[number as usize],
         }
+    }
+
+    /// The first column, from number `from` on, for which a heading is noted.
+    pub fn next_column(&self, from: usize) -> Option<usize>
+        ensures { MatchOption result (HaveNoneBetween self.now.columns from (length self.now.columns)) (λ column. (from ≤ column) × (column < length self.now.columns) × HaveNoneBetween self.now.columns from column) }
+    {
+        for column in from..self.columns.len() {
+            if !is_empty(&self.columns[column]) {
+                return Some(column);
+            }
+        }
+        None
     }
 
     /// Notes headings for the cell of this number: adds them to those of the level, of its row and of its column. Cells are numbered row by

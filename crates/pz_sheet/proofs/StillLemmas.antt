@@ -1,6 +1,6 @@
 -- A cell that heads nowhere is still. So is each cell of a line or of a level for which no heading is noted.
 use Rattle.pz_cells.specs.Layering.{Layering}
-use Rattle.std.proofs.Common.{◌≡◌, ◌+◌, ◌*◌, ◌<◌, ℕ, suc, List, [], ◌∷◌, Option, Some, None, Bool, true, false, map, length, get_or, arith, ap, sym, ◌∙◌, refl, subst}
+use Rattle.std.proofs.Common.{◌≡◌, ◌+◌, ◌*◌, ◌<◌, ◌≤◌, ℕ, suc, List, [], ◌∷◌, Option, Some, None, Bool, true, false, map, length, get_or, arith, ap, sym, ◌∙◌, refl, subst}
 use Rattle.std.specs.Prelude.{find}
 use Rattle.std.specs.List.{All, range_with_len}
 use Rattle.std.specs.Option.{option_map}
@@ -14,8 +14,9 @@ use Rattle.pz_cells.specs.declared.cell.Cell.{Cell}
 use Rattle.pz_cells.specs.declared.piece.Piece.{Piece}
 use Rattle.pz_cells.specs.Cell.{still_place}
 use Rattle.pz_cells.specs.Shown.{place_of, stands_on, piece_with}
-use Rattle.pz_sheet.specs.Grid.{cell_at}
-use Rattle.pz_planes.specs.Notes.{HeadingSets}
+use Rattle.pz_sheet.specs.Grid.{Grid, cell_at}
+use Rattle.pz_sheet.specs.Movement.{IsStillAt, AreColumnsStill}
+use Rattle.pz_planes.specs.Notes.{HeadingSets, HaveNoneBetween}
 use Rattle.pz_cells.specs.Lists.{seen, IsSound, HeadNowhere}
 use Rattle.pz_sheet.specs.Seen.{grid_of, HeadsWithin, AreNoted, IsStored}
 use Rattle.pz_sheet.proofs.SheetLemmas.{seen_at}
@@ -48,7 +49,7 @@ same_all f (cell ∷ cells) same =
 
 module _ (N width height : ℕ) (layering : Layering) (cells : List (Cell N)) (notes : HeadingSets) (s : IsStored N width height layering cells notes) where
   -- no heading is noted for a column
-  pub column_is_still : (x y : ℕ) → x < width → y < height → ((number : ℕ) → member (get_or notes.columns x []) number ≡ false)
+  column_is_still : (x y : ℕ) → x < width → y < height → ((number : ℕ) → member (get_or notes.columns x []) number ≡ false)
       → cell_at (grid_of width height layering cells) x y ≡ map still_place (cell_at (grid_of width height layering cells) x y)
   column_is_still x y x_in y_in none =
       let at = y * width + x in
@@ -58,6 +59,12 @@ module _ (N width height : ℕ) (layering : Layering) (cells : List (Cell N)) (n
       let still = still_seen N layering cell (s.sound at (no_cell N) within) (none_within cell.movement (get_or notes.columns x []) noted none) in
       let here = seen_at N width height layering cells (grid_of width height layering cells) at cell refl within (get_or_default cells at (no_cell N) cell within) in
       sym here ∙ still ∙ ap (λ (places : List (Option Piece)). map still_place places) here
+
+  -- no heading is noted for the columns from one on and before another
+  pub columns_are_still : (grid : Grid) → grid_of width height layering cells ≡ grid → (from end : ℕ) → end ≤ width → HaveNoneBetween notes.columns from end → AreColumnsStill grid from end
+  columns_are_still grid e from end within none x late below y low y_in =
+      let high : y < height = omega (arith, y_in, ap (λ (g : Grid). g.height) e) in
+      subst (λ (g : Grid). IsStillAt g x y) e (column_is_still x y (omega (arith, below, within)) high (λ number. none x number late below))
 
   -- no heading is noted at all
   pub all_are_still : ((number : ℕ) → member notes.whole number ≡ false) → map (seen layering) cells ≡ map (map still_place) (map (seen layering) cells)

@@ -11,5 +11,9 @@ IsStillAt grid x y = cell_at grid x y ≡ map still_place (cell_at grid x y)
 abbrev pub AreStill : Grid → ℕ → ℕ → ℕ → Type 0
 AreStill grid x from end = (y : ℕ) → from ≤ y → y < end → IsStillAt grid x y
 
+-- nothing in the columns from one on and before another heads anywhere
+abbrev pub AreColumnsStill : Grid → ℕ → ℕ → Type 0
+AreColumnsStill grid from end = (x : ℕ) → from ≤ x → x < end → AreStill grid x 0 grid.height
+
 abbrev pub stilled : Grid → Grid
 stilled grid = record grid { cells = map (map still_place) grid.cells }

@@ -3,10 +3,9 @@
 ghost use Rattle.std.specs.Prelude.{◌≡◌, ◌<◌, ◌≤◌, true, MatchOption};
 ghost use Rattle.pz_cells.specs.Cell.{still_place};
 ghost use Rattle.pz_sheet.specs.Grid.{IsLawful, place_at};
-ghost use Rattle.pz_sheet.specs.Movement.{stilled, IsStillAt, AreStill};
+ghost use Rattle.pz_sheet.specs.Movement.{stilled, IsStillAt, AreStill, AreColumnsStill};
 
 use crate::Sheet;
-use crate::line::Axis;
 use pz_cells::stilling::still_cells;
 use pz_planes::notes::is_empty;
 
@@ -32,12 +31,15 @@ impl<const N: usize> Sheet<N> {
         self.cell(self.index(x, y)).is_layer_still(layers, layer)
     }
 
-    /// Whether no heading is noted for a column of the map. If so, nothing in it heads anywhere.
-    fn is_column_still(&self, x: u32) -> bool
-        requires { x < self.now.grid.width }
-        ensures { result ≡ true → AreStill self.now.grid x 0 self.now.grid.height }
+    /// The first column, from `from` on, in which something may head somewhere.
+    pub fn next_column(&self, from: u32) -> Option<u32>
+        ensures next { MatchOption result (AreColumnsStill self.now.grid from self.now.grid.width) (λ x. (from ≤ x) × (x < self.now.grid.width) × AreColumnsStill self.now.grid from x) }
+        ensures lawful { IsLawful self.now.grid }
     {
-        is_empty(self.notes.line(Axis::Vertical, x))
+        match self.notes.next_column(from as usize) {
+            None => None,
+            Some(x) => Some(x as u32),
+        }
     }
 
     /// The first row, from `from` on, in which something in a column of the map may head somewhere.
@@ -47,9 +49,6 @@ impl<const N: usize> Sheet<N> {
         ensures lawful { IsLawful self.now.grid }
     {
         let end = self.height();
-        if self.is_column_still(x) {
-            return None;
-        }
         for y in from..end {
             if !self.is_still(x, y) {
                 return Some(y);

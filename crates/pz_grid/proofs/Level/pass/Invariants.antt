@@ -1,4 +1,4 @@
-use Rattle.std.proofs.Common.{◌≡◌}
+use Rattle.std.proofs.Common.{◌≡◌, ◌≤◌, ◌-◌, false}
 use Rattle.std.specs.Prelude.{fold}
 use Rattle.pz_grid.specs.Movement.{in_pass, move_at, spots_in}
 use Rattle.pz_sheet.specs.Grid.{SameSize}
@@ -6,9 +6,13 @@ use Rattle.pz_grid.specs.Staying.{IsMove}
 use Rattle.pz_grid.proofs.GatherLemmas.{gather}
 use Rattle.pz_grid.proofs.Level.pass.Given as goal
 
-abbrev pub invariant-loop-x : goal.invariant-loop-x
-invariant-loop-x l = record {
-  so_far : in_pass l.self.grid l.moved ≡ fold move_at (in_pass l.initial.self.grid l.initial.moved) (gather (spots_in l.initial.self.grid.depth l.initial.self.grid.height) l.x);
+abbrev pub invariant-columns : goal.invariant-columns
+invariant-columns l = record {
+  within : l.from ≤ l.initial.self.grid.width;
+  so_far : in_pass l.self.grid l.moved ≡ fold move_at (in_pass l.initial.self.grid false) (gather (spots_in l.initial.self.grid.depth l.initial.self.grid.height) l.from);
   size : SameSize l.initial.self.grid l.self.grid;
   marks : IsMove l.initial.self l.self;
 }
+
+abbrev pub decreases-columns : goal.decreases-columns
+decreases-columns l = l.initial.self.grid.width - l.from
