@@ -92,41 +92,23 @@ none_toward (Some dir) h = absurd (let e : false ≡ true = sym (h dir) ∙ same
 
 -- one item: the word, whether the object is there, and where its layer heads
 met_word : (word : Word) (there : Bool) (heading : Option Dir) → (names word ≡ true → there ≡ true) → (not (names word) ≡ true → there ≡ false) → ((dir : Dir) → is_toward (toward true word) dir ≡ true → is_toward heading dir ≡ true) → (is_still word ≡ true → (dir : Dir) → is_toward heading dir ≡ false) → word_holds word (standing_by there heading) ≡ true
-met_word Absent there heading p a r f = ap (λ b. word_holds Absent (standing_by b heading)) (a refl)
-met_word Present there heading p a r f = ap (λ b. word_holds Present (standing_by b heading)) (p refl)
-met_word Still there heading p a r f = ap (λ b. word_holds Still (standing_by b heading)) (p refl) ∙ ap (λ (h : Option Dir). word_holds Still (Some h)) (none_toward heading (f refl))
-met_word (Toward dir) there None p a r f = (let e : false ≡ true = r dir (same_dir_self dir) in cc)
-met_word (Toward dir) there (Some heading) p a r f = ap (λ b. word_holds (Toward dir) (standing_by b (Some heading))) (p refl) ∙ r dir (same_dir_self dir)
+met_word Absent there heading p a r f = grind (arith, a refl)
+met_word Present there heading p a r f = grind (arith, p refl)
+met_word Still there heading p a r f = grind (arith, p refl, none_toward heading (f refl))
+met_word (Toward dir) there heading p a r f = grind (arith, p refl, r dir (same_dir_self dir))
 
 word_present : (word : Word) (there : Bool) (heading : Option Dir) → word_holds word (standing_by there heading) ≡ true → names word ≡ true → there ≡ true
-word_present word true heading h n = refl
-word_present Absent false heading h n = cc
-word_present Present false heading h n = h
-word_present Still false heading h n = h
-word_present (Toward dir) false heading h n = h
+word_present word there heading h n = grind arith
 
 word_absent : (word : Word) (there : Bool) (heading : Option Dir) → word_holds word (standing_by there heading) ≡ true → not (names word) ≡ true → there ≡ false
-word_absent word false heading h n = refl
-word_absent Absent true heading h n = sym h
-word_absent Present true heading h n = cc
-word_absent Still true heading h n = cc
-word_absent (Toward dir) true heading h n = cc
+word_absent word there heading h n = grind arith
 
 word_required : (word : Word) (there : Bool) (heading : Option Dir) → word_holds word (standing_by there heading) ≡ true → (dir : Dir) → is_toward (toward true word) dir ≡ true → is_toward heading dir ≡ true
-word_required Absent there heading h dir t = cc
-word_required Present there heading h dir t = cc
-word_required Still there heading h dir t = cc
-word_required (Toward way) false heading h dir t = cc
-word_required (Toward way) true None h dir t = cc
 word_required (Toward way) true (Some heading) h dir t = ap (λ (d : Dir). same_dir d dir) (same_dir_is heading way h) ∙ t
+word_required word there heading h dir t = grind arith
 
 word_forbidden : (word : Word) (there : Bool) (heading : Option Dir) → word_holds word (standing_by there heading) ≡ true → is_still word ≡ true → (dir : Dir) → is_toward heading dir ≡ false
-word_forbidden Absent there heading h s dir = cc
-word_forbidden Present there heading h s dir = cc
-word_forbidden (Toward way) there heading h s dir = cc
-word_forbidden Still false heading h s dir = cc
-word_forbidden Still true None h s dir = refl
-word_forbidden Still true (Some heading) h s dir = cc
+word_forbidden word there heading h s dir = grind arith
 
 -- an item holds in the seen cell
 abbrev Seen : ℕ → List ℕ → List ℕ → List ℕ → Item → Type 0

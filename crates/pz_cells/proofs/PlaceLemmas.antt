@@ -1,7 +1,7 @@
 -- One layer of a cell changes.
-use Rattle.std.proofs.Common.{◌≡◌, ◌≢◌, inl, inr, ℕ, ◌/◌, ◌<◌, List, Option, Some, None, Bool, true, false, not, ◌&&◌, ◌||◌, length, get_or, set, arith, ap, sym, ◌∙◌, refl, subst, nat_eq, eq-eqb, get_or-set_same, get_or-set_other}
-use Rattle.std.specs.Prelude.{MatchOption}
+use Rattle.std.proofs.Common.{◌≡◌, ◌≢◌, inl, inr, ℕ, ◌<◌, List, Option, Some, None, Bool, true, false, not, ◌&&◌, ◌||◌, length, get_or, set, arith, ap, sym, ◌∙◌, refl, subst, nat_eq, eq-eqb, get_or-set_same, get_or-set_other}
 use Rattle.std.proofs.lemmas.Bool.{cases_eq, eqb-true, ne_eqb, and_parts, or_cases, and_from}
+use Rattle.std.proofs.Math.Bool.{or-false}
 use Rattle.std.proofs.lemmas.List.{length-set}
 use Rattle.std.proofs.lemmas.List.FromFn.{get_or-map-range_with_len, length-map-range_with_len}
 use Rattle.pz_sets.specs.Sets.{member}
@@ -9,6 +9,7 @@ use Rattle.pz_cells.specs.declared.piece.Piece.{Piece}
 use Rattle.pz_game.specs.declared.direction.Dir.{Dir}
 use Rattle.pz_game.specs.Direction.{same_dir}
 use Rattle.pz_game.specs.Headings.{is_toward, IsProper, heads, heading_in}
+use Rattle.pz_cells.specs.Cell.{IsOnLayer}
 use Rattle.pz_cells.specs.Shown.{IsSetOf, place_of, cell_of, Shows, AreLawful, Changes}
 use Rattle.pz_cells.proofs.ShowLemmas.{first_toward, place_shown, cell_from_shows}
 
@@ -73,26 +74,29 @@ changes_lifted layers objects movement objects_new movement_new layer object law
   same_movement = λ other dir apart. movement_is other dir ∙ ap (λ b. not b && heads movement other dir) (ne_eqb other layer apart);
 }
 
--- a piece is put on its layer
-pub changes_landed : (layers objects movement objects_new movement_new : List ℕ) (layer : ℕ) (piece : Piece) → AreLawful layers objects movement → place_of layers objects movement layer ≡ None → piece.object < length layers → get_or layers piece.object 0 ≡ layer → ((other : ℕ) → member objects_new other ≡ (nat_eq other piece.object || member objects other)) → ((other : ℕ) (dir : Dir) → heads movement_new other dir ≡ ((nat_eq other layer && is_toward piece.heading dir) || heads movement other dir)) → IsProper movement_new → Changes layers objects movement objects_new movement_new layer (Some piece)
-changes_landed layers objects movement objects_new movement_new layer piece lawful free within on objects_are movement_is proper =
-    let empty = subst (Shows layers (member objects) (heads movement layer) layer) free (lawful.shows layer) in
+-- a piece is put on its layer, from which everything was taken
+pub changes_landed : (layers objects movement objects_mid movement_mid objects_new movement_new : List ℕ) (layer : ℕ) (piece : Piece) → Changes layers objects movement objects_mid movement_mid layer None → IsOnLayer layers layer (Some piece) → ((other : ℕ) → member objects_new other ≡ (nat_eq other piece.object || member objects_mid other)) → ((other : ℕ) (dir : Dir) → heads movement_new other dir ≡ ((nat_eq other layer && is_toward piece.heading dir) || heads movement_mid other dir)) → IsProper movement_new → Changes layers objects movement objects_new movement_new layer (Some piece)
+changes_landed layers objects movement objects_mid movement_mid objects_new movement_new layer piece c on objects_are movement_is proper =
     let object = piece.object in
     record {
-      of_game = λ other new. elim (or_cases (nat_eq other object) (member objects other) (sym (objects_are other) ∙ new)) [ inl e ↦ omega (arith, eqb-true _ _ e) | inr old ↦ lawful.of_game other old ];
+      of_game = λ other new. elim (or_cases (nat_eq other object) (member objects_mid other) (sym (objects_are other) ∙ new)) [ inl e ↦ omega (arith, eqb-true _ _ e, on.0) | inr old ↦ c.of_game other old ];
       here = (
-        objects_are object ∙ ap (λ b. b || member objects object) (eq-eqb object object refl),
-        on,
-        λ other new at. elim (or_cases (nat_eq other object) (member objects other) (sym (objects_are other) ∙ new)) [ inl e ↦ eqb-true _ _ e | inr old ↦ absurd (empty.0 other old at) ],
-        λ dir. movement_is layer dir ∙ ap (λ b. (b && is_toward piece.heading dir) || heads movement layer dir) (eq-eqb layer layer refl) ∙ ap (λ b. is_toward piece.heading dir || b) (empty.1 dir) ∙ or_none (is_toward piece.heading dir),
+        objects_are object ∙ ap (λ b. b || member objects_mid object) (eq-eqb object object refl),
+        on.1,
+        λ other new at. elim (or_cases (nat_eq other object) (member objects_mid other) (sym (objects_are other) ∙ new)) [ inl e ↦ eqb-true _ _ e | inr old ↦ absurd (c.here.0 other old at) ],
+        λ dir. movement_is layer dir ∙ ap (λ b. (b && is_toward piece.heading dir) || heads movement_mid layer dir) (eq-eqb layer layer refl) ∙ ap (λ b. is_toward piece.heading dir || b) (c.here.1 dir) ∙ or-false (is_toward piece.heading dir),
       );
-      same_objects = λ other apart. objects_are other ∙ ap (λ b. b || member objects other) (ne_eqb other object (λ e. apart (ap (λ (k : ℕ). get_or layers k 0) e ∙ on)));
+      same_objects = λ other apart. objects_are other ∙ ap (λ b. b || member objects_mid other) (ne_eqb other object (λ e. apart (ap (λ (k : ℕ). get_or layers k 0) e ∙ on.1))) ∙ c.same_objects other apart;
       proper = proper;
-      same_movement = λ other dir apart. movement_is other dir ∙ ap (λ b. (b && is_toward piece.heading dir) || heads movement other dir) (ne_eqb other layer apart);
-    } where
-      or_none : (b : Bool) → (b || false) ≡ b
-      or_none true = refl
-      or_none false = refl
+      same_movement = λ other dir apart. movement_is other dir ∙ ap (λ b. (b && is_toward piece.heading dir) || heads movement_mid other dir) (ne_eqb other layer apart) ∙ c.same_movement other dir apart;
+    }
+
+-- what a cell is after one layer changed
+pub put_seen : (depth : ℕ) (layers objects movement objects_new movement_new : List ℕ) (layer : ℕ) (place put : Option Piece) → AreLawful layers objects movement → put ≡ place → Changes layers objects movement objects_new movement_new layer place → AreLawful layers objects_new movement_new × (cell_of depth layers objects_new movement_new ≡ set (cell_of depth layers objects movement) layer put)
+put_seen depth layers objects movement objects_new movement_new layer place put lawful is c = (
+  lawful_changed layers objects movement objects_new movement_new layer place lawful c,
+  cell_changed depth layers objects movement objects_new movement_new layer place lawful c ∙ ap (set (cell_of depth layers objects movement) layer) (sym is),
+)
 
 -- a layer that nothing stands on stays as it is
 pub changes_nothing : (layers objects movement : List ℕ) (layer : ℕ) → AreLawful layers objects movement → place_of layers objects movement layer ≡ None → Changes layers objects movement objects movement layer None
@@ -104,27 +108,24 @@ changes_nothing layers objects movement layer lawful free = record {
   same_movement = λ other dir apart. refl;
 }
 
--- the place of the layer that changed
-pub place_changed : (layers objects movement objects_new movement_new : List ℕ) (layer : ℕ) (place : Option Piece) → Changes layers objects movement objects_new movement_new layer place → place_of layers objects_new movement_new layer ≡ place
-place_changed layers objects movement objects_new movement_new layer place c = place_shown layers objects_new movement_new layer place c.of_game c.here
+-- a number that a set of a layer's objects has in common with a cell is an object that stands there
+pub found_on : (layers objects movement set : List ℕ) (layer first : ℕ) → AreLawful layers objects movement → IsSetOf layers set layer → (member objects first && member set first) ≡ true → (member objects first ≡ true) × (get_or layers first 0 ≡ layer)
+found_on layers objects movement set layer first lawful table both =
+    let parts = and_parts (member objects first) (member set first) both in
+    (parts.0, eqb-true _ _ (sym (table first (lawful.of_game first parts.0)) ∙ parts.1))
 
--- a layer that changed changes again
-pub changes_again : (layers objects movement objects_mid movement_mid objects_new movement_new : List ℕ) (layer : ℕ) (first second : Option Piece) → Changes layers objects movement objects_mid movement_mid layer first → Changes layers objects_mid movement_mid objects_new movement_new layer second → Changes layers objects movement objects_new movement_new layer second
-changes_again layers objects movement objects_mid movement_mid objects_new movement_new layer first second a b = record {
-  of_game = b.of_game;
-  here = b.here;
-  same_objects = λ object apart. b.same_objects object apart ∙ a.same_objects object apart;
-  proper = b.proper;
-  same_movement = λ other dir apart. b.same_movement other dir apart ∙ a.same_movement other dir apart;
-}
+-- where there is none, nothing stands
+pub found_none : (layers objects movement set : List ℕ) (layer : ℕ) → AreLawful layers objects movement → IsSetOf layers set layer → ((object : ℕ) → (member objects object && member set object) ≡ false) → place_of layers objects movement layer ≡ None
+found_none layers objects movement set layer lawful table none = by_place (place_of layers objects movement layer) refl (lawful.shows layer) where
+  by_place : (place : Option Piece) → place_of layers objects movement layer ≡ place → Shows layers (member objects) (heads movement layer) layer place → place_of layers objects movement layer ≡ None
+  by_place None e shown = e
+  by_place (Some piece) e shown = absurd (let f : true ≡ false = sym (and_from _ _ shown.0 (table piece.object (lawful.of_game piece.object shown.0) ∙ eq-eqb _ _ shown.1)) ∙ none piece.object in cc)
 
--- the object that a set of a layer's objects has in common with a cell
-pub on_layer : (layers objects set : List ℕ) (layer : ℕ) → ((object : ℕ) → member objects object ≡ true → object < length layers) → IsSetOf layers set layer → (found : Option ℕ) → MatchOption found ((object : ℕ) → (member objects object && member set object) ≡ false) (λ first. (first / 128 < length objects) × ((member objects first && member set first) ≡ true)) → MatchOption found ((object : ℕ) → member objects object ≡ true → get_or layers object 0 ≡ layer → ⊥) (λ object. (member objects object ≡ true) × (get_or layers object 0 ≡ layer))
-on_layer layers objects set layer of_game table None none =
-    λ object here on. (let e : true ≡ false = sym (and_from (member objects object) (member set object) here (table object (of_game object here) ∙ eq-eqb (get_or layers object 0) layer on)) ∙ none object in cc)
-on_layer layers objects set layer of_game table (Some first) found =
-    let parts = and_parts (member objects first) (member set first) found.1 in
-    (parts.0, eqb-true _ _ (sym (table first (of_game first parts.0)) ∙ parts.1))
+-- a piece that was put where the layer had been cleared
+pub piece_put : (depth : ℕ) (layers objects movement objects_mid movement_mid objects_new movement_new : List ℕ) (layer : ℕ) (place : Option Piece) (piece : Piece) (heading : Option Dir) → AreLawful layers objects movement → Changes layers objects movement objects_mid movement_mid layer None → IsOnLayer layers layer place → place ≡ Some piece → piece.heading ≡ heading → ((other : ℕ) → member objects_new other ≡ (nat_eq other piece.object || member objects_mid other)) → ((other : ℕ) (dir : Dir) → heads movement_new other dir ≡ ((nat_eq other layer && is_toward heading dir) || heads movement_mid other dir)) → IsProper movement_new → AreLawful layers objects_new movement_new × (cell_of depth layers objects_new movement_new ≡ set (cell_of depth layers objects movement) layer place)
+piece_put depth layers objects movement objects_mid movement_mid objects_new movement_new layer place piece heading lawful c on is heads_so objects_are movement_is proper =
+    put_seen depth layers objects movement objects_new movement_new layer (Some piece) place lawful is (changes_landed layers objects movement objects_mid movement_mid objects_new movement_new layer piece c (subst (IsOnLayer layers layer) is on) objects_are
+    (λ other dir. movement_is other dir ∙ ap (λ (h : Option Dir). (nat_eq other layer && is_toward h dir) || heads movement_mid other dir) (sym heads_so)) proper)
 
 -- an object that stands on a layer is in the cell's set, and of the game
 pub object_there : (layers objects movement : List ℕ) (layer : ℕ) (piece : Piece) → AreLawful layers objects movement → place_of layers objects movement layer ≡ Some piece → (member objects piece.object ≡ true) × (get_or layers piece.object 0 ≡ layer) × (piece.object < length layers)
@@ -142,12 +143,9 @@ changes_turned layers objects movement movement_new object dir lawful here movem
         here,
         refl,
         λ other there at. one_object layers objects movement layer other object lawful there at here refl,
-        λ way. movement_is layer way ∙ ap (λ b. (b && same_dir dir way) || (not b && heads movement layer way)) (eq-eqb layer layer refl) ∙ or_none (same_dir dir way),
+        λ way. movement_is layer way ∙ ap (λ b. (b && same_dir dir way) || (not b && heads movement layer way)) (eq-eqb layer layer refl) ∙ or-false (same_dir dir way),
       );
       same_objects = λ other apart. refl;
       proper = proper;
       same_movement = λ other way apart. movement_is other way ∙ ap (λ b. (b && same_dir dir way) || (not b && heads movement other way)) (ne_eqb other layer apart);
-    } where
-      or_none : (b : Bool) → (b || false) ≡ b
-      or_none true = refl
-      or_none false = refl
+    }

@@ -1,7 +1,8 @@
 -- What a rewriting does to the sets of a cell.
-use Rattle.std.proofs.Common.{◌≡◌, ◌≢◌, ◌⊎◌, nat_lt, inl, inr, ℕ, suc, ◌+◌, ◌*◌, ◌/◌, ◌%◌, ◌<◌, ◌≤◌, List, [], ◌∷◌, Option, Some, None, Bool, true, false, cond, not, ◌&&◌, ◌||◌, length, get_or, arith, ap, sym, ◌∙◌, refl, subst, nat_eq}
-use Rattle.std.specs.Prelude.{All, find, is_some, ◌↔◌}
-use Rattle.std.proofs.lemmas.Bool.{cases_lt, cases_eq, eqb-true, and_parts, or_cases, or_left, or_right, and_from}
+use Rattle.std.proofs.Common.{◌≡◌, ◌≢◌, ◌⊎◌, nat_lt, inl, inr, ℕ, ◌+◌, ◌<◌, ◌≤◌, List, Option, Some, None, Bool, true, false, cond, not, ◌&&◌, ◌||◌, length, get_or, arith, ap, sym, ◌∙◌, refl, subst, nat_eq}
+use Rattle.std.specs.Prelude.{All, is_some, ◌↔◌}
+use Rattle.std.proofs.lemmas.Bool.{cases_lt, cases_eq, and_parts, or_cases, or_left, or_right, and_from, or_parts, not-true, not_from_false}
+use Rattle.std.proofs.Math.Bool.{or-false, or-true, and-true}
 use Rattle.std.proofs.lemmas.List.FromFn.{get_or-map-range_with_len, length-map-range_with_len}
 use Rattle.pz_sets.specs.Sets.{member}
 use Rattle.pz_cells.specs.declared.piece.Piece.{Piece}
@@ -10,20 +11,21 @@ use Rattle.pz_game.specs.declared.pattern.Word.{Word}
 use Rattle.pz_game.specs.declared.pattern.Word.TheVariants.{Present, Still, Toward, Absent}
 use Rattle.pz_game.specs.declared.pattern.Item.{Item}
 use Rattle.pz_game.specs.Direction.{same_dir}
-use Rattle.pz_game.specs.Pattern.{IsOf, AreOf}
+use Rattle.pz_game.specs.Pattern.{AreOf}
 use Rattle.pz_cells.specs.Standing.{standing}
 use Rattle.pz_cells.specs.Sameness.{same_cell}
 use Rattle.pz_cells.proofs.SameLemmas.{same_cell_is, same_cell_self}
 use Rattle.pz_game.specs.Headings.{is_toward, flag, heads, IsProper}
 use Rattle.pz_cells.specs.Shown.{place_of, cell_of, Shows, AreLawful}
-use Rattle.pz_game.proofs.FlagLemmas.{each_number, flag_of, dir_bit-low}
+use Rattle.pz_game.proofs.FlagLemmas.{each_number}
 use Rattle.pz_cells.proofs.PlaceLemmas.{shows_alike}
-use Rattle.pz_game.specs.Items.{names, places_on, placed_on, tells_of, tells_movement, names_object, forbids_object}
+use Rattle.pz_cells.proofs.FitLemmas.{placed_is}
+use Rattle.pz_game.specs.Items.{names, placed_on, tells_of, tells_movement, names_object, forbids_object}
 use Rattle.pz_cells.specs.Rewriting.{heading_of, new_heading, kept, replaced, rewritten_place, rewritten_cell}
 use Rattle.pz_game.specs.declared.masks.Masks.{Masks}
 use Rattle.pz_game.specs.Masks.{toward, begins, settles, AreMasksOf}
 use Rattle.pz_cells.specs.Rewrites.{ends, Leaves, removed_by}
-use Rattle.pz_cells.proofs.HoldLemmas.{standing_by, standing_seen}
+use Rattle.pz_cells.proofs.HoldLemmas.{place_seen, standing_by, standing_seen}
 use Rattle.pz_game.specs.Headings.{heading_in}
 use Rattle.pz_cells.proofs.ShowLemmas.{lawful_from_shows, cell_from_shows}
 
@@ -51,29 +53,6 @@ pub record Rewrites (layers : List ℕ) (left right : List Item) (has : ℕ → 
   pub ended : (object : ℕ) (dir : Dir) → Goes layers left right has object → toward_new (get_or layers object 0) dir ≡ false
   pub others : (layer : ℕ) (dir : Dir) → ((object : ℕ) → Goes layers left right has object → get_or layers object 0 ≡ layer → ⊥) → toward_new layer dir ≡ ((toward layer dir && not (ends (tells_of layer left) (placed_on layer right))) || begins dir (placed_on layer right))
 
--- what is found passes the test and is an element
-find_all : {X : Type 0} (P : X → Type 0) (p : X → Bool) (xs : List X) (x : X) → All P xs → find p xs ≡ Some x → P x × (p x ≡ true)
-find_all P p [] x all e = cc
-find_all {X} P p (y ∷ ys) x all e = by_test (λ f. find_all P p ys x (λ k d h. all (suc k) d (omega arith)) f) (p y) refl e where
-  by_test : (find p ys ≡ Some x → P x × (p x ≡ true)) → (b : Bool) → p y ≡ b → cond b (Some y) (find p ys) ≡ Some x → P x × (p x ≡ true)
-  by_test rest true t f = (let same : y ≡ x = cc in (subst P same (all 0 y (omega arith)), ap p (sym same) ∙ t))
-  by_test rest false t f = rest f
-
--- the item that is placed on a layer is of that layer and names its object
-pub placed_is : (layers : List ℕ) (layer : ℕ) (right : List Item) (item : Item) → AreOf layers right → placed_on layer right ≡ Some item → (item.object < length layers) × (get_or layers item.object 0 ≡ layer) × (names item.word ≡ true)
-placed_is layers layer right item are e =
-    let f = find_all (IsOf layers) (places_on layer) right item are e in
-    let parts = and_parts (names item.word) (nat_eq item.layer layer) f.1 in
-    (f.0.object, f.0.layer ∙ eqb-true _ _ parts.1, parts.0)
-
-drop_or : (x : Bool) → (x || false) ≡ x
-drop_or true = refl
-drop_or false = refl
-
-and_yes : (x : Bool) → (x && true) ≡ x
-and_yes true = refl
-and_yes false = refl
-
 pub and_no : (x : Bool) → (x && false) ≡ false
 and_no true = refl
 and_no false = refl
@@ -85,7 +64,7 @@ new_toward Still false here old dir n e = ap (λ x. x || false) (and_no old)
 new_toward (Toward way) true here old dir n e = ap (λ x. x || same_dir way dir) (and_no old)
 new_toward (Toward way) false here old dir n e = ap (λ x. x || same_dir way dir) (and_no old)
 new_toward Present true here old dir n e = ap (λ x. x || false) (and_no old)
-new_toward Present false here old dir n e = drop_or (old && true) ∙ and_yes old ∙ e
+new_toward Present false here old dir n e = or-false (old && true) ∙ and-true old ∙ e
 new_toward Absent told here old dir n e = cc
 
 toward_shown : (layers : List ℕ) (has : ℕ → Bool) (toward : Dir → Bool) (layer : ℕ) (place : Option Piece) (dir : Dir) → Shows layers has toward layer place → toward dir ≡ is_toward (heading_of place) dir
@@ -100,7 +79,7 @@ rewritten_shows layers left right has toward has_new toward_new are r layer here
 
   -- nothing is placed on the layer
   toward_kept : placed_on layer right ≡ None → ((object : ℕ) → Goes layers left right has object → get_or layers object 0 ≡ layer → ⊥) → (dir : Dir) → toward_new layer dir ≡ toward layer dir
-  toward_kept e none dir = r.others layer dir none ∙ ap (λ (o : Option Item). (toward layer dir && not (ends (tells_of layer left) o)) || begins dir o) e ∙ drop_or (toward layer dir && true) ∙ and_yes (toward layer dir)
+  toward_kept e none dir = r.others layer dir none ∙ ap (λ (o : Option Item). (toward layer dir && not (ends (tells_of layer left) o)) || begins dir o) e ∙ or-false (toward layer dir && true) ∙ and-true (toward layer dir)
 
   stays_only : placed_on layer right ≡ None → (object : ℕ) → has_new object ≡ true → get_or layers object 0 ≡ layer → Stays layers left right has object
   stays_only e object new on = elim (r.gives object new) [
@@ -151,23 +130,12 @@ none_from : (o : Option Item) → is_some o ≡ false → o ≡ None
 none_from None e = refl
 none_from (Some item) e = cc
 
-not_no : (x y : Bool) → (x && not y) ≡ true → y ≡ false
-not_no true false e = refl
-not_no true true e = cc
-not_no false y e = cc
-
-not_yes : (x y : Bool) → x ≡ true → y ≡ false → (x && not y) ≡ true
-not_yes x y e f = ap (λ b. b && not y) e ∙ ap (λ b. not b) f
-
 -- the directions that end, by the masks of the two cells
 ends_by : (told : Bool) (found : Option Item) → (settles found || (told && is_some found)) ≡ ends told found
 ends_by true None = refl
 ends_by false None = refl
-ends_by true (Some item) = or_yes (tells_movement item.word) where
-  or_yes : (b : Bool) → (b || true) ≡ true
-  or_yes true = refl
-  or_yes false = refl
-ends_by false (Some item) = drop_or (tells_movement item.word)
+ends_by true (Some item) = or-true (tells_movement item.word)
+ends_by false (Some item) = or-false (tells_movement item.word)
 
 -- what is taken from a cell, by the masks of the two cells
 abbrev pub gone_by : List ℕ → Masks → Masks → ℕ → Bool
@@ -181,10 +149,6 @@ pub record AreRewritten (layers : List ℕ) (l r : Masks) (objects movement obje
   pub ended : (object : ℕ) (dir : Dir) → Leaves layers objects r.layers (removed_by l r) object → heads movement_new (get_or layers object 0) dir ≡ false
   pub others : (layer : ℕ) (dir : Dir) → ((object : ℕ) → Leaves layers objects r.layers (removed_by l r) object → get_or layers object 0 ≡ layer → ⊥) → heads movement_new layer dir ≡ heads mid layer dir
 
-or_parts : (a b : Bool) → (a || b) ≡ false → (a ≡ false) × (b ≡ false)
-or_parts true b e = cc
-or_parts false b e = (refl, e)
-
 pub rewrites_from : (layers : List ℕ) (left right : List Item) (l r : Masks) (objects movement objects_new mid movement_new : List ℕ) → AreOf layers right → AreMasksOf left l → AreMasksOf right r → ((object : ℕ) → member objects object ≡ true → object < length layers) → AreRewritten layers l r objects movement objects_new mid movement_new → Rewrites layers left right (member objects) (heads movement) (member objects_new) (heads movement_new)
 rewrites_from layers left right l r objects movement objects_new mid movement_new are ml mr of_game w =
     let removable : (object : ℕ) → (member l.present object || member r.absent object) ≡ is_removable left right object = λ object. ap (λ b. b || member r.absent object) (ml.present object) ∙ ap (λ b. names_object object left || b) (mr.absent object) in
@@ -193,14 +157,14 @@ rewrites_from layers left right l r objects movement objects_new mid movement_ne
     record {
       gives = λ object new. elim (or_cases (member objects object && not (gone_by layers l r object)) (member r.placed object) (sym (w.is_new object (w.of_game object new)) ∙ new)) [
         | inl h ↦ (let here = (and_parts (member objects object) (not (gone_by layers l r object)) h).0 in
-            let none = or_parts (member r.layers (get_or layers object 0)) (member l.present object || member r.absent object) (not_no (member objects object) (gone_by layers l r object) h) in
+            let none = or_parts (member r.layers (get_or layers object 0)) (member l.present object || member r.absent object) (not-true (gone_by layers l r object) (and_parts (member objects object) (not (gone_by layers l r object)) h).1) in
             inl (record { here = here; free = none_from (placed_on (get_or layers object 0) right) (sym (mr.layers (get_or layers object 0)) ∙ none.0); left_alone = sym (removable object) ∙ none.1 }))
         | inr h ↦ (let p = mr.placed_only object h in
             let is = placed_is layers p.0 right p.1 are p.2 in
             let on : get_or layers object 0 ≡ p.0 = ap (λ (k : ℕ). get_or layers k 0) (sym p.3) ∙ is.1 in
             inr (p.1, ap (λ (k : ℕ). placed_on k right) on ∙ p.2, p.3))
       ];
-      keeps = λ object stays. w.is_new object (of_game object stays.here) ∙ or_left _ _ (not_yes (member objects object) (gone_by layers l r object) stays.here (ap (λ b. b || (member l.present object || member r.absent object)) (mr.layers (get_or layers object 0) ∙ ap is_some stays.free) ∙ removable object ∙ stays.left_alone));
+      keeps = λ object stays. w.is_new object (of_game object stays.here) ∙ or_left _ _ (and_from (member objects object) (not (gone_by layers l r object)) stays.here (not_from_false (gone_by layers l r object) (ap (λ b. b || (member l.present object || member r.absent object)) (mr.layers (get_or layers object 0) ∙ ap is_some stays.free) ∙ removable object ∙ stays.left_alone)));
       puts = λ layer item e. w.is_new item.object (placed_is layers layer right item are e).0 ∙ or_right _ _ (mr.placed layer item e);
       ended = λ object dir goes. w.ended object dir (leaves object goes);
       others = λ layer dir none. w.others layer dir (λ object g on. none object (goes object g) on)
@@ -240,30 +204,12 @@ cell_rewritten depth layers left right objects movement objects_new movement_new
 pub placed_within : (layers : List ℕ) (right : List Item) (r : Masks) → AreOf layers right → AreMasksOf right r → (object : ℕ) → member r.placed object ≡ true → object < length layers
 placed_within layers right r are mr object here = (let p = mr.placed_only object here in subst (λ (k : ℕ). k < length layers) p.3 (placed_is layers p.0 right p.1 are p.2).0)
 
--- the directions of placed objects have their words
-pub headed_within : (layers : List ℕ) (depth count : ℕ) (right : List Item) (r : Masks) → AreOf layers right → AreMasksOf right r → All (λ layer. layer < depth) layers → depth ≤ 25 * count → (number : ℕ) → member r.headed number ≡ true → number / 128 < count
-headed_within layers depth count right r are mr low room number here = elim (cases_lt (number % 128) 125) [
-  | inl inside ↦ (let f = flag_of number inside in by_found f.0 f.1 f.2 (placed_on f.0 right) refl (sym (mr.headed f.0 f.1) ∙ ap (member r.headed) f.2 ∙ here))
-  | inr outside ↦ absurd (let e : false ≡ true = sym (mr.proper_headed number outside) ∙ here in cc)
-] where
-  by_found : (layer : ℕ) (dir : Dir) → flag layer dir ≡ number → (o : Option Item) → placed_on layer right ≡ o → begins dir (placed_on layer right) ≡ true → number / 128 < count
-  by_found layer dir is None e t = absurd (let f : false ≡ true = sym (ap (begins dir) e) ∙ t in cc)
-  by_found layer dir is (Some item) e t =
-      let p = placed_is layers layer right item are e in
-      let in_depth : layer < depth = subst (λ (n : ℕ). n < depth) p.1 (low item.object 0 p.0) in
-      let bit = dir_bit-low dir in
-      let word : number / 128 ≡ layer / 25 = omega (arith, is, bit) in
-      omega (arith, word, in_depth, room)
-
 -- the directions between have no bits between the fields
 pub mid_proper : (layers : List ℕ) (left right : List Item) (l r : Masks) (objects movement objects_new mid movement_new : List ℕ) → AreMasksOf right r → IsProper movement → AreRewritten layers l r objects movement objects_new mid movement_new → IsProper mid
 mid_proper layers left right l r objects movement objects_new mid movement_new mr proper w number high =
     w.is_mid number ∙ ap (λ b. (b && not (member r.settled number || (member l.told number && member r.covered number))) || member r.headed number) (proper number high) ∙ mr.proper_headed number high
 
 -- ---- whether the cell changed
-pub place_in : (depth : ℕ) (layers objects movement : List ℕ) (layer : ℕ) → layer < depth → get_or (cell_of depth layers objects movement) layer None ≡ place_of layers objects movement layer
-place_in depth layers objects movement layer low = get_or-map-range_with_len (place_of layers objects movement) 0 depth layer layer None low (omega arith)
-
 -- nothing stands past the layers
 place_past : (depth : ℕ) (layers objects movement : List ℕ) (layer : ℕ) → All (λ l. l < depth) layers → AreLawful layers objects movement → depth ≤ layer → place_of layers objects movement layer ≡ None
 place_past depth layers objects movement layer low lawful past = by_place (place_of layers objects movement layer) refl (lawful.shows layer) where
@@ -275,7 +221,7 @@ place_past depth layers objects movement layer low lawful past = by_place (place
 pub cell_alike : (depth : ℕ) (layers objects movement objects_new movement_new : List ℕ) → AreLawful layers objects movement → AreLawful layers objects_new movement_new → ((object : ℕ) → member objects_new object ≡ member objects object) → ((layer : ℕ) (dir : Dir) → heads movement_new layer dir ≡ heads movement layer dir) → cell_of depth layers objects_new movement_new ≡ cell_of depth layers objects movement
 cell_alike depth layers objects movement objects_new movement_new lawful lawful_new same_objects same_heads =
     cell_from_shows depth layers objects_new movement_new (cell_of depth layers objects movement) (length-map-range_with_len (place_of layers objects movement) 0 depth) lawful_new.of_game (λ layer low.
-    subst (Shows layers (member objects_new) (heads movement_new layer) layer) (sym (place_in depth layers objects movement layer low))
+    subst (Shows layers (member objects_new) (heads movement_new layer) layer) (sym (place_seen depth layers objects movement layer low))
     (shows_alike layers (member objects) (member objects_new) (heads movement layer) (heads movement_new layer) layer (place_of layers objects movement layer) (λ object on. same_objects object) (same_heads layer) (lawful.shows layer)))
 
 -- one cell is shown by words that answer alike
@@ -293,7 +239,7 @@ pub heads_alike : (depth : ℕ) (layers objects movement objects_new movement_ne
 heads_alike depth layers objects movement objects_new movement_new low lawful lawful_new e layer dir =
     toward_shown layers (member objects_new) (heads movement_new layer) layer (place_of layers objects_new movement_new layer) dir (lawful_new.shows layer)
     ∙ ap (λ (p : Option Piece). is_toward (heading_of p) dir) (elim (cases_lt layer depth) [
-      | inl within ↦ sym (place_in depth layers objects_new movement_new layer within) ∙ ap (λ (c : List (Option Piece)). get_or c layer None) e ∙ place_in depth layers objects movement layer within
+      | inl within ↦ sym (place_seen depth layers objects_new movement_new layer within) ∙ ap (λ (c : List (Option Piece)). get_or c layer None) e ∙ place_seen depth layers objects movement layer within
       | inr past ↦ place_past depth layers objects_new movement_new layer low lawful_new past ∙ sym (place_past depth layers objects movement layer low lawful past)
     ])
     ∙ sym (toward_shown layers (member objects) (heads movement layer) layer (place_of layers objects movement layer) dir (lawful.shows layer))

@@ -14,21 +14,13 @@ use Rattle.pz_game.specs.Headings.{IsProper, is_toward, heads, heading_in, first
 use Rattle.pz_cells.specs.Shown.{stands_on, piece_with, place_of, cell_of, Shows, AreLawful}
 
 -- the first direction that a test picks, of tests that pick one or none
-first_is : (test : Dir → Bool) (a b d e f : Bool) → test Up ≡ a → test Down ≡ b → test Left ≡ d → test Right ≡ e → test Action ≡ f → first_of test ≡ cond a (Some Up) (cond b (Some Down) (cond d (Some Left) (cond e (Some Right) (cond f (Some Action) None))))
-first_is test a b d e f p q r s t =
-    ap (λ x. cond x (Some Up) (cond (test Down) (Some Down) (cond (test Left) (Some Left) (cond (test Right) (Some Right) (cond (test Action) (Some Action) None))))) p
-    ∙ ap (λ x. cond a (Some Up) (cond x (Some Down) (cond (test Left) (Some Left) (cond (test Right) (Some Right) (cond (test Action) (Some Action) None))))) q
-    ∙ ap (λ x. cond a (Some Up) (cond b (Some Down) (cond x (Some Left) (cond (test Right) (Some Right) (cond (test Action) (Some Action) None))))) r
-    ∙ ap (λ x. cond a (Some Up) (cond b (Some Down) (cond d (Some Left) (cond x (Some Right) (cond (test Action) (Some Action) None))))) s
-    ∙ ap (λ x. cond a (Some Up) (cond b (Some Down) (cond d (Some Left) (cond e (Some Right) (cond x (Some Action) None))))) t
-
 pub first_toward : (test : Dir → Bool) (heading : Option Dir) → ((dir : Dir) → test dir ≡ is_toward heading dir) → first_of test ≡ heading
-first_toward test None h = first_is test false false false false false (h Up) (h Down) (h Left) (h Right) (h Action)
-first_toward test (Some Up) h = first_is test true false false false false (h Up) (h Down) (h Left) (h Right) (h Action)
-first_toward test (Some Down) h = first_is test false true false false false (h Up) (h Down) (h Left) (h Right) (h Action)
-first_toward test (Some Left) h = first_is test false false true false false (h Up) (h Down) (h Left) (h Right) (h Action)
-first_toward test (Some Right) h = first_is test false false false true false (h Up) (h Down) (h Left) (h Right) (h Action)
-first_toward test (Some Action) h = first_is test false false false false true (h Up) (h Down) (h Left) (h Right) (h Action)
+first_toward test None h = grind (arith, h Up, h Down, h Left, h Right, h Action)
+first_toward test (Some Up) h = grind (arith, h Up)
+first_toward test (Some Down) h = grind (arith, h Up, h Down)
+first_toward test (Some Left) h = simp (h Up, h Down, h Left) refl
+first_toward test (Some Right) h = simp (h Up, h Down, h Left, h Right) refl
+first_toward test (Some Action) h = simp (h Up, h Down, h Left, h Right, h Action) refl
 
 -- the only number that passes is found
 pub find_only : (p : ℕ → Bool) (a n k : ℕ) → a ≤ k → k < a + n → p k ≡ true → ((j : ℕ) → j < a + n → p j ≡ true → j ≡ k) → find p (range_with_len a n) ≡ Some k

@@ -63,8 +63,6 @@ impl<const N: usize> Cell<N> {
         ensures cell { seen layers.now self.new ≡ rewritten_cell left.now right.now (seen layers.now self.old) }
         ensures changed { result ≡ not (same_cell (rewritten_cell left.now right.now (seen layers.now self.old)) (seen layers.now self.old)) }
     {
-        // (brings the proof how many words there are)
-        let _ = self.word_count();
         let was = left.masks();
         let is = right.masks();
         let ending = is.settled.union(&was.told.common(&is.covered));

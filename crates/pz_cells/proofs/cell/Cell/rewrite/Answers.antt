@@ -1,4 +1,4 @@
-use Rattle.std.proofs.Common.{inl, inr, ◌*◌, ◌≤◌, ℕ, List, Bool, not, ◌&&◌, ◌||◌, length, get_or, ap, sym, ◌∙◌, subst, arith}
+use Rattle.std.proofs.Common.{inl, inr, ℕ, List, Bool, not, ◌&&◌, ◌||◌, get_or, ap, sym, ◌∙◌, arith}
 use Rattle.std.proofs.lemmas.Bool.{or_cases, and_parts}
 use Rattle.pz_sets.specs.Sets.{member}
 use Rattle.pz_game.specs.declared.masks.Masks.{Masks}
@@ -6,34 +6,29 @@ use Rattle.pz_game.specs.Headings.{heads, IsProper}
 use Rattle.pz_game.specs.Masks.{AreMasksOf}
 use Rattle.pz_cells.specs.Rewriting.{rewritten_cell}
 use Rattle.pz_cells.specs.Shown.{cell_of}
-use Rattle.pz_cells.proofs.HoldLemmas.{low_of_game}
-use Rattle.pz_cells.proofs.RewriteLemmas.{AreRewritten, Rewrites, rewrites_from, lawful_rewritten, cell_rewritten, placed_within, headed_within, mid_proper, changed_by}
+use Rattle.pz_cells.proofs.FitLemmas.{masks_of_game, masks_fit}
+use Rattle.pz_cells.proofs.RewriteLemmas.{AreRewritten, Rewrites, rewrites_from, lawful_rewritten, cell_rewritten, placed_within, mid_proper, changed_by}
 use Rattle.pz_cells.proofs.cell.Cell.rewrite.Given.{Over}
 use Rattle.pz_cells.proofs.cell.Cell.rewrite.Goals.{After-self-3-1}
 use Rattle.pz_cells.proofs.cell.Cell.rewrite.Goals as goal
 
 pub replace-moved-requires : goal.replace-moved-requires
 replace-moved-requires g c number here =
-    let layers = c.args.layers.now.layers in
-    let right = c.args.right.now in
-    let m = c.masks-is.ensures (low_of_game c.args.layers.now.depth layers right c.objects_on.ensures.law.layered c.objects_on.ensures.law.few c.objects_on.ensures.law.shallow c.requires.right_of) in
-    let within = headed_within layers c.args.layers.now.depth (length c.args.self.now.movement) right c.masks-is.result.now c.requires.right_of m c.objects_on.ensures.law.layered (subst (λ (n : ℕ). c.args.layers.now.depth ≤ 25 * n) (sym c.word_count.ensures.movement) c.objects_on.ensures.law.movement_room) number (ap (λ (ws : List ℕ). member ws number) (sym c.words-2.ensures.words) ∙ here) in
-    within
+    let m = masks_of_game g.row.N c.args.layers.now c.args.right.now c.masks-is.result.now c.objects_on.ensures.law c.requires.right_of c.masks-is.ensures in
+    let fit = masks_fit g.row.N c.args.layers.now c.args.right.now c.masks-is.result.now c.objects_on.ensures.law c.requires.right_of m in
+    omega (arith, fit.headed number (ap (λ (ws : List ℕ). member ws number) (sym c.words-2.ensures.words) ∙ here))
 
 pub replace-replaced-requires : goal.replace-replaced-requires
 replace-replaced-requires g c object here =
-    let layers = c.args.layers.now.layers in
-    let right = c.args.right.now in
-    let m = c.masks-is.ensures (low_of_game c.args.layers.now.depth layers right c.objects_on.ensures.law.layered c.objects_on.ensures.law.few c.objects_on.ensures.law.shallow c.requires.right_of) in
-    let within = placed_within layers right c.masks-is.result.now c.requires.right_of m object (ap (λ (ws : List ℕ). member ws object) (sym c.words-4.ensures.words) ∙ here) in
-    omega (arith, within, c.objects_on.ensures.law.room, c.word_count.ensures.objects)
+    let m = masks_of_game g.row.N c.args.layers.now c.args.right.now c.masks-is.result.now c.objects_on.ensures.law c.requires.right_of c.masks-is.ensures in
+    let within = placed_within c.args.layers.now.layers c.args.right.now c.masks-is.result.now c.requires.right_of m object (ap (λ (ws : List ℕ). member ws object) (sym c.words-4.ensures.words) ∙ here) in
+    omega (arith, within, c.objects_on.ensures.law.room)
 
 masks_of : (g : Over) (c : After-self-3-1 g) → AreMasksOf c.args.left.now c.masks-was.result.now × AreMasksOf c.args.right.now c.masks-is.result.now
-masks_of g c =
-    let layers = c.args.layers.now.layers in (
-      c.masks-was.ensures (low_of_game c.args.layers.now.depth layers c.args.left.now c.objects_on.ensures.law.layered c.objects_on.ensures.law.few c.objects_on.ensures.law.shallow c.requires.left_of),
-      c.masks-is.ensures (low_of_game c.args.layers.now.depth layers c.args.right.now c.objects_on.ensures.law.layered c.objects_on.ensures.law.few c.objects_on.ensures.law.shallow c.requires.right_of),
-    )
+masks_of g c = (
+  masks_of_game g.row.N c.args.layers.now c.args.left.now c.masks-was.result.now c.objects_on.ensures.law c.requires.left_of c.masks-was.ensures,
+  masks_of_game g.row.N c.args.layers.now c.args.right.now c.masks-is.result.now c.objects_on.ensures.law c.requires.right_of c.masks-is.ensures,
+)
 
 are_rewritten : (g : Over) (c : After-self-3-1 g) → AreRewritten c.args.layers.now.layers c.masks-was.result.now c.masks-is.result.now c.args.self.now.objects c.args.self.now.movement c.replace-replaced.new.words c.replace-moved.new.words c.end_leaving.new.movement
 are_rewritten g c =
