@@ -1,7 +1,7 @@
 -- What holds in a cell, by sets.
-use Rattle.std.proofs.Common.{◌≡◌, ◌≢◌, inl, inr, ℕ, suc, ◌<◌, ◌≤◌, List, [], ◌∷◌, Option, Some, None, Bool, true, false, not, cond, length, get_or, arith, ap, sym, ◌∙◌, refl, subst, nat_eq, eq-eqb}
+use Rattle.std.proofs.Common.{◌≡◌, ◌≢◌, inl, inr, ℕ, suc, ◌<◌, ◌≤◌, List, [], ◌∷◌, Option, Some, None, Bool, true, false, not, cond, length, get_or, arith, ap, sym, ◌∙◌, refl, subst}
 use Rattle.std.specs.Prelude.{All, IfSome, IsTrue, ◌↔◌}
-use Rattle.std.proofs.lemmas.Bool.{cases_lt, eqb-true, and_parts, or_cases, or_left, or_right, and_from}
+use Rattle.std.proofs.lemmas.Bool.{cases_lt, and_parts, or_right, and_from}
 use Rattle.std.proofs.lemmas.List.{get_or_past}
 use Rattle.std.proofs.lemmas.List.FromFn.{get_or-map-range_with_len, length-map-range_with_len}
 use Rattle.pz_game.specs.declared.limits.TheConstants.{MAX_LAYERS, MAX_OBJECTS}
@@ -16,7 +16,7 @@ use Rattle.pz_cells.specs.Cell.{IsOnLayer}
 use Rattle.pz_game.specs.Pattern.{AreOf}
 use Rattle.pz_cells.specs.Standing.{standing}
 use Rattle.pz_cells.specs.Pattern.{word_holds, item_holds, pattern_holds}
-use Rattle.pz_game.specs.Items.{names, is_on, names_object, forbids_object}
+use Rattle.pz_game.specs.Items.{names, names_object, forbids_object}
 use Rattle.pz_cells.proofs.SameLemmas.{same_dir_is, same_dir_self}
 use Rattle.pz_cells.proofs.CellLemmas.{OnItsLayer, standing_on_layer, standing_off_layer, standing_past}
 use Rattle.pz_game.specs.Headings.{is_toward, flag, heads, heading_in}
@@ -68,8 +68,8 @@ standing_seen depth layers objects movement object low lawful = by_member (membe
 pub heads_toward : (layers objects movement : List ℕ) (layer : ℕ) (dir : Dir) → AreLawful layers objects movement → heads movement layer dir ≡ is_toward (heading_in movement layer) dir
 heads_toward layers objects movement layer dir lawful = by_place (place_of layers objects movement layer) (lawful.shows layer) where
   by_place : (place : Option Piece) → Shows layers (member objects) (heads movement layer) layer place → heads movement layer dir ≡ is_toward (heading_in movement layer) dir
-  by_place None shown = shown.1 dir ∙ sym (ap (λ (h : Option Dir). is_toward h dir) (first_toward (heads movement layer) None shown.1))
-  by_place (Some piece) shown = shown.3 dir ∙ sym (ap (λ (h : Option Dir). is_toward h dir) (first_toward (heads movement layer) piece.heading shown.3))
+  by_place None shown = grind (arith, shown.1 dir, first_toward (heads movement layer) None shown.1)
+  by_place (Some piece) shown = grind (arith, shown.3 dir, first_toward (heads movement layer) piece.heading shown.3)
 
 -- ---- what the items of a cell ask of the words
 pub record AreMet (items : List Item) (objects movement : List ℕ) : Type 0 where
@@ -88,7 +88,7 @@ pub record IsMet (item : Item) (objects movement : List ℕ) : Type 0 where
 -- a heading without a direction
 none_toward : (heading : Option Dir) → ((dir : Dir) → is_toward heading dir ≡ false) → heading ≡ None
 none_toward None h = refl
-none_toward (Some dir) h = absurd (let e : false ≡ true = sym (h dir) ∙ same_dir_self dir in cc)
+none_toward (Some dir) h = grind (arith, h dir, same_dir_self dir)
 
 -- one item: the word, whether the object is there, and where its layer heads
 met_word : (word : Word) (there : Bool) (heading : Option Dir) → (names word ≡ true → there ≡ true) → (not (names word) ≡ true → there ≡ false) → ((dir : Dir) → is_toward (toward true word) dir ≡ true → is_toward heading dir ≡ true) → (is_still word ≡ true → (dir : Dir) → is_toward heading dir ≡ false) → word_holds word (standing_by there heading) ≡ true
@@ -127,13 +127,11 @@ item_met depth layers objects movement item lawful seen met =
 met_item : (depth : ℕ) (layers objects movement : List ℕ) (item : Item) → AreLawful layers objects movement → Seen depth layers objects movement item → item_holds (cell_of depth layers objects movement) item ≡ true → IsMet item objects movement
 met_item depth layers objects movement item lawful seen holds =
     let h = sym seen ∙ holds in
-    let there = member objects item.object in
-    let heading = heading_in movement item.layer in
     record {
-      present = word_present item.word there heading h;
-      absent = word_absent item.word there heading h;
-      required = λ dir t. heads_toward layers objects movement item.layer dir lawful ∙ word_required item.word there heading h dir t;
-      forbidden = λ s dir. heads_toward layers objects movement item.layer dir lawful ∙ word_forbidden item.word there heading h s dir;
+      present = word_present item.word (member objects item.object) (heading_in movement item.layer) h;
+      absent = word_absent item.word (member objects item.object) (heading_in movement item.layer) h;
+      required = λ dir t. heads_toward layers objects movement item.layer dir lawful ∙ word_required item.word (member objects item.object) (heading_in movement item.layer) h dir t;
+      forbidden = λ s dir. heads_toward layers objects movement item.layer dir lawful ∙ word_forbidden item.word (member objects item.object) (heading_in movement item.layer) h s dir;
     }
 
 -- all items hold if what they ask is met, and only then
@@ -143,10 +141,10 @@ all_met depth layers objects movement (x ∷ xs) low lawful are met =
     let is = are 0 x (omega arith) in
     and_from _ _
     (item_met depth layers objects movement x lawful (item_seen depth layers objects movement x low lawful is.layer) (record {
-      present = λ n. met.present x.object (or_left _ _ (and_from _ _ n (eq-eqb x.object x.object refl)));
-      absent = λ n. met.absent x.object (or_left _ _ (and_from _ _ n (eq-eqb x.object x.object refl)));
-      required = λ dir t. met.required x.layer dir (or_left _ _ (and_from _ _ t (eq-eqb x.layer x.layer refl)));
-      forbidden = λ s dir. met.forbidden x.layer dir (or_left _ _ (and_from _ _ s (eq-eqb x.layer x.layer refl)));
+      present = λ n. grind (arith, met.present x.object, n);
+      absent = λ n. grind (arith, met.absent x.object, n);
+      required = λ dir t. grind (arith, met.required x.layer dir, t);
+      forbidden = λ s dir. grind (arith, met.forbidden x.layer dir, s);
     }))
     (all_met depth layers objects movement xs low lawful (λ k d h. are (suc k) d (omega arith)) (record {
       present = λ o e. met.present o (or_right _ _ e);
@@ -156,34 +154,17 @@ all_met depth layers objects movement (x ∷ xs) low lawful are met =
     }))
 
 pub met_all : (depth : ℕ) (layers objects movement : List ℕ) (items : List Item) → All (λ layer. layer < depth) layers → AreLawful layers objects movement → AreOf layers items → pattern_holds (cell_of depth layers objects movement) items ≡ true → AreMet items objects movement
-met_all depth layers objects movement [] low lawful are holds = record {
-  present = λ o e. cc;
-  absent = λ o e. cc;
-  required = λ l d e. cc;
-  forbidden = λ l d e. cc;
-}
+met_all depth layers objects movement [] low lawful are holds = record { present = λ o e. cc; absent = λ o e. cc; required = λ l d e. cc; forbidden = λ l d e. cc }
 met_all depth layers objects movement (x ∷ xs) low lawful are holds =
     let is = are 0 x (omega arith) in
     let parts = and_parts (item_holds (cell_of depth layers objects movement) x) (pattern_holds (cell_of depth layers objects movement) xs) holds in
     let here = met_item depth layers objects movement x lawful (item_seen depth layers objects movement x low lawful is.layer) parts.0 in
     let rest = met_all depth layers objects movement xs low lawful (λ k d h. are (suc k) d (omega arith)) parts.1 in
     record {
-      present = λ o e. elim (or_cases _ _ e) [
-        | inl h ↦ (let p = and_parts (names x.word) (nat_eq x.object o) h in subst (λ (k : ℕ). member objects k ≡ true) (eqb-true _ _ p.1) (here.present p.0))
-        | inr h ↦ rest.present o h
-      ];
-      absent = λ o e. elim (or_cases _ _ e) [
-        | inl h ↦ (let p = and_parts (not (names x.word)) (nat_eq x.object o) h in subst (λ (k : ℕ). member objects k ≡ false) (eqb-true _ _ p.1) (here.absent p.0))
-        | inr h ↦ rest.absent o h
-      ];
-      required = λ l d e. elim (or_cases _ _ e) [
-        | inl h ↦ (let p = and_parts (is_toward (toward true x.word) d) (is_on l x) h in subst (λ (k : ℕ). heads movement k d ≡ true) (eqb-true _ _ p.1) (here.required d p.0))
-        | inr h ↦ rest.required l d h
-      ];
-      forbidden = λ l d e. elim (or_cases _ _ e) [
-        | inl h ↦ (let p = and_parts (is_still x.word) (is_on l x) h in subst (λ (k : ℕ). heads movement k d ≡ false) (eqb-true _ _ p.1) (here.forbidden p.0 d))
-        | inr h ↦ rest.forbidden l d h
-      ];
+      present = λ o e. grind (arith, e, here.present, rest.present o);
+      absent = λ o e. grind (arith, e, here.absent, rest.absent o);
+      required = λ l d e. grind (arith, e, here.required d, rest.required l d);
+      forbidden = λ l d e. grind (arith, e, here.forbidden, rest.forbidden l d);
     }
 
 -- the sets of a cell of a rule are met by those of a cell
@@ -221,11 +202,7 @@ low_of_game depth layers items low few shallow are k d within =
 
 -- two tests that decide the parts of what a third decides
 pub both_decide : {A B : Type 0} (x y p : Bool) → (IsTrue x ↔ A) → (IsTrue y ↔ B) → ((A × B) ↔ (p ≡ true)) → x ≡ true → y ≡ p
-both_decide x true true a b h e = refl
-both_decide x true false a b h e = (let t : false ≡ true = h.0 (a.0 e, b.0 refl) in cc)
-both_decide x false true a b h e = (let t : false ≡ true = b.1 (h.1 refl).1 in cc)
-both_decide x false false a b h e = refl
+both_decide x y p a b h e = grind (arith, a, b, h)
 
 pub first_decides : {A B : Type 0} (x p : Bool) → (IsTrue x ↔ A) → ((A × B) ↔ (p ≡ true)) → x ≡ false → x ≡ p
-first_decides x true a h e = (let t : false ≡ true = sym e ∙ a.1 (h.1 refl).0 in cc)
-first_decides x false a h e = e
+first_decides x p a h e = grind (arith, a, h)

@@ -1,16 +1,14 @@
 -- What a rewriting does to the sets of a cell.
 use Rattle.std.proofs.Common.{◌≡◌, ◌≢◌, ◌⊎◌, nat_lt, inl, inr, ℕ, ◌+◌, ◌<◌, ◌≤◌, List, Option, Some, None, Bool, true, false, cond, not, ◌&&◌, ◌||◌, length, get_or, arith, ap, sym, ◌∙◌, refl, subst, nat_eq}
 use Rattle.std.specs.Prelude.{All, is_some, ◌↔◌}
-use Rattle.std.proofs.lemmas.Bool.{cases_lt, cases_eq, and_parts, or_cases, or_left, or_right, and_from, or_parts, not-true, not_from_false}
-use Rattle.std.proofs.Math.Bool.{or-false, or-true, and-true}
+use Rattle.std.proofs.lemmas.Bool.{cases_lt, and_parts, or_cases, or_right, or_parts}
 use Rattle.std.proofs.lemmas.List.FromFn.{get_or-map-range_with_len, length-map-range_with_len}
+use Rattle.std.proofs.lemmas.Grind.{common_steps}
 use Rattle.pz_sets.specs.Sets.{member}
 use Rattle.pz_cells.specs.declared.piece.Piece.{Piece}
 use Rattle.pz_game.specs.declared.direction.Dir.{Dir}
 use Rattle.pz_game.specs.declared.pattern.Word.{Word}
-use Rattle.pz_game.specs.declared.pattern.Word.TheVariants.{Present, Still, Toward, Absent}
 use Rattle.pz_game.specs.declared.pattern.Item.{Item}
-use Rattle.pz_game.specs.Direction.{same_dir}
 use Rattle.pz_game.specs.Pattern.{AreOf}
 use Rattle.pz_cells.specs.Standing.{standing}
 use Rattle.pz_cells.specs.Sameness.{same_cell}
@@ -25,8 +23,7 @@ use Rattle.pz_cells.specs.Rewriting.{heading_of, new_heading, kept, replaced, re
 use Rattle.pz_game.specs.declared.masks.Masks.{Masks}
 use Rattle.pz_game.specs.Masks.{toward, begins, settles, AreMasksOf}
 use Rattle.pz_cells.specs.Rewrites.{ends, Leaves, removed_by}
-use Rattle.pz_cells.proofs.HoldLemmas.{place_seen, standing_by, standing_seen}
-use Rattle.pz_game.specs.Headings.{heading_in}
+use Rattle.pz_cells.proofs.HoldLemmas.{place_seen, standing_seen}
 use Rattle.pz_cells.proofs.ShowLemmas.{lawful_from_shows, cell_from_shows}
 
 -- an object that the left names or the right forbids
@@ -54,22 +51,14 @@ pub record Rewrites (layers : List ℕ) (left right : List Item) (has : ℕ → 
   pub others : (layer : ℕ) (dir : Dir) → ((object : ℕ) → Goes layers left right has object → get_or layers object 0 ≡ layer → ⊥) → toward_new layer dir ≡ ((toward layer dir && not (ends (tells_of layer left) (placed_on layer right))) || begins dir (placed_on layer right))
 
 pub and_no : (x : Bool) → (x && false) ≡ false
-and_no true = refl
-and_no false = refl
+and_no x = grind arith
 
 -- where an object is placed, its direction is the definition's
 new_toward : (word : Word) (told : Bool) (here : Option Piece) (old : Bool) (dir : Dir) → names word ≡ true → old ≡ is_toward (heading_of here) dir → ((old && not (told || tells_movement word)) || is_toward (toward true word) dir) ≡ is_toward (new_heading word told here) dir
-new_toward Still true here old dir n e = ap (λ x. x || false) (and_no old)
-new_toward Still false here old dir n e = ap (λ x. x || false) (and_no old)
-new_toward (Toward way) true here old dir n e = ap (λ x. x || same_dir way dir) (and_no old)
-new_toward (Toward way) false here old dir n e = ap (λ x. x || same_dir way dir) (and_no old)
-new_toward Present true here old dir n e = ap (λ x. x || false) (and_no old)
-new_toward Present false here old dir n e = or-false (old && true) ∙ and-true old ∙ e
-new_toward Absent told here old dir n e = cc
+new_toward word told here old dir n e = grind arith
 
 toward_shown : (layers : List ℕ) (has : ℕ → Bool) (toward : Dir → Bool) (layer : ℕ) (place : Option Piece) (dir : Dir) → Shows layers has toward layer place → toward dir ≡ is_toward (heading_of place) dir
-toward_shown layers has toward layer None dir h = h.1 dir
-toward_shown layers has toward layer (Some piece) dir h = h.3 dir
+toward_shown layers has toward layer place dir h = grind arith
 
 -- each layer shows what the definition says of it
 pub rewritten_shows : (layers : List ℕ) (left right : List Item) (has : ℕ → Bool) (toward : ℕ → Dir → Bool) (has_new : ℕ → Bool) (toward_new : ℕ → Dir → Bool) → AreOf layers right → Rewrites layers left right has toward has_new toward_new → (layer : ℕ) (here : Option Piece) → Shows layers has (toward layer) layer here → Shows layers has_new (toward_new layer) layer (rewritten_place left right layer here)
@@ -79,24 +68,21 @@ rewritten_shows layers left right has toward has_new toward_new are r layer here
 
   -- nothing is placed on the layer
   toward_kept : placed_on layer right ≡ None → ((object : ℕ) → Goes layers left right has object → get_or layers object 0 ≡ layer → ⊥) → (dir : Dir) → toward_new layer dir ≡ toward layer dir
-  toward_kept e none dir = r.others layer dir none ∙ ap (λ (o : Option Item). (toward layer dir && not (ends (tells_of layer left) o)) || begins dir o) e ∙ or-false (toward layer dir && true) ∙ and-true (toward layer dir)
+  toward_kept e none dir = grind (arith, r.others layer dir none, e)
 
   stays_only : placed_on layer right ≡ None → (object : ℕ) → has_new object ≡ true → get_or layers object 0 ≡ layer → Stays layers left right has object
-  stays_only e object new on = elim (r.gives object new) [
-    | inl stays ↦ stays
-    | inr (item, f, same) ↦ absurd (let none : Option Item = None in let g : none ≡ Some item = sym (at object on None e) ∙ f in cc)
-  ]
+  stays_only e object new on = elim (r.gives object new) [ inl stays ↦ stays | inr (item, f, same) ↦ absurd (grind (arith, at object on None e, f)) ]
 
   by_test : placed_on layer right ≡ None → (piece : Piece) → Shows layers has (toward layer) layer (Some piece) → (b : Bool) → is_removable left right piece.object ≡ b → Shows layers has_new (toward_new layer) layer (cond b None (Some piece))
   by_test e piece shown true f = (
-    λ object new on. (let stays = stays_only e object new on in let same : object ≡ piece.object = shown.2 object stays.here on in let g : false ≡ true = sym stays.left_alone ∙ ap (is_removable left right) same ∙ f in cc),
+    λ object new on. (let stays = stays_only e object new on in grind (arith, shown.2 object stays.here on, stays.left_alone, f)),
     λ dir. ap (λ (k : ℕ). toward_new k dir) (sym shown.1) ∙ r.ended piece.object dir (record { here = shown.0; free = at piece.object shown.1 None e; removed = f }),
   )
   by_test e piece shown false f = (
     r.keeps piece.object (record { here = shown.0; free = at piece.object shown.1 None e; left_alone = f }),
     shown.1,
     λ object new on. shown.2 object (stays_only e object new on).here on,
-    λ dir. toward_kept e (λ object goes on. (let same : object ≡ piece.object = shown.2 object goes.here on in let g : true ≡ false = sym goes.removed ∙ ap (is_removable left right) same ∙ f in cc)) dir ∙ shown.3 dir,
+    λ dir. toward_kept e (λ object goes on. grind (arith, shown.2 object goes.here on, goes.removed, f)) dir ∙ shown.3 dir,
   )
 
   by_here : placed_on layer right ≡ None → (place : Option Piece) → Shows layers has (toward layer) layer place → Shows layers has_new (toward_new layer) layer (kept left right place)
@@ -108,12 +94,12 @@ rewritten_shows layers left right has toward has_new toward_new are r layer here
 
   -- nothing of the layer goes where something is placed
   none_goes : (item : Item) → placed_on layer right ≡ Some item → (object : ℕ) → Goes layers left right has object → get_or layers object 0 ≡ layer → ⊥
-  none_goes item e object goes on = (let none : Option Item = None in let g : none ≡ Some item = sym goes.free ∙ at object on (Some item) e in cc)
+  none_goes item e object goes on = grind (arith, goes.free, at object on (Some item) e)
 
   only_placed : (item : Item) → placed_on layer right ≡ Some item → (object : ℕ) → has_new object ≡ true → get_or layers object 0 ≡ layer → object ≡ item.object
   only_placed item e object new on = elim (r.gives object new) [
-    | inl stays ↦ absurd (let none : Option Item = None in let g : none ≡ Some item = sym stays.free ∙ at object on (Some item) e in cc)
-    | inr (other, f, same) ↦ (let g : other ≡ item = (let h : Some other ≡ Some item = sym f ∙ at object on (Some item) e in cc) in sym same ∙ ap (λ (i : Item). i.object) g)
+    | inl stays ↦ absurd (grind (arith, stays.free, at object on (Some item) e))
+    | inr (other, f, same) ↦ grind (arith, f, at object on (Some item) e, same)
   ]
 
   by_placed : (found : Option Item) → placed_on layer right ≡ found → Shows layers has_new (toward_new layer) layer (replaced found (tells_of layer left) left right here)
@@ -127,15 +113,11 @@ rewritten_shows layers left right has toward has_new toward_new are r layer here
       )
 
 none_from : (o : Option Item) → is_some o ≡ false → o ≡ None
-none_from None e = refl
-none_from (Some item) e = cc
+none_from found e = grind arith
 
 -- the directions that end, by the masks of the two cells
 ends_by : (told : Bool) (found : Option Item) → (settles found || (told && is_some found)) ≡ ends told found
-ends_by true None = refl
-ends_by false None = refl
-ends_by true (Some item) = or-true (tells_movement item.word)
-ends_by false (Some item) = or-false (tells_movement item.word)
+ends_by told found = grind arith
 
 -- what is taken from a cell, by the masks of the two cells
 abbrev pub gone_by : List ℕ → Masks → Masks → ℕ → Bool
@@ -156,24 +138,15 @@ rewrites_from layers left right l r objects movement objects_new mid movement_ne
     let goes : (object : ℕ) → Leaves layers objects r.layers (removed_by l r) object → Goes layers left right (member objects) object = λ object g. record { here = g.here; free = none_from (placed_on (get_or layers object 0) right) (sym (mr.layers (get_or layers object 0)) ∙ g.free); removed = sym (removable object) ∙ g.removed } in
     record {
       gives = λ object new. elim (or_cases (member objects object && not (gone_by layers l r object)) (member r.placed object) (sym (w.is_new object (w.of_game object new)) ∙ new)) [
-        | inl h ↦ (let here = (and_parts (member objects object) (not (gone_by layers l r object)) h).0 in
-            let none = or_parts (member r.layers (get_or layers object 0)) (member l.present object || member r.absent object) (not-true (gone_by layers l r object) (and_parts (member objects object) (not (gone_by layers l r object)) h).1) in
-            inl (record { here = here; free = none_from (placed_on (get_or layers object 0) right) (sym (mr.layers (get_or layers object 0)) ∙ none.0); left_alone = sym (removable object) ∙ none.1 }))
+        | inl h ↦ inl (record { here = grind (arith, h); free = none_from (placed_on (get_or layers object 0) right) (grind (arith, h, mr.layers (get_or layers object 0))); left_alone = grind (arith, h, removable object) })
         | inr h ↦ (let p = mr.placed_only object h in
-            let is = placed_is layers p.0 right p.1 are p.2 in
-            let on : get_or layers object 0 ≡ p.0 = ap (λ (k : ℕ). get_or layers k 0) (sym p.3) ∙ is.1 in
-            inr (p.1, ap (λ (k : ℕ). placed_on k right) on ∙ p.2, p.3))
+            let on = (placed_is layers p.0 right p.1 are p.2).1 in
+            inr (p.1, ap (λ (k : ℕ). placed_on k right) (ap (λ (k : ℕ). get_or layers k 0) (sym p.3) ∙ on) ∙ p.2, p.3))
       ];
-      keeps = λ object stays. w.is_new object (of_game object stays.here) ∙ or_left _ _ (and_from (member objects object) (not (gone_by layers l r object)) stays.here (not_from_false (gone_by layers l r object) (ap (λ b. b || (member l.present object || member r.absent object)) (mr.layers (get_or layers object 0) ∙ ap is_some stays.free) ∙ removable object ∙ stays.left_alone)));
+      keeps = λ object stays. grind (arith, w.is_new object (of_game object stays.here), mr.layers (get_or layers object 0), stays.free, removable object, stays.left_alone, stays.here);
       puts = λ layer item e. w.is_new item.object (placed_is layers layer right item are e).0 ∙ or_right _ _ (mr.placed layer item e);
       ended = λ object dir goes. w.ended object dir (leaves object goes);
-      others = λ layer dir none. w.others layer dir (λ object g on. none object (goes object g) on)
-          ∙ w.is_mid (flag layer dir)
-          ∙ ap (λ b. (heads movement layer dir && not (b || (heads l.told layer dir && heads r.covered layer dir))) || heads r.headed layer dir) (mr.settled layer dir)
-          ∙ ap (λ b. (heads movement layer dir && not (settles (placed_on layer right) || (b && heads r.covered layer dir))) || heads r.headed layer dir) (ml.told layer dir)
-          ∙ ap (λ b. (heads movement layer dir && not (settles (placed_on layer right) || (tells_of layer left && b))) || heads r.headed layer dir) (mr.covered layer dir)
-          ∙ ap (λ b. (heads movement layer dir && not b) || heads r.headed layer dir) (ends_by (tells_of layer left) (placed_on layer right))
-          ∙ ap (λ b. (heads movement layer dir && not (ends (tells_of layer left) (placed_on layer right))) || b) (mr.headed layer dir);
+      others = λ layer dir none. w.others layer dir (λ object g on. none object (goes object g) on) ∙ grind (arith, w.is_mid (flag layer dir), mr.settled layer dir, ml.told layer dir, mr.covered layer dir, mr.headed layer dir, ends_by (tells_of layer left) (placed_on layer right));
     }
 
 -- objects of the new cell are the game's
@@ -226,10 +199,7 @@ cell_alike depth layers objects movement objects_new movement_new lawful lawful_
 
 -- one cell is shown by words that answer alike
 pub member_seen : (depth : ℕ) (layers objects movement : List ℕ) (object : ℕ) → All (λ l. l < depth) layers → AreLawful layers objects movement → member objects object ≡ is_some (standing (cell_of depth layers objects movement) object)
-member_seen depth layers objects movement object low lawful = sym (ap is_some (standing_seen depth layers objects movement object low lawful) ∙ by_there (member objects object) (heading_in movement (get_or layers object 0))) where
-  by_there : (b : Bool) (heading : Option Dir) → is_some (standing_by b heading) ≡ b
-  by_there true heading = refl
-  by_there false heading = refl
+member_seen depth layers objects movement object low lawful = grind (arith, standing_seen depth layers objects movement object low lawful)
 
 pub objects_alike : (depth : ℕ) (layers objects movement objects_new movement_new : List ℕ) → All (λ l. l < depth) layers → AreLawful layers objects movement → AreLawful layers objects_new movement_new → cell_of depth layers objects_new movement_new ≡ cell_of depth layers objects movement → (object : ℕ) → member objects_new object ≡ member objects object
 objects_alike depth layers objects movement objects_new movement_new low lawful lawful_new e object =
@@ -247,21 +217,13 @@ heads_alike depth layers objects movement objects_new movement_new low lawful la
 -- where the objects stay, none of them leaves
 none_leaves : (layers : List ℕ) (right : List Item) (l r : Masks) (objects movement objects_new mid movement_new : List ℕ) → AreOf layers right → AreMasksOf right r → ((object : ℕ) → member objects object ≡ true → object < length layers) → AreRewritten layers l r objects movement objects_new mid movement_new → ((object : ℕ) → member objects_new object ≡ member objects object) → (object : ℕ) → Leaves layers objects r.layers (removed_by l r) object → ⊥
 none_leaves layers right l r objects movement objects_new mid movement_new are mr of_game w same object g =
-    let gone : gone_by layers l r object ≡ true = or_right (member r.layers (get_or layers object 0)) (member l.present object || member r.absent object) g.removed in
-    let placed : member r.placed object ≡ true = sym (and_never (member objects object) (member r.placed object)) ∙ sym (ap (λ b. (member objects object && not b) || member r.placed object) gone) ∙ sym (w.is_new object (of_game object g.here)) ∙ same object ∙ g.here in
-    let p = mr.placed_only object placed in
-    let on : get_or layers object 0 ≡ p.0 = ap (λ (k : ℕ). get_or layers k 0) (sym p.3) ∙ (placed_is layers p.0 right p.1 are p.2).1 in
-    absurd (let e : false ≡ true = sym g.free ∙ mr.layers (get_or layers object 0) ∙ ap (λ (k : ℕ). is_some (placed_on k right)) on ∙ ap is_some p.2 in cc) where
-      and_never : (a b : Bool) → ((a && not true) || b) ≡ b
-      and_never true b = refl
-      and_never false b = refl
+    by_placed (mr.placed_only object (grind (arith, g.removed, w.is_new object (of_game object g.here), same object, g.here))) where
+      by_placed : (layer : ℕ) × (item : Item) × (placed_on layer right ≡ Some item) × (item.object ≡ object) → ⊥
+      by_placed (layer, item, on, same) = absurd (grind (arith, g.free, mr.layers (get_or layers object 0), (placed_is layers layer right item are on).1, on, same))
 
 decided : (b : Bool) (x y : List (Option Piece)) → (b ≡ false → x ≡ y) → (x ≡ y → b ≡ false) → b ≡ not (same_cell x y)
-decided false x y f g = sym (ap not (ap (λ (z : List (Option Piece)). same_cell x z) (sym (f refl)) ∙ same_cell_self x))
-decided true x y f g = by_same (same_cell x y) refl where
-  by_same : (s : Bool) → same_cell x y ≡ s → true ≡ not (same_cell x y)
-  by_same true e = absurd (let h : true ≡ false = g (same_cell_is x y e) in cc)
-  by_same false e = sym (ap not e)
+decided false x y f g = grind (arith, f refl, same_cell_self x)
+decided true x y f g = grind (arith, g, same_cell_is x y)
 
 pub changed_by : (depth : ℕ) (layers : List ℕ) (right : List Item) (l r : Masks) (objects movement objects_new mid movement_new : List ℕ) (moved replaced : Bool) (new_cell : List (Option Piece)) → AreOf layers right → AreMasksOf right r → All (λ layer. layer < depth) layers → AreLawful layers objects movement → AreLawful layers objects_new movement_new → AreRewritten layers l r objects movement objects_new mid movement_new → IsProper mid → ((moved ≡ false) ↔ ((number : ℕ) → member mid number ≡ member movement number)) → ((replaced ≡ false) ↔ ((number : ℕ) → member objects_new number ≡ member objects number)) → cell_of depth layers objects_new movement_new ≡ new_cell → (moved || replaced) ≡ not (same_cell new_cell (cell_of depth layers objects movement))
 changed_by depth layers right l r objects movement objects_new mid movement_new moved replaced new_cell are mr low lawful lawful_new w proper is_moved is_replaced e =
@@ -284,10 +246,7 @@ changed_by depth layers right l r objects movement objects_new mid movement_new 
 -- ---- the loops
 -- the layers up to one, and that one
 pub chosen_more : (at layer : ℕ) (chosen : List ℕ) → ((nat_lt at layer && member chosen at) || (member chosen layer && nat_eq at layer)) ≡ (nat_lt at (layer + 1) && member chosen at)
-chosen_more at layer chosen = elim (cases_lt at layer) [
-  | inl below ↦ grind (arith, below)
-  | inr above ↦ elim (cases_eq at layer) [ inl same ↦ grind (arith, same) | inr other ↦ grind (arith, above, other) ]
-]
+chosen_more at layer chosen = grind (arith, common_steps)
 
 -- the movement after the objects below one that leave
 pub record AreEnded (layers objects cleared : List ℕ) (is_removed : ℕ → Bool) (before now : List ℕ) (start : ℕ) : Type 0 where
@@ -296,24 +255,20 @@ pub record AreEnded (layers objects cleared : List ℕ) (is_removed : ℕ → Bo
 
 pub ended_more : (layers objects cleared : List ℕ) (is_removed : ℕ → Bool) (before now after : List ℕ) (start found : ℕ) → AreEnded layers objects cleared is_removed before now start → start ≤ found → (member objects found && is_removed found) ≡ true
     → ((k : ℕ) → start ≤ k → k < found → (member objects k && is_removed k) ≡ false)
-    → (member cleared (get_or layers found 0) ≡ false → (dir : Dir) → heads after (get_or layers found 0) dir ≡ false)
-    → (member cleared (get_or layers found 0) ≡ true → (other : ℕ) (dir : Dir) → heads after other dir ≡ heads now other dir)
-    → ((other : ℕ) (dir : Dir) → other ≢ get_or layers found 0 → heads after other dir ≡ heads now other dir)
-    → ((other : ℕ) (dir : Dir) → heads now other dir ≡ false → heads after other dir ≡ false)
+    → ((other : ℕ) (dir : Dir) → heads after other dir ≡ ((member cleared (get_or layers found 0) || not (nat_eq other (get_or layers found 0))) && heads now other dir))
     → AreEnded layers objects cleared is_removed before after (found + 1)
-ended_more layers objects cleared is_removed before now after start found i from here none ends spares leaves keeps = record {
+ended_more layers objects cleared is_removed before now after start found i from here none is = record {
   ended = λ object dir below g. elim (cases_lt object start) [
-    | inl early ↦ keeps (get_or layers object 0) dir (i.ended object dir early g)
+    | inl early ↦ grind (arith, is (get_or layers object 0) dir, i.ended object dir early g)
     | inr late ↦ elim (cases_lt object found) [
-      | inl between ↦ absurd (let e : false ≡ true = sym (none object late between) ∙ and_from (member objects object) (is_removed object) g.here g.removed in cc)
-      | inr past ↦ (let same : object ≡ found = omega (arith, below, past) in
-          subst (λ (o : ℕ). heads after (get_or layers o 0) dir ≡ false) (sym same) (ends (ap (λ (o : ℕ). member cleared (get_or layers o 0)) (sym same) ∙ g.free) dir))
+      | inl between ↦ absurd (grind (arith, none object late between, g.here, g.removed))
+      | inr past ↦ (let same : object ≡ found = omega (arith, below, past) in grind (arith, is (get_or layers found 0) dir, same, g.free))
     ]
   ];
   others = λ layer dir apart. by_spared layer dir apart (member cleared (get_or layers found 0)) refl ∙ i.others layer dir apart;
 } where
   by_spared : (layer : ℕ) (dir : Dir) → ((object : ℕ) → Leaves layers objects cleared is_removed object → get_or layers object 0 ≢ layer) → (b : Bool) → member cleared (get_or layers found 0) ≡ b → heads after layer dir ≡ heads now layer dir
-  by_spared layer dir apart true e = spares e layer dir
+  by_spared layer dir apart true e = grind (arith, is layer dir, e)
   by_spared layer dir apart false e =
       let parts = and_parts (member objects found) (is_removed found) here in
-      leaves layer dir (λ same. apart found (record { here = parts.0; removed = parts.1; free = e }) (sym same))
+      grind (arith, is layer dir, e, apart found (record { here = parts.0; removed = parts.1; free = e }))

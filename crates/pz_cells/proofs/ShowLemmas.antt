@@ -28,15 +28,12 @@ find_only p a zero k low high e only = absurd (omega arith)
 find_only p a (suc n) k low high e only = by_test (λ x. find_only p (a + 1) n k x (omega arith) e (λ j h. only j (omega arith))) (p a) refl where
   by_test : (a + 1 ≤ k → find p (range_with_len (a + 1) n) ≡ Some k) → (b : Bool) → p a ≡ b → cond b (Some a) (find p (range_with_len (a + 1) n)) ≡ Some k
   by_test rest true f = ap Some (only a (omega arith) f)
-  by_test rest false f = rest (elim (cases_eq a k) [ inl same ↦ absurd (let g : false ≡ true = sym f ∙ ap p same ∙ e in cc) | inr other ↦ omega (arith, other) ])
+  by_test rest false f = rest (elim (cases_eq a k) [ inl same ↦ grind arith | inr other ↦ omega (arith, other) ])
 
 -- a number that doesn't pass isn't found
 pub find_none : (p : ℕ → Bool) (a n : ℕ) → ((j : ℕ) → p j ≡ true → ⊥) → find p (range_with_len a n) ≡ None
 find_none p a zero none = refl
-find_none p a (suc n) none = by_test (find_none p (a + 1) n none) (p a) refl where
-  by_test : find p (range_with_len (a + 1) n) ≡ None → (b : Bool) → p a ≡ b → cond b (Some a) (find p (range_with_len (a + 1) n)) ≡ None
-  by_test rest true e = absurd (none a e)
-  by_test rest false e = rest
+find_none p a (suc n) none = grind (arith, none a, find_none p (a + 1) n none)
 
 -- what masks show of a layer is what their view says of it
 pub place_shown : (layers objects movement : List ℕ) (layer : ℕ) (place : Option Piece) → ((object : ℕ) → member objects object ≡ true → object < length layers) → Shows layers (member objects) (heads movement layer) layer place → place_of layers objects movement layer ≡ place
