@@ -17,7 +17,7 @@ use Rattle.pz_cells.specs.declared.cell.Cell.{Cell}
 use Rattle.pz_cells.specs.declared.piece.Piece.{Piece}
 use Rattle.pz_cells.specs.Cell.{empty_cell}
 use Rattle.pz_cells.specs.Shown.{cell_of, Shows, AreLawful}
-use Rattle.pz_cells.proofs.ShowLemmas.{lawful_from_shows, cell_from_shows}
+use Rattle.pz_cells.proofs.PlaceLemmas.{lawful_from_shows, cell_from_shows}
 use Rattle.pz_cells.specs.Layering.{Layering}
 use Rattle.pz_cells.specs.Lists.{seen, IsSound}
 

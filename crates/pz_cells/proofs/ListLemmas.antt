@@ -12,7 +12,7 @@ use Rattle.pz_cells.specs.declared.piece.Piece.{Piece}
 use Rattle.pz_cells.specs.Cell.{still_place}
 use Rattle.pz_cells.specs.Shown.{place_of, cell_of, Shows, AreLawful}
 use Rattle.pz_cells.proofs.HoldLemmas.{place_seen}
-use Rattle.pz_cells.proofs.ShowLemmas.{cell_from_shows, lawful_from_shows}
+use Rattle.pz_cells.proofs.PlaceLemmas.{cell_from_shows, lawful_from_shows}
 use Rattle.std.proofs.lemmas.List.FromFn.{length-map-range_with_len}
 use Rattle.pz_cells.specs.Layering.{Layering}
 use Rattle.pz_cells.specs.Lists.{seen, IsSound, AreMapped}

@@ -16,15 +16,13 @@ use Rattle.pz_cells.proofs.SameLemmas.{same_cell_is, same_cell_self}
 use Rattle.pz_game.specs.Headings.{is_toward, flag, heads, IsProper}
 use Rattle.pz_cells.specs.Shown.{place_of, cell_of, Shows, AreLawful}
 use Rattle.pz_game.proofs.FlagLemmas.{each_number}
-use Rattle.pz_cells.proofs.PlaceLemmas.{shows_alike}
-use Rattle.pz_cells.proofs.FitLemmas.{placed_is}
+use Rattle.pz_cells.proofs.PlaceLemmas.{shows_alike, lawful_from_shows, cell_from_shows}
 use Rattle.pz_game.specs.Items.{names, placed_on, tells_of, tells_movement, names_object, forbids_object}
 use Rattle.pz_cells.specs.Rewriting.{heading_of, new_heading, kept, replaced, rewritten_place, rewritten_cell}
 use Rattle.pz_game.specs.declared.masks.Masks.{Masks}
 use Rattle.pz_game.specs.Masks.{toward, begins, settles, AreMasksOf}
 use Rattle.pz_cells.specs.Rewrites.{ends, Leaves, removed_by}
-use Rattle.pz_cells.proofs.HoldLemmas.{place_seen, standing_seen}
-use Rattle.pz_cells.proofs.ShowLemmas.{lawful_from_shows, cell_from_shows}
+use Rattle.pz_cells.proofs.HoldLemmas.{place_seen, standing_seen, placed_is}
 
 -- an object that the left names or the right forbids
 abbrev pub is_removable : List Item → List Item → ℕ → Bool

@@ -6,7 +6,7 @@ use Rattle.pz_game.specs.Headings.{heads, IsProper}
 use Rattle.pz_game.specs.Masks.{AreMasksOf}
 use Rattle.pz_cells.specs.Rewriting.{rewritten_cell}
 use Rattle.pz_cells.specs.Shown.{cell_of}
-use Rattle.pz_cells.proofs.FitLemmas.{masks_of_game, masks_fit}
+use Rattle.pz_cells.proofs.HoldLemmas.{masks_of_game, masks_fit}
 use Rattle.pz_cells.proofs.RewriteLemmas.{AreRewritten, Rewrites, rewrites_from, lawful_rewritten, cell_rewritten, placed_within, mid_proper, changed_by}
 use Rattle.pz_cells.proofs.cell.Cell.rewrite.Given.{Over}
 use Rattle.pz_cells.proofs.cell.Cell.rewrite.Goals.{After-self-3-1}
