@@ -5,4 +5,3 @@ pub mod HoldLemmas
 pub mod RewriteLemmas
 pub mod ListLemmas
 pub mod DrawLemmas
-pub mod DifferingLemmas

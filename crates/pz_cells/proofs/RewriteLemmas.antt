@@ -147,27 +147,20 @@ rewrites_from layers left right l r objects movement objects_new mid movement_ne
       others = λ layer dir none. w.others layer dir (λ object g on. none object (goes object g) on) ∙ grind (arith, w.is_mid (flag layer dir), mr.settled layer dir, ml.told layer dir, mr.covered layer dir, mr.headed layer dir, ends_by (tells_of layer left) (placed_on layer right));
     }
 
--- objects of the new cell are the game's
-pub rewritten_of_game : (layers : List ℕ) (left right : List Item) (has : ℕ → Bool) (toward : ℕ → Dir → Bool) (has_new : ℕ → Bool) (toward_new : ℕ → Dir → Bool) → AreOf layers right → Rewrites layers left right has toward has_new toward_new → ((object : ℕ) → has object ≡ true → object < length layers) → (object : ℕ) → has_new object ≡ true → object < length layers
-rewritten_of_game layers left right has toward has_new toward_new are r of_game object new = elim (r.gives object new) [
-  | inl stays ↦ of_game object stays.here
-  | inr (item, e, same) ↦ subst (λ (k : ℕ). k < length layers) same (placed_is layers (get_or layers object 0) right item are e).0
-]
-
 -- the new masks are lawful, and their view is the definition's cell
-pub lawful_rewritten : (layers : List ℕ) (left right : List Item) (objects movement objects_new movement_new : List ℕ) → AreOf layers right → AreLawful layers objects movement → Rewrites layers left right (member objects) (heads movement) (member objects_new) (heads movement_new) → IsProper movement_new → AreLawful layers objects_new movement_new
-lawful_rewritten layers left right objects movement objects_new movement_new are lawful r proper =
-    lawful_from_shows layers objects_new movement_new (λ layer. rewritten_place left right layer (place_of layers objects movement layer)) (rewritten_of_game layers left right (member objects) (heads movement) (member objects_new) (heads movement_new) are r lawful.of_game)
+pub lawful_rewritten : (layers : List ℕ) (left right : List Item) (objects movement objects_new movement_new : List ℕ) → AreOf layers right → AreLawful layers objects movement → Rewrites layers left right (member objects) (heads movement) (member objects_new) (heads movement_new) → ((object : ℕ) → member objects_new object ≡ true → object < length layers) → IsProper movement_new → AreLawful layers objects_new movement_new
+lawful_rewritten layers left right objects movement objects_new movement_new are lawful r of_game proper =
+    lawful_from_shows layers objects_new movement_new (λ layer. rewritten_place left right layer (place_of layers objects movement layer)) of_game
     (λ layer. rewritten_shows layers left right (member objects) (heads movement) (member objects_new) (heads movement_new) are r layer (place_of layers objects movement layer) (lawful.shows layer))
     proper
 
-pub cell_rewritten : (depth : ℕ) (layers : List ℕ) (left right : List Item) (objects movement objects_new movement_new : List ℕ) → AreOf layers right → AreLawful layers objects movement → Rewrites layers left right (member objects) (heads movement) (member objects_new) (heads movement_new) → cell_of depth layers objects_new movement_new ≡ rewritten_cell left right (cell_of depth layers objects movement)
-cell_rewritten depth layers left right objects movement objects_new movement_new are lawful r =
+pub cell_rewritten : (depth : ℕ) (layers : List ℕ) (left right : List Item) (objects movement objects_new movement_new : List ℕ) → AreOf layers right → AreLawful layers objects movement → Rewrites layers left right (member objects) (heads movement) (member objects_new) (heads movement_new) → ((object : ℕ) → member objects_new object ≡ true → object < length layers) → cell_of depth layers objects_new movement_new ≡ rewritten_cell left right (cell_of depth layers objects movement)
+cell_rewritten depth layers left right objects movement objects_new movement_new are lawful r of_game =
     let old = cell_of depth layers objects movement in
     let f = λ (layer : ℕ). rewritten_place left right layer (get_or old layer None) in
     let long : length old ≡ depth = length-map-range_with_len (place_of layers objects movement) 0 depth in
     let place = λ (layer : ℕ) (low : layer < depth). get_or-map-range_with_len (place_of layers objects movement) 0 depth layer layer None low (omega arith) in
-    cell_from_shows depth layers objects_new movement_new (rewritten_cell left right old) (length-map-range_with_len f 0 (length old) ∙ long) (rewritten_of_game layers left right (member objects) (heads movement) (member objects_new) (heads movement_new) are r lawful.of_game)
+    cell_from_shows depth layers objects_new movement_new (rewritten_cell left right old) (length-map-range_with_len f 0 (length old) ∙ long) of_game
     (λ layer low. subst (Shows layers (member objects_new) (heads movement_new layer) layer) (sym (get_or-map-range_with_len f 0 (length old) layer layer None (omega (arith, long)) (omega arith)))
     (rewritten_shows layers left right (member objects) (heads movement) (member objects_new) (heads movement_new) are r layer (get_or old layer None) (subst (Shows layers (member objects) (heads movement layer) layer) (sym (place layer low)) (lawful.shows layer))))
 
@@ -177,8 +170,7 @@ placed_within layers right r are mr object here = (let p = mr.placed_only object
 
 -- the directions between have no bits between the fields
 pub mid_proper : (layers : List ℕ) (left right : List Item) (l r : Masks) (objects movement objects_new mid movement_new : List ℕ) → AreMasksOf right r → IsProper movement → AreRewritten layers l r objects movement objects_new mid movement_new → IsProper mid
-mid_proper layers left right l r objects movement objects_new mid movement_new mr proper w number high =
-    w.is_mid number ∙ ap (λ b. (b && not (member r.settled number || (member l.told number && member r.covered number))) || member r.headed number) (proper number high) ∙ mr.proper_headed number high
+mid_proper layers left right l r objects movement objects_new mid movement_new mr proper w number high = grind (arith, w.is_mid number, proper number high, mr.proper_headed number high)
 
 -- ---- whether the cell changed
 -- nothing stands past the layers

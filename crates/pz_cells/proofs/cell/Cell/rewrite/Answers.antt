@@ -1,4 +1,4 @@
-use Rattle.std.proofs.Common.{inl, inr, ℕ, List, Bool, not, ◌&&◌, ◌||◌, get_or, ap, sym, ◌∙◌, arith}
+use Rattle.std.proofs.Common.{inl, inr, ℕ, List, not, ◌&&◌, ◌||◌, ap, sym, ◌∙◌, arith}
 use Rattle.std.proofs.lemmas.Bool.{or_cases, and_parts}
 use Rattle.pz_sets.specs.Sets.{member}
 use Rattle.pz_game.specs.declared.masks.Masks.{Masks}
@@ -42,16 +42,12 @@ are_rewritten g c =
     ∙ ap (λ (ws : List ℕ). (member objects o && not (member ws o)) || member c.words-4.result.now o) c.words-3.ensures.words
     ∙ ap (λ (ws : List ℕ). (member objects o && not (member gone o)) || member ws o) c.words-4.ensures.words in
     record {
-      is_new = λ o low. members o
-          ∙ ap (λ (b : Bool). (member objects o && not b) || member r.placed o) (c.union-gone.ensures o ∙ ap (λ (b : Bool). b || member c.union-removed.result o) (c.objects_on.ensures.objects o low) ∙ ap (λ (b : Bool). member r.layers (get_or layers o 0) || b) (c.union-removed.ensures o));
+      is_new = λ o low. grind (arith, members o, c.union-gone.ensures o, c.objects_on.ensures.objects o low, c.union-removed.ensures o);
       of_game = λ o here. elim (or_cases (member objects o && not (member gone o)) (member r.placed o) (sym (members o) ∙ here)) [
         | inl old ↦ c.requires.sound.of_game o (and_parts (member objects o) (not (member gone o)) old).0
         | inr new ↦ placed_within layers c.args.right.now r c.requires.right_of (masks_of g c).1 o new
       ];
-      is_mid = λ n. c.replace-moved.ensures.members n
-          ∙ ap (λ (ws : List ℕ). (member movement n && not (member ws n)) || member c.words-2.result.now n) c.words.ensures.words
-          ∙ ap (λ (ws : List ℕ). (member movement n && not (member c.union-ending.result n)) || member ws n) c.words-2.ensures.words
-          ∙ ap (λ (b : Bool). (member movement n && not b) || member r.headed n) (c.union-ending.ensures n ∙ ap (λ (b : Bool). member r.settled n || b) (c.common.ensures n));
+      is_mid = λ n. grind (arith, c.replace-moved.ensures.members n, c.words.ensures.words, c.words-2.ensures.words, c.union-ending.ensures n, c.common.ensures n);
       ended = λ o dir g. c.end_leaving.ensures.ended o dir (record { here = g.here; removed = c.union-removed.ensures o ∙ g.removed; free = g.free });
       others = λ layer dir none. c.end_leaving.ensures.others layer dir (λ o g on. none o (record { here = g.here; removed = sym (c.union-removed.ensures o) ∙ g.removed; free = g.free }) on);
     }
@@ -66,11 +62,11 @@ proper_mid g c = mid_proper c.args.layers.now.layers c.args.left.now c.args.righ
 
 pub returns-clause-sound : goal.returns-clause-sound
 returns-clause-sound g c = lawful_rewritten c.args.layers.now.layers c.args.left.now c.args.right.now c.args.self.now.objects c.args.self.now.movement c.replace-replaced.new.words c.end_leaving.new.movement
-    c.requires.right_of c.requires.sound (rewrites g c) (c.end_leaving.ensures.proper (proper_mid g c))
+    c.requires.right_of c.requires.sound (rewrites g c) (are_rewritten g c).of_game (c.end_leaving.ensures.proper (proper_mid g c))
 
 pub returns-clause-cell : goal.returns-clause-cell
 returns-clause-cell g c = cell_rewritten c.args.layers.now.depth c.args.layers.now.layers c.args.left.now c.args.right.now c.args.self.now.objects c.args.self.now.movement c.replace-replaced.new.words c.end_leaving.new.movement
-    c.requires.right_of c.requires.sound (rewrites g c)
+    c.requires.right_of c.requires.sound (rewrites g c) (are_rewritten g c).of_game
 
 pub returns-clause-changed : goal.returns-clause-changed
 returns-clause-changed g c =
