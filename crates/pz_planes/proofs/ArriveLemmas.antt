@@ -1,7 +1,8 @@
 -- Objects that are noted one after another.
-use Rattle.std.proofs.Common.{◌≡◌, ◌≢◌, inl, inr, ℕ, ◌+◌, ◌-◌, ◌*◌, ◌/◌, ◌%◌, ◌<◌, ◌≤◌, List, [], Bool, true, false, not, ◌&&◌, ◌||◌, nat_eq, eq-eqb, length, get_or, arith, ap, sym, ◌∙◌, refl, subst}
+use Rattle.std.proofs.Common.{◌≡◌, inl, inr, ℕ, ◌+◌, ◌*◌, ◌/◌, ◌%◌, ◌<◌, ◌≤◌, List, [], Bool, true, false, not, ◌&&◌, ◌||◌, nat_eq, length, get_or, arith, ap, sym, ◌∙◌, subst}
 use Rattle.std.specs.Prelude.{nat_lt}
-use Rattle.std.proofs.lemmas.Bool.{cases_eq, cases_lt, ne_eqb, lt-ltb, le-ltb}
+use Rattle.std.proofs.lemmas.Bool.{cases_eq, cases_lt}
+use Rattle.std.proofs.lemmas.Grind.{common_steps}
 use Rattle.pz_sets.specs.Sets.{member}
 use Rattle.pz_sets.proofs.WordLemmas.{in_word-zero}
 use Rattle.pz_game.specs.declared.pattern.Item.{Item}
@@ -21,71 +22,44 @@ object_still start now x y object noted changed known = record {
   in_columns = omega (arith, known.in_columns, changed.columns.objects);
 }
 
-pub low_object : (object count : ℕ) → object / 128 < count → count ≤ 4 → object + 1 ≤ 512
-low_object object count within short = omega (arith, within, short)
-
-pub less_left : (from object : ℕ) → from ≤ object → object + 1 ≤ 512 → 512 - (object + 1) < 512 - from
-less_left from object above low = omega (arith, above, low)
-
 -- ---- the objects below a number that pass a test
 abbrev pub below : ℕ → (ℕ → Bool) → ℕ → Bool
 below from test object = nat_lt object from && test object
 
 pub below_none : (test : ℕ → Bool) (object : ℕ) → below 0 test object ≡ false
-below_none test object = ap (λ (b : Bool). b && test object) (le-ltb object 0 (omega arith))
+below_none test object = grind (arith, common_steps)
 
 -- one object more
 pub below_more : (from found : ℕ) (test : ℕ → Bool) → from ≤ found → test found ≡ true → ((number : ℕ) → from ≤ number → number < found → test number ≡ false) → (object : ℕ) → below (found + 1) test object ≡ (nat_eq object found || below from test object)
 below_more from found test above is none object = elim (cases_eq object found) [
-  | inl same ↦ ap (λ (b : Bool). b && test object) (lt-ltb object (found + 1) (omega (arith, same))) ∙ ap test same ∙ is ∙ sym (ap (λ (b : Bool). b || below from test object) (eq-eqb object found same))
-  | inr other ↦ below_other other ∙ sym (ap (λ (b : Bool). b || below from test object) (ne_eqb object found other))
-] where
-  none_of : (a : Bool) → test object ≡ false → (a && test object) ≡ false
-  none_of true e = e
-  none_of false e = refl
-
-  below_other : object ≢ found → below (found + 1) test object ≡ below from test object
-  below_other other = elim (cases_lt object from) [
-    | inl low ↦ ap (λ (b : Bool). b && test object) (lt-ltb object (found + 1) (omega (arith, low, above)) ∙ sym (lt-ltb object from low))
-    | inr high ↦ elim (cases_lt object found) [
-      | inl between ↦ none_of (nat_lt object (found + 1)) (none object high between) ∙ sym (none_of (nat_lt object from) (none object high between))
-      | inr past ↦ ap (λ (b : Bool). b && test object) (le-ltb object (found + 1) (omega (arith, past, other)) ∙ sym (le-ltb object from high))
-    ]
+  | inl same ↦ grind (arith, common_steps, same, is, above)
+  | inr other ↦ elim (cases_lt object from) [
+    | inl low ↦ grind (arith, common_steps, low, above, other)
+    | inr high ↦ elim (cases_lt object found) [ inl between ↦ grind (arith, common_steps, none object high between, other) | inr past ↦ grind (arith, common_steps, past, high, other) ]
   ]
+]
 
 -- all of them
 pub below_all : (from : ℕ) (test : ℕ → Bool) → ((number : ℕ) → from ≤ number → test number ≡ false) → (object : ℕ) → below from test object ≡ test object
-below_all from test none object = elim (cases_lt object from) [
-  | inl low ↦ ap (λ (b : Bool). b && test object) (lt-ltb object from low)
-  | inr high ↦ ap (λ (b : Bool). b && test object) (le-ltb object from high) ∙ sym (none object high)
-]
+below_all from test none object = elim (cases_lt object from) [ inl low ↦ grind (arith, common_steps, low) | inr high ↦ grind (arith, common_steps, high, none object high) ]
 
 -- ---- what is noted there, one object after another
 pub arrived : (one rest was : Bool) → (one || (rest || was)) ≡ ((one || rest) || was)
-arrived true rest was = refl
-arrived false rest was = refl
+arrived one rest was = grind arith
 
 pub left : (one rest was : Bool) → (not one && (not rest && was)) ≡ (not (one || rest) && was)
-left true rest was = refl
-left false rest was = refl
+left one rest was = grind arith
 
 pub has_first : (a b : Bool) → (a && b) ≡ true → a ≡ true
-has_first true b e = refl
-has_first false b e = e
+has_first a b e = grind arith
 
 -- where nothing was before, all is new
 pub all_new : (objects : List ℕ) (object : ℕ) (was : Bool) → ((member objects object && not (member [] object)) || was) ≡ (member objects object || was)
-all_new objects object was = ap (λ (b : Bool). (member objects object && not b) || was) (in_word-zero (object % 128)) ∙ as_it_is (member objects object) where
-  as_it_is : (a : Bool) → ((a && true) || was) ≡ (a || was)
-  as_it_is true = refl
-  as_it_is false = refl
+all_new objects object was = grind (arith, in_word-zero (object % 128))
 
 -- where those of a cell were there, those of the next one are
 pub replaced : (before after : Bool) → ((after && not before) || (not (before && not after) && before)) ≡ after
-replaced true true = refl
-replaced true false = refl
-replaced false true = refl
-replaced false false = refl
+replaced before after = grind arith
 
 -- the same in the cell of a number, counted row by row
 pub inside_at : (planes : PlaneSets) (index width : ℕ) → width ≡ planes.columns.count → index < planes.columns.count * planes.rows.count → IsInside planes (index % width) (index / width)

@@ -1,6 +1,6 @@
 use Rattle.std.proofs.Common.{ℕ, ◌+◌, Bool, ◌||◌, ◌&&◌, not, nat_eq, arith, ap, sym, ◌∙◌}
 use Rattle.pz_sets.specs.Sets.{member}
-use Rattle.pz_planes.proofs.ArriveLemmas.{inside_still, object_still, low_object, less_left, below, below_none, below_more, below_all, arrived, has_first}
+use Rattle.pz_planes.proofs.ArriveLemmas.{inside_still, object_still, below, below_none, below_more, below_all, arrived, has_first}
 use Rattle.pz_planes.proofs.PlaneLemmas.{changed_same, changed_on, changed_as}
 use Rattle.pz_planes.proofs.planes.Planes.arrive.Goals as goal
 
@@ -11,9 +11,6 @@ objects-init c =
       changed = changed_same c.args.self.now c.args.x c.args.y (λ object was. below 0 test object || was) (λ object was. ap (λ (b : Bool). b || was) (below_none test object));
       low = omega arith;
     }
-
-pub next_only-requires : goal.next_only-requires
-next_only-requires c = record { short = c.requires.short; low = c.objects.invariant.low }
 
 pub insert-requires : goal.insert-requires
 insert-requires c =
@@ -27,10 +24,10 @@ insert-requires c =
     }
 
 pub overflow_add-from : goal.overflow_add-from
-overflow_add-from c = omega (arith, low_object c.in-Some.object _ c.in-Some.ensures.1 c.requires.short)
+overflow_add-from c = omega (arith, c.in-Some.ensures.1, c.requires.short)
 
 pub objects-smaller : goal.objects-smaller
-objects-smaller c = less_left c.objects.from c.in-Some.object c.in-Some.ensures.0 (low_object c.in-Some.object _ c.in-Some.ensures.1 c.requires.short)
+objects-smaller c = omega (arith, c.in-Some.ensures.0, c.in-Some.ensures.1, c.requires.short)
 
 pub objects-preserved : goal.objects-preserved
 objects-preserved c =
@@ -43,7 +40,7 @@ objects-preserved c =
           (λ object was. below from test object || was) (λ object was. nat_eq object found || was) (λ object was. below (found + 1) test object || was)
           c.objects.invariant.changed c.insert.ensures
           (λ object was. arrived (nat_eq object found) (below from test object) was ∙ ap (λ (b : Bool). b || was) (sym (below_more from found test there.0 there.2 there.3 object)));
-      low = low_object c.in-Some.object _ c.in-Some.ensures.1 c.requires.short;
+      low = omega (arith, c.in-Some.ensures.1, c.requires.short);
     }
 
 pub returns : goal.returns

@@ -14,9 +14,6 @@ nonzero_div-index c = wide_at c.args.self.now c.args.index c.count-width.result 
 pub arrive-requires-clause-inside : goal.arrive-requires-clause-inside
 arrive-requires-clause-inside c = inside_at c.args.self.now c.args.index c.count-width.result (c.count-width.ensures ∙ ap (λ (p : PlaneSets). p.columns.count) c.self.view_is) c.requires.within
 
-pub arrive-requires-clause-known : goal.arrive-requires-clause-known
-arrive-requires-clause-known c = c.requires.known
-
 pub returns : goal.returns
 returns c =
     let width : c.count-width.result ≡ c.args.self.now.columns.count = c.count-width.ensures ∙ ap (λ (p : PlaneSets). p.columns.count) c.self.view_is in

@@ -10,12 +10,6 @@ returns-then-same c =
     let same = c.same.ensures.0 c.if-same.true in
     changed_none c.args.self.now c.args.x c.args.y (λ object was. member c.args.after.now object) (λ object small. there.row object small ∙ same object) (λ object small. there.column object small ∙ same object)
 
-pub leave-requires-clause-inside : goal.leave-requires-clause-inside
-leave-requires-clause-inside c = c.requires.inside
-
-pub leave-requires-clause-known : goal.leave-requires-clause-known
-leave-requires-clause-known c = c.requires.known_before
-
 pub arrive-requires-clause-inside : goal.arrive-requires-clause-inside
 arrive-requires-clause-inside c =
     let before = member c.args.before.now in
