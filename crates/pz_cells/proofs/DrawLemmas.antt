@@ -1,5 +1,5 @@
 -- Cells that are drawn and filled.
-use Rattle.std.proofs.Common.{◌≡◌, ℕ, ◌+◌, ◌<◌, List, [], ◌∷◌, ◌++◌, map, take, Option, None, Bool, true, false, length, get_or, ap, sym, ◌∙◌, subst}
+use Rattle.std.proofs.Common.{◌≡◌, ℕ, ◌+◌, ◌<◌, List, [], ◌∷◌, ◌++◌, map, take, Option, None, false, length, get_or, ap, sym, ◌∙◌, subst}
 use Rattle.std.specs.Prelude.{replicate}
 use Rattle.std.proofs.Common.{arith}
 use Rattle.std.proofs.lemmas.Grind.{common_steps}
@@ -17,36 +17,26 @@ use Rattle.pz_cells.specs.declared.cell.Cell.{Cell}
 use Rattle.pz_cells.specs.declared.piece.Piece.{Piece}
 use Rattle.pz_cells.specs.Cell.{empty_cell}
 use Rattle.pz_cells.specs.Shown.{cell_of, Shows, AreLawful}
-use Rattle.pz_cells.proofs.ShowLemmas.{lawful_from_shows, cell_from_shows}
+use Rattle.pz_cells.proofs.PlaceLemmas.{lawful_from_shows, cell_from_shows}
 use Rattle.pz_cells.specs.Layering.{Layering}
 use Rattle.pz_cells.specs.Lists.{seen, IsSound}
 
--- words without a number
-pub record AreEmpty (objects movement : List ℕ) : Type 0 where
-  pub objects_none : (object : ℕ) → member objects object ≡ false
-  pub movement_none : (number : ℕ) → member movement number ≡ false
-
+-- words of which no bit is set have no number
 pub no_number : (n number : ℕ) → member (replicate n 0) number ≡ false
 no_number n number = grind (arith, common_steps)
 
-pub none_drawn : (n : ℕ) → AreEmpty (replicate n 0) (replicate n 0)
-none_drawn n = record { objects_none = no_number n; movement_none = no_number n }
+empty_shows : (layers : List ℕ) (n layer : ℕ) → Shows layers (member (replicate n 0)) (heads (replicate n 0) layer) layer None
+empty_shows layers n layer = (λ object here on. grind (arith, no_number n object, here), λ dir. no_number n (flag layer dir))
 
-never : {X : Type 0} (has : ℕ → Bool) (object : ℕ) → has object ≡ false → has object ≡ true → X
-never has object none here = absurd (let e : false ≡ true = sym none ∙ here in cc)
+pub lawful_empty : (layers : List ℕ) (n : ℕ) → AreLawful layers (replicate n 0) (replicate n 0)
+lawful_empty layers n =
+    lawful_from_shows layers (replicate n 0) (replicate n 0) (λ layer. None) (λ object here. absurd (grind (arith, no_number n object, here))) (empty_shows layers n) (λ number high. no_number n number)
 
-empty_shows : (layers objects movement : List ℕ) (layer : ℕ) → AreEmpty objects movement → Shows layers (member objects) (heads movement layer) layer None
-empty_shows layers objects movement layer e = (λ object here on. never (member objects) object (e.objects_none object) here, λ dir. e.movement_none (flag layer dir))
-
-pub lawful_empty : (layers objects movement : List ℕ) → AreEmpty objects movement → AreLawful layers objects movement
-lawful_empty layers objects movement e =
-    lawful_from_shows layers objects movement (λ layer. None) (λ object here. never (member objects) object (e.objects_none object) here) (λ layer. empty_shows layers objects movement layer e) (λ number high. e.movement_none number)
-
-pub cell_empty : (depth : ℕ) (layers objects movement : List ℕ) → AreEmpty objects movement → cell_of depth layers objects movement ≡ empty_cell depth
-cell_empty depth layers objects movement e =
+pub cell_empty : (depth : ℕ) (layers : List ℕ) (n : ℕ) → cell_of depth layers (replicate n 0) (replicate n 0) ≡ empty_cell depth
+cell_empty depth layers n =
     let none : Option Piece = None in
-    cell_from_shows depth layers objects movement (empty_cell depth) (length-replicate depth none) (λ object here. never (member objects) object (e.objects_none object) here)
-    (λ layer low. subst (Shows layers (member objects) (heads movement layer) layer) (sym (get_or-replicate depth layer none none low)) (empty_shows layers objects movement layer e))
+    cell_from_shows depth layers (replicate n 0) (replicate n 0) (empty_cell depth) (length-replicate depth none) (λ object here. absurd (grind (arith, no_number n object, here)))
+    (λ layer low. subst (Shows layers (member (replicate n 0)) (heads (replicate n 0) layer) layer) (sym (get_or-replicate depth layer none none low)) (empty_shows layers n layer))
 
 -- one more cell of a glyph
 pub record AreGlyphs {N : ℕ} (layering : Layering) (f : ℕ → List (Option Piece)) (numbers : List ℕ) (cells : List (Cell N)) : Type 0 where

@@ -1,7 +1,7 @@
 -- What holds in a cell, by sets.
-use Rattle.std.proofs.Common.{◌≡◌, ◌≢◌, inl, inr, ℕ, suc, ◌<◌, ◌≤◌, List, [], ◌∷◌, Option, Some, None, Bool, true, false, not, cond, length, get_or, arith, ap, sym, ◌∙◌, refl, subst, nat_eq, eq-eqb}
-use Rattle.std.specs.Prelude.{All, IfSome, IsTrue, ◌↔◌}
-use Rattle.std.proofs.lemmas.Bool.{cases_lt, eqb-true, and_parts, or_cases, or_left, or_right, and_from}
+use Rattle.std.proofs.Common.{◌≡◌, ◌≢◌, inl, inr, ℕ, suc, ◌<◌, ◌≤◌, List, [], ◌∷◌, Option, Some, None, Bool, true, false, not, cond, length, get_or, arith, ap, sym, ◌∙◌, refl, subst, ◌*◌, ◌/◌, ◌%◌, ◌&&◌, nat_eq}
+use Rattle.std.specs.Prelude.{All, IfSome, IsTrue, ◌↔◌, find}
+use Rattle.std.proofs.lemmas.Bool.{cases_lt, and_parts, or_right, and_from, eqb-true, or_cases}
 use Rattle.std.proofs.lemmas.List.{get_or_past}
 use Rattle.std.proofs.lemmas.List.FromFn.{get_or-map-range_with_len, length-map-range_with_len}
 use Rattle.pz_game.specs.declared.limits.TheConstants.{MAX_LAYERS, MAX_OBJECTS}
@@ -13,19 +13,20 @@ use Rattle.pz_game.specs.declared.pattern.Word.TheVariants.{Present, Still, Towa
 use Rattle.pz_game.specs.declared.pattern.Item.{Item}
 use Rattle.pz_game.specs.Direction.{same_dir}
 use Rattle.pz_cells.specs.Cell.{IsOnLayer}
-use Rattle.pz_game.specs.Pattern.{AreOf}
+use Rattle.pz_game.specs.Pattern.{AreOf, IsOf}
 use Rattle.pz_cells.specs.Standing.{standing}
 use Rattle.pz_cells.specs.Pattern.{word_holds, item_holds, pattern_holds}
-use Rattle.pz_game.specs.Items.{names, is_on, names_object, forbids_object}
+use Rattle.pz_game.specs.Items.{names, names_object, forbids_object, places_on, placed_on}
 use Rattle.pz_cells.proofs.SameLemmas.{same_dir_is, same_dir_self}
 use Rattle.pz_cells.proofs.CellLemmas.{OnItsLayer, standing_on_layer, standing_off_layer, standing_past}
-use Rattle.pz_game.specs.Headings.{is_toward, flag, heads, heading_in}
+use Rattle.pz_game.specs.Headings.{is_toward, flag, heads, heading_in, IsProper}
 use Rattle.pz_cells.specs.Shown.{place_of, cell_of, Shows, AreLawful}
-use Rattle.pz_cells.proofs.PlaceLemmas.{place_some, object_there}
-use Rattle.pz_cells.proofs.ShowLemmas.{first_toward}
-use Rattle.pz_game.proofs.FlagLemmas.{each_number}
+use Rattle.pz_cells.proofs.PlaceLemmas.{place_some, object_there, first_toward}
+use Rattle.pz_game.proofs.FlagLemmas.{each_number, flag_of, dir_bit-low}
 use Rattle.pz_game.specs.declared.masks.Masks.{Masks}
-use Rattle.pz_game.specs.Masks.{toward, is_still, asks_toward, asks_still, IsLow, AreMasksOf}
+use Rattle.pz_game.specs.Masks.{toward, is_still, asks_toward, asks_still, IsLow, AreMasksOf, begins}
+use Rattle.std.specs.List.{list_any}
+use Rattle.pz_cells.specs.Layering.{Layering, IsLayering}
 
 pub place_seen : (depth : ℕ) (layers objects movement : List ℕ) (layer : ℕ) → layer < depth → get_or (cell_of depth layers objects movement) layer None ≡ place_of layers objects movement layer
 place_seen depth layers objects movement layer low = get_or-map-range_with_len (place_of layers objects movement) 0 depth layer layer None low (omega arith)
@@ -68,8 +69,8 @@ standing_seen depth layers objects movement object low lawful = by_member (membe
 pub heads_toward : (layers objects movement : List ℕ) (layer : ℕ) (dir : Dir) → AreLawful layers objects movement → heads movement layer dir ≡ is_toward (heading_in movement layer) dir
 heads_toward layers objects movement layer dir lawful = by_place (place_of layers objects movement layer) (lawful.shows layer) where
   by_place : (place : Option Piece) → Shows layers (member objects) (heads movement layer) layer place → heads movement layer dir ≡ is_toward (heading_in movement layer) dir
-  by_place None shown = shown.1 dir ∙ sym (ap (λ (h : Option Dir). is_toward h dir) (first_toward (heads movement layer) None shown.1))
-  by_place (Some piece) shown = shown.3 dir ∙ sym (ap (λ (h : Option Dir). is_toward h dir) (first_toward (heads movement layer) piece.heading shown.3))
+  by_place None shown = grind (arith, shown.1 dir, first_toward (heads movement layer) None shown.1)
+  by_place (Some piece) shown = grind (arith, shown.3 dir, first_toward (heads movement layer) piece.heading shown.3)
 
 -- ---- what the items of a cell ask of the words
 pub record AreMet (items : List Item) (objects movement : List ℕ) : Type 0 where
@@ -88,45 +89,27 @@ pub record IsMet (item : Item) (objects movement : List ℕ) : Type 0 where
 -- a heading without a direction
 none_toward : (heading : Option Dir) → ((dir : Dir) → is_toward heading dir ≡ false) → heading ≡ None
 none_toward None h = refl
-none_toward (Some dir) h = absurd (let e : false ≡ true = sym (h dir) ∙ same_dir_self dir in cc)
+none_toward (Some dir) h = grind (arith, h dir, same_dir_self dir)
 
 -- one item: the word, whether the object is there, and where its layer heads
 met_word : (word : Word) (there : Bool) (heading : Option Dir) → (names word ≡ true → there ≡ true) → (not (names word) ≡ true → there ≡ false) → ((dir : Dir) → is_toward (toward true word) dir ≡ true → is_toward heading dir ≡ true) → (is_still word ≡ true → (dir : Dir) → is_toward heading dir ≡ false) → word_holds word (standing_by there heading) ≡ true
-met_word Absent there heading p a r f = ap (λ b. word_holds Absent (standing_by b heading)) (a refl)
-met_word Present there heading p a r f = ap (λ b. word_holds Present (standing_by b heading)) (p refl)
-met_word Still there heading p a r f = ap (λ b. word_holds Still (standing_by b heading)) (p refl) ∙ ap (λ (h : Option Dir). word_holds Still (Some h)) (none_toward heading (f refl))
-met_word (Toward dir) there None p a r f = (let e : false ≡ true = r dir (same_dir_self dir) in cc)
-met_word (Toward dir) there (Some heading) p a r f = ap (λ b. word_holds (Toward dir) (standing_by b (Some heading))) (p refl) ∙ r dir (same_dir_self dir)
+met_word Absent there heading p a r f = grind (arith, a refl)
+met_word Present there heading p a r f = grind (arith, p refl)
+met_word Still there heading p a r f = grind (arith, p refl, none_toward heading (f refl))
+met_word (Toward dir) there heading p a r f = grind (arith, p refl, r dir (same_dir_self dir))
 
 word_present : (word : Word) (there : Bool) (heading : Option Dir) → word_holds word (standing_by there heading) ≡ true → names word ≡ true → there ≡ true
-word_present word true heading h n = refl
-word_present Absent false heading h n = cc
-word_present Present false heading h n = h
-word_present Still false heading h n = h
-word_present (Toward dir) false heading h n = h
+word_present word there heading h n = grind arith
 
 word_absent : (word : Word) (there : Bool) (heading : Option Dir) → word_holds word (standing_by there heading) ≡ true → not (names word) ≡ true → there ≡ false
-word_absent word false heading h n = refl
-word_absent Absent true heading h n = sym h
-word_absent Present true heading h n = cc
-word_absent Still true heading h n = cc
-word_absent (Toward dir) true heading h n = cc
+word_absent word there heading h n = grind arith
 
 word_required : (word : Word) (there : Bool) (heading : Option Dir) → word_holds word (standing_by there heading) ≡ true → (dir : Dir) → is_toward (toward true word) dir ≡ true → is_toward heading dir ≡ true
-word_required Absent there heading h dir t = cc
-word_required Present there heading h dir t = cc
-word_required Still there heading h dir t = cc
-word_required (Toward way) false heading h dir t = cc
-word_required (Toward way) true None h dir t = cc
 word_required (Toward way) true (Some heading) h dir t = ap (λ (d : Dir). same_dir d dir) (same_dir_is heading way h) ∙ t
+word_required word there heading h dir t = grind arith
 
 word_forbidden : (word : Word) (there : Bool) (heading : Option Dir) → word_holds word (standing_by there heading) ≡ true → is_still word ≡ true → (dir : Dir) → is_toward heading dir ≡ false
-word_forbidden Absent there heading h s dir = cc
-word_forbidden Present there heading h s dir = cc
-word_forbidden (Toward way) there heading h s dir = cc
-word_forbidden Still false heading h s dir = cc
-word_forbidden Still true None h s dir = refl
-word_forbidden Still true (Some heading) h s dir = cc
+word_forbidden word there heading h s dir = grind arith
 
 -- an item holds in the seen cell
 abbrev Seen : ℕ → List ℕ → List ℕ → List ℕ → Item → Type 0
@@ -145,13 +128,11 @@ item_met depth layers objects movement item lawful seen met =
 met_item : (depth : ℕ) (layers objects movement : List ℕ) (item : Item) → AreLawful layers objects movement → Seen depth layers objects movement item → item_holds (cell_of depth layers objects movement) item ≡ true → IsMet item objects movement
 met_item depth layers objects movement item lawful seen holds =
     let h = sym seen ∙ holds in
-    let there = member objects item.object in
-    let heading = heading_in movement item.layer in
     record {
-      present = word_present item.word there heading h;
-      absent = word_absent item.word there heading h;
-      required = λ dir t. heads_toward layers objects movement item.layer dir lawful ∙ word_required item.word there heading h dir t;
-      forbidden = λ s dir. heads_toward layers objects movement item.layer dir lawful ∙ word_forbidden item.word there heading h s dir;
+      present = word_present item.word (member objects item.object) (heading_in movement item.layer) h;
+      absent = word_absent item.word (member objects item.object) (heading_in movement item.layer) h;
+      required = λ dir t. heads_toward layers objects movement item.layer dir lawful ∙ word_required item.word (member objects item.object) (heading_in movement item.layer) h dir t;
+      forbidden = λ s dir. heads_toward layers objects movement item.layer dir lawful ∙ word_forbidden item.word (member objects item.object) (heading_in movement item.layer) h s dir;
     }
 
 -- all items hold if what they ask is met, and only then
@@ -161,10 +142,10 @@ all_met depth layers objects movement (x ∷ xs) low lawful are met =
     let is = are 0 x (omega arith) in
     and_from _ _
     (item_met depth layers objects movement x lawful (item_seen depth layers objects movement x low lawful is.layer) (record {
-      present = λ n. met.present x.object (or_left _ _ (and_from _ _ n (eq-eqb x.object x.object refl)));
-      absent = λ n. met.absent x.object (or_left _ _ (and_from _ _ n (eq-eqb x.object x.object refl)));
-      required = λ dir t. met.required x.layer dir (or_left _ _ (and_from _ _ t (eq-eqb x.layer x.layer refl)));
-      forbidden = λ s dir. met.forbidden x.layer dir (or_left _ _ (and_from _ _ s (eq-eqb x.layer x.layer refl)));
+      present = λ n. grind (arith, met.present x.object, n);
+      absent = λ n. grind (arith, met.absent x.object, n);
+      required = λ dir t. grind (arith, met.required x.layer dir, t);
+      forbidden = λ s dir. grind (arith, met.forbidden x.layer dir, s);
     }))
     (all_met depth layers objects movement xs low lawful (λ k d h. are (suc k) d (omega arith)) (record {
       present = λ o e. met.present o (or_right _ _ e);
@@ -174,34 +155,17 @@ all_met depth layers objects movement (x ∷ xs) low lawful are met =
     }))
 
 pub met_all : (depth : ℕ) (layers objects movement : List ℕ) (items : List Item) → All (λ layer. layer < depth) layers → AreLawful layers objects movement → AreOf layers items → pattern_holds (cell_of depth layers objects movement) items ≡ true → AreMet items objects movement
-met_all depth layers objects movement [] low lawful are holds = record {
-  present = λ o e. cc;
-  absent = λ o e. cc;
-  required = λ l d e. cc;
-  forbidden = λ l d e. cc;
-}
+met_all depth layers objects movement [] low lawful are holds = record { present = λ o e. cc; absent = λ o e. cc; required = λ l d e. cc; forbidden = λ l d e. cc }
 met_all depth layers objects movement (x ∷ xs) low lawful are holds =
     let is = are 0 x (omega arith) in
     let parts = and_parts (item_holds (cell_of depth layers objects movement) x) (pattern_holds (cell_of depth layers objects movement) xs) holds in
     let here = met_item depth layers objects movement x lawful (item_seen depth layers objects movement x low lawful is.layer) parts.0 in
     let rest = met_all depth layers objects movement xs low lawful (λ k d h. are (suc k) d (omega arith)) parts.1 in
     record {
-      present = λ o e. elim (or_cases _ _ e) [
-        | inl h ↦ (let p = and_parts (names x.word) (nat_eq x.object o) h in subst (λ (k : ℕ). member objects k ≡ true) (eqb-true _ _ p.1) (here.present p.0))
-        | inr h ↦ rest.present o h
-      ];
-      absent = λ o e. elim (or_cases _ _ e) [
-        | inl h ↦ (let p = and_parts (not (names x.word)) (nat_eq x.object o) h in subst (λ (k : ℕ). member objects k ≡ false) (eqb-true _ _ p.1) (here.absent p.0))
-        | inr h ↦ rest.absent o h
-      ];
-      required = λ l d e. elim (or_cases _ _ e) [
-        | inl h ↦ (let p = and_parts (is_toward (toward true x.word) d) (is_on l x) h in subst (λ (k : ℕ). heads movement k d ≡ true) (eqb-true _ _ p.1) (here.required d p.0))
-        | inr h ↦ rest.required l d h
-      ];
-      forbidden = λ l d e. elim (or_cases _ _ e) [
-        | inl h ↦ (let p = and_parts (is_still x.word) (is_on l x) h in subst (λ (k : ℕ). heads movement k d ≡ false) (eqb-true _ _ p.1) (here.forbidden p.0 d))
-        | inr h ↦ rest.forbidden l d h
-      ];
+      present = λ o e. grind (arith, e, here.present, rest.present o);
+      absent = λ o e. grind (arith, e, here.absent, rest.absent o);
+      required = λ l d e. grind (arith, e, here.required d, rest.required l d);
+      forbidden = λ l d e. grind (arith, e, here.forbidden, rest.forbidden l d);
     }
 
 -- the sets of a cell of a rule are met by those of a cell
@@ -239,11 +203,79 @@ low_of_game depth layers items low few shallow are k d within =
 
 -- two tests that decide the parts of what a third decides
 pub both_decide : {A B : Type 0} (x y p : Bool) → (IsTrue x ↔ A) → (IsTrue y ↔ B) → ((A × B) ↔ (p ≡ true)) → x ≡ true → y ≡ p
-both_decide x true true a b h e = refl
-both_decide x true false a b h e = (let t : false ≡ true = h.0 (a.0 e, b.0 refl) in cc)
-both_decide x false true a b h e = (let t : false ≡ true = b.1 (h.1 refl).1 in cc)
-both_decide x false false a b h e = refl
+both_decide x y p a b h e = grind (arith, a, b, h)
 
 pub first_decides : {A B : Type 0} (x p : Bool) → (IsTrue x ↔ A) → ((A × B) ↔ (p ≡ true)) → x ≡ false → x ≡ p
-first_decides x true a h e = (let t : false ≡ true = sym e ∙ a.1 (h.1 refl).0 in cc)
-first_decides x false a h e = e
+first_decides x p a h e = grind (arith, a, h)
+
+-- a number that one of some items has
+asked_by : (P : ℕ → Type 0) (test : Item → Bool) (number_of : Item → ℕ) (items : List Item) (number : ℕ) → All (λ item. P (number_of item)) items → list_any (λ item. test item && nat_eq (number_of item) number) items ≡ true → P number
+asked_by P test number_of [] number all e = cc
+asked_by P test number_of (x ∷ xs) number all e = elim (or_cases _ _ e) [
+  | inl here ↦ subst P (eqb-true _ _ (and_parts (test x) (nat_eq (number_of x) number) here).1) (all 0 x (omega arith))
+  | inr more ↦ asked_by P test number_of xs number (λ k d within. all (suc k) d (omega arith)) more
+]
+
+-- the directions of layers below a depth
+directions_fit : (set : List ℕ) (depth count : ℕ) (asked : ℕ → Dir → Bool) → IsProper set → ((layer : ℕ) (dir : Dir) → heads set layer dir ≡ asked layer dir) → ((layer : ℕ) (dir : Dir) → asked layer dir ≡ true → layer < depth) → depth ≤ 25 * count → (number : ℕ) → member set number ≡ true → number / 128 < count
+directions_fit set depth count asked proper is low room number here = elim (cases_lt (number % 128) 125) [
+  | inl inside ↦ (let f = flag_of number inside in by_flag f.0 f.1 f.2)
+  | inr outside ↦ absurd (let e : false ≡ true = sym (proper number outside) ∙ here in cc)
+] where
+  by_flag : (layer : ℕ) (dir : Dir) → flag layer dir ≡ number → number / 128 < count
+  by_flag layer dir same =
+      let on : layer < depth = low layer dir (sym (is layer dir) ∙ ap (member set) same ∙ here) in
+      let bit = dir_bit-low dir in
+      let word : number / 128 ≡ layer / 25 = omega (arith, same, bit) in
+      omega (arith, word, on, room)
+
+-- what is found passes the test and is an element
+find_all : {X : Type 0} (P : X → Type 0) (p : X → Bool) (xs : List X) (x : X) → All P xs → find p xs ≡ Some x → P x × (p x ≡ true)
+find_all P p [] x all e = cc
+find_all {X} P p (y ∷ ys) x all e = by_test (λ f. find_all P p ys x (λ k d h. all (suc k) d (omega arith)) f) (p y) refl e where
+  by_test : (find p ys ≡ Some x → P x × (p x ≡ true)) → (b : Bool) → p y ≡ b → cond b (Some y) (find p ys) ≡ Some x → P x × (p x ≡ true)
+  by_test rest true t f = (let same : y ≡ x = cc in (subst P same (all 0 y (omega arith)), ap p (sym same) ∙ t))
+  by_test rest false t f = rest f
+
+-- the item that is placed on a layer is of that layer and names its object
+pub placed_is : (layers : List ℕ) (layer : ℕ) (right : List Item) (item : Item) → AreOf layers right → placed_on layer right ≡ Some item → (item.object < length layers) × (get_or layers item.object 0 ≡ layer) × (names item.word ≡ true)
+placed_is layers layer right item are e =
+    let f = find_all (IsOf layers) (places_on layer) right item are e in
+    let parts = and_parts (names item.word) (nat_eq item.layer layer) f.1 in
+    (f.0.object, f.0.layer ∙ eqb-true _ _ parts.1, parts.0)
+
+-- sets without a number beyond so many words
+pub record FitWords (masks : Masks) (count : ℕ) : Type 0 where
+  pub present : (object : ℕ) → member masks.present object ≡ true → object / 128 < count
+  pub absent : (object : ℕ) → member masks.absent object ≡ true → object / 128 < count
+  pub required : (number : ℕ) → member masks.required number ≡ true → number / 128 < count
+  pub forbidden : (number : ℕ) → member masks.forbidden number ≡ true → number / 128 < count
+  pub headed : (number : ℕ) → member masks.headed number ≡ true → number / 128 < count
+
+-- those of a cell of a rule of the game
+pub masks_of_game : (N : ℕ) (layering : Layering) (items : List Item) (masks : Masks) → IsLayering N layering → AreOf layering.layers items → (All IsLow items → AreMasksOf items masks) → AreMasksOf items masks
+masks_of_game N layering items masks law are m = m (low_of_game layering.depth layering.layers items law.layered law.few law.shallow are)
+
+pub masks_fit : (N : ℕ) (layering : Layering) (items : List Item) (masks : Masks) → IsLayering N layering → AreOf layering.layers items → AreMasksOf items masks → FitWords masks N
+masks_fit N layering items masks law are m = record {
+  present = λ object here. (let in_game = asked_by (λ (n : ℕ). n < length layers) (λ item. names item.word) (λ item. item.object) items object of_game (sym (m.present object) ∙ here) in omega (arith, in_game, law.room));
+  absent = λ object here. (let in_game = asked_by (λ (n : ℕ). n < length layers) (λ item. not (names item.word)) (λ item. item.object) items object of_game (sym (m.absent object) ∙ here) in omega (arith, in_game, law.room));
+  required = fits masks.required (λ layer dir. asks_toward layer dir items) m.proper_required m.required (λ layer dir e. asked_by (λ (n : ℕ). n < layering.depth) (λ item. is_toward (toward true item.word) dir) (λ item. item.layer) items layer on_layers e);
+  forbidden = fits masks.forbidden (λ layer dir. asks_still layer items) m.proper_forbidden m.forbidden (λ layer dir e. asked_by (λ (n : ℕ). n < layering.depth) (λ item. is_still item.word) (λ item. item.layer) items layer on_layers e);
+  headed = fits masks.headed (λ layer dir. begins dir (placed_on layer items)) m.proper_headed m.headed (λ layer dir e. by_found layer dir (placed_on layer items) refl e);
+} where
+  layers : List ℕ
+  layers = layering.layers
+
+  of_game : All (λ item. item.object < length layers) items
+  of_game k d within = (are k d within).object
+
+  on_layers : All (λ item. item.layer < layering.depth) items
+  on_layers k d within = subst (λ (layer : ℕ). layer < layering.depth) (are k d within).layer (law.layered (get_or items k d).object 0 (are k d within).object)
+
+  fits : (set : List ℕ) (asked : ℕ → Dir → Bool) → IsProper set → ((layer : ℕ) (dir : Dir) → heads set layer dir ≡ asked layer dir) → ((layer : ℕ) (dir : Dir) → asked layer dir ≡ true → layer < layering.depth) → (number : ℕ) → member set number ≡ true → number / 128 < N
+  fits set asked proper is low = directions_fit set layering.depth N asked proper is low law.movement_room
+
+  by_found : (layer : ℕ) (dir : Dir) (found : Option Item) → placed_on layer items ≡ found → begins dir (placed_on layer items) ≡ true → layer < layering.depth
+  by_found layer dir None e t = absurd (let f : false ≡ true = sym (ap (begins dir) e) ∙ t in cc)
+  by_found layer dir (Some item) e t = (let p = placed_is layers layer items item are e in subst (λ (n : ℕ). n < layering.depth) p.1 (law.layered item.object 0 p.0))

@@ -1,10 +1,7 @@
-pub mod ShowLemmas
 pub mod PlaceLemmas
 pub mod CellLemmas
 pub mod SameLemmas
 pub mod HoldLemmas
-pub mod FitLemmas
 pub mod RewriteLemmas
 pub mod ListLemmas
 pub mod DrawLemmas
-pub mod DifferingLemmas

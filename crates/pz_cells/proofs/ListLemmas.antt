@@ -1,10 +1,8 @@
 -- Lists of cells in words, changed one by one.
-use Rattle.std.proofs.Common.{inl, inr, zero, suc, ◌^◌, get_or-set_same, get_or-set_other, ◌≡◌, ℕ, ◌+◌, ◌*◌, ◌<◌, ◌≤◌, List, [], ◌++◌, Option, Some, None, Bool, true, false, map, set, take, drop, length, get_or, ap, sym, ◌∙◌, refl, subst, arith, length-append, length-drop, length-take}
+use Rattle.std.proofs.Common.{inl, inr, zero, suc, ◌^◌, get_or-set_same, get_or-set_other, ◌≡◌, ℕ, ◌+◌, ◌*◌, ◌<◌, ◌≤◌, List, [], Option, Some, None, Bool, true, false, map, set, length, get_or, ap, sym, ◌∙◌, refl, subst, arith}
 use Rattle.std.proofs.lemmas.Bool.{cases_eq}
 use prog.Memory.{up}
-use Rattle.std.proofs.lemmas.List.{append-nil, get_or_default, length-map, get_or-map, map-set, take_all, drop_all}
-use Rattle.std.proofs.lemmas.List.Edits.{map_over_more}
-use Rattle.std.proofs.lemmas.List.Elements.{All-set}
+use Rattle.std.proofs.lemmas.List.{get_or_default, length-map, length-set, get_or-map, ext_get_or}
 use Rattle.std.specs.List.{All}
 use Rattle.pz_sets.specs.Sets.{member}
 use Rattle.pz_game.specs.declared.direction.Dir.{Dir}
@@ -14,10 +12,10 @@ use Rattle.pz_cells.specs.declared.piece.Piece.{Piece}
 use Rattle.pz_cells.specs.Cell.{still_place}
 use Rattle.pz_cells.specs.Shown.{place_of, cell_of, Shows, AreLawful}
 use Rattle.pz_cells.proofs.HoldLemmas.{place_seen}
-use Rattle.pz_cells.proofs.ShowLemmas.{cell_from_shows, lawful_from_shows}
+use Rattle.pz_cells.proofs.PlaceLemmas.{cell_from_shows, lawful_from_shows}
 use Rattle.std.proofs.lemmas.List.FromFn.{length-map-range_with_len}
 use Rattle.pz_cells.specs.Layering.{Layering}
-use Rattle.pz_cells.specs.Lists.{seen, IsSound, AreMapped, HaveSameObjects}
+use Rattle.pz_cells.specs.Lists.{seen, IsSound, AreMapped}
 
 -- a cell without words
 pub no_cell : (N : ℕ) → Cell N
@@ -63,51 +61,39 @@ cell_stilled depth layers objects movement movement_new lawful none =
     cell_mapped depth layers objects movement objects movement_new still_place lawful.of_game (stilled_shows layers objects movement movement_new lawful none)
 
 -- ---- a loop over the cells
-pub record IsMappedTo {N : ℕ} (layering : Layering) (f : List (Option Piece) → List (Option Piece)) (old now : List (Cell N)) (index : ℕ) : Type 0 where
-  pub sound : All (IsSound layering) now
-  pub cells : map (seen layering) now ≡ map f (take index (map (seen layering) old)) ++ drop index (map (seen layering) old)
+-- of some cells those before a number are changed, as a relation says, and the others are as they were
+pub record AreWalked {N : ℕ} (Turns : Cell N → Cell N → Type 0) (old now : List (Cell N)) (index : ℕ) : Type 0 where
+  pub long : length now ≡ length old
+  pub turned : (k : ℕ) (cell : Cell N) → k < index → Turns (get_or old k cell) (get_or now k cell)
+  pub rest : (k : ℕ) (cell : Cell N) → index ≤ k → get_or now k cell ≡ get_or old k cell
 
-pub mapped_none : {N : ℕ} (layering : Layering) (f : List (Option Piece) → List (Option Piece)) (old : List (Cell N)) → All (IsSound layering) old → IsMappedTo layering f old old 0
-mapped_none layering f old sound = record { sound = sound; cells = refl }
+pub walked_none : {N : ℕ} (Turns : Cell N → Cell N → Type 0) (old : List (Cell N)) → AreWalked Turns old old 0
+walked_none Turns old = record { long = refl; turned = λ k cell below. absurd (omega (arith, below)); rest = λ k cell above. refl }
 
-pub mapped_long : {N : ℕ} (layering : Layering) (f : List (Option Piece) → List (Option Piece)) (old now : List (Cell N)) (index : ℕ) → IsMappedTo layering f old now index → length now ≡ length old
-mapped_long layering f old now index m =
-    let xs = map (seen layering) old in
-    omega (arith, length-map now (seen layering), length-map old (seen layering), ap length m.cells ∙ length-append (map f (take index xs)) (drop index xs), length-map (take index xs) f, length-take index xs, length-drop index xs)
+pub walked_more : {N : ℕ} (Turns : Cell N → Cell N → Type 0) (old now : List (Cell N)) (index : ℕ) (cell new : Cell N) → index < length now → AreWalked Turns old now index → cell ≡ get_or now index cell → Turns cell new → AreWalked Turns old (set now index new) (index + 1)
+walked_more {N} Turns old now index cell new within w is turns = record {
+  long = length-set now index new ∙ w.long;
+  turned = λ k d below. elim (cases_eq k index) [
+    | inl same ↦ (let was : cell ≡ get_or old index d = is ∙ w.rest index cell (omega arith) ∙ get_or_default old index cell d (omega (arith, within, w.long)) in
+        subst (λ (i : ℕ). Turns (get_or old i d) (get_or (set now index new) i d)) (sym same) (subst (Turns (get_or old index d)) (sym (get_or-set_same now index new d within)) (subst (λ (c : Cell N). Turns c new) was turns)))
+    | inr other ↦ subst (Turns (get_or old k d)) (sym (get_or-set_other now index k new d other)) (w.turned k d (omega (arith, below, other)))
+  ];
+  rest = λ k d above. get_or-set_other now index k new d (λ same. absurd (omega (arith, same, above))) ∙ w.rest k d (omega (arith, above));
+}
 
-pub mapped_more : {N : ℕ} (layering : Layering) (f : List (Option Piece) → List (Option Piece)) (old now : List (Cell N)) (index : ℕ) (cell new : Cell N) → index < length now → IsMappedTo layering f old now index → cell ≡ get_or now index cell → IsSound layering new → seen layering new ≡ f (seen layering cell) → IsMappedTo layering f old (set now index new) (index + 1)
-mapped_more layering f old now index cell new within m is sound e =
-    let xs = map (seen layering) old in
-    let ys = map (seen layering) now in
-    let here : seen layering cell ≡ get_or ys index (seen layering cell) = ap (seen layering) is ∙ sym (get_or-map (seen layering) now index cell (seen layering cell) within) in
-    record {
-      sound = All-set (IsSound layering) now index new sound m.sound;
-      cells = map-set (seen layering) now index new ∙ (ap (set ys index) e
-          ∙ map_over_more f xs ys index (seen layering cell) (omega (arith, within, mapped_long layering f old now index m, length-map old (seen layering))) m.cells here);
-    }
+-- a cell that is still to come is as sound as it was
+pub walked_sound : {N : ℕ} (layering : Layering) (Turns : Cell N → Cell N → Type 0) (old now : List (Cell N)) (index : ℕ) (cell : Cell N) → All (IsSound layering) old → index < length now → AreWalked Turns old now index → cell ≡ get_or now index cell → IsSound layering cell
+walked_sound layering Turns old now index cell sound within w is = sound_at layering old index cell sound (omega (arith, within, w.long)) (is ∙ w.rest index cell (omega arith))
 
-pub mapped_all : {N : ℕ} (layering : Layering) (f : List (Option Piece) → List (Option Piece)) (old now : List (Cell N)) (index : ℕ) → length old ≤ index → IsMappedTo layering f old now index → AreMapped layering f old now
-mapped_all layering f old now index past m =
-    let xs = map (seen layering) old in
-    let long : length xs ≤ index = omega (arith, past, length-map old (seen layering)) in
-    record {
-      sound = m.sound;
-      cells = m.cells ∙ (ap (λ (ys : List (List (Option Piece))). map f (take index xs) ++ ys) (drop_all index xs long) ∙ (append-nil (map f (take index xs)) ∙ ap (map f) (take_all index xs long)));
-    }
+-- a cell is changed as a function says of what is seen of it
+abbrev pub Turns : {N : ℕ} → Layering → (List (Option Piece) → List (Option Piece)) → Cell N → Cell N → Type 0
+Turns layering f cell new = IsSound layering new × (seen layering new ≡ f (seen layering cell))
 
--- one more cell heads nowhere
-pub nowhere_more : {N : ℕ} (cells : List (Cell N)) (index : ℕ) (new : Cell N) → index < length cells → ((number : ℕ) → member new.movement number ≡ false)
-    → ((k : ℕ) (cell : Cell N) (number : ℕ) → k < index → member (get_or cells k cell).movement number ≡ false) → (k : ℕ) (cell : Cell N) (number : ℕ) → k < index + 1 → member (get_or (set cells index new) k cell).movement number ≡ false
-nowhere_more {N = N} cells index new within none before k cell number below = elim (cases_eq k index) [
-  | inl same ↦ ap (λ (there : Cell N). member there.movement number) (ap (λ (i : ℕ). get_or (set cells index new) i cell) same ∙ get_or-set_same cells index new cell within) ∙ none number
-  | inr other ↦ ap (λ (there : Cell N). member there.movement number) (get_or-set_other cells index k new cell other) ∙ before k cell number (omega (arith, below, other))
-]
-
--- one more cell has the same objects
-pub same_objects_more : {N : ℕ} (old cells : List (Cell N)) (index : ℕ) (here new : Cell N) → index < length cells → here ≡ get_or cells index here → new.objects ≡ here.objects → HaveSameObjects old cells → HaveSameObjects old (set cells index new)
-same_objects_more {N = N} old cells index here new within is same before k cell = elim (cases_eq k index) [
-  | inl at ↦
-      ap (λ (there : Cell N). there.objects) (ap (λ (i : ℕ). get_or (set cells index new) i cell) at ∙ get_or-set_same cells index new cell within) ∙ same
-      ∙ ap (λ (there : Cell N). there.objects) (is ∙ get_or_default cells index here cell within ∙ ap (λ (i : ℕ). get_or cells i cell) (sym at)) ∙ before k cell
-  | inr other ↦ ap (λ (there : Cell N). there.objects) (get_or-set_other cells index k new cell other) ∙ before k cell
-]
+pub walked_all : {N : ℕ} (layering : Layering) (f : List (Option Piece) → List (Option Piece)) (old now : List (Cell N)) → ((k : ℕ) (cell : Cell N) → k < length old → Turns layering f (get_or old k cell) (get_or now k cell)) → length now ≡ length old → AreMapped layering f old now
+walked_all {N} layering f old now turned long = record {
+  sound = λ k cell within. (turned k cell (omega (arith, within, long))).0;
+  cells = ext_get_or [] (map (seen layering) now) (map f (map (seen layering) old)) (length-map now (seen layering) ∙ long ∙ sym (length-map old (seen layering)) ∙ sym (length-map (map (seen layering) old) f)) (λ k within.
+      let low : k < length now = omega (arith, within, length-map now (seen layering)) in
+      get_or-map (seen layering) now k (no_cell N) [] low ∙ (turned k (no_cell N) (omega (arith, low, long))).1
+      ∙ sym (get_or-map f (map (seen layering) old) k [] [] (omega (arith, low, long, length-map old (seen layering))) ∙ ap f (get_or-map (seen layering) old k (no_cell N) [] (omega (arith, low, long)))));
+}

@@ -1,24 +1,73 @@
--- One layer of a cell changes.
-use Rattle.std.proofs.Common.{◌≡◌, ◌≢◌, inl, inr, ℕ, ◌/◌, ◌<◌, List, Option, Some, None, Bool, true, false, not, ◌&&◌, ◌||◌, length, get_or, set, arith, ap, sym, ◌∙◌, refl, subst, nat_eq, eq-eqb, get_or-set_same, get_or-set_other}
-use Rattle.std.specs.Prelude.{MatchOption}
-use Rattle.std.proofs.lemmas.Bool.{cases_eq, eqb-true, ne_eqb, and_parts, or_cases, and_from}
-use Rattle.std.proofs.lemmas.List.{length-set}
+-- What words show, and how one layer of a cell changes.
+use Rattle.std.proofs.Common.{◌≡◌, ◌≢◌, inl, inr, ℕ, ◌<◌, List, Option, Some, None, Bool, true, false, not, ◌&&◌, ◌||◌, length, get_or, set, arith, ap, sym, ◌∙◌, refl, subst, nat_eq, eq-eqb, zero, suc, ◌+◌, ◌≤◌, cond}
+use Rattle.std.proofs.lemmas.Bool.{cases_eq, eqb-true, ne_eqb, and_parts, or_cases}
+use Rattle.std.proofs.lemmas.List.{length-set, ext_get_or}
 use Rattle.std.proofs.lemmas.List.FromFn.{get_or-map-range_with_len, length-map-range_with_len}
+use Rattle.std.proofs.lemmas.Grind.{common_steps}
 use Rattle.pz_sets.specs.Sets.{member}
 use Rattle.pz_cells.specs.declared.piece.Piece.{Piece}
 use Rattle.pz_game.specs.declared.direction.Dir.{Dir}
 use Rattle.pz_game.specs.Direction.{same_dir}
-use Rattle.pz_game.specs.Headings.{is_toward, IsProper, heads, heading_in}
-use Rattle.pz_cells.specs.Shown.{IsSetOf, place_of, cell_of, Shows, AreLawful, Changes}
-use Rattle.pz_cells.proofs.ShowLemmas.{first_toward, place_shown, cell_from_shows}
+use Rattle.pz_game.specs.Headings.{is_toward, IsProper, heads, heading_in, first_of}
+use Rattle.pz_cells.specs.Cell.{IsOnLayer}
+use Rattle.pz_cells.specs.Shown.{IsSetOf, place_of, cell_of, Shows, AreLawful, Changes, stands_on, piece_with}
+use Rattle.std.specs.Prelude.{find}
+use Rattle.std.specs.Option.{option_map}
+use Rattle.std.specs.List.{range_with_len}
+use Rattle.pz_game.specs.declared.direction.Dir.TheVariants.{Up, Down, Left, Right, Action}
+
+-- the first direction that a test picks, of tests that pick one or none
+pub first_toward : (test : Dir → Bool) (heading : Option Dir) → ((dir : Dir) → test dir ≡ is_toward heading dir) → first_of test ≡ heading
+first_toward test None h = grind (arith, h Up, h Down, h Left, h Right, h Action)
+first_toward test (Some Up) h = grind (arith, h Up)
+first_toward test (Some Down) h = grind (arith, h Up, h Down)
+first_toward test (Some Left) h = simp (h Up, h Down, h Left) refl
+first_toward test (Some Right) h = simp (h Up, h Down, h Left, h Right) refl
+first_toward test (Some Action) h = simp (h Up, h Down, h Left, h Right, h Action) refl
+
+-- the only number that passes is found
+pub find_only : (p : ℕ → Bool) (a n k : ℕ) → a ≤ k → k < a + n → p k ≡ true → ((j : ℕ) → j < a + n → p j ≡ true → j ≡ k) → find p (range_with_len a n) ≡ Some k
+find_only p a zero k low high e only = absurd (omega arith)
+find_only p a (suc n) k low high e only = by_test (λ x. find_only p (a + 1) n k x (omega arith) e (λ j h. only j (omega arith))) (p a) refl where
+  by_test : (a + 1 ≤ k → find p (range_with_len (a + 1) n) ≡ Some k) → (b : Bool) → p a ≡ b → cond b (Some a) (find p (range_with_len (a + 1) n)) ≡ Some k
+  by_test rest true f = ap Some (only a (omega arith) f)
+  by_test rest false f = rest (elim (cases_eq a k) [ inl same ↦ grind arith | inr other ↦ omega (arith, other) ])
+
+-- a number that doesn't pass isn't found
+pub find_none : (p : ℕ → Bool) (a n : ℕ) → ((j : ℕ) → p j ≡ true → ⊥) → find p (range_with_len a n) ≡ None
+find_none p a zero none = refl
+find_none p a (suc n) none = grind (arith, none a, find_none p (a + 1) n none)
+
+-- what masks show of a layer is what their view says of it
+pub place_shown : (layers objects movement : List ℕ) (layer : ℕ) (place : Option Piece) → ((object : ℕ) → member objects object ≡ true → object < length layers) → Shows layers (member objects) (heads movement layer) layer place → place_of layers objects movement layer ≡ place
+place_shown layers objects movement layer None of_game h =
+    ap (option_map (piece_with (heading_in movement layer))) (find_none (stands_on layers objects layer) 0 (length layers) (λ j e. (let parts = and_parts (member objects j) _ e in h.0 j parts.0 (eqb-true _ _ parts.1))))
+place_shown layers objects movement layer (Some piece) of_game h =
+    let here : stands_on layers objects layer piece.object ≡ true = ap (λ b. b && nat_eq (get_or layers piece.object 0) layer) h.0 ∙ eq-eqb (get_or layers piece.object 0) layer h.1 in
+    let found = find_only (stands_on layers objects layer) 0 (length layers) piece.object (omega arith) (omega (arith, of_game piece.object h.0)) here (λ j low e. (let parts = and_parts (member objects j) _ e in h.2 j parts.0 (eqb-true _ _ parts.1))) in
+    ap (option_map (piece_with (heading_in movement layer))) found ∙ ap (λ (d : Option Dir). Some (piece_with d piece.object)) (first_toward (heads movement layer) piece.heading h.3)
+
+-- masks that show a place on each layer are lawful
+pub lawful_from_shows : (layers objects movement : List ℕ) (place : ℕ → Option Piece) → ((object : ℕ) → member objects object ≡ true → object < length layers) → ((layer : ℕ) → Shows layers (member objects) (heads movement layer) layer (place layer)) → IsProper movement → AreLawful layers objects movement
+lawful_from_shows layers objects movement place of_game shows proper = record {
+  proper = proper;
+  of_game = of_game;
+  shows = λ layer. subst (Shows layers (member objects) (heads movement layer) layer) (sym (place_shown layers objects movement layer (place layer) of_game (shows layer))) (shows layer);
+}
+
+-- and their view is those places
+pub cell_from_shows : (depth : ℕ) (layers objects movement : List ℕ) (cell : List (Option Piece)) → length cell ≡ depth → ((object : ℕ) → member objects object ≡ true → object < length layers) → ((layer : ℕ) → layer < depth → Shows layers (member objects) (heads movement layer) layer (get_or cell layer None)) → cell_of depth layers objects movement ≡ cell
+cell_from_shows depth layers objects movement cell long of_game shows =
+    ext_get_or None (cell_of depth layers objects movement) cell (length-map-range_with_len (place_of layers objects movement) 0 depth ∙ sym long) (λ layer within.
+    let low : layer < depth = omega (arith, within, length-map-range_with_len (place_of layers objects movement) 0 depth) in
+    get_or-map-range_with_len (place_of layers objects movement) 0 depth layer layer None low (omega arith) ∙ place_shown layers objects movement layer (get_or cell layer None) of_game (shows layer low))
 
 -- a layer with one
 pub place_some : (layers objects movement : List ℕ) (layer object : ℕ) → AreLawful layers objects movement → member objects object ≡ true → get_or layers object 0 ≡ layer → Some (record { object = object; heading = heading_in movement layer }) ≡ place_of layers objects movement layer
 place_some layers objects movement layer object lawful here on = by_place (place_of layers objects movement layer) refl (lawful.shows layer) where
   by_place : (place : Option Piece) → place_of layers objects movement layer ≡ place → Shows layers (member objects) (heads movement layer) layer place → Some (record { object = object; heading = heading_in movement layer }) ≡ place_of layers objects movement layer
   by_place None e shown = absurd (shown.0 object here on)
-  by_place (Some piece) e shown = (let same : object ≡ piece.object = shown.2 object here on in let heading : heading_in movement layer ≡ piece.heading = first_toward (heads movement layer) piece.heading shown.3 in
-      ap Some (λ i. record { object = same i; heading = heading i }) ∙ sym e)
+  by_place (Some piece) e shown = ap Some (λ i. record { object = shown.2 object here on i; heading = first_toward (heads movement layer) piece.heading shown.3 i }) ∙ sym e
 
 -- two objects of one layer are one
 pub one_object : (layers objects movement : List ℕ) (layer a b : ℕ) → AreLawful layers objects movement → member objects a ≡ true → get_or layers a 0 ≡ layer → member objects b ≡ true → get_or layers b 0 ≡ layer → a ≡ b
@@ -35,64 +84,59 @@ pub shows_changed : (layers objects movement objects_new movement_new : List ℕ
 shows_changed layers objects movement objects_new movement_new layer place c other apart there shown =
     shows_alike layers (member objects) (member objects_new) (heads movement other) (heads movement_new other) other there (λ object on. c.same_objects object (λ e. apart (sym on ∙ e))) (λ dir. c.same_movement other dir apart) shown
 
+-- each layer after one of them changed
+shows_after : (layers objects movement objects_new movement_new : List ℕ) (layer : ℕ) (place : Option Piece) → AreLawful layers objects movement → Changes layers objects movement objects_new movement_new layer place → (other : ℕ) → Shows layers (member objects_new) (heads movement_new other) other (cond (nat_eq other layer) place (place_of layers objects movement other))
+shows_after layers objects movement objects_new movement_new layer place lawful c other = elim (cases_eq other layer) [
+  | inl same ↦ subst (λ b. Shows layers (member objects_new) (heads movement_new other) other (cond b place (place_of layers objects movement other))) (sym (eq-eqb other layer same)) (subst (λ (k : ℕ). Shows layers (member objects_new) (heads movement_new k) k place) (sym same) c.here)
+  | inr apart ↦ subst (λ b. Shows layers (member objects_new) (heads movement_new other) other (cond b place (place_of layers objects movement other))) (sym (ne_eqb other layer apart)) (shows_changed layers objects movement objects_new movement_new layer place c other apart (place_of layers objects movement other) (lawful.shows other))
+]
+
 pub lawful_changed : (layers objects movement objects_new movement_new : List ℕ) (layer : ℕ) (place : Option Piece) → AreLawful layers objects movement → Changes layers objects movement objects_new movement_new layer place → AreLawful layers objects_new movement_new
-lawful_changed layers objects movement objects_new movement_new layer place lawful c = record {
-  proper = c.proper;
-  of_game = c.of_game;
-  shows = λ other. elim (cases_eq other layer) [
-    | inl same ↦ subst (λ (k : ℕ). Shows layers (member objects_new) (heads movement_new k) k (place_of layers objects_new movement_new k)) (sym same) (subst (Shows layers (member objects_new) (heads movement_new layer) layer) (sym (place_shown layers objects_new movement_new layer place c.of_game c.here)) c.here)
-    | inr apart ↦ (let shown = shows_changed layers objects movement objects_new movement_new layer place c other apart (place_of layers objects movement other) (lawful.shows other) in
-        subst (Shows layers (member objects_new) (heads movement_new other) other) (sym (place_shown layers objects_new movement_new other (place_of layers objects movement other) c.of_game shown)) shown)
-  ];
-}
+lawful_changed layers objects movement objects_new movement_new layer place lawful c =
+    lawful_from_shows layers objects_new movement_new (λ other. cond (nat_eq other layer) place (place_of layers objects movement other)) c.of_game (shows_after layers objects movement objects_new movement_new layer place lawful c) c.proper
 
 pub cell_changed : (depth : ℕ) (layers objects movement objects_new movement_new : List ℕ) (layer : ℕ) (place : Option Piece) → AreLawful layers objects movement → Changes layers objects movement objects_new movement_new layer place → cell_of depth layers objects_new movement_new ≡ set (cell_of depth layers objects movement) layer place
 cell_changed depth layers objects movement objects_new movement_new layer place lawful c =
     let old = cell_of depth layers objects movement in
     let long : length old ≡ depth = length-map-range_with_len (place_of layers objects movement) 0 depth in
-    let there = λ (k : ℕ) (low : k < depth). get_or-map-range_with_len (place_of layers objects movement) 0 depth k k None low (omega arith) in
-    cell_from_shows depth layers objects_new movement_new (set old layer place) (length-set old layer place ∙ long) c.of_game (λ other low. elim (cases_eq other layer) [
-      | inl same ↦ (let at : get_or (set old layer place) other None ≡ place = ap (λ (k : ℕ). get_or (set old layer place) k None) same ∙ get_or-set_same old layer place None (omega (arith, long, same, low)) in
-          subst (Shows layers (member objects_new) (heads movement_new other) other) (sym at) (subst (λ (k : ℕ). Shows layers (member objects_new) (heads movement_new k) k place) (sym same) c.here))
-      | inr apart ↦ (let at : get_or (set old layer place) other None ≡ place_of layers objects movement other = get_or-set_other old layer other place None apart ∙ there other low in
-          subst (Shows layers (member objects_new) (heads movement_new other) other) (sym at) (shows_changed layers objects movement objects_new movement_new layer place c other apart (place_of layers objects movement other) (lawful.shows other)))
-    ])
+    cell_from_shows depth layers objects_new movement_new (set old layer place) (length-set old layer place ∙ long) c.of_game (λ other low.
+    let there = get_or-map-range_with_len (place_of layers objects movement) 0 depth other other None low (omega arith) in
+    subst (Shows layers (member objects_new) (heads movement_new other) other) (elim (cases_eq other layer) [
+      | inl same ↦ grind (arith, common_steps, same, long, low)
+      | inr apart ↦ grind (arith, common_steps, apart, there)
+    ]) (shows_after layers objects movement objects_new movement_new layer place lawful c other))
 
 -- an object is taken from its layer
 pub changes_lifted : (layers objects movement objects_new movement_new : List ℕ) (layer object : ℕ) → AreLawful layers objects movement → member objects object ≡ true → get_or layers object 0 ≡ layer → ((other : ℕ) → member objects_new other ≡ (not (nat_eq other object) && member objects other)) → ((other : ℕ) (dir : Dir) → heads movement_new other dir ≡ (not (nat_eq other layer) && heads movement other dir)) → IsProper movement_new → Changes layers objects movement objects_new movement_new layer None
 changes_lifted layers objects movement objects_new movement_new layer object lawful here on objects_are movement_is proper = record {
   proper = proper;
-  of_game = λ other new. lawful.of_game other (and_parts _ _ (sym (objects_are other) ∙ new)).1;
-  here = (
-    λ other new at. (let parts = and_parts (not (nat_eq other object)) (member objects other) (sym (objects_are other) ∙ new) in
-        let same : other ≡ object = one_object layers objects movement layer other object lawful parts.1 at here on in
-        let e : false ≡ true = sym (ap not (eq-eqb other object same)) ∙ parts.0 in cc),
-    λ dir. movement_is layer dir ∙ ap (λ b. not b && heads movement layer dir) (eq-eqb layer layer refl),
-  );
-  same_objects = λ other apart. objects_are other ∙ ap (λ b. not b && member objects other) (ne_eqb other object (λ e. apart (ap (λ (k : ℕ). get_or layers k 0) e ∙ on)));
-  same_movement = λ other dir apart. movement_is other dir ∙ ap (λ b. not b && heads movement other dir) (ne_eqb other layer apart);
+  of_game = λ other new. lawful.of_game other (grind (arith, objects_are other, new));
+  here = (λ other new at. grind (arith, objects_are other, new, one_object layers objects movement layer other object lawful (grind (arith, objects_are other, new)) at here on), λ dir. grind (arith, movement_is layer dir));
+  same_objects = λ other apart. grind (arith, objects_are other, apart, on);
+  same_movement = λ other dir apart. grind (arith, movement_is other dir, apart);
 }
 
--- a piece is put on its layer
-pub changes_landed : (layers objects movement objects_new movement_new : List ℕ) (layer : ℕ) (piece : Piece) → AreLawful layers objects movement → place_of layers objects movement layer ≡ None → piece.object < length layers → get_or layers piece.object 0 ≡ layer → ((other : ℕ) → member objects_new other ≡ (nat_eq other piece.object || member objects other)) → ((other : ℕ) (dir : Dir) → heads movement_new other dir ≡ ((nat_eq other layer && is_toward piece.heading dir) || heads movement other dir)) → IsProper movement_new → Changes layers objects movement objects_new movement_new layer (Some piece)
-changes_landed layers objects movement objects_new movement_new layer piece lawful free within on objects_are movement_is proper =
-    let empty = subst (Shows layers (member objects) (heads movement layer) layer) free (lawful.shows layer) in
-    let object = piece.object in
-    record {
-      of_game = λ other new. elim (or_cases (nat_eq other object) (member objects other) (sym (objects_are other) ∙ new)) [ inl e ↦ omega (arith, eqb-true _ _ e) | inr old ↦ lawful.of_game other old ];
-      here = (
-        objects_are object ∙ ap (λ b. b || member objects object) (eq-eqb object object refl),
-        on,
-        λ other new at. elim (or_cases (nat_eq other object) (member objects other) (sym (objects_are other) ∙ new)) [ inl e ↦ eqb-true _ _ e | inr old ↦ absurd (empty.0 other old at) ],
-        λ dir. movement_is layer dir ∙ ap (λ b. (b && is_toward piece.heading dir) || heads movement layer dir) (eq-eqb layer layer refl) ∙ ap (λ b. is_toward piece.heading dir || b) (empty.1 dir) ∙ or_none (is_toward piece.heading dir),
-      );
-      same_objects = λ other apart. objects_are other ∙ ap (λ b. b || member objects other) (ne_eqb other object (λ e. apart (ap (λ (k : ℕ). get_or layers k 0) e ∙ on)));
-      proper = proper;
-      same_movement = λ other dir apart. movement_is other dir ∙ ap (λ b. (b && is_toward piece.heading dir) || heads movement other dir) (ne_eqb other layer apart);
-    } where
-      or_none : (b : Bool) → (b || false) ≡ b
-      or_none true = refl
-      or_none false = refl
+-- a piece is put on its layer, from which everything was taken
+pub changes_landed : (layers objects movement objects_mid movement_mid objects_new movement_new : List ℕ) (layer : ℕ) (piece : Piece) → Changes layers objects movement objects_mid movement_mid layer None → IsOnLayer layers layer (Some piece) → ((other : ℕ) → member objects_new other ≡ (nat_eq other piece.object || member objects_mid other)) → ((other : ℕ) (dir : Dir) → heads movement_new other dir ≡ ((nat_eq other layer && is_toward piece.heading dir) || heads movement_mid other dir)) → IsProper movement_new → Changes layers objects movement objects_new movement_new layer (Some piece)
+changes_landed layers objects movement objects_mid movement_mid objects_new movement_new layer piece c on objects_are movement_is proper = record {
+  of_game = λ other new. grind (arith, objects_are other, new, c.of_game other, on.0);
+  here = (grind (arith, objects_are piece.object), on.1, λ other new at. by_new other (sym (objects_are other) ∙ new) at, λ dir. movement_is layer dir ∙ turned (nat_eq layer layer) (is_toward piece.heading dir) (heads movement_mid layer dir) (eq-eqb layer layer refl) (c.here.1 dir));
+  same_objects = λ other apart. grind (arith, objects_are other, apart, on.1, c.same_objects other apart);
+  proper = proper;
+  same_movement = λ other dir apart. grind (arith, movement_is other dir, apart, c.same_movement other dir apart);
+} where
+  by_new : (other : ℕ) → (nat_eq other piece.object || member objects_mid other) ≡ true → get_or layers other 0 ≡ layer → other ≡ piece.object
+  by_new other new at = elim (or_cases (nat_eq other piece.object) (member objects_mid other) new) [ inl e ↦ eqb-true _ _ e | inr old ↦ absurd (c.here.0 other old at) ]
+
+  turned : (same toward old : Bool) → same ≡ true → old ≡ false → ((same && toward) || old) ≡ toward
+  turned same toward old e f = grind arith
+
+-- what a cell is after one layer changed
+pub put_seen : (depth : ℕ) (layers objects movement objects_new movement_new : List ℕ) (layer : ℕ) (place put : Option Piece) → AreLawful layers objects movement → put ≡ place → Changes layers objects movement objects_new movement_new layer place → AreLawful layers objects_new movement_new × (cell_of depth layers objects_new movement_new ≡ set (cell_of depth layers objects movement) layer put)
+put_seen depth layers objects movement objects_new movement_new layer place put lawful is c = (
+  lawful_changed layers objects movement objects_new movement_new layer place lawful c,
+  cell_changed depth layers objects movement objects_new movement_new layer place lawful c ∙ ap (set (cell_of depth layers objects movement) layer) (sym is),
+)
 
 -- a layer that nothing stands on stays as it is
 pub changes_nothing : (layers objects movement : List ℕ) (layer : ℕ) → AreLawful layers objects movement → place_of layers objects movement layer ≡ None → Changes layers objects movement objects movement layer None
@@ -104,27 +148,22 @@ changes_nothing layers objects movement layer lawful free = record {
   same_movement = λ other dir apart. refl;
 }
 
--- the place of the layer that changed
-pub place_changed : (layers objects movement objects_new movement_new : List ℕ) (layer : ℕ) (place : Option Piece) → Changes layers objects movement objects_new movement_new layer place → place_of layers objects_new movement_new layer ≡ place
-place_changed layers objects movement objects_new movement_new layer place c = place_shown layers objects_new movement_new layer place c.of_game c.here
+-- a number that a set of a layer's objects has in common with a cell is an object that stands there
+pub found_on : (layers objects movement set : List ℕ) (layer first : ℕ) → AreLawful layers objects movement → IsSetOf layers set layer → (member objects first && member set first) ≡ true → (member objects first ≡ true) × (get_or layers first 0 ≡ layer)
+found_on layers objects movement set layer first lawful table both = (let here : member objects first ≡ true = grind (arith, both) in (here, grind (arith, both, table first (lawful.of_game first here))))
 
--- a layer that changed changes again
-pub changes_again : (layers objects movement objects_mid movement_mid objects_new movement_new : List ℕ) (layer : ℕ) (first second : Option Piece) → Changes layers objects movement objects_mid movement_mid layer first → Changes layers objects_mid movement_mid objects_new movement_new layer second → Changes layers objects movement objects_new movement_new layer second
-changes_again layers objects movement objects_mid movement_mid objects_new movement_new layer first second a b = record {
-  of_game = b.of_game;
-  here = b.here;
-  same_objects = λ object apart. b.same_objects object apart ∙ a.same_objects object apart;
-  proper = b.proper;
-  same_movement = λ other dir apart. b.same_movement other dir apart ∙ a.same_movement other dir apart;
-}
+-- where there is none, nothing stands
+pub found_none : (layers objects movement set : List ℕ) (layer : ℕ) → AreLawful layers objects movement → IsSetOf layers set layer → ((object : ℕ) → (member objects object && member set object) ≡ false) → place_of layers objects movement layer ≡ None
+found_none layers objects movement set layer lawful table none = by_place (place_of layers objects movement layer) refl (lawful.shows layer) where
+  by_place : (place : Option Piece) → place_of layers objects movement layer ≡ place → Shows layers (member objects) (heads movement layer) layer place → place_of layers objects movement layer ≡ None
+  by_place None e shown = e
+  by_place (Some piece) e shown = absurd (grind (arith, shown.0, table piece.object (lawful.of_game piece.object shown.0), shown.1, none piece.object))
 
--- the object that a set of a layer's objects has in common with a cell
-pub on_layer : (layers objects set : List ℕ) (layer : ℕ) → ((object : ℕ) → member objects object ≡ true → object < length layers) → IsSetOf layers set layer → (found : Option ℕ) → MatchOption found ((object : ℕ) → (member objects object && member set object) ≡ false) (λ first. (first / 128 < length objects) × ((member objects first && member set first) ≡ true)) → MatchOption found ((object : ℕ) → member objects object ≡ true → get_or layers object 0 ≡ layer → ⊥) (λ object. (member objects object ≡ true) × (get_or layers object 0 ≡ layer))
-on_layer layers objects set layer of_game table None none =
-    λ object here on. (let e : true ≡ false = sym (and_from (member objects object) (member set object) here (table object (of_game object here) ∙ eq-eqb (get_or layers object 0) layer on)) ∙ none object in cc)
-on_layer layers objects set layer of_game table (Some first) found =
-    let parts = and_parts (member objects first) (member set first) found.1 in
-    (parts.0, eqb-true _ _ (sym (table first (of_game first parts.0)) ∙ parts.1))
+-- a piece that was put where the layer had been cleared
+pub piece_put : (depth : ℕ) (layers objects movement objects_mid movement_mid objects_new movement_new : List ℕ) (layer : ℕ) (place : Option Piece) (piece : Piece) (heading : Option Dir) → AreLawful layers objects movement → Changes layers objects movement objects_mid movement_mid layer None → IsOnLayer layers layer place → place ≡ Some piece → piece.heading ≡ heading → ((other : ℕ) → member objects_new other ≡ (nat_eq other piece.object || member objects_mid other)) → ((other : ℕ) (dir : Dir) → heads movement_new other dir ≡ ((nat_eq other layer && is_toward heading dir) || heads movement_mid other dir)) → IsProper movement_new → AreLawful layers objects_new movement_new × (cell_of depth layers objects_new movement_new ≡ set (cell_of depth layers objects movement) layer place)
+piece_put depth layers objects movement objects_mid movement_mid objects_new movement_new layer place piece heading lawful c on is heads_so objects_are movement_is proper =
+    put_seen depth layers objects movement objects_new movement_new layer (Some piece) place lawful is (changes_landed layers objects movement objects_mid movement_mid objects_new movement_new layer piece c (subst (IsOnLayer layers layer) is on) objects_are
+    (λ other dir. movement_is other dir ∙ ap (λ (h : Option Dir). (nat_eq other layer && is_toward h dir) || heads movement_mid other dir) (sym heads_so)) proper)
 
 -- an object that stands on a layer is in the cell's set, and of the game
 pub object_there : (layers objects movement : List ℕ) (layer : ℕ) (piece : Piece) → AreLawful layers objects movement → place_of layers objects movement layer ≡ Some piece → (member objects piece.object ≡ true) × (get_or layers piece.object 0 ≡ layer) × (piece.object < length layers)
@@ -134,20 +173,10 @@ object_there layers objects movement layer piece lawful e =
 
 -- an object that stands in the cell is given a direction
 pub changes_turned : (layers objects movement movement_new : List ℕ) (object : ℕ) (dir : Dir) → AreLawful layers objects movement → member objects object ≡ true → ((other : ℕ) (way : Dir) → heads movement_new other way ≡ ((nat_eq other (get_or layers object 0) && same_dir dir way) || (not (nat_eq other (get_or layers object 0)) && heads movement other way))) → IsProper movement_new → Changes layers objects movement objects movement_new (get_or layers object 0) (Some (record { object = object; heading = Some dir }))
-changes_turned layers objects movement movement_new object dir lawful here movement_is proper =
-    let layer : ℕ = get_or layers object 0 in
-    record {
-      of_game = lawful.of_game;
-      here = (
-        here,
-        refl,
-        λ other there at. one_object layers objects movement layer other object lawful there at here refl,
-        λ way. movement_is layer way ∙ ap (λ b. (b && same_dir dir way) || (not b && heads movement layer way)) (eq-eqb layer layer refl) ∙ or_none (same_dir dir way),
-      );
-      same_objects = λ other apart. refl;
-      proper = proper;
-      same_movement = λ other way apart. movement_is other way ∙ ap (λ b. (b && same_dir dir way) || (not b && heads movement other way)) (ne_eqb other layer apart);
-    } where
-      or_none : (b : Bool) → (b || false) ≡ b
-      or_none true = refl
-      or_none false = refl
+changes_turned layers objects movement movement_new object dir lawful here movement_is proper = record {
+  of_game = lawful.of_game;
+  here = (here, refl, λ other there at. one_object layers objects movement (get_or layers object 0) other object lawful there at here refl, λ way. grind (arith, movement_is (get_or layers object 0) way));
+  same_objects = λ other apart. refl;
+  proper = proper;
+  same_movement = λ other way apart. grind (arith, movement_is other way, apart);
+}

@@ -1,31 +1,28 @@
 -- What a rewriting does to the sets of a cell.
-use Rattle.std.proofs.Common.{◌≡◌, ◌≢◌, ◌⊎◌, nat_lt, inl, inr, ℕ, suc, ◌+◌, ◌*◌, ◌/◌, ◌%◌, ◌<◌, ◌≤◌, List, [], ◌∷◌, Option, Some, None, Bool, true, false, cond, not, ◌&&◌, ◌||◌, length, get_or, arith, ap, sym, ◌∙◌, refl, subst, nat_eq}
-use Rattle.std.specs.Prelude.{All, find, is_some, ◌↔◌}
-use Rattle.std.proofs.lemmas.Bool.{cases_lt, cases_eq, eqb-true, and_parts, or_cases, or_left, or_right, and_from}
+use Rattle.std.proofs.Common.{◌≡◌, ◌≢◌, ◌⊎◌, nat_lt, inl, inr, ℕ, ◌+◌, ◌<◌, ◌≤◌, List, Option, Some, None, Bool, true, false, cond, not, ◌&&◌, ◌||◌, length, get_or, arith, ap, sym, ◌∙◌, refl, subst, nat_eq}
+use Rattle.std.specs.Prelude.{All, is_some, ◌↔◌}
+use Rattle.std.proofs.lemmas.Bool.{cases_lt, and_parts, or_cases, or_right, or_parts}
 use Rattle.std.proofs.lemmas.List.FromFn.{get_or-map-range_with_len, length-map-range_with_len}
+use Rattle.std.proofs.lemmas.Grind.{common_steps}
 use Rattle.pz_sets.specs.Sets.{member}
 use Rattle.pz_cells.specs.declared.piece.Piece.{Piece}
 use Rattle.pz_game.specs.declared.direction.Dir.{Dir}
 use Rattle.pz_game.specs.declared.pattern.Word.{Word}
-use Rattle.pz_game.specs.declared.pattern.Word.TheVariants.{Present, Still, Toward, Absent}
 use Rattle.pz_game.specs.declared.pattern.Item.{Item}
-use Rattle.pz_game.specs.Direction.{same_dir}
-use Rattle.pz_game.specs.Pattern.{IsOf, AreOf}
+use Rattle.pz_game.specs.Pattern.{AreOf}
 use Rattle.pz_cells.specs.Standing.{standing}
 use Rattle.pz_cells.specs.Sameness.{same_cell}
 use Rattle.pz_cells.proofs.SameLemmas.{same_cell_is, same_cell_self}
 use Rattle.pz_game.specs.Headings.{is_toward, flag, heads, IsProper}
 use Rattle.pz_cells.specs.Shown.{place_of, cell_of, Shows, AreLawful}
-use Rattle.pz_game.proofs.FlagLemmas.{each_number, flag_of, dir_bit-low}
-use Rattle.pz_cells.proofs.PlaceLemmas.{shows_alike}
-use Rattle.pz_game.specs.Items.{names, places_on, placed_on, tells_of, tells_movement, names_object, forbids_object}
+use Rattle.pz_game.proofs.FlagLemmas.{each_number}
+use Rattle.pz_cells.proofs.PlaceLemmas.{shows_alike, lawful_from_shows, cell_from_shows}
+use Rattle.pz_game.specs.Items.{names, placed_on, tells_of, tells_movement, names_object, forbids_object}
 use Rattle.pz_cells.specs.Rewriting.{heading_of, new_heading, kept, replaced, rewritten_place, rewritten_cell}
 use Rattle.pz_game.specs.declared.masks.Masks.{Masks}
 use Rattle.pz_game.specs.Masks.{toward, begins, settles, AreMasksOf}
 use Rattle.pz_cells.specs.Rewrites.{ends, Leaves, removed_by}
-use Rattle.pz_cells.proofs.HoldLemmas.{standing_by, standing_seen}
-use Rattle.pz_game.specs.Headings.{heading_in}
-use Rattle.pz_cells.proofs.ShowLemmas.{lawful_from_shows, cell_from_shows}
+use Rattle.pz_cells.proofs.HoldLemmas.{place_seen, standing_seen, placed_is}
 
 -- an object that the left names or the right forbids
 abbrev pub is_removable : List Item → List Item → ℕ → Bool
@@ -51,46 +48,15 @@ pub record Rewrites (layers : List ℕ) (left right : List Item) (has : ℕ → 
   pub ended : (object : ℕ) (dir : Dir) → Goes layers left right has object → toward_new (get_or layers object 0) dir ≡ false
   pub others : (layer : ℕ) (dir : Dir) → ((object : ℕ) → Goes layers left right has object → get_or layers object 0 ≡ layer → ⊥) → toward_new layer dir ≡ ((toward layer dir && not (ends (tells_of layer left) (placed_on layer right))) || begins dir (placed_on layer right))
 
--- what is found passes the test and is an element
-find_all : {X : Type 0} (P : X → Type 0) (p : X → Bool) (xs : List X) (x : X) → All P xs → find p xs ≡ Some x → P x × (p x ≡ true)
-find_all P p [] x all e = cc
-find_all {X} P p (y ∷ ys) x all e = by_test (λ f. find_all P p ys x (λ k d h. all (suc k) d (omega arith)) f) (p y) refl e where
-  by_test : (find p ys ≡ Some x → P x × (p x ≡ true)) → (b : Bool) → p y ≡ b → cond b (Some y) (find p ys) ≡ Some x → P x × (p x ≡ true)
-  by_test rest true t f = (let same : y ≡ x = cc in (subst P same (all 0 y (omega arith)), ap p (sym same) ∙ t))
-  by_test rest false t f = rest f
-
--- the item that is placed on a layer is of that layer and names its object
-pub placed_is : (layers : List ℕ) (layer : ℕ) (right : List Item) (item : Item) → AreOf layers right → placed_on layer right ≡ Some item → (item.object < length layers) × (get_or layers item.object 0 ≡ layer) × (names item.word ≡ true)
-placed_is layers layer right item are e =
-    let f = find_all (IsOf layers) (places_on layer) right item are e in
-    let parts = and_parts (names item.word) (nat_eq item.layer layer) f.1 in
-    (f.0.object, f.0.layer ∙ eqb-true _ _ parts.1, parts.0)
-
-drop_or : (x : Bool) → (x || false) ≡ x
-drop_or true = refl
-drop_or false = refl
-
-and_yes : (x : Bool) → (x && true) ≡ x
-and_yes true = refl
-and_yes false = refl
-
 pub and_no : (x : Bool) → (x && false) ≡ false
-and_no true = refl
-and_no false = refl
+and_no x = grind arith
 
 -- where an object is placed, its direction is the definition's
 new_toward : (word : Word) (told : Bool) (here : Option Piece) (old : Bool) (dir : Dir) → names word ≡ true → old ≡ is_toward (heading_of here) dir → ((old && not (told || tells_movement word)) || is_toward (toward true word) dir) ≡ is_toward (new_heading word told here) dir
-new_toward Still true here old dir n e = ap (λ x. x || false) (and_no old)
-new_toward Still false here old dir n e = ap (λ x. x || false) (and_no old)
-new_toward (Toward way) true here old dir n e = ap (λ x. x || same_dir way dir) (and_no old)
-new_toward (Toward way) false here old dir n e = ap (λ x. x || same_dir way dir) (and_no old)
-new_toward Present true here old dir n e = ap (λ x. x || false) (and_no old)
-new_toward Present false here old dir n e = drop_or (old && true) ∙ and_yes old ∙ e
-new_toward Absent told here old dir n e = cc
+new_toward word told here old dir n e = grind arith
 
 toward_shown : (layers : List ℕ) (has : ℕ → Bool) (toward : Dir → Bool) (layer : ℕ) (place : Option Piece) (dir : Dir) → Shows layers has toward layer place → toward dir ≡ is_toward (heading_of place) dir
-toward_shown layers has toward layer None dir h = h.1 dir
-toward_shown layers has toward layer (Some piece) dir h = h.3 dir
+toward_shown layers has toward layer place dir h = grind arith
 
 -- each layer shows what the definition says of it
 pub rewritten_shows : (layers : List ℕ) (left right : List Item) (has : ℕ → Bool) (toward : ℕ → Dir → Bool) (has_new : ℕ → Bool) (toward_new : ℕ → Dir → Bool) → AreOf layers right → Rewrites layers left right has toward has_new toward_new → (layer : ℕ) (here : Option Piece) → Shows layers has (toward layer) layer here → Shows layers has_new (toward_new layer) layer (rewritten_place left right layer here)
@@ -100,24 +66,21 @@ rewritten_shows layers left right has toward has_new toward_new are r layer here
 
   -- nothing is placed on the layer
   toward_kept : placed_on layer right ≡ None → ((object : ℕ) → Goes layers left right has object → get_or layers object 0 ≡ layer → ⊥) → (dir : Dir) → toward_new layer dir ≡ toward layer dir
-  toward_kept e none dir = r.others layer dir none ∙ ap (λ (o : Option Item). (toward layer dir && not (ends (tells_of layer left) o)) || begins dir o) e ∙ drop_or (toward layer dir && true) ∙ and_yes (toward layer dir)
+  toward_kept e none dir = grind (arith, r.others layer dir none, e)
 
   stays_only : placed_on layer right ≡ None → (object : ℕ) → has_new object ≡ true → get_or layers object 0 ≡ layer → Stays layers left right has object
-  stays_only e object new on = elim (r.gives object new) [
-    | inl stays ↦ stays
-    | inr (item, f, same) ↦ absurd (let none : Option Item = None in let g : none ≡ Some item = sym (at object on None e) ∙ f in cc)
-  ]
+  stays_only e object new on = elim (r.gives object new) [ inl stays ↦ stays | inr (item, f, same) ↦ absurd (grind (arith, at object on None e, f)) ]
 
   by_test : placed_on layer right ≡ None → (piece : Piece) → Shows layers has (toward layer) layer (Some piece) → (b : Bool) → is_removable left right piece.object ≡ b → Shows layers has_new (toward_new layer) layer (cond b None (Some piece))
   by_test e piece shown true f = (
-    λ object new on. (let stays = stays_only e object new on in let same : object ≡ piece.object = shown.2 object stays.here on in let g : false ≡ true = sym stays.left_alone ∙ ap (is_removable left right) same ∙ f in cc),
+    λ object new on. (let stays = stays_only e object new on in grind (arith, shown.2 object stays.here on, stays.left_alone, f)),
     λ dir. ap (λ (k : ℕ). toward_new k dir) (sym shown.1) ∙ r.ended piece.object dir (record { here = shown.0; free = at piece.object shown.1 None e; removed = f }),
   )
   by_test e piece shown false f = (
     r.keeps piece.object (record { here = shown.0; free = at piece.object shown.1 None e; left_alone = f }),
     shown.1,
     λ object new on. shown.2 object (stays_only e object new on).here on,
-    λ dir. toward_kept e (λ object goes on. (let same : object ≡ piece.object = shown.2 object goes.here on in let g : true ≡ false = sym goes.removed ∙ ap (is_removable left right) same ∙ f in cc)) dir ∙ shown.3 dir,
+    λ dir. toward_kept e (λ object goes on. grind (arith, shown.2 object goes.here on, goes.removed, f)) dir ∙ shown.3 dir,
   )
 
   by_here : placed_on layer right ≡ None → (place : Option Piece) → Shows layers has (toward layer) layer place → Shows layers has_new (toward_new layer) layer (kept left right place)
@@ -129,12 +92,12 @@ rewritten_shows layers left right has toward has_new toward_new are r layer here
 
   -- nothing of the layer goes where something is placed
   none_goes : (item : Item) → placed_on layer right ≡ Some item → (object : ℕ) → Goes layers left right has object → get_or layers object 0 ≡ layer → ⊥
-  none_goes item e object goes on = (let none : Option Item = None in let g : none ≡ Some item = sym goes.free ∙ at object on (Some item) e in cc)
+  none_goes item e object goes on = grind (arith, goes.free, at object on (Some item) e)
 
   only_placed : (item : Item) → placed_on layer right ≡ Some item → (object : ℕ) → has_new object ≡ true → get_or layers object 0 ≡ layer → object ≡ item.object
   only_placed item e object new on = elim (r.gives object new) [
-    | inl stays ↦ absurd (let none : Option Item = None in let g : none ≡ Some item = sym stays.free ∙ at object on (Some item) e in cc)
-    | inr (other, f, same) ↦ (let g : other ≡ item = (let h : Some other ≡ Some item = sym f ∙ at object on (Some item) e in cc) in sym same ∙ ap (λ (i : Item). i.object) g)
+    | inl stays ↦ absurd (grind (arith, stays.free, at object on (Some item) e))
+    | inr (other, f, same) ↦ grind (arith, f, at object on (Some item) e, same)
   ]
 
   by_placed : (found : Option Item) → placed_on layer right ≡ found → Shows layers has_new (toward_new layer) layer (replaced found (tells_of layer left) left right here)
@@ -148,26 +111,11 @@ rewritten_shows layers left right has toward has_new toward_new are r layer here
       )
 
 none_from : (o : Option Item) → is_some o ≡ false → o ≡ None
-none_from None e = refl
-none_from (Some item) e = cc
-
-not_no : (x y : Bool) → (x && not y) ≡ true → y ≡ false
-not_no true false e = refl
-not_no true true e = cc
-not_no false y e = cc
-
-not_yes : (x y : Bool) → x ≡ true → y ≡ false → (x && not y) ≡ true
-not_yes x y e f = ap (λ b. b && not y) e ∙ ap (λ b. not b) f
+none_from found e = grind arith
 
 -- the directions that end, by the masks of the two cells
 ends_by : (told : Bool) (found : Option Item) → (settles found || (told && is_some found)) ≡ ends told found
-ends_by true None = refl
-ends_by false None = refl
-ends_by true (Some item) = or_yes (tells_movement item.word) where
-  or_yes : (b : Bool) → (b || true) ≡ true
-  or_yes true = refl
-  or_yes false = refl
-ends_by false (Some item) = drop_or (tells_movement item.word)
+ends_by told found = grind arith
 
 -- what is taken from a cell, by the masks of the two cells
 abbrev pub gone_by : List ℕ → Masks → Masks → ℕ → Bool
@@ -181,10 +129,6 @@ pub record AreRewritten (layers : List ℕ) (l r : Masks) (objects movement obje
   pub ended : (object : ℕ) (dir : Dir) → Leaves layers objects r.layers (removed_by l r) object → heads movement_new (get_or layers object 0) dir ≡ false
   pub others : (layer : ℕ) (dir : Dir) → ((object : ℕ) → Leaves layers objects r.layers (removed_by l r) object → get_or layers object 0 ≡ layer → ⊥) → heads movement_new layer dir ≡ heads mid layer dir
 
-or_parts : (a b : Bool) → (a || b) ≡ false → (a ≡ false) × (b ≡ false)
-or_parts true b e = cc
-or_parts false b e = (refl, e)
-
 pub rewrites_from : (layers : List ℕ) (left right : List Item) (l r : Masks) (objects movement objects_new mid movement_new : List ℕ) → AreOf layers right → AreMasksOf left l → AreMasksOf right r → ((object : ℕ) → member objects object ≡ true → object < length layers) → AreRewritten layers l r objects movement objects_new mid movement_new → Rewrites layers left right (member objects) (heads movement) (member objects_new) (heads movement_new)
 rewrites_from layers left right l r objects movement objects_new mid movement_new are ml mr of_game w =
     let removable : (object : ℕ) → (member l.present object || member r.absent object) ≡ is_removable left right object = λ object. ap (λ b. b || member r.absent object) (ml.present object) ∙ ap (λ b. names_object object left || b) (mr.absent object) in
@@ -192,47 +136,31 @@ rewrites_from layers left right l r objects movement objects_new mid movement_ne
     let goes : (object : ℕ) → Leaves layers objects r.layers (removed_by l r) object → Goes layers left right (member objects) object = λ object g. record { here = g.here; free = none_from (placed_on (get_or layers object 0) right) (sym (mr.layers (get_or layers object 0)) ∙ g.free); removed = sym (removable object) ∙ g.removed } in
     record {
       gives = λ object new. elim (or_cases (member objects object && not (gone_by layers l r object)) (member r.placed object) (sym (w.is_new object (w.of_game object new)) ∙ new)) [
-        | inl h ↦ (let here = (and_parts (member objects object) (not (gone_by layers l r object)) h).0 in
-            let none = or_parts (member r.layers (get_or layers object 0)) (member l.present object || member r.absent object) (not_no (member objects object) (gone_by layers l r object) h) in
-            inl (record { here = here; free = none_from (placed_on (get_or layers object 0) right) (sym (mr.layers (get_or layers object 0)) ∙ none.0); left_alone = sym (removable object) ∙ none.1 }))
+        | inl h ↦ inl (record { here = grind (arith, h); free = none_from (placed_on (get_or layers object 0) right) (grind (arith, h, mr.layers (get_or layers object 0))); left_alone = grind (arith, h, removable object) })
         | inr h ↦ (let p = mr.placed_only object h in
-            let is = placed_is layers p.0 right p.1 are p.2 in
-            let on : get_or layers object 0 ≡ p.0 = ap (λ (k : ℕ). get_or layers k 0) (sym p.3) ∙ is.1 in
-            inr (p.1, ap (λ (k : ℕ). placed_on k right) on ∙ p.2, p.3))
+            let on = (placed_is layers p.0 right p.1 are p.2).1 in
+            inr (p.1, ap (λ (k : ℕ). placed_on k right) (ap (λ (k : ℕ). get_or layers k 0) (sym p.3) ∙ on) ∙ p.2, p.3))
       ];
-      keeps = λ object stays. w.is_new object (of_game object stays.here) ∙ or_left _ _ (not_yes (member objects object) (gone_by layers l r object) stays.here (ap (λ b. b || (member l.present object || member r.absent object)) (mr.layers (get_or layers object 0) ∙ ap is_some stays.free) ∙ removable object ∙ stays.left_alone));
+      keeps = λ object stays. grind (arith, w.is_new object (of_game object stays.here), mr.layers (get_or layers object 0), stays.free, removable object, stays.left_alone, stays.here);
       puts = λ layer item e. w.is_new item.object (placed_is layers layer right item are e).0 ∙ or_right _ _ (mr.placed layer item e);
       ended = λ object dir goes. w.ended object dir (leaves object goes);
-      others = λ layer dir none. w.others layer dir (λ object g on. none object (goes object g) on)
-          ∙ w.is_mid (flag layer dir)
-          ∙ ap (λ b. (heads movement layer dir && not (b || (heads l.told layer dir && heads r.covered layer dir))) || heads r.headed layer dir) (mr.settled layer dir)
-          ∙ ap (λ b. (heads movement layer dir && not (settles (placed_on layer right) || (b && heads r.covered layer dir))) || heads r.headed layer dir) (ml.told layer dir)
-          ∙ ap (λ b. (heads movement layer dir && not (settles (placed_on layer right) || (tells_of layer left && b))) || heads r.headed layer dir) (mr.covered layer dir)
-          ∙ ap (λ b. (heads movement layer dir && not b) || heads r.headed layer dir) (ends_by (tells_of layer left) (placed_on layer right))
-          ∙ ap (λ b. (heads movement layer dir && not (ends (tells_of layer left) (placed_on layer right))) || b) (mr.headed layer dir);
+      others = λ layer dir none. w.others layer dir (λ object g on. none object (goes object g) on) ∙ grind (arith, w.is_mid (flag layer dir), mr.settled layer dir, ml.told layer dir, mr.covered layer dir, mr.headed layer dir, ends_by (tells_of layer left) (placed_on layer right));
     }
 
--- objects of the new cell are the game's
-pub rewritten_of_game : (layers : List ℕ) (left right : List Item) (has : ℕ → Bool) (toward : ℕ → Dir → Bool) (has_new : ℕ → Bool) (toward_new : ℕ → Dir → Bool) → AreOf layers right → Rewrites layers left right has toward has_new toward_new → ((object : ℕ) → has object ≡ true → object < length layers) → (object : ℕ) → has_new object ≡ true → object < length layers
-rewritten_of_game layers left right has toward has_new toward_new are r of_game object new = elim (r.gives object new) [
-  | inl stays ↦ of_game object stays.here
-  | inr (item, e, same) ↦ subst (λ (k : ℕ). k < length layers) same (placed_is layers (get_or layers object 0) right item are e).0
-]
-
 -- the new masks are lawful, and their view is the definition's cell
-pub lawful_rewritten : (layers : List ℕ) (left right : List Item) (objects movement objects_new movement_new : List ℕ) → AreOf layers right → AreLawful layers objects movement → Rewrites layers left right (member objects) (heads movement) (member objects_new) (heads movement_new) → IsProper movement_new → AreLawful layers objects_new movement_new
-lawful_rewritten layers left right objects movement objects_new movement_new are lawful r proper =
-    lawful_from_shows layers objects_new movement_new (λ layer. rewritten_place left right layer (place_of layers objects movement layer)) (rewritten_of_game layers left right (member objects) (heads movement) (member objects_new) (heads movement_new) are r lawful.of_game)
+pub lawful_rewritten : (layers : List ℕ) (left right : List Item) (objects movement objects_new movement_new : List ℕ) → AreOf layers right → AreLawful layers objects movement → Rewrites layers left right (member objects) (heads movement) (member objects_new) (heads movement_new) → ((object : ℕ) → member objects_new object ≡ true → object < length layers) → IsProper movement_new → AreLawful layers objects_new movement_new
+lawful_rewritten layers left right objects movement objects_new movement_new are lawful r of_game proper =
+    lawful_from_shows layers objects_new movement_new (λ layer. rewritten_place left right layer (place_of layers objects movement layer)) of_game
     (λ layer. rewritten_shows layers left right (member objects) (heads movement) (member objects_new) (heads movement_new) are r layer (place_of layers objects movement layer) (lawful.shows layer))
     proper
 
-pub cell_rewritten : (depth : ℕ) (layers : List ℕ) (left right : List Item) (objects movement objects_new movement_new : List ℕ) → AreOf layers right → AreLawful layers objects movement → Rewrites layers left right (member objects) (heads movement) (member objects_new) (heads movement_new) → cell_of depth layers objects_new movement_new ≡ rewritten_cell left right (cell_of depth layers objects movement)
-cell_rewritten depth layers left right objects movement objects_new movement_new are lawful r =
+pub cell_rewritten : (depth : ℕ) (layers : List ℕ) (left right : List Item) (objects movement objects_new movement_new : List ℕ) → AreOf layers right → AreLawful layers objects movement → Rewrites layers left right (member objects) (heads movement) (member objects_new) (heads movement_new) → ((object : ℕ) → member objects_new object ≡ true → object < length layers) → cell_of depth layers objects_new movement_new ≡ rewritten_cell left right (cell_of depth layers objects movement)
+cell_rewritten depth layers left right objects movement objects_new movement_new are lawful r of_game =
     let old = cell_of depth layers objects movement in
     let f = λ (layer : ℕ). rewritten_place left right layer (get_or old layer None) in
     let long : length old ≡ depth = length-map-range_with_len (place_of layers objects movement) 0 depth in
     let place = λ (layer : ℕ) (low : layer < depth). get_or-map-range_with_len (place_of layers objects movement) 0 depth layer layer None low (omega arith) in
-    cell_from_shows depth layers objects_new movement_new (rewritten_cell left right old) (length-map-range_with_len f 0 (length old) ∙ long) (rewritten_of_game layers left right (member objects) (heads movement) (member objects_new) (heads movement_new) are r lawful.of_game)
+    cell_from_shows depth layers objects_new movement_new (rewritten_cell left right old) (length-map-range_with_len f 0 (length old) ∙ long) of_game
     (λ layer low. subst (Shows layers (member objects_new) (heads movement_new layer) layer) (sym (get_or-map-range_with_len f 0 (length old) layer layer None (omega (arith, long)) (omega arith)))
     (rewritten_shows layers left right (member objects) (heads movement) (member objects_new) (heads movement_new) are r layer (get_or old layer None) (subst (Shows layers (member objects) (heads movement layer) layer) (sym (place layer low)) (lawful.shows layer))))
 
@@ -240,30 +168,11 @@ cell_rewritten depth layers left right objects movement objects_new movement_new
 pub placed_within : (layers : List ℕ) (right : List Item) (r : Masks) → AreOf layers right → AreMasksOf right r → (object : ℕ) → member r.placed object ≡ true → object < length layers
 placed_within layers right r are mr object here = (let p = mr.placed_only object here in subst (λ (k : ℕ). k < length layers) p.3 (placed_is layers p.0 right p.1 are p.2).0)
 
--- the directions of placed objects have their words
-pub headed_within : (layers : List ℕ) (depth count : ℕ) (right : List Item) (r : Masks) → AreOf layers right → AreMasksOf right r → All (λ layer. layer < depth) layers → depth ≤ 25 * count → (number : ℕ) → member r.headed number ≡ true → number / 128 < count
-headed_within layers depth count right r are mr low room number here = elim (cases_lt (number % 128) 125) [
-  | inl inside ↦ (let f = flag_of number inside in by_found f.0 f.1 f.2 (placed_on f.0 right) refl (sym (mr.headed f.0 f.1) ∙ ap (member r.headed) f.2 ∙ here))
-  | inr outside ↦ absurd (let e : false ≡ true = sym (mr.proper_headed number outside) ∙ here in cc)
-] where
-  by_found : (layer : ℕ) (dir : Dir) → flag layer dir ≡ number → (o : Option Item) → placed_on layer right ≡ o → begins dir (placed_on layer right) ≡ true → number / 128 < count
-  by_found layer dir is None e t = absurd (let f : false ≡ true = sym (ap (begins dir) e) ∙ t in cc)
-  by_found layer dir is (Some item) e t =
-      let p = placed_is layers layer right item are e in
-      let in_depth : layer < depth = subst (λ (n : ℕ). n < depth) p.1 (low item.object 0 p.0) in
-      let bit = dir_bit-low dir in
-      let word : number / 128 ≡ layer / 25 = omega (arith, is, bit) in
-      omega (arith, word, in_depth, room)
-
 -- the directions between have no bits between the fields
 pub mid_proper : (layers : List ℕ) (left right : List Item) (l r : Masks) (objects movement objects_new mid movement_new : List ℕ) → AreMasksOf right r → IsProper movement → AreRewritten layers l r objects movement objects_new mid movement_new → IsProper mid
-mid_proper layers left right l r objects movement objects_new mid movement_new mr proper w number high =
-    w.is_mid number ∙ ap (λ b. (b && not (member r.settled number || (member l.told number && member r.covered number))) || member r.headed number) (proper number high) ∙ mr.proper_headed number high
+mid_proper layers left right l r objects movement objects_new mid movement_new mr proper w number high = grind (arith, w.is_mid number, proper number high, mr.proper_headed number high)
 
 -- ---- whether the cell changed
-pub place_in : (depth : ℕ) (layers objects movement : List ℕ) (layer : ℕ) → layer < depth → get_or (cell_of depth layers objects movement) layer None ≡ place_of layers objects movement layer
-place_in depth layers objects movement layer low = get_or-map-range_with_len (place_of layers objects movement) 0 depth layer layer None low (omega arith)
-
 -- nothing stands past the layers
 place_past : (depth : ℕ) (layers objects movement : List ℕ) (layer : ℕ) → All (λ l. l < depth) layers → AreLawful layers objects movement → depth ≤ layer → place_of layers objects movement layer ≡ None
 place_past depth layers objects movement layer low lawful past = by_place (place_of layers objects movement layer) refl (lawful.shows layer) where
@@ -275,15 +184,12 @@ place_past depth layers objects movement layer low lawful past = by_place (place
 pub cell_alike : (depth : ℕ) (layers objects movement objects_new movement_new : List ℕ) → AreLawful layers objects movement → AreLawful layers objects_new movement_new → ((object : ℕ) → member objects_new object ≡ member objects object) → ((layer : ℕ) (dir : Dir) → heads movement_new layer dir ≡ heads movement layer dir) → cell_of depth layers objects_new movement_new ≡ cell_of depth layers objects movement
 cell_alike depth layers objects movement objects_new movement_new lawful lawful_new same_objects same_heads =
     cell_from_shows depth layers objects_new movement_new (cell_of depth layers objects movement) (length-map-range_with_len (place_of layers objects movement) 0 depth) lawful_new.of_game (λ layer low.
-    subst (Shows layers (member objects_new) (heads movement_new layer) layer) (sym (place_in depth layers objects movement layer low))
+    subst (Shows layers (member objects_new) (heads movement_new layer) layer) (sym (place_seen depth layers objects movement layer low))
     (shows_alike layers (member objects) (member objects_new) (heads movement layer) (heads movement_new layer) layer (place_of layers objects movement layer) (λ object on. same_objects object) (same_heads layer) (lawful.shows layer)))
 
 -- one cell is shown by words that answer alike
 pub member_seen : (depth : ℕ) (layers objects movement : List ℕ) (object : ℕ) → All (λ l. l < depth) layers → AreLawful layers objects movement → member objects object ≡ is_some (standing (cell_of depth layers objects movement) object)
-member_seen depth layers objects movement object low lawful = sym (ap is_some (standing_seen depth layers objects movement object low lawful) ∙ by_there (member objects object) (heading_in movement (get_or layers object 0))) where
-  by_there : (b : Bool) (heading : Option Dir) → is_some (standing_by b heading) ≡ b
-  by_there true heading = refl
-  by_there false heading = refl
+member_seen depth layers objects movement object low lawful = grind (arith, standing_seen depth layers objects movement object low lawful)
 
 pub objects_alike : (depth : ℕ) (layers objects movement objects_new movement_new : List ℕ) → All (λ l. l < depth) layers → AreLawful layers objects movement → AreLawful layers objects_new movement_new → cell_of depth layers objects_new movement_new ≡ cell_of depth layers objects movement → (object : ℕ) → member objects_new object ≡ member objects object
 objects_alike depth layers objects movement objects_new movement_new low lawful lawful_new e object =
@@ -293,7 +199,7 @@ pub heads_alike : (depth : ℕ) (layers objects movement objects_new movement_ne
 heads_alike depth layers objects movement objects_new movement_new low lawful lawful_new e layer dir =
     toward_shown layers (member objects_new) (heads movement_new layer) layer (place_of layers objects_new movement_new layer) dir (lawful_new.shows layer)
     ∙ ap (λ (p : Option Piece). is_toward (heading_of p) dir) (elim (cases_lt layer depth) [
-      | inl within ↦ sym (place_in depth layers objects_new movement_new layer within) ∙ ap (λ (c : List (Option Piece)). get_or c layer None) e ∙ place_in depth layers objects movement layer within
+      | inl within ↦ sym (place_seen depth layers objects_new movement_new layer within) ∙ ap (λ (c : List (Option Piece)). get_or c layer None) e ∙ place_seen depth layers objects movement layer within
       | inr past ↦ place_past depth layers objects_new movement_new layer low lawful_new past ∙ sym (place_past depth layers objects movement layer low lawful past)
     ])
     ∙ sym (toward_shown layers (member objects) (heads movement layer) layer (place_of layers objects movement layer) dir (lawful.shows layer))
@@ -301,21 +207,13 @@ heads_alike depth layers objects movement objects_new movement_new low lawful la
 -- where the objects stay, none of them leaves
 none_leaves : (layers : List ℕ) (right : List Item) (l r : Masks) (objects movement objects_new mid movement_new : List ℕ) → AreOf layers right → AreMasksOf right r → ((object : ℕ) → member objects object ≡ true → object < length layers) → AreRewritten layers l r objects movement objects_new mid movement_new → ((object : ℕ) → member objects_new object ≡ member objects object) → (object : ℕ) → Leaves layers objects r.layers (removed_by l r) object → ⊥
 none_leaves layers right l r objects movement objects_new mid movement_new are mr of_game w same object g =
-    let gone : gone_by layers l r object ≡ true = or_right (member r.layers (get_or layers object 0)) (member l.present object || member r.absent object) g.removed in
-    let placed : member r.placed object ≡ true = sym (and_never (member objects object) (member r.placed object)) ∙ sym (ap (λ b. (member objects object && not b) || member r.placed object) gone) ∙ sym (w.is_new object (of_game object g.here)) ∙ same object ∙ g.here in
-    let p = mr.placed_only object placed in
-    let on : get_or layers object 0 ≡ p.0 = ap (λ (k : ℕ). get_or layers k 0) (sym p.3) ∙ (placed_is layers p.0 right p.1 are p.2).1 in
-    absurd (let e : false ≡ true = sym g.free ∙ mr.layers (get_or layers object 0) ∙ ap (λ (k : ℕ). is_some (placed_on k right)) on ∙ ap is_some p.2 in cc) where
-      and_never : (a b : Bool) → ((a && not true) || b) ≡ b
-      and_never true b = refl
-      and_never false b = refl
+    by_placed (mr.placed_only object (grind (arith, g.removed, w.is_new object (of_game object g.here), same object, g.here))) where
+      by_placed : (layer : ℕ) × (item : Item) × (placed_on layer right ≡ Some item) × (item.object ≡ object) → ⊥
+      by_placed (layer, item, on, same) = absurd (grind (arith, g.free, mr.layers (get_or layers object 0), (placed_is layers layer right item are on).1, on, same))
 
 decided : (b : Bool) (x y : List (Option Piece)) → (b ≡ false → x ≡ y) → (x ≡ y → b ≡ false) → b ≡ not (same_cell x y)
-decided false x y f g = sym (ap not (ap (λ (z : List (Option Piece)). same_cell x z) (sym (f refl)) ∙ same_cell_self x))
-decided true x y f g = by_same (same_cell x y) refl where
-  by_same : (s : Bool) → same_cell x y ≡ s → true ≡ not (same_cell x y)
-  by_same true e = absurd (let h : true ≡ false = g (same_cell_is x y e) in cc)
-  by_same false e = sym (ap not e)
+decided false x y f g = grind (arith, f refl, same_cell_self x)
+decided true x y f g = grind (arith, g, same_cell_is x y)
 
 pub changed_by : (depth : ℕ) (layers : List ℕ) (right : List Item) (l r : Masks) (objects movement objects_new mid movement_new : List ℕ) (moved replaced : Bool) (new_cell : List (Option Piece)) → AreOf layers right → AreMasksOf right r → All (λ layer. layer < depth) layers → AreLawful layers objects movement → AreLawful layers objects_new movement_new → AreRewritten layers l r objects movement objects_new mid movement_new → IsProper mid → ((moved ≡ false) ↔ ((number : ℕ) → member mid number ≡ member movement number)) → ((replaced ≡ false) ↔ ((number : ℕ) → member objects_new number ≡ member objects number)) → cell_of depth layers objects_new movement_new ≡ new_cell → (moved || replaced) ≡ not (same_cell new_cell (cell_of depth layers objects movement))
 changed_by depth layers right l r objects movement objects_new mid movement_new moved replaced new_cell are mr low lawful lawful_new w proper is_moved is_replaced e =
@@ -338,10 +236,7 @@ changed_by depth layers right l r objects movement objects_new mid movement_new 
 -- ---- the loops
 -- the layers up to one, and that one
 pub chosen_more : (at layer : ℕ) (chosen : List ℕ) → ((nat_lt at layer && member chosen at) || (member chosen layer && nat_eq at layer)) ≡ (nat_lt at (layer + 1) && member chosen at)
-chosen_more at layer chosen = elim (cases_lt at layer) [
-  | inl below ↦ grind (arith, below)
-  | inr above ↦ elim (cases_eq at layer) [ inl same ↦ grind (arith, same) | inr other ↦ grind (arith, above, other) ]
-]
+chosen_more at layer chosen = grind (arith, common_steps)
 
 -- the movement after the objects below one that leave
 pub record AreEnded (layers objects cleared : List ℕ) (is_removed : ℕ → Bool) (before now : List ℕ) (start : ℕ) : Type 0 where
@@ -350,24 +245,20 @@ pub record AreEnded (layers objects cleared : List ℕ) (is_removed : ℕ → Bo
 
 pub ended_more : (layers objects cleared : List ℕ) (is_removed : ℕ → Bool) (before now after : List ℕ) (start found : ℕ) → AreEnded layers objects cleared is_removed before now start → start ≤ found → (member objects found && is_removed found) ≡ true
     → ((k : ℕ) → start ≤ k → k < found → (member objects k && is_removed k) ≡ false)
-    → (member cleared (get_or layers found 0) ≡ false → (dir : Dir) → heads after (get_or layers found 0) dir ≡ false)
-    → (member cleared (get_or layers found 0) ≡ true → (other : ℕ) (dir : Dir) → heads after other dir ≡ heads now other dir)
-    → ((other : ℕ) (dir : Dir) → other ≢ get_or layers found 0 → heads after other dir ≡ heads now other dir)
-    → ((other : ℕ) (dir : Dir) → heads now other dir ≡ false → heads after other dir ≡ false)
+    → ((other : ℕ) (dir : Dir) → heads after other dir ≡ ((member cleared (get_or layers found 0) || not (nat_eq other (get_or layers found 0))) && heads now other dir))
     → AreEnded layers objects cleared is_removed before after (found + 1)
-ended_more layers objects cleared is_removed before now after start found i from here none ends spares leaves keeps = record {
+ended_more layers objects cleared is_removed before now after start found i from here none is = record {
   ended = λ object dir below g. elim (cases_lt object start) [
-    | inl early ↦ keeps (get_or layers object 0) dir (i.ended object dir early g)
+    | inl early ↦ grind (arith, is (get_or layers object 0) dir, i.ended object dir early g)
     | inr late ↦ elim (cases_lt object found) [
-      | inl between ↦ absurd (let e : false ≡ true = sym (none object late between) ∙ and_from (member objects object) (is_removed object) g.here g.removed in cc)
-      | inr past ↦ (let same : object ≡ found = omega (arith, below, past) in
-          subst (λ (o : ℕ). heads after (get_or layers o 0) dir ≡ false) (sym same) (ends (ap (λ (o : ℕ). member cleared (get_or layers o 0)) (sym same) ∙ g.free) dir))
+      | inl between ↦ absurd (grind (arith, none object late between, g.here, g.removed))
+      | inr past ↦ (let same : object ≡ found = omega (arith, below, past) in grind (arith, is (get_or layers found 0) dir, same, g.free))
     ]
   ];
   others = λ layer dir apart. by_spared layer dir apart (member cleared (get_or layers found 0)) refl ∙ i.others layer dir apart;
 } where
   by_spared : (layer : ℕ) (dir : Dir) → ((object : ℕ) → Leaves layers objects cleared is_removed object → get_or layers object 0 ≢ layer) → (b : Bool) → member cleared (get_or layers found 0) ≡ b → heads after layer dir ≡ heads now layer dir
-  by_spared layer dir apart true e = spares e layer dir
+  by_spared layer dir apart true e = grind (arith, is layer dir, e)
   by_spared layer dir apart false e =
       let parts = and_parts (member objects found) (is_removed found) here in
-      leaves layer dir (λ same. apart found (record { here = parts.0; removed = parts.1; free = e }) (sym same))
+      grind (arith, is layer dir, e, apart found (record { here = parts.0; removed = parts.1; free = e }))

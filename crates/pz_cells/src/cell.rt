@@ -1,12 +1,10 @@
 //! A cell in words.
 
-ghost use Rattle.std.specs.Prelude.{◌≡◌, ℕ, ◌/◌, ◌<◌, true, ◌&&◌, ◌||◌, nat_eq, length, slice_index, slice_index_or, slice_set, MatchOption, Some, None};
-ghost use Rattle.pz_game.specs.declared.limits.TheConstants.{MAX_LAYERS};
-ghost use Rattle.pz_sets.specs.Sets.{member};
-ghost use Rattle.pz_game.specs.declared.direction.Dir.{Dir};
-ghost use Rattle.pz_game.specs.Headings.{is_toward, heads, IsProper};
+ghost use Rattle.std.specs.Prelude.{◌≡◌, ◌<◌, length, slice_index_or, slice_set, None};
 ghost use Rattle.pz_cells.specs.Cell.{IsOnLayer};
-ghost use Rattle.pz_cells.specs.Lists.{seen, IsSound, place_in, Becomes};
+ghost use Rattle.pz_cells.specs.Layering.{IsLayering};
+ghost use Rattle.pz_cells.specs.Shown.{AreLawful, Changes};
+ghost use Rattle.pz_cells.specs.Lists.{seen, IsSound};
 
 use crate::layers::Layers;
 use crate::piece::Piece;
@@ -21,6 +19,24 @@ pub struct Cell<const N: usize> {
     pub movement: [u128; N],
 }
 
+/// Removes what stands on a layer from the words of a cell.
+fn lift<const N: usize>(
+    objects: &mut [u128; N],
+    movement: &mut [u128; N],
+    layers: &Layers<N>,
+    layer: usize,
+)
+    requires low { layer < layers.now.depth }
+    requires lawful { AreLawful layers.now.layers objects.old movement.old }
+    ensures cleared { Changes layers.now.layers objects.old movement.old objects.new movement.new layer None }
+    ensures law { IsLayering N layers.now }
+{
+    if let Some(object) = words::first_common(objects, layers.objects_of(layer)) {
+        words::remove(objects, object);
+        headings::clear(movement, layer);
+    }
+}
+
 impl<const N: usize> Cell<N> {
     /// How many words each set has.
     pub fn word_count(&self) -> usize
@@ -28,17 +44,18 @@ impl<const N: usize> Cell<N> {
         ensures objects { length self.now.objects ≡ N }
         ensures movement { length self.now.movement ≡ N }
     {
-        let _ = &self.objects;
-        N
+        self.objects.len()
     }
 
-    /// The object that stands on a layer.
-    fn object_on(&self, layers: &Layers<N>, layer: usize) -> Option<usize>
-        requires low { layer < layers.now.depth }
-        requires sound { IsSound layers.now self.now }
-        ensures { MatchOption result ((object : ℕ) → member self.now.objects object ≡ true → slice_index layers.now.layers object ≡ layer → ⊥) (λ object. (member self.now.objects object ≡ true) × (slice_index layers.now.layers object ≡ layer)) }
+    /// Where the layers head, in words.
+    pub(crate) fn movement_words(&self, layers: &Layers<N>) -> &[u128]
+        ensures words { result.now ≡ self.now.movement }
+        ensures long { length result.now ≡ N }
+        ensures law { IsLayering N layers.now }
     {
-        words::first_common(&self.objects, layers.objects_of(layer))
+        // (brings the proof the law of the layers)
+        let _ = layers.depth();
+        &self.movement
     }
 
     /// What stands on a layer.
@@ -47,9 +64,7 @@ impl<const N: usize> Cell<N> {
         requires sound { IsSound layers.now self.now }
         ensures { result ≡ slice_index_or (seen layers.now self.now) layer None }
     {
-        // (brings the proof the law of the layers)
-        let _ = layers.depth();
-        match self.object_on(layers, layer) {
+        match words::first_common(&self.objects, layers.objects_of(layer)) {
             None => None,
             Some(object) => {
                 let heading = headings::heading(&self.movement, layer);
@@ -61,50 +76,6 @@ impl<const N: usize> Cell<N> {
         }
     }
 
-    /// Removes what stands on a layer.
-    fn lift(&mut self, layers: &Layers<N>, layer: usize, here: Option<Piece>)
-        requires low { layer < MAX_LAYERS }
-        requires sound { IsSound layers.now self.old }
-        requires here { here ≡ place_in layers.now self.old layer }
-        ensures { Becomes layers.now self.old self.new layer None }
-    {
-        match here {
-            None => {}
-            Some(piece) => {
-                words::remove(&mut self.objects, piece.object as usize);
-                headings::clear(&mut self.movement, layer);
-            }
-        }
-    }
-
-    /// Gives a layer a direction, if there is one.
-    fn head(&mut self, layer: usize, heading: Option<Dir>)
-        requires low { layer < MAX_LAYERS }
-        requires within { layer / 25 < N }
-        ensures objects { self.new.objects ≡ self.old.objects }
-        ensures heads { (other : ℕ) (way : Dir) → heads self.new.movement other way ≡ ((nat_eq other layer && is_toward heading way) || heads self.old.movement other way) }
-        ensures proper { IsProper self.old.movement → IsProper self.new.movement }
-    {
-        match heading {
-            None => {}
-            Some(dir) => headings::set(&mut self.movement, layer, dir),
-        }
-    }
-
-    /// Puts a piece on a layer where nothing stands.
-    fn land(&mut self, layers: &Layers<N>, layer: usize, piece: Piece)
-        requires low { layer < layers.now.depth }
-        requires sound { IsSound layers.now self.old }
-        requires free { place_in layers.now self.old layer ≡ None }
-        requires on_layer { IsOnLayer layers.now.layers layer (Some piece) }
-        ensures { Becomes layers.now self.old self.new layer (Some piece) }
-    {
-        // (brings the proof the law of the layers)
-        let _ = layers.depth();
-        words::insert(&mut self.objects, piece.object as usize);
-        self.head(layer, piece.heading);
-    }
-
     /// Puts a piece, or nothing, on a layer, instead of what stands there.
     pub fn put(&mut self, layers: &Layers<N>, layer: usize, place: Option<Piece>)
         requires low { layer < layers.now.depth }
@@ -113,13 +84,12 @@ impl<const N: usize> Cell<N> {
         ensures sound { IsSound layers.now self.new }
         ensures cell { seen layers.now self.new ≡ slice_set (seen layers.now self.old) layer place }
     {
-        // (brings the proof the law of the layers)
-        let _ = layers.depth();
-        let here = self.place(layers, layer);
-        self.lift(layers, layer, here);
-        match place {
-            None => {}
-            Some(piece) => self.land(layers, layer, piece),
+        lift(&mut self.objects, &mut self.movement, layers, layer);
+        if let Some(piece) = place {
+            words::insert(&mut self.objects, piece.object as usize);
+            if let Some(dir) = piece.heading {
+                headings::set(&mut self.movement, layer, dir);
+            }
         }
     }
 }

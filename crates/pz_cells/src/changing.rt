@@ -42,8 +42,6 @@ impl<const N: usize> Cell<N> {
         ensures turned { member self.old.objects object ≡ true → Becomes layers.now self.old self.new (slice_index layers.now.layers object) (Some (record { object = object; heading = Some dir })) }
         ensures kept { member self.old.objects object ≡ false → self.new ≡ self.old }
     {
-        // (brings the proof how many words there are)
-        let _ = self.word_count();
         if self.has(object) {
             let layer = layers.layer_of(object);
             headings::clear(&mut self.movement, layer);

@@ -21,45 +21,16 @@ pub fn next_differing<const N: usize>(
     ensures { IsNextDiffering cells.now others.now from result }
 {
     if are_still {
-        next_of_objects(cells, others, from)
-    } else {
-        next_of_cells(cells, others, from)
-    }
-}
-
-/// The same of cells that head nowhere.
-fn next_of_objects<const N: usize>(
-    cells: &[Cell<N>],
-    others: &[Cell<N>],
-    from: usize,
-) -> Option<usize>
-    requires short { N ≤ 4 }
-    requires long { length cells.now ≡ length others.now }
-    requires still { HeadNowhere cells.now }
-    requires others_still { HeadNowhere others.now }
-    ensures { IsNextDiffering cells.now others.now from result }
-{
-    for index in from..cells.len() {
-        if !same(&cells[index].objects, &others[index].objects) {
-            return Some(index);
+        for index in from..cells.len() {
+            if !same(&cells[index].objects, &others[index].objects) {
+                return Some(index);
+            }
         }
-    }
-    None
-}
-
-/// The same of all cells.
-fn next_of_cells<const N: usize>(
-    cells: &[Cell<N>],
-    others: &[Cell<N>],
-    from: usize,
-) -> Option<usize>
-    requires short { N ≤ 4 }
-    requires long { length cells.now ≡ length others.now }
-    ensures { IsNextDiffering cells.now others.now from result }
-{
-    for index in from..cells.len() {
-        if !cells[index].same(&others[index]) {
-            return Some(index);
+    } else {
+        for index in from..cells.len() {
+            if !cells[index].same(&others[index]) {
+                return Some(index);
+            }
         }
     }
     None

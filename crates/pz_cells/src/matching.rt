@@ -28,10 +28,9 @@ impl<const N: usize> Cell<N> {
         requires sound { IsSound layers.now self.now }
         ensures { result ≡ pattern_holds (seen layers.now self.now) pattern.now }
     {
-        // (brings the proof the law of the layers, and how many words there are)
-        let _ = (layers.depth(), self.word_count());
+        let movement = self.movement_words(layers);
         let masks = pattern.masks();
         meets(&self.objects, &masks.present, &masks.absent)
-            && meets(&self.movement, &masks.required, &masks.forbidden)
+            && meets(movement, &masks.required, &masks.forbidden)
     }
 }

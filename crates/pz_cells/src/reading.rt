@@ -25,17 +25,13 @@ impl<const N: usize> Cell<N> {
     pub fn heading_set(&self, layers: &Layers<N>) -> NumberSet
         ensures { (number : ℕ) → member result number ≡ member self.now.movement number }
     {
-        // (brings the proof how many words there are)
-        let _ = (layers.depth(), self.word_count());
-        NumberSet::from_words(&self.movement)
+        NumberSet::from_words(self.movement_words(layers))
     }
 
     /// Whether nothing in the cell heads anywhere.
     pub fn is_still(&self, layers: &Layers<N>) -> bool
         ensures { result ≡ true → (number : ℕ) → member self.now.movement number ≡ false }
     {
-        // (brings the proof how many words there are)
-        let _ = layers.depth();
         words::is_empty(&self.movement)
     }
 
@@ -44,10 +40,9 @@ impl<const N: usize> Cell<N> {
         requires low { layer < layers.now.depth }
         ensures { result ≡ true → heading_in self.now.movement layer ≡ None }
     {
-        // (brings the proof how many words there are)
-        let _ = (layers.depth(), self.word_count());
+        let movement = self.movement_words(layers);
         let start = headings::flag(layer, Dir::Up);
-        match words::next(&self.movement, start) {
+        match words::next(movement, start) {
             None => true,
             Some(found) => found >= start + 5,
         }

@@ -1,6 +1,6 @@
 //! The rewriting of cells.
 
-ghost use Rattle.std.specs.Prelude.{◌≡◌, ◌≢◌, ℕ, ◌<◌, ◌≤◌, true, false, not, length, slice_index};
+ghost use Rattle.std.specs.Prelude.{◌≡◌, ◌≢◌, ℕ, ◌<◌, ◌≤◌, true, false, not, ◌&&◌, ◌||◌, nat_eq, length, slice_index};
 ghost use Rattle.pz_game.specs.declared.limits.TheConstants.{MAX_LAYERS};
 ghost use Rattle.pz_sets.specs.Sets.{member};
 ghost use Rattle.pz_game.specs.declared.direction.Dir.{Dir};
@@ -21,10 +21,7 @@ use pz_sets::words::{next_common, replace};
 /// Stills a layer, unless it is one of those spared.
 fn end_unless(movement: &mut [u128], spared: &NumberSet, layer: usize)
     requires { layer < MAX_LAYERS }
-    ensures ended { member spared.now layer ≡ false → (dir : Dir) → heads movement.new layer dir ≡ false }
-    ensures spared { member spared.now layer ≡ true → (other : ℕ) (dir : Dir) → heads movement.new other dir ≡ heads movement.old other dir }
-    ensures others { (other : ℕ) (dir : Dir) → other ≢ layer → heads movement.new other dir ≡ heads movement.old other dir }
-    ensures kept { (other : ℕ) (dir : Dir) → heads movement.old other dir ≡ false → heads movement.new other dir ≡ false }
+    ensures heads { (other : ℕ) (dir : Dir) → heads movement.new other dir ≡ ((member spared.now layer || not (nat_eq other layer)) && heads movement.old other dir) }
     ensures proper { IsProper movement.old → IsProper movement.new }
 {
     if !spared.contains(layer) {
@@ -63,8 +60,6 @@ impl<const N: usize> Cell<N> {
         ensures cell { seen layers.now self.new ≡ rewritten_cell left.now right.now (seen layers.now self.old) }
         ensures changed { result ≡ not (same_cell (rewritten_cell left.now right.now (seen layers.now self.old)) (seen layers.now self.old)) }
     {
-        // (brings the proof how many words there are)
-        let _ = self.word_count();
         let was = left.masks();
         let is = right.masks();
         let ending = is.settled.union(&was.told.common(&is.covered));

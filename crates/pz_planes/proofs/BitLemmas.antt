@@ -5,7 +5,7 @@ use Rattle.std.proofs.lemmas.Nat.{shr-shr}
 use Rattle.std.proofs.lemmas.Nat.Bits.{bit_at_cat_low, bit_at_cat_high, bit_at_ones}
 use Rattle.std.proofs.Math.Pow.{pow-sub-lt}
 use Rattle.pz_sets.specs.Sets.{in_word, member}
-use Rattle.pz_sets.proofs.WordLemmas.{in_word-from}
+use Rattle.pz_sets.proofs.WordLemmas.{in_word-from, in_word-and, in_word-or}
 use Rattle.pz_planes.specs.declared.line.Way.{Way}
 use Rattle.pz_planes.specs.declared.line.Way.TheVariants.{Ahead, Back}
 use Rattle.pz_planes.specs.Line.{step_to, room_from}
@@ -44,3 +44,6 @@ one_word word at low =
 pub step_within : (long : ℕ) (way : Way) (at k : ℕ) → at < long → k < room_from long way at → step_to way at k < long
 step_within long Ahead at k at_in room = omega (arith, room)
 step_within long Back at k at_in room = omega (arith, at_in)
+
+-- the positions that two sets have in common, and those of either
+pub ruleset joining = (in_word-and, in_word-or, all_bits)

@@ -1,7 +1,7 @@
 -- The positions at which the objects that are noted differ.
-use Rattle.std.proofs.Common.{◌≡◌, inl, inr, ℕ, ◌+◌, ◌-◌, ◌*◌, ◌/◌, ◌%◌, ◌<◌, ◌≤◌, Bool, true, false, not, ◌||◌, cond, length, get_or, arith, ap, sym, ◌∙◌, refl, subst}
+use Rattle.std.proofs.Common.{◌≡◌, inl, inr, ℕ, ◌+◌, ◌-◌, ◌*◌, ◌/◌, ◌%◌, ◌<◌, ◌≤◌, Bool, true, false, not, ◌||◌, cond, length, get_or, arith, ap, sym, ◌∙◌, subst}
 use Rattle.std.specs.Prelude.{◌↔◌}
-use Rattle.std.proofs.lemmas.Bool.{cases_eq, cases_lt}
+use Rattle.std.proofs.lemmas.Bool.{cases_eq, cases_lt, or_parts, or_from}
 use Rattle.std.proofs.lemmas.List.{get_or_default}
 use Rattle.std.proofs.lemmas.Nat.{div-mul-add, mod-mul-add}
 use Rattle.pz_sets.specs.Sets.{in_word}
@@ -20,17 +20,7 @@ word_tells sets object line number word at low is within read =
     ∙ ap (in_word (get_or sets.words ((start * 128 + at) / 128) 0)) (sym (mod-mul-add start 128 at low))
 
 pub xor_no : (x y z : Bool) → z ≡ cond x (not y) y → (z ≡ false) ↔ (x ≡ y)
-xor_no true true z e = (λ no. refl, λ same. e)
-xor_no true false z e = (λ no. sym e ∙ no, λ same. e ∙ same)
-xor_no false true z e = (λ no. sym no ∙ e, λ same. e ∙ sym same)
-xor_no false false z e = (λ no. refl, λ same. e)
-
-or_no : (x y : Bool) → (x || y) ≡ false → (x ≡ false) × (y ≡ false)
-or_no false y e = (refl, e)
-or_no true y e = cc
-
-no_or : (x y : Bool) → x ≡ false → y ≡ false → (x || y) ≡ false
-no_or x y e f = ap (λ (b : Bool). b || y) e ∙ f
+xor_no x y z e = (λ no. grind arith, λ same. grind arith)
 
 -- of the objects below a number, the same are noted at a position of a line
 abbrev pub AreSameBelow : ℕ → LineSets → LineSets → ℕ → ℕ → Type 0
@@ -40,11 +30,11 @@ AreSameBelow end sets other line at = (object : ℕ) → object < end → stands
 pub same_more : (object : ℕ) (sets other : LineSets) (line at : ℕ) (before here new : Bool) → (before ≡ false) ↔ AreSameBelow object sets other line at → (here ≡ false) ↔ (stands_in sets object line at ≡ stands_in other object line at) → new ≡ (before || here)
     → (new ≡ false) ↔ AreSameBelow (object + 1) sets other line at
 same_more object sets other line at before here new rest one is = (
-  λ no. let both = or_no before here (sym is ∙ no) in λ k low. elim (cases_eq k object) [
-    | inl same ↦ ap (λ (o : ℕ). stands_in sets o line at) same ∙ one.0 both.1 ∙ ap (λ (o : ℕ). stands_in other o line at) (sym same)
-    | inr apart ↦ rest.0 both.0 k (omega (arith, low, apart))
+  λ no k low. elim (cases_eq k object) [
+    | inl same ↦ subst (λ (o : ℕ). stands_in sets o line at ≡ stands_in other o line at) (sym same) (one.0 (or_parts before here (sym is ∙ no)).1)
+    | inr apart ↦ rest.0 (or_parts before here (sym is ∙ no)).0 k (omega (arith, low, apart))
   ],
-  λ same. is ∙ no_or before here (rest.1 (λ k low. same k (omega (arith, low)))) (one.1 (same object (omega arith))),
+  λ same. is ∙ or_from before here (rest.1 (λ k low. same k (omega (arith, low)))) (one.1 (same object (omega arith))),
 )
 
 -- ---- the positions of one line after another, each of this many

@@ -1,8 +1,9 @@
 -- The objects of a line, by whether their words are 0.
-use Rattle.std.proofs.Common.{◌≡◌, inl, inr, ℕ, ◌+◌, ◌*◌, ◌^◌, ◌<◌, List, Bool, true, false, not, ◌&&◌, nat_eq, get_or, arith, ap, sym, ◌∙◌, refl, eq-eqb}
+use Rattle.std.proofs.Common.{◌≡◌, inl, inr, ℕ, ◌+◌, ◌*◌, ◌^◌, ◌<◌, List, Bool, false, not, ◌&&◌, nat_eq, get_or, arith, ap, sym, ◌∙◌, refl}
 use Rattle.std.specs.Prelude.{nat_lt, ◌↔◌}
-use Rattle.std.proofs.lemmas.Bool.{cases_lt, eqb-true, le-ltb, lt-ltb}
+use Rattle.std.proofs.lemmas.Bool.{cases_lt, le-ltb}
 use Rattle.std.proofs.lemmas.Nat.{div-mul-add, mod-mul-add}
+use Rattle.std.proofs.lemmas.Grind.{common_steps}
 use Rattle.pz_sets.specs.Sets.{in_word, member}
 use Rattle.pz_sets.proofs.WordLemmas.{in_word-zero, same_below}
 use Rattle.pz_planes.specs.Planes.{LineSets, IsMissingIn}
@@ -28,18 +29,9 @@ pub exact : (sets : LineSets) (line object : ℕ) (marked : Bool) → marked ≡
 exact sets line object marked is fits = (
   λ none at known. missing_from_zero sets line object (zero (sym is ∙ none) known) at known,
   λ missing. elim (cases_lt object sets.objects) [
-    | inl known ↦ is ∙ ap (λ (b : Bool). nat_lt object sets.objects && not b) (eq-eqb _ _ (zero_from_missing sets line object known fits missing)) ∙ and_no (nat_lt object sets.objects)
+    | inl known ↦ grind (arith, is, zero_from_missing sets line object known fits missing)
     | inr past ↦ is ∙ ap (λ (b : Bool). b && not (nat_eq (word_of sets line object) 0)) (le-ltb object sets.objects past)
   ],
 ) where
-  and_no : (b : Bool) → (b && false) ≡ false
-  and_no true = refl
-  and_no false = refl
-
-  is_zero : (b : Bool) → not b ≡ false → b ≡ true
-  is_zero true e = refl
-  is_zero false e = cc
-
   zero : (nat_lt object sets.objects && not (nat_eq (word_of sets line object) 0)) ≡ false → object < sets.objects → word_of sets line object ≡ 0
-  zero none known =
-      eqb-true _ _ (is_zero (nat_eq (word_of sets line object) 0) (sym (ap (λ (b : Bool). b && not (nat_eq (word_of sets line object) 0)) (lt-ltb object sets.objects known)) ∙ none))
+  zero none known = grind (arith, common_steps, none, known)

@@ -128,3 +128,12 @@ number_apart count o q p object y x q_in y_in p_in x_in apart = ne_eqb _ _ (λ e
     let outer = same_from_place (o * count + q) p (object * count + y) x 128 p_in x_in e in
     let inner = same_from_place o q object y count q_in y_in outer.0 in
     apart inner.1 outer.1)
+
+-- a word of an object and a line in which one position changed
+pub changed_word : (old : LineSets) (words : List ℕ) (object line at : ℕ) (noted : Bool → Bool → Bool) → line < old.count → at < 128 → ((was : Bool) → noted false was ≡ was) → ((number : ℕ) → member words number ≡ noted (nat_eq number ((object * old.count + line) * 128 + at)) (member old.words number)) → IsChanged old (record { objects = old.objects; count = old.count; words = words }) line at (λ other was. noted (nat_eq other object) was)
+changed_word old words object line at noted line_in at_in same is = record {
+  objects = refl;
+  count = refl;
+  here = λ o small. is ((o * old.count + line) * 128 + at) ∙ ap (λ (b : Bool). noted b (stands_in old o line at)) (number_here old.count o object line at line_in);
+  others = λ o other place low small apart. is ((o * old.count + other) * 128 + place) ∙ ap (λ (b : Bool). noted b (stands_in old o other place)) (number_apart old.count o other place object line at low line_in small at_in apart) ∙ same (stands_in old o other place);
+}

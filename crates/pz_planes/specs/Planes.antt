@@ -50,9 +50,9 @@ abbrev pub AreSameBetween : LineSets → LineSets → ℕ → ℕ → ℕ → Ty
 AreSameBetween sets other long from end = (number : ℕ) → from ≤ number → number < end → AreSameAt sets other (number / long) (number % long)
 
 -- the first position, from a number on, at which other objects are noted in one than in the other, if there is one
-abbrev pub IsNextDiffering : LineSets → LineSets → ℕ → ℕ → Option ℕ → Type 0
-IsNextDiffering sets other long from None = AreSameBetween sets other long from (sets.count * long)
-IsNextDiffering sets other long from (Some found) =
+abbrev pub IsNextDifferingPosition : LineSets → LineSets → ℕ → ℕ → Option ℕ → Type 0
+IsNextDifferingPosition sets other long from None = AreSameBetween sets other long from (sets.count * long)
+IsNextDifferingPosition sets other long from (Some found) =
     (from ≤ found) × (found < sets.count * long) × (AreSameAt sets other (found / long) (found % long) → ⊥) × AreSameBetween sets other long from found
 
 -- a note that is toggled: it comes if it isn't there, and goes if it is

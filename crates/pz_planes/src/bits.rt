@@ -13,6 +13,7 @@ use pz_sets::words;
 pub const ROOM: u32 = 128;
 
 /// All positions of a line.
+#[tactic(auto, using(crate::proofs::BitLemmas::joining))]
 pub fn all() -> u128
     ensures { (at : ℕ) → at < 128 → in_word result at ≡ true }
 {
@@ -27,6 +28,7 @@ pub fn is_empty(set: u128) -> bool
 }
 
 /// The positions of both sets.
+#[tactic(auto, using(crate::proofs::BitLemmas::joining))]
 pub fn both(set: u128, other: u128) -> u128
     ensures { (at : ℕ) → in_word result at ≡ (in_word set at && in_word other at) }
 {
@@ -34,6 +36,7 @@ pub fn both(set: u128, other: u128) -> u128
 }
 
 /// The positions that are in one set, in the other, or in both.
+#[tactic(auto, using(crate::proofs::BitLemmas::joining))]
 pub fn either(set: u128, other: u128) -> u128
     ensures { (at : ℕ) → in_word result at ≡ (in_word set at || in_word other at) }
 {

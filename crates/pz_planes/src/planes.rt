@@ -7,7 +7,7 @@ ghost use Rattle.pz_game.specs.Items.{names};
 ghost use Rattle.pz_sets.specs.Sets.{in_word, member};
 ghost use Rattle.pz_sets.specs.declared.set.TheConstants.{CAPACITY};
 ghost use Rattle.pz_planes.specs.Marks.{AreMarks};
-ghost use Rattle.pz_planes.specs.Planes.{stands_in, AreSameAt, IsMissingIn, IsEmpty, IsChanged, AreChanged, IsInside, IsKnown, AreKnown, AreThere, HaveSameLines, HasRoomOf, IsFor, AreItemsOf, MayHold, MayRun, IsNextDiffering, lines_of, toggled};
+ghost use Rattle.pz_planes.specs.Planes.{stands_in, AreSameAt, IsMissingIn, IsEmpty, IsChanged, AreChanged, IsInside, IsKnown, AreKnown, AreThere, HaveSameLines, HasRoomOf, IsFor, AreItemsOf, MayHold, MayRun, IsNextDifferingPosition, lines_of, toggled};
 
 use crate::line::{Axis, Way};
 use crate::{bits, notes};
@@ -91,7 +91,6 @@ impl LinePlanes {
         ensures within { result < length self.now.words }
         ensures low { result < 131072 }
     {
-        let _ = &self.words;
         object * self.count + line
     }
 
@@ -198,7 +197,7 @@ impl LinePlanes {
         requires room { HasRoomOf self.now other.now }
         requires some { 0 < long }
         requires short { long ≤ 128 }
-        ensures { IsNextDiffering self.now other.now long from result }
+        ensures { IsNextDifferingPosition self.now other.now long from result }
     {
         let wide = long as usize;
         for line in from / wide..self.count {

@@ -1,11 +1,7 @@
-use Rattle.std.proofs.Common.{◌≡◌, map, take}
-use Rattle.std.specs.List.{All}
+use Rattle.std.proofs.Common.{take}
 use Rattle.pz_cells.specs.Drawing.{glyph_cell}
-use Rattle.pz_cells.specs.Lists.{seen, IsSound}
+use Rattle.pz_cells.proofs.DrawLemmas.{AreGlyphs}
 use Rattle.pz_cells.proofs.drawing.glyph_cells.Given as goal
 
 abbrev pub invariant-loop-number : goal.invariant-loop-number
-invariant-loop-number g l = record {
-  sound : All (IsSound l.layers) l.cells.items;
-  cells : map (seen l.layers) l.cells.items ≡ map (glyph_cell l.game) (take l.number-index l.numbers);
-}
+invariant-loop-number g l = AreGlyphs l.layers (glyph_cell l.game) (take l.number-index l.numbers) l.cells.items

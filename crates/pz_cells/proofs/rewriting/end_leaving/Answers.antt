@@ -1,4 +1,4 @@
-use Rattle.std.proofs.Common.{◌≡◌, ◌≢◌, true, false, ◌&&◌, ℕ, List, arith, ap, sym, ◌∙◌, subst}
+use Rattle.std.proofs.Common.{◌≡◌, not, nat_eq, ◌&&◌, ◌||◌, ℕ, List, arith, ap, sym, ◌∙◌, subst}
 use Rattle.pz_sets.specs.Sets.{member}
 use Rattle.pz_game.specs.declared.direction.Dir.{Dir}
 use Rattle.pz_game.specs.Headings.{heads}
@@ -18,7 +18,5 @@ leaving-preserved g c =
     let same = λ (k : ℕ). sym (ap (λ (ws : List ℕ). member objects k && member ws k) c.words.ensures.words) in
     let e = ended_more c.args.layers.now.layers objects c.args.cleared.now (member removed) c.args.movement.now c.leaving.movement c.end_unless.new.movement c.leaving.start c.in-Some.object
     (record { ended = i.ended; others = i.others }) f.0 (same c.in-Some.object ∙ f.2) (λ k from below. same k ∙ f.3 k from below)
-    (subst (λ (k : ℕ). member cleared k ≡ false → (dir : Dir) → heads after k dir ≡ false) on c.end_unless.ensures.ended)
-    (subst (λ (k : ℕ). member cleared k ≡ true → (other : ℕ) (dir : Dir) → heads after other dir ≡ heads now other dir) on c.end_unless.ensures.spared)
-    (subst (λ (k : ℕ). (other : ℕ) (dir : Dir) → other ≢ k → heads after other dir ≡ heads now other dir) on c.end_unless.ensures.others) c.end_unless.ensures.kept in
+    (subst (λ (k : ℕ). (other : ℕ) (dir : Dir) → heads after other dir ≡ ((member cleared k || not (nat_eq other k)) && heads now other dir)) on c.end_unless.ensures.heads) in
     record { low = omega (arith, f.1, c.requires.short); ended = e.ended; others = e.others; proper = λ p. c.end_unless.ensures.proper (i.proper p) }

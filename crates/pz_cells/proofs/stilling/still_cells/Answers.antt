@@ -1,42 +1,30 @@
-use Rattle.std.proofs.Common.{◌≡◌, ◌<◌, length, arith, map, ◌∙◌, refl}
+use Rattle.std.proofs.Common.{inl, inr, map, arith, ap, ◌∙◌}
+use Rattle.std.proofs.lemmas.Bool.{cases_lt}
+use Rattle.pz_cells.specs.declared.cell.Cell.{Cell}
 use Rattle.pz_cells.specs.Cell.{still_place}
-use Rattle.pz_cells.proofs.ListLemmas.{sound_at, small_cell, mapped_none, mapped_long, mapped_more, mapped_all, nowhere_more, same_objects_more}
+use Rattle.pz_cells.proofs.ListLemmas.{small_cell, walked_none, walked_more, walked_sound, walked_all}
+use Rattle.pz_cells.proofs.stilling.still_cells.Invariants.{IsStilled}
 use Rattle.pz_cells.proofs.stilling.still_cells.Goals as goal
 
 pub loop-index-init : goal.loop-index-init
-loop-index-init g c = record {
-  mapped = mapped_none c.args.layers.now (map still_place) c.args.cells.now.items c.requires.sound;
-  objects = λ k cell. refl;
-  nowhere = λ k cell number below. absurd (omega (arith, below));
-}
+loop-index-init g c = walked_none (IsStilled c.args.layers.now) c.args.cells.now.items
 
 pub still_all-requires : goal.still_all-requires
 still_all-requires g c =
-    let count : c.len-index-end.result ≡ length c.args.cells.now.items = c.len-index-end.ensures ∙ c.args.cells.now.ok.0 in
-    let i = c.loop-index.invariant.mapped in
-    let long = mapped_long c.args.layers.now (map still_place) c.args.cells.now.items c.loop-index.cells.items c.loop-index.index i in
-    let within : c.loop-index.index < length c.loop-index.cells.items = omega (arith, c.loop-index-test.true, count, long) in
-    (small_cell _ c.depth.ensures.law.short, (search, sound_at c.args.layers.now c.loop-index.cells.items c.loop-index.index c.index_mut.result.now i.sound within c.index_mut.ensures.value))
+    let sound = walked_sound c.args.layers.now (IsStilled c.args.layers.now) c.args.cells.now.items c.loop-index.cells.items c.loop-index.index c.index_mut.result.now c.requires.sound (omega (arith, c.loop-index-test.true, c.len-index-end.ensures ∙ c.args.cells.now.ok.0, c.loop-index.invariant.long)) c.loop-index.invariant c.index_mut.ensures.value in
+    (small_cell _ c.depth.ensures.law.short, (search, sound))
 
 pub loop-index-preserved : goal.loop-index-preserved
-loop-index-preserved g c =
-    let count : c.len-index-end.result ≡ length c.args.cells.now.items = c.len-index-end.ensures ∙ c.args.cells.now.ok.0 in
-    let i = c.loop-index.invariant.mapped in
-    let long = mapped_long c.args.layers.now (map still_place) c.args.cells.now.items c.loop-index.cells.items c.loop-index.index i in
-    let within : c.loop-index.index < length c.loop-index.cells.items = omega (arith, c.loop-index-test.true, count, long) in
-    record {
-      mapped = mapped_more c.args.layers.now (map still_place) c.args.cells.now.items c.loop-index.cells.items c.loop-index.index c.index_mut.result.now c.still_all.new.self within i c.index_mut.ensures.value c.still_all.ensures.sound c.still_all.ensures.cell;
-      objects = same_objects_more c.args.cells.now.items c.loop-index.cells.items c.loop-index.index c.index_mut.result.now c.still_all.new.self within c.index_mut.ensures.value c.still_all.ensures.objects c.loop-index.invariant.objects;
-      nowhere = nowhere_more c.loop-index.cells.items c.loop-index.index c.still_all.new.self within c.still_all.ensures.none c.loop-index.invariant.nowhere;
-    }
+loop-index-preserved g c = walked_more (IsStilled c.args.layers.now) c.args.cells.now.items c.loop-index.cells.items c.loop-index.index c.index_mut.result.now c.still_all.new.self (omega (arith, c.loop-index-test.true, c.len-index-end.ensures ∙ c.args.cells.now.ok.0, c.loop-index.invariant.long)) c.loop-index.invariant c.index_mut.ensures.value ((c.still_all.ensures.sound, c.still_all.ensures.cell), c.still_all.ensures.none, c.still_all.ensures.objects)
 
 pub returns-clause-mapped : goal.returns-clause-mapped
-returns-clause-mapped g c =
-    let count : c.len-index-end.result ≡ length c.args.cells.now.items = c.len-index-end.ensures ∙ c.args.cells.now.ok.0 in
-    mapped_all c.args.layers.now (map still_place) c.args.cells.now.items c.loop-index.cells.items c.loop-index.index (omega (arith, c.loop-index-test.false, count)) c.loop-index.invariant.mapped
+returns-clause-mapped g c = walked_all c.args.layers.now (map still_place) c.args.cells.now.items c.loop-index.cells.items (λ k cell below. (c.loop-index.invariant.turned k cell (omega (arith, below, c.loop-index-test.false, c.len-index-end.ensures ∙ c.args.cells.now.ok.0))).0) c.loop-index.invariant.long
 
 pub returns-clause-nowhere : goal.returns-clause-nowhere
-returns-clause-nowhere g c = λ index cell number within.
-    let count : c.len-index-end.result ≡ length c.args.cells.now.items = c.len-index-end.ensures ∙ c.args.cells.now.ok.0 in
-    let long = mapped_long c.args.layers.now (map still_place) c.args.cells.now.items c.loop-index.cells.items c.loop-index.index c.loop-index.invariant.mapped in
-    c.loop-index.invariant.nowhere index cell number (omega (arith, within, c.loop-index-test.false, count, long))
+returns-clause-nowhere g c = λ k cell number within. (c.loop-index.invariant.turned k cell (omega (arith, within, c.loop-index.invariant.long, c.loop-index-test.false, c.len-index-end.ensures ∙ c.args.cells.now.ok.0))).1 number
+
+pub returns-clause-objects : goal.returns-clause-objects
+returns-clause-objects g c = λ k cell. elim (cases_lt k c.loop-index.index) [
+  | inl below ↦ (c.loop-index.invariant.turned k cell below).2
+  | inr past ↦ ap (λ (there : Cell g.row.N). there.objects) (c.loop-index.invariant.rest k cell past)
+]

@@ -1,16 +1,15 @@
-use Rattle.std.proofs.Common.{◌+◌, ◌≤◌, None, arith}
+use Rattle.std.proofs.Common.{◌+◌, List, ℕ, None, arith, ap, sym, ◌∙◌}
 use Rattle.std.proofs.lemmas.Bool.{leb-true}
 use Rattle.pz_game.specs.Headings.{flag, heads}
 use Rattle.pz_game.proofs.FlagLemmas.{dir_bit-low}
-use Rattle.pz_cells.proofs.ShowLemmas.{first_toward}
+use Rattle.pz_cells.proofs.PlaceLemmas.{first_toward}
 use Rattle.pz_cells.proofs.cell.Cell.is_layer_still.Goals as goal
 
 pub returns-in-None : goal.returns-in-None
-returns-in-None g c = λ still.
-    first_toward (heads c.args.self.now.movement c.args.layer) None (λ dir. c.in-None.ensures (flag c.args.layer dir) (omega (arith, c.flag-start.ensures.number)))
+returns-in-None g c = λ still. first_toward (heads c.args.self.now.movement c.args.layer) None (λ dir.
+    ap (λ (ws : List ℕ). heads ws c.args.layer dir) (sym c.movement_words-movement.ensures.words) ∙ c.in-None.ensures (flag c.args.layer dir) (omega (arith, c.flag-start.ensures.number)))
 
 pub returns-in-Some : goal.returns-in-Some
-returns-in-Some g c = λ still.
-    let past : c.flag-start.result + 5 ≤ c.in-Some.found = leb-true (c.flag-start.result + 5) c.in-Some.found still in
-    first_toward (heads c.args.self.now.movement c.args.layer) None (λ dir.
-    c.in-Some.ensures.3 (flag c.args.layer dir) (omega (arith, c.flag-start.ensures.number)) (omega (arith, c.flag-start.ensures.number, dir_bit-low dir, past)))
+returns-in-Some g c = λ still. first_toward (heads c.args.self.now.movement c.args.layer) None (λ dir.
+    ap (λ (ws : List ℕ). heads ws c.args.layer dir) (sym c.movement_words-movement.ensures.words)
+    ∙ c.in-Some.ensures.3 (flag c.args.layer dir) (omega (arith, c.flag-start.ensures.number)) (omega (arith, c.flag-start.ensures.number, dir_bit-low dir, leb-true (c.flag-start.result + 5) c.in-Some.found still)))

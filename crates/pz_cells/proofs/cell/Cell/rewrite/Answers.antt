@@ -1,4 +1,4 @@
-use Rattle.std.proofs.Common.{inl, inr, ◌*◌, ◌≤◌, ℕ, List, Bool, not, ◌&&◌, ◌||◌, length, get_or, ap, sym, ◌∙◌, subst, arith}
+use Rattle.std.proofs.Common.{inl, inr, ℕ, List, not, ◌&&◌, ◌||◌, ap, sym, ◌∙◌, arith}
 use Rattle.std.proofs.lemmas.Bool.{or_cases, and_parts}
 use Rattle.pz_sets.specs.Sets.{member}
 use Rattle.pz_game.specs.declared.masks.Masks.{Masks}
@@ -6,34 +6,29 @@ use Rattle.pz_game.specs.Headings.{heads, IsProper}
 use Rattle.pz_game.specs.Masks.{AreMasksOf}
 use Rattle.pz_cells.specs.Rewriting.{rewritten_cell}
 use Rattle.pz_cells.specs.Shown.{cell_of}
-use Rattle.pz_cells.proofs.HoldLemmas.{low_of_game}
-use Rattle.pz_cells.proofs.RewriteLemmas.{AreRewritten, Rewrites, rewrites_from, lawful_rewritten, cell_rewritten, placed_within, headed_within, mid_proper, changed_by}
+use Rattle.pz_cells.proofs.HoldLemmas.{masks_of_game, masks_fit}
+use Rattle.pz_cells.proofs.RewriteLemmas.{AreRewritten, Rewrites, rewrites_from, lawful_rewritten, cell_rewritten, placed_within, mid_proper, changed_by}
 use Rattle.pz_cells.proofs.cell.Cell.rewrite.Given.{Over}
 use Rattle.pz_cells.proofs.cell.Cell.rewrite.Goals.{After-self-3-1}
 use Rattle.pz_cells.proofs.cell.Cell.rewrite.Goals as goal
 
 pub replace-moved-requires : goal.replace-moved-requires
 replace-moved-requires g c number here =
-    let layers = c.args.layers.now.layers in
-    let right = c.args.right.now in
-    let m = c.masks-is.ensures (low_of_game c.args.layers.now.depth layers right c.objects_on.ensures.law.layered c.objects_on.ensures.law.few c.objects_on.ensures.law.shallow c.requires.right_of) in
-    let within = headed_within layers c.args.layers.now.depth (length c.args.self.now.movement) right c.masks-is.result.now c.requires.right_of m c.objects_on.ensures.law.layered (subst (λ (n : ℕ). c.args.layers.now.depth ≤ 25 * n) (sym c.word_count.ensures.movement) c.objects_on.ensures.law.movement_room) number (ap (λ (ws : List ℕ). member ws number) (sym c.words-2.ensures.words) ∙ here) in
-    within
+    let m = masks_of_game g.row.N c.args.layers.now c.args.right.now c.masks-is.result.now c.objects_on.ensures.law c.requires.right_of c.masks-is.ensures in
+    let fit = masks_fit g.row.N c.args.layers.now c.args.right.now c.masks-is.result.now c.objects_on.ensures.law c.requires.right_of m in
+    omega (arith, fit.headed number (ap (λ (ws : List ℕ). member ws number) (sym c.words-2.ensures.words) ∙ here))
 
 pub replace-replaced-requires : goal.replace-replaced-requires
 replace-replaced-requires g c object here =
-    let layers = c.args.layers.now.layers in
-    let right = c.args.right.now in
-    let m = c.masks-is.ensures (low_of_game c.args.layers.now.depth layers right c.objects_on.ensures.law.layered c.objects_on.ensures.law.few c.objects_on.ensures.law.shallow c.requires.right_of) in
-    let within = placed_within layers right c.masks-is.result.now c.requires.right_of m object (ap (λ (ws : List ℕ). member ws object) (sym c.words-4.ensures.words) ∙ here) in
-    omega (arith, within, c.objects_on.ensures.law.room, c.word_count.ensures.objects)
+    let m = masks_of_game g.row.N c.args.layers.now c.args.right.now c.masks-is.result.now c.objects_on.ensures.law c.requires.right_of c.masks-is.ensures in
+    let within = placed_within c.args.layers.now.layers c.args.right.now c.masks-is.result.now c.requires.right_of m object (ap (λ (ws : List ℕ). member ws object) (sym c.words-4.ensures.words) ∙ here) in
+    omega (arith, within, c.objects_on.ensures.law.room)
 
 masks_of : (g : Over) (c : After-self-3-1 g) → AreMasksOf c.args.left.now c.masks-was.result.now × AreMasksOf c.args.right.now c.masks-is.result.now
-masks_of g c =
-    let layers = c.args.layers.now.layers in (
-      c.masks-was.ensures (low_of_game c.args.layers.now.depth layers c.args.left.now c.objects_on.ensures.law.layered c.objects_on.ensures.law.few c.objects_on.ensures.law.shallow c.requires.left_of),
-      c.masks-is.ensures (low_of_game c.args.layers.now.depth layers c.args.right.now c.objects_on.ensures.law.layered c.objects_on.ensures.law.few c.objects_on.ensures.law.shallow c.requires.right_of),
-    )
+masks_of g c = (
+  masks_of_game g.row.N c.args.layers.now c.args.left.now c.masks-was.result.now c.objects_on.ensures.law c.requires.left_of c.masks-was.ensures,
+  masks_of_game g.row.N c.args.layers.now c.args.right.now c.masks-is.result.now c.objects_on.ensures.law c.requires.right_of c.masks-is.ensures,
+)
 
 are_rewritten : (g : Over) (c : After-self-3-1 g) → AreRewritten c.args.layers.now.layers c.masks-was.result.now c.masks-is.result.now c.args.self.now.objects c.args.self.now.movement c.replace-replaced.new.words c.replace-moved.new.words c.end_leaving.new.movement
 are_rewritten g c =
@@ -47,16 +42,12 @@ are_rewritten g c =
     ∙ ap (λ (ws : List ℕ). (member objects o && not (member ws o)) || member c.words-4.result.now o) c.words-3.ensures.words
     ∙ ap (λ (ws : List ℕ). (member objects o && not (member gone o)) || member ws o) c.words-4.ensures.words in
     record {
-      is_new = λ o low. members o
-          ∙ ap (λ (b : Bool). (member objects o && not b) || member r.placed o) (c.union-gone.ensures o ∙ ap (λ (b : Bool). b || member c.union-removed.result o) (c.objects_on.ensures.objects o low) ∙ ap (λ (b : Bool). member r.layers (get_or layers o 0) || b) (c.union-removed.ensures o));
+      is_new = λ o low. grind (arith, members o, c.union-gone.ensures o, c.objects_on.ensures.objects o low, c.union-removed.ensures o);
       of_game = λ o here. elim (or_cases (member objects o && not (member gone o)) (member r.placed o) (sym (members o) ∙ here)) [
         | inl old ↦ c.requires.sound.of_game o (and_parts (member objects o) (not (member gone o)) old).0
         | inr new ↦ placed_within layers c.args.right.now r c.requires.right_of (masks_of g c).1 o new
       ];
-      is_mid = λ n. c.replace-moved.ensures.members n
-          ∙ ap (λ (ws : List ℕ). (member movement n && not (member ws n)) || member c.words-2.result.now n) c.words.ensures.words
-          ∙ ap (λ (ws : List ℕ). (member movement n && not (member c.union-ending.result n)) || member ws n) c.words-2.ensures.words
-          ∙ ap (λ (b : Bool). (member movement n && not b) || member r.headed n) (c.union-ending.ensures n ∙ ap (λ (b : Bool). member r.settled n || b) (c.common.ensures n));
+      is_mid = λ n. grind (arith, c.replace-moved.ensures.members n, c.words.ensures.words, c.words-2.ensures.words, c.union-ending.ensures n, c.common.ensures n);
       ended = λ o dir g. c.end_leaving.ensures.ended o dir (record { here = g.here; removed = c.union-removed.ensures o ∙ g.removed; free = g.free });
       others = λ layer dir none. c.end_leaving.ensures.others layer dir (λ o g on. none o (record { here = g.here; removed = sym (c.union-removed.ensures o) ∙ g.removed; free = g.free }) on);
     }
@@ -71,11 +62,11 @@ proper_mid g c = mid_proper c.args.layers.now.layers c.args.left.now c.args.righ
 
 pub returns-clause-sound : goal.returns-clause-sound
 returns-clause-sound g c = lawful_rewritten c.args.layers.now.layers c.args.left.now c.args.right.now c.args.self.now.objects c.args.self.now.movement c.replace-replaced.new.words c.end_leaving.new.movement
-    c.requires.right_of c.requires.sound (rewrites g c) (c.end_leaving.ensures.proper (proper_mid g c))
+    c.requires.right_of c.requires.sound (rewrites g c) (are_rewritten g c).of_game (c.end_leaving.ensures.proper (proper_mid g c))
 
 pub returns-clause-cell : goal.returns-clause-cell
 returns-clause-cell g c = cell_rewritten c.args.layers.now.depth c.args.layers.now.layers c.args.left.now c.args.right.now c.args.self.now.objects c.args.self.now.movement c.replace-replaced.new.words c.end_leaving.new.movement
-    c.requires.right_of c.requires.sound (rewrites g c)
+    c.requires.right_of c.requires.sound (rewrites g c) (are_rewritten g c).of_game
 
 pub returns-clause-changed : goal.returns-clause-changed
 returns-clause-changed g c =

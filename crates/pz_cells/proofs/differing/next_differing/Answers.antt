@@ -1,0 +1,53 @@
+use Rattle.std.proofs.Common.{◌≡◌, inl, inr, ℕ, ◌+◌, ◌<◌, List, Bool, true, false, length, get_or, sym, ◌∙◌, subst, arith}
+use Rattle.std.specs.Prelude.{IsTrue, ◌↔◌}
+use Rattle.std.proofs.lemmas.List.{get_or_default}
+use Rattle.std.proofs.lemmas.Bool.{cases_eq}
+use Rattle.pz_sets.specs.Sets.{AreSame}
+use Rattle.pz_cells.specs.declared.cell.Cell.{Cell}
+use Rattle.pz_cells.specs.Differing.{AreAlikeBetween, Differ}
+use Rattle.pz_cells.specs.Lists.{AreAlike, HeadNowhere}
+use Rattle.pz_cells.proofs.differing.next_differing.Goals as goal
+
+-- a test decides whether the cells of this number are alike
+abbrev Decides : {N : ℕ} → List (Cell N) → List (Cell N) → ℕ → Bool → Type 0
+Decides {N} a b index test = (cell other : Cell N) → IsTrue test ↔ AreAlike (get_or a index cell) (get_or b index other)
+
+module _ (N : ℕ) (a b : List (Cell N)) (index : ℕ) (x y : Cell N) (test : Bool) (within : index < length a) (long : length a ≡ length b) where
+  decides : x ≡ get_or a index x → y ≡ get_or b index y → (IsTrue test ↔ AreAlike x y) → Decides a b index test
+  decides is_x is_y same cell other =
+      subst (λ (c : Cell N). IsTrue test ↔ AreAlike c (get_or b index other)) (is_x ∙ get_or_default a index x cell within)
+      (subst (λ (c : Cell N). IsTrue test ↔ AreAlike x c) (is_y ∙ get_or_default b index y other (omega arith)) same)
+
+  -- cells that head nowhere are decided by their objects
+  decides_still : HeadNowhere a → HeadNowhere b → (IsTrue test ↔ AreSame (get_or a index x).objects (get_or b index y).objects) → Decides a b index test
+  decides_still still others_still decided cell other =
+      let same = subst (λ (c : Cell N). IsTrue test ↔ AreSame c.objects (get_or b index other).objects) (get_or_default a index x cell within)
+      (subst (λ (c : Cell N). IsTrue test ↔ AreSame (get_or a index x).objects c.objects) (get_or_default b index y other (omega arith)) decided) in
+      (λ t. (same.0 t, λ number. still index cell number within ∙ sym (others_still index other number (omega arith))), λ alike. same.1 alike.0)
+
+alike_more : {N : ℕ} (a b : List (Cell N)) (index from : ℕ) (test : Bool) → Decides a b index test → test ≡ true → AreAlikeBetween a b from index → AreAlikeBetween a b from (index + 1)
+alike_more {N} a b index from test d is before k cell other low h = elim (cases_eq k index) [
+  | inl here ↦ subst (λ (i : ℕ). AreAlike (get_or a i cell) (get_or b i other)) (sym here) ((d cell other).0 is)
+  | inr apart ↦ before k cell other low (omega (arith, h, apart))
+]
+
+differ_here : {N : ℕ} (a b : List (Cell N)) (index : ℕ) (test : Bool) → Decides a b index test → test ≡ false → Differ a b index
+differ_here a b index test d is cell other same = (let f : false ≡ true = sym is ∙ (d cell other).1 same in cc)
+
+pub returns-then-not-same : goal.returns-then-not-same
+returns-then-not-same g c = (c.loop-index.auto.index, c.loop-index-test.true, differ_here c.args.cells.now c.args.others.now c.loop-index.index _ (decides_still g.row.N c.args.cells.now c.args.others.now c.loop-index.index c.index-cells-index.result c.index-others-index.result c.same.result c.loop-index-test.true c.requires.long (c.requires.still c.if-are_still.true) (c.requires.others_still c.if-are_still.true) c.same.ensures) c.if-not-same.true, c.loop-index.invariant)
+
+pub loop-index-preserved : goal.loop-index-preserved
+loop-index-preserved g c = alike_more c.args.cells.now c.args.others.now c.loop-index.index c.args.from _ (decides_still g.row.N c.args.cells.now c.args.others.now c.loop-index.index c.index-cells-index.result c.index-others-index.result c.same.result c.loop-index-test.true c.requires.long (c.requires.still c.if-are_still.true) (c.requires.others_still c.if-are_still.true) c.same.ensures) c.if-not-same.false c.loop-index.invariant
+
+pub returns-then-not-same-2 : goal.returns-then-not-same-2
+returns-then-not-same-2 g c = (c.loop-index-else-are_still.auto.index, c.loop-index-else-are_still-test.true, differ_here c.args.cells.now c.args.others.now c.loop-index-else-are_still.index _ (decides g.row.N c.args.cells.now c.args.others.now c.loop-index-else-are_still.index c.index-cells-index-in-loop-index-else-are_still.result c.index-others-index-in-loop-index-else-are_still.result c.same-in-loop-index-else-are_still.result c.loop-index-else-are_still-test.true c.requires.long c.index-cells-index-in-loop-index-else-are_still.is c.index-others-index-in-loop-index-else-are_still.is c.same-in-loop-index-else-are_still.ensures) c.if-not-same-2.true, c.loop-index-else-are_still.invariant)
+
+pub loop-index-else-are_still-preserved : goal.loop-index-else-are_still-preserved
+loop-index-else-are_still-preserved g c = alike_more c.args.cells.now c.args.others.now c.loop-index-else-are_still.index c.args.from _ (decides g.row.N c.args.cells.now c.args.others.now c.loop-index-else-are_still.index c.index-cells-index-in-loop-index-else-are_still.result c.index-others-index-in-loop-index-else-are_still.result c.same-in-loop-index-else-are_still.result c.loop-index-else-are_still-test.true c.requires.long c.index-cells-index-in-loop-index-else-are_still.is c.index-others-index-in-loop-index-else-are_still.is c.same-in-loop-index-else-are_still.ensures) c.if-not-same-2.false c.loop-index-else-are_still.invariant
+
+pub returns-after-loop-index : goal.returns-after-loop-index
+returns-after-loop-index g c = λ k cell other low h. c.loop-index.invariant k cell other low (omega (arith, c.loop-index-test.false, h))
+
+pub returns-after-loop-index-else-are_still : goal.returns-after-loop-index-else-are_still
+returns-after-loop-index-else-are_still g c = λ k cell other low h. c.loop-index-else-are_still.invariant k cell other low (omega (arith, c.loop-index-else-are_still-test.false, h))
