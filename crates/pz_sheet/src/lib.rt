@@ -2,7 +2,7 @@
 #![tactic(auto)]
 
 ghost use Rattle.std.specs.Prelude.{◌≡◌, ◌+◌, ◌*◌, ◌<◌, length};
-ghost use Rattle.pz_sheet.specs.Grid.{IsLawful};
+ghost use Rattle.pz_sheet.specs.Grid.{IsLawful, IsOnMap};
 
 use pz_cells::cell::Cell;
 use pz_cells::layers::Layers;
@@ -94,8 +94,7 @@ impl<const N: usize> Sheet<N> {
 
     /// The number of the cell at a position of the map. Cells are numbered row by row.
     fn index(&self, x: u32, y: u32) -> usize
-        requires x_in { x < self.now.grid.width }
-        requires y_in { y < self.now.grid.height }
+        requires on_map { IsOnMap self.now.grid x y }
         ensures index { result ≡ y * self.now.grid.width + x }
         ensures within { result < length self.now.grid.cells }
     {
