@@ -35,11 +35,6 @@ use Rattle.pz_cells.proofs.RewriteLemmas.{member_seen}
 use Rattle.pz_sheet.proofs.RunLemmas.{enumerate_fails}
 use Rattle.pz_sheet.proofs.AxisLemmas.{along_in, run_past}
 
--- what is true of some is not false of all
-pub holds_unless : (b d : Bool) → (b ≡ true → d ≡ true) → d ≡ false → b ≡ false
-holds_unless true d h none = let f : true ≡ false = sym (h refl) ∙ none in cc
-holds_unless false d h none = refl
-
 -- each passes where all do
 each_passes : (p : ℕ × List Item → Bool) (patterns : List (List Item)) → list_all p (enumerate_from 0 patterns) ≡ true → (index : ℕ) (other : List Item) → index < length patterns → p (index, get_or patterns index other) ≡ true
 each_passes p patterns all index other within = by_value (p (index, get_or patterns index other)) refl where

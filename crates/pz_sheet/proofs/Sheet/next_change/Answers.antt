@@ -3,7 +3,8 @@ use Rattle.pz_cells.specs.declared.cell.Cell.{Cell}
 use Rattle.pz_cells.specs.Differing.{IsNextDiffering}
 use Rattle.pz_planes.specs.Planes.{LineSets, IsNextDiffering as IsNextPosition}
 use Rattle.pz_sheet.specs.Grid.{Grid, BareState}
-use Rattle.pz_sheet.proofs.ChangeLemmas.{AreBoth, as_many, next_is}
+use Rattle.pz_sheet.proofs.SheetLemmas.{lawful_here}
+use Rattle.pz_sheet.proofs.ChangeLemmas.{AreBoth, as_many, as_many_seen, next_is}
 use Rattle.pz_cells.proofs.ListLemmas.{small_cell}
 use Rattle.pz_sheet.proofs.StillLemmas.{nowhere_read, all_head_nowhere}
 use Rattle.pz_sheet.proofs.TellLemmas.{next_by_planes}
@@ -22,8 +23,12 @@ returns-then-is_told_by_planes g c =
     let next : IsNextPosition a.planes.rows b.planes.rows a.width c.args.from c.next_differing.result =
     subst (λ (sets : LineSets). IsNextPosition a.planes.rows sets a.width c.args.from c.next_differing.result) c.lines-others.ensures
     (subst (λ (sets : LineSets). IsNextPosition sets c.lines-others.result.now a.width c.args.from c.next_differing.result) c.lines-rows.ensures c.next_differing.ensures) in
-    next_by_planes g.row.N a.width a.height a.layers a.cells.items a.planes b.width b.height b.layers b.cells.items b.planes _ _ both short c.self.invariant.placed c.other.invariant.placed
-    (all_head_nowhere g.row.N a.width a.height a.layers a.cells.items a.notes stored (c.if-are_still.ensures.first refl)) (all_head_nowhere g.row.N b.width b.height b.layers b.cells.items b.notes stored_other (c.if-are_still.ensures.second refl)) c.args.from c.next_differing.result next
+    record {
+      next = next_by_planes g.row.N a.width a.height a.layers a.cells.items a.planes b.width b.height b.layers b.cells.items b.planes _ _ both short c.self.invariant.placed c.other.invariant.placed
+          (all_head_nowhere g.row.N a.width a.height a.layers a.cells.items a.notes stored (c.if-are_still.ensures.first refl)) (all_head_nowhere g.row.N b.width b.height b.layers b.cells.items b.notes stored_other (c.if-are_still.ensures.second refl)) c.args.from c.next_differing.result next;
+      as_many = as_many_seen _ _ _ _ _ _ _ _ _ _ _ both;
+      lawful = lawful_here _ _ _ _ _ _ _ stored c.self.view_is;
+    }
 
 pub next_differing-requires-else-are_still : goal.next_differing-requires-else-are_still
 next_differing-requires-else-are_still g c =
@@ -48,4 +53,8 @@ returns-else-are_still g c =
     let next : IsNextDiffering a.cells.items b.cells.items c.args.from found =
     subst (λ (there : List (Cell g.row.N)). IsNextDiffering a.cells.items there c.args.from found) c.deref-else-are_still.ensures.value
     (subst (λ (here : List (Cell g.row.N)). IsNextDiffering here c.deref-else-are_still.result.now c.args.from found) c.deref.ensures.value c.next_differing-else-are_still.ensures) in
-    next_is _ _ _ _ _ _ _ _ _ _ _ both c.args.from found next
+    record {
+      next = next_is _ _ _ _ _ _ _ _ _ _ _ both c.args.from found next;
+      as_many = as_many_seen _ _ _ _ _ _ _ _ _ _ _ both;
+      lawful = lawful_here _ _ _ _ _ _ _ c.self.invariant.stored c.self.view_is;
+    }
