@@ -24,18 +24,3 @@ take_cell-requires g c =
     let all = subst (All (IsChangeOf newer)) (sym c.deref-change-items.ensures.value) c.in_ok-changes.ensures.of_level in
     let here = subst (IsChangeOf newer) (sym c.change-item.is) (all c.loop-change.change-index c.change-item.result c.loop-change-test.true) in
     (omega arith, (c.loop-change.invariant.size, omega (arith, here.within, c.loop-change.invariant.long)))
-
-pub loop-change-preserved : goal.loop-change-preserved
-loop-change-preserved g c =
-    let newer = c.args.newer.now.grid in
-    let way = c.deref-change-items.result.now in
-    let index = c.loop-change.change-index in
-    let change = c.change-item.result in
-    let grid = c.loop-change.self.grid in
-    let next = at_drop_more (λ (ways : List (Change g.row.N)). taken g.row.N newer ways grid) way index change c.loop-change-test.true in
-    record {
-      level = ap (taken g.row.N newer (drop (index + 1) way)) c.take_cell.ensures
-          ∙ (ap (λ (there : Change g.row.N). taken g.row.N newer (drop (index + 1) way) (with_cell grid (cell_there newer there.index))) c.change-item.is ∙ (sym next ∙ c.loop-change.invariant.level));
-      size = search;
-      long = ap (λ (level : Grid). length level.cells) c.take_cell.ensures ∙ (length-set grid.cells change.index (cell_of newer change.index) ∙ c.loop-change.invariant.long);
-    }

@@ -19,6 +19,3 @@ returns-clause-objects g c object =
     ap (λ (words : List ℕ). member words object) c.objects_of.ensures.objects
     ∙ member_seen a.layers.depth a.layers.layers cell.objects cell.movement object c.self.invariant.stored.law.layered sound
     ∙ ap (λ (here : List (Option Piece)). is_some (standing here object)) (seen_at _ _ _ a.layers a.cells.items c.args.self.now.grid at cell e within c.index.ensures)
-
-pub returns-clause-short : goal.returns-clause-short
-returns-clause-short g c = omega (arith, c.objects_of.ensures.count, c.self.invariant.stored.law.short)

@@ -12,20 +12,6 @@ use Rattle.pz_sheet.proofs.noting.note_all.Goals as goal
 covers : (start cleared : PlaneSets) (count : ℕ) → HaveSameLines start cleared → count ≡ start.columns.count * start.rows.count → count ≡ cleared.columns.count * cleared.rows.count
 covers start cleared count size is = is ∙ sym (ap (λ (w : ℕ). w * cleared.rows.count) size.column_count ∙ ap (λ (h : ℕ). start.columns.count * h) size.row_count)
 
-pub arrive_at-requires : goal.arrive_at-requires
-arrive_at-requires g c =
-    let old = c.loop-index.planes in
-    let start = c.clear.new.self in
-    let size = c.loop-index.invariant.size in
-    let cell = c.index-cells-index.result in
-    let product : old.columns.count * old.rows.count ≡ start.columns.count * start.rows.count = ap (λ (w : ℕ). w * old.rows.count) size.column_count ∙ ap (λ (h : ℕ). start.columns.count * h) size.row_count in
-    let known : AreKnown c.args.planes.now cell.objects = subst (λ (it : Cell g.row.N). AreKnown c.args.planes.now it.objects) (sym c.index-cells-index.is) (c.requires.known c.loop-index.index cell c.loop-index-test.true) in
-    record {
-      short = omega (arith, c.objects_of.ensures.count, c.requires.short);
-      within = omega (arith, c.loop-index-test.true, (covers c.args.planes.now start (length c.args.cells.now) c.clear.ensures.size c.requires.covers), product);
-      known = subst (AreKnown old) (sym c.objects_of.ensures.objects) (known_still start old cell.objects size (known_still c.args.planes.now start cell.objects c.clear.ensures.size known));
-    }
-
 pub loop-index-preserved : goal.loop-index-preserved
 loop-index-preserved g c =
     let i = c.loop-index.invariant in
