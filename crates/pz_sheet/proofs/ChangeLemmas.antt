@@ -11,9 +11,10 @@ use Rattle.pz_cells.specs.declared.cell.Cell.{Cell}
 use Rattle.pz_cells.specs.declared.piece.Piece.{Piece}
 use Rattle.pz_cells.specs.Sameness.{same_cell}
 use Rattle.pz_cells.proofs.SameLemmas.{same_cell_is, same_cell_self}
+use Rattle.pz_sheet.specs.declared.Sheet.TheInside.{Inside}
 use Rattle.pz_sheet.specs.Changes.{CellChange, changed_from, changed_cells, with_cell, restored, differ_in, cell_there}
 use Rattle.pz_cells.specs.Differing.{IsNextDiffering}
-use Rattle.pz_sheet.specs.Grid.{Grid, SameSize}
+use Rattle.pz_sheet.specs.Grid.{Grid, BareState, SameSize}
 use Rattle.pz_sheet.specs.Presence.{cell_of}
 use Rattle.pz_sets.specs.Next.{IsNext}
 use Rattle.pz_cells.specs.Lists.{seen, IsSound, AreAlike}
@@ -21,7 +22,7 @@ use Rattle.pz_planes.specs.Notes.{HeadingSets}
 use Rattle.pz_sheet.specs.Seen.{grid_of, IsStored}
 use Rattle.pz_cells.proofs.ListLemmas.{no_cell, sound_at}
 use Rattle.pz_sheet.proofs.SameLemmas.{seen_alike, alike_seen, are_same}
-use Rattle.pz_sheet.proofs.SheetLemmas.{seen_at}
+use Rattle.pz_sheet.proofs.SheetLemmas.{only_false, seen_at}
 
 -- ---- cells put back
 abbrev put_back : List (List (Option Piece)) → CellChange → List (List (Option Piece))
@@ -107,10 +108,6 @@ module _ (grid older : Grid) (long : length grid.cells ≡ length older.cells) w
       sym (append-nil found) ∙ (ap (λ l. found ++ l) (sym (left_behind from (length grid.cells) low (omega arith) none ∙ left_none)) ∙ e)
 
 -- ---- one cell of two levels of one size
-only_false : (b : Bool) → (b ≡ true → false ≡ true) → b ≡ false
-only_false true h = sym (h refl)
-only_false false h = refl
-
 -- the words tell what is seen
 module _ (N : ℕ) (layering : Layering) (low : All (λ l. l < layering.depth) layering.layers) where
   pub test_is : (cell other : Cell N) (r : Bool) → IsSound layering cell → IsSound layering other → (IsTrue r ↔ AreAlike cell other) → same_cell (seen layering cell) (seen layering other) ≡ r
@@ -131,6 +128,12 @@ pub record AreBoth (N wa ha : ℕ) (la : Layering) (ca : List (Cell N)) (wb hb :
   pub notes_other : HeadingSets
   pub stored : IsStored N wa ha la ca notes
   pub stored_other : IsStored N wb hb lb cb notes_other
+
+-- so are the words of two levels that are open
+pub both_of : {N : ℕ} {grid other : BareState} (a b : Inside N) → SameSize grid.grid other.grid → record { grid = grid_of a.width a.height a.layers a.cells.items } ≡ grid → record { grid = grid_of b.width b.height b.layers b.cells.items } ≡ other
+    → IsStored N a.width a.height a.layers a.cells.items a.notes → IsStored N b.width b.height b.layers b.cells.items b.notes → AreBoth N a.width a.height a.layers a.cells.items b.width b.height b.layers b.cells.items grid.grid other.grid
+both_of a b size is is_other stored stored_other =
+    record { size = size; is = ap (λ (s : BareState). s.grid) is; is_other = ap (λ (s : BareState). s.grid) is_other; notes = a.notes; notes_other = b.notes; stored = stored; stored_other = stored_other }
 
 module _ (N wa ha : ℕ) (la : Layering) (ca : List (Cell N)) (wb hb : ℕ) (lb : Layering) (cb : List (Cell N)) (grid other : Grid) (a : AreBoth N wa ha la ca wb hb lb cb grid other) where
   many : length grid.cells ≡ length ca

@@ -7,6 +7,7 @@ use Rattle.pz_sets.specs.Sets.{member, AreApart}
 use Rattle.pz_sets.proofs.SetLemmas.{member_past}
 use Rattle.pz_sets.specs.declared.set.TheConstants.{CAPACITY}
 use Rattle.pz_sheet.specs.Holding.{IsSetFor}
+use Rattle.pz_sheet.proofs.SheetLemmas.{only_false}
 
 -- ---- a cell
 any_at : (test : ℕ → Bool) (xs : List ℕ) (k d : ℕ) → k < length xs → test (get_or xs k d) ≡ true → list_any test xs ≡ true
@@ -35,23 +36,15 @@ low_number words short number there = elim (cases_lt number CAPACITY) [
 module _ (objects words set : List ℕ) (is : IsSetFor objects set) (low : (object : ℕ) → member words object ≡ true → object < CAPACITY) where
   -- a cell that is apart from the set has none of the objects
   pub each_missing : AreApart words set → All (λ object. member words object ≡ false) objects
-  each_missing apart k d within = by_there (member words (get_or objects k d)) refl where
-    by_there : (b : Bool) → member words (get_or objects k d) ≡ b → member words (get_or objects k d) ≡ false
-    by_there false e = e
-    by_there true e =
-        let object = get_or objects k d in
-        let here : list_any (nat_eq object) objects ≡ true = any_at (nat_eq object) objects k d within (eq-eqb object object refl) in
-        let both : (nat_lt object CAPACITY && list_any (nat_eq object) objects) ≡ true = ap (λ (b : Bool). b && list_any (nat_eq object) objects) (lt-ltb object CAPACITY (low object e)) ∙ here in
-        let f : false ≡ true = sym (apart object e) ∙ is object ∙ both in cc
+  each_missing apart k d within =
+      let object = get_or objects k d in
+      let here : list_any (nat_eq object) objects ≡ true = any_at (nat_eq object) objects k d within (eq-eqb object object refl) in
+      only_false (member words object) (λ e. sym (apart object e) ∙ is object ∙ ap (λ (b : Bool). b && list_any (nat_eq object) objects) (lt-ltb object CAPACITY (low object e)) ∙ here)
 
   -- one that has none of them is apart
   apart_from : list_any (member words) objects ≡ false → AreApart words set
-  apart_from none number e = by_set (member set number) refl where
-    by_set : (b : Bool) → member set number ≡ b → member set number ≡ false
-    by_set false s = s
-    by_set true s =
-        let both = and_parts (nat_lt number CAPACITY) (list_any (nat_eq number) objects) (sym (is number) ∙ s) in
-        let f : false ≡ true = sym none ∙ any_same (member words) number objects both.1 e in cc
+  apart_from none number e = only_false (member set number) (λ s.
+      sym none ∙ any_same (member words) number objects (and_parts (nat_lt number CAPACITY) (list_any (nat_eq number) objects) (sym (is number) ∙ s)).1 e)
 
   pub found_by_set : (b : Bool) → (IsTrue b ↔ AreApart words set) → not b ≡ list_any (member words) objects
   found_by_set true h = sym (none_of (member words) objects (each_missing (h.0 refl)))

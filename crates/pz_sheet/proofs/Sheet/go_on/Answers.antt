@@ -1,10 +1,7 @@
-use Rattle.std.proofs.Common.{◌≡◌, ◌+◌, All, List, drop, length, arith, ap, sym, ◌∙◌, subst, length-set}
-use Rattle.std.proofs.lemmas.List.{at_drop_more}
+use Rattle.std.proofs.Common.{◌≡◌, All, List, arith, sym, subst}
 use Rattle.pz_sheet.specs.declared.changes.Change.{Change}
-use Rattle.pz_sheet.specs.Changes.{changed_cells, changes_seen, with_cell, cell_there, IsChangeOf}
-use Rattle.pz_sheet.specs.Grid.{Grid}
-use Rattle.pz_sheet.specs.Presence.{cell_of}
-use Rattle.pz_sheet.proofs.NewerLemmas.{taken, all_taken, size_back}
+use Rattle.pz_sheet.specs.Changes.{changed_cells, changes_seen, IsChangeOf}
+use Rattle.pz_sheet.proofs.NewerLemmas.{all_taken, size_back}
 use Rattle.pz_sheet.proofs.Sheet.go_on.Goals as goal
 
 pub loop-change-init : goal.loop-change-init

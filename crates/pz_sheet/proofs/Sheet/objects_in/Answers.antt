@@ -1,4 +1,4 @@
-use Rattle.std.proofs.Common.{ℕ, List, Option, is_some, arith, ap, ◌∙◌}
+use Rattle.std.proofs.Common.{ℕ, List, Option, is_some, ap, ◌∙◌}
 use Rattle.pz_sets.specs.Sets.{member}
 use Rattle.pz_cells.specs.declared.piece.Piece.{Piece}
 use Rattle.pz_cells.specs.Standing.{standing}

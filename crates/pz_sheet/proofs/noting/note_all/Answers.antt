@@ -1,8 +1,7 @@
 use Rattle.std.proofs.Common.{◌≡◌, ◌*◌, ◌/◌, ◌%◌, ℕ, Bool, List, false, ◌||◌, length, arith, ap, sym, ◌∙◌, subst}
 use Rattle.pz_sets.specs.Sets.{member}
-use Rattle.pz_cells.specs.declared.cell.Cell.{Cell}
-use Rattle.pz_planes.specs.Planes.{AreChanged, AreKnown, HaveSameLines, PlaneSets}
-use Rattle.pz_planes.proofs.PlaneLemmas.{still_there_at, known_still, same_lines}
+use Rattle.pz_planes.specs.Planes.{AreChanged, HaveSameLines, PlaneSets}
+use Rattle.pz_planes.proofs.PlaneLemmas.{still_there_at, same_lines}
 use Rattle.pz_sheet.specs.Noting.{AreAllThere}
 use Rattle.pz_sheet.proofs.EndLemmas.{ends_still_at}
 use Rattle.pz_sheet.proofs.PlacedLemmas.{all_there_more, all_there}
