@@ -69,6 +69,7 @@ impl<const N: usize> Model for Sheet<N> {
 
 impl<const N: usize> Sheet<N> {
     /// The number of columns.
+    #[tactic(auto, using(crate::proofs::SheetLemmas::lawful_here))]
     pub fn width(&self) -> u32
         ensures width { result ≡ self.now.grid.width }
         ensures lawful { IsLawful self.now.grid }
@@ -77,6 +78,7 @@ impl<const N: usize> Sheet<N> {
     }
 
     /// The number of rows.
+    #[tactic(auto, using(crate::proofs::SheetLemmas::lawful_here))]
     pub fn height(&self) -> u32
         ensures height { result ≡ self.now.grid.height }
         ensures lawful { IsLawful self.now.grid }
@@ -85,6 +87,7 @@ impl<const N: usize> Sheet<N> {
     }
 
     /// The number of layers.
+    #[tactic(auto, using(crate::proofs::SheetLemmas::lawful_here))]
     pub fn depth(&self) -> usize
         ensures depth { result ≡ self.now.grid.depth }
         ensures lawful { IsLawful self.now.grid }

@@ -78,6 +78,7 @@ impl<const N: usize> Sheet<N> {
     }
 
     /// Whether rules' cells hold from a position of the map on. The action leads nowhere.
+    #[tactic(auto, using(crate::proofs::RunLemmas::action_leads_nowhere))]
     fn runs_on_map(&self, dir: Dir, x: u32, y: u32, patterns: &[Pattern]) -> bool
         requires on_map { IsOnMap self.now.grid x y }
         requires run { IsRunOf self.now.grid.layers patterns.now }
@@ -93,6 +94,7 @@ impl<const N: usize> Sheet<N> {
     }
 
     /// Whether rules' cells hold from a position on, on the map or not.
+    #[tactic(auto, using(crate::proofs::RunLemmas::run_off))]
     pub fn run_holds(&self, dir: Dir, x: u32, y: u32, patterns: &[Pattern]) -> bool
         requires run { IsRunOf self.now.grid.layers patterns.now }
         ensures { result ≡ run_holds self.now.grid dir x y patterns.now }
@@ -160,6 +162,7 @@ impl<const N: usize> Sheet<N> {
 
     /// At how many positions of a line a search tests whether rules' cells hold from there on. In a line of up to 128 positions they are
     /// those that the planes leave, in a longer line all.
+    #[tactic(auto, using(crate::proofs::CountLemmas::count_fewer, crate::proofs::CountLemmas::count_within))]
     pub fn tested_in(&self, line: Line, way: Way, patterns: &[Pattern]) -> u32
         requires line_in { line.number < line_count self.now.grid line.axis }
         requires run { IsRunOf self.now.grid.layers patterns.now }
@@ -175,6 +178,7 @@ impl<const N: usize> Sheet<N> {
 }
 
 /// How many positions of a set are below `end`.
+#[tactic(auto, using(crate::proofs::CountLemmas::count_yes, crate::proofs::CountLemmas::count_no))]
 fn count_below(set: u128, end: u32) -> u32
     requires { end ≤ 128 }
     ensures { result ≡ count_by (in_word set) (range_with_len 0 end) }
