@@ -1,17 +1,12 @@
 -- Lemmas on loading a level.
 use Rattle.std.proofs.Common.{◌≡◌, inl, inr, ℕ, zero, suc, ◌+◌, ◌-◌, ◌<◌, List, [], ◌∷◌, ◌++◌, Option, Some, None, true, false, length, map, arith, ap, sym, ◌∙◌, refl}
 use Rattle.std.specs.List.{range_with_len}
-use Rattle.std.specs.Prelude.{slice_index}
 use Rattle.std.proofs.lemmas.Bool.{cases_lt}
 use Rattle.std.proofs.lemmas.List.{get_or_past}
 use Rattle.pz_game.specs.declared.level.LevelEntry.TheVariants.{Message}
 use Rattle.pz_game.specs.Level.{is_playable, entry_at}
-use Rattle.pz_game.specs.Drawing.{Drawing}
-use Rattle.pz_game.specs.Game.{background_of}
 use Rattle.pz_game.specs.declared.game.GameParts.{GameParts}
-use Rattle.pz_sheet.specs.Grid.{Grid}
-use Rattle.pz_sheet.specs.Loading.{drawn}
-use Rattle.pz_bare.specs.Loading.{first_of, with_background, loaded_from}
+use Rattle.pz_bare.specs.Loading.{first_of}
 
 first_split : {X : Type 0} (f : ℕ → Option X) (a n : ℕ) (r : Option X) → first_of (map f (range_with_len a n)) ≡ None → (more : List ℕ) → first_of (map f (range_with_len a n ++ more)) ≡ first_of (map f more)
 first_split f a zero r e more = refl
@@ -42,12 +37,3 @@ playable_within game index playable = elim (cases_lt index (length game.levels))
   | inl within ↦ within
   | inr past ↦ absurd (let e : false ≡ true = ap is_playable (sym (get_or_past game.levels index Message past)) ∙ playable in cc)
 ]
-
--- a background laid on what is drawn is the level that is loaded
-pub laid_from : (game : GameParts) (drawing : Drawing) (layers : List ℕ) (object : ℕ) (sheet laid : Grid) → layers ≡ game.layers → object ≡ background_of game → sheet ≡ drawn game drawing
-    → laid ≡ with_background (slice_index layers object) object sheet → laid ≡ loaded_from game drawing
-laid_from game drawing layers object sheet laid same is made e =
-    e
-    ∙ ap (with_background (slice_index layers object) object) made
-    ∙ ap (λ (all : List ℕ). with_background (slice_index all object) object (drawn game drawing)) same
-    ∙ ap (λ (o : ℕ). with_background (slice_index game.layers o) o (drawn game drawing)) is

@@ -26,8 +26,6 @@ impl BareLevel {
         ensures lawful { IsLawful self.now.grid }
         ensures next { IsNext (differ_in self.now.grid other.now.grid) from (length self.now.grid.cells) result }
     {
-        // (brings the proof the law of the level)
-        let _ = self.width();
         match (&*self.sheet, &*other.sheet) {
             (AnySheet::Small(sheet), AnySheet::Small(other)) => sheet.next_change(other, from),
             (AnySheet::Middle(sheet), AnySheet::Middle(other)) => sheet.next_change(other, from),

@@ -1,11 +1,11 @@
 //! Loads levels from their drawings.
 
-ghost use Rattle.std.specs.Prelude.{◌≡◌, ◌<◌, ◌≤◌, ◌*◌, IfOk, All, length, slice_index, true};
+ghost use Rattle.std.specs.Prelude.{◌≡◌, ◌<◌, ◌≤◌, IfOk, All, length, slice_index, true};
 ghost use Rattle.pz_game.specs.Level.{is_playable, entry_at};
 ghost use Rattle.pz_game.specs.Game.{background_of};
 ghost use Rattle.pz_cells.specs.Cell.{IsOnLayer};
 ghost use Rattle.pz_sheet.specs.Grid.{IsLawful};
-ghost use Rattle.pz_sheet.specs.Loading.{drawn};
+ghost use Rattle.pz_sheet.specs.Loading.{IsRoomFor, drawn};
 ghost use Rattle.pz_bare.specs.Loading.{first_in_column, first_on, with_background, loaded_from, loaded};
 
 use crate::{AnySheet, BareLevel};
@@ -61,8 +61,7 @@ fn sheet_from<const N: usize>(
     drawing: &DrawnLevel,
 ) -> Result<Sheet<N>, AllocError>
     requires short { N ≤ 4 }
-    requires room { length game.now.layers ≤ 128 * N }
-    requires movement_room { game.now.depth ≤ 25 * N }
+    requires room { IsRoomFor N game.now }
     requires numbers { All (λ number. number < length game.now.values) drawing.now.cells }
     ensures loaded { IfOk result (λ sheet. sheet.grid ≡ loaded_from game.now drawing.now) }
     ensures lawful { IfOk result (λ sheet. IsLawful sheet.grid) }

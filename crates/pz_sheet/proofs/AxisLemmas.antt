@@ -1,14 +1,13 @@
 -- Rows and columns as lines.
-use Rattle.std.proofs.Common.{◌≡◌, ℕ, ◌<◌, ◌≤◌, List, false, length, arith}
+use Rattle.std.proofs.Common.{◌≡◌, ℕ, ◌<◌, List, false, length, arith}
 use Rattle.pz_game.specs.declared.pattern.Item.{Item}
-use Rattle.pz_game.specs.declared.limits.TheConstants.{MAX_SIDE}
 use Rattle.pz_planes.specs.declared.line.Axis.{Axis}
 use Rattle.pz_planes.specs.declared.line.Axis.TheVariants.{Horizontal, Vertical}
 use Rattle.pz_planes.specs.declared.line.Way.{Way}
 use Rattle.pz_planes.specs.declared.line.Way.TheVariants.{Ahead, Back}
 use Rattle.pz_planes.specs.Line.{step_to, room_from}
 use Rattle.pz_sheet.specs.declared.line.Line.{Line}
-use Rattle.pz_sheet.specs.Grid.{Grid, IsLawful}
+use Rattle.pz_sheet.specs.Grid.{Grid}
 use Rattle.pz_sheet.specs.Line.{line_length, line_count, x_at, y_at, holds_in, dir_of, runs_in}
 use Rattle.pz_sheet.specs.Runs.{holds_along}
 use Rattle.pz_sheet.proofs.RunLemmas.{right_in, left_in, down_in, up_in, right_past, left_past, down_past, up_past}
@@ -38,12 +37,3 @@ run_past grid line way at patterns some at_in past = by_axis line.axis way at_in
   by_axis Horizontal Back at_in past = left_past grid at line.number patterns some past
   by_axis Vertical Ahead at_in past = down_past grid line.number at patterns some (omega (arith, at_in, past))
   by_axis Vertical Back at_in past = up_past grid line.number at patterns some past
-
--- lines are short
-pub short_line : (grid : Grid) (axis : Axis) → IsLawful grid → line_length grid axis ≤ MAX_SIDE
-short_line grid Horizontal lawful = lawful.size.narrow
-short_line grid Vertical lawful = lawful.size.low
-
-pub short_room : (long : ℕ) (way : Way) (at : ℕ) → at < long → room_from long way at ≤ long
-short_room long Ahead at at_in = omega arith
-short_room long Back at at_in = omega arith

@@ -1,20 +1,20 @@
 -- The cells in which an older level differs are found one by one, and give it back.
 use Rattle.pz_cells.specs.Layering.{Layering}
-use Rattle.std.proofs.Common.{◌≡◌, inl, inr, ℕ, zero, suc, ◌+◌, ◌*◌, ◌^◌, ◌<◌, ◌≤◌, List, [], ◌∷◌, ◌++◌, Option, Some, None, Bool, true, false, not, cond, set, drop, length, get_or, ap, sym, ◌∙◌, refl, subst, arith}
+use Rattle.std.proofs.Common.{◌≡◌, inl, inr, ℕ, zero, suc, ◌+◌, ◌*◌, ◌<◌, ◌≤◌, List, [], ◌∷◌, ◌++◌, Option, Some, None, Bool, true, false, not, cond, set, drop, length, get_or, ap, sym, ◌∙◌, refl, subst, arith}
 use Rattle.std.specs.Prelude.{IsTrue, ◌↔◌, fold}
 use Rattle.std.proofs.lemmas.List.{append-nil, length-append, length-map, get_or_default}
 use Rattle.std.proofs.lemmas.Bool.{cases_eq}
 use Rattle.std.proofs.Math.Seq.{set-append_seam, drop-length}
 use Rattle.std.specs.List.{All}
-use prog.Memory.{up}
 use Rattle.pz_base.proofs.ListLemmas.{drop-next}
 use Rattle.pz_cells.specs.declared.cell.Cell.{Cell}
 use Rattle.pz_cells.specs.declared.piece.Piece.{Piece}
 use Rattle.pz_cells.specs.Sameness.{same_cell}
 use Rattle.pz_cells.proofs.SameLemmas.{same_cell_is, same_cell_self}
+use Rattle.pz_sheet.specs.declared.Sheet.TheInside.{Inside}
 use Rattle.pz_sheet.specs.Changes.{CellChange, changed_from, changed_cells, with_cell, restored, differ_in, cell_there}
 use Rattle.pz_cells.specs.Differing.{IsNextDiffering}
-use Rattle.pz_sheet.specs.Grid.{Grid, IsLawful, SameSize}
+use Rattle.pz_sheet.specs.Grid.{Grid, BareState, SameSize}
 use Rattle.pz_sheet.specs.Presence.{cell_of}
 use Rattle.pz_sets.specs.Next.{IsNext}
 use Rattle.pz_cells.specs.Lists.{seen, IsSound, AreAlike}
@@ -22,7 +22,7 @@ use Rattle.pz_planes.specs.Notes.{HeadingSets}
 use Rattle.pz_sheet.specs.Seen.{grid_of, IsStored}
 use Rattle.pz_cells.proofs.ListLemmas.{no_cell, sound_at}
 use Rattle.pz_sheet.proofs.SameLemmas.{seen_alike, alike_seen, are_same}
-use Rattle.pz_sheet.proofs.SheetLemmas.{seen_at}
+use Rattle.pz_sheet.proofs.SheetLemmas.{only_false, seen_at}
 
 -- ---- cells put back
 abbrev put_back : List (List (Option Piece)) → CellChange → List (List (Option Piece))
@@ -61,10 +61,8 @@ way_back grid older size long =
     let cells : fold put_back grid.cells (changed_cells grid older) ≡ older.cells = back_from [] grid.cells older.cells long in
     restored_cells (changed_cells grid older) grid ∙ (λ i. record { width = sym size.width i; height = sym size.height i; depth = sym size.depth i; layers = sym size.layers i; cells = cells i })
 
-pub way_back_by : (grid older : Grid) (changes : List CellChange) → SameSize grid older → IsLawful grid → IsLawful older → changes ≡ changed_cells grid older → restored changes grid ≡ older
-way_back_by grid older changes size lawful lawful_older e =
-    let long : length grid.cells ≡ length older.cells = lawful.covers ∙ (ap (λ (w : ℕ). w * grid.height) (sym size.width) ∙ (ap (λ (h : ℕ). older.width * h) (sym size.height) ∙ sym lawful_older.covers)) in
-    ap (λ (l : List CellChange). restored l grid) e ∙ way_back grid older size long
+pub way_back_by : (grid older : Grid) (changes : List CellChange) → SameSize grid older → length grid.cells ≡ length older.cells → changes ≡ changed_cells grid older → restored changes grid ≡ older
+way_back_by grid older changes size long e = ap (λ (l : List CellChange). restored l grid) e ∙ way_back grid older size long
 
 -- ---- a loop over the cells of both
 -- what is left from a cell on
@@ -109,20 +107,7 @@ module _ (grid older : Grid) (long : length grid.cells ≡ length older.cells) w
       let left_none : left_from grid older (length grid.cells) ≡ [] = ap (λ xs. changed_from (length grid.cells) xs (drop (length grid.cells) older.cells)) (drop-length grid.cells) in
       sym (append-nil found) ∙ (ap (λ l. found ++ l) (sym (left_behind from (length grid.cells) low (omega arith) none ∙ left_none)) ∙ e)
 
--- a change of a cell of up to four words is no larger than memory
-pub small_change : (n : ℕ) → n ≤ 4 → up 16 (16 + up 16 (up 16 (0 + n * 16) + n * 16)) < 2 ^ 63
-small_change zero h = omega arith
-small_change (suc zero) h = omega arith
-small_change (suc (suc zero)) h = omega arith
-small_change (suc (suc (suc zero))) h = omega arith
-small_change (suc (suc (suc (suc zero)))) h = omega arith
-small_change (suc (suc (suc (suc (suc n))))) h = absurd (omega (arith, h))
-
 -- ---- one cell of two levels of one size
-only_false : (b : Bool) → (b ≡ true → false ≡ true) → b ≡ false
-only_false true h = sym (h refl)
-only_false false h = refl
-
 -- the words tell what is seen
 module _ (N : ℕ) (layering : Layering) (low : All (λ l. l < layering.depth) layering.layers) where
   pub test_is : (cell other : Cell N) (r : Bool) → IsSound layering cell → IsSound layering other → (IsTrue r ↔ AreAlike cell other) → same_cell (seen layering cell) (seen layering other) ≡ r
@@ -144,6 +129,12 @@ pub record AreBoth (N wa ha : ℕ) (la : Layering) (ca : List (Cell N)) (wb hb :
   pub stored : IsStored N wa ha la ca notes
   pub stored_other : IsStored N wb hb lb cb notes_other
 
+-- so are the words of two levels that are open
+pub both_of : {N : ℕ} {grid other : BareState} (a b : Inside N) → SameSize grid.grid other.grid → record { grid = grid_of a.width a.height a.layers a.cells.items } ≡ grid → record { grid = grid_of b.width b.height b.layers b.cells.items } ≡ other
+    → IsStored N a.width a.height a.layers a.cells.items a.notes → IsStored N b.width b.height b.layers b.cells.items b.notes → AreBoth N a.width a.height a.layers a.cells.items b.width b.height b.layers b.cells.items grid.grid other.grid
+both_of a b size is is_other stored stored_other =
+    record { size = size; is = ap (λ (s : BareState). s.grid) is; is_other = ap (λ (s : BareState). s.grid) is_other; notes = a.notes; notes_other = b.notes; stored = stored; stored_other = stored_other }
+
 module _ (N wa ha : ℕ) (la : Layering) (ca : List (Cell N)) (wb hb : ℕ) (lb : Layering) (cb : List (Cell N)) (grid other : Grid) (a : AreBoth N wa ha la ca wb hb lb cb grid other) where
   many : length grid.cells ≡ length ca
   many = ap (λ (g : Grid). length g.cells) (sym a.is) ∙ length-map ca (seen la)
@@ -156,6 +147,9 @@ module _ (N wa ha : ℕ) (la : Layering) (ca : List (Cell N)) (wb hb : ℕ) (lb 
 
   pub as_many : length ca ≡ length cb
   as_many = as_long wa ha wb hb (length ca) (length cb) same_width same_height a.stored.covers a.stored_other.covers
+
+  pub as_many_seen : length grid.cells ≡ length other.cells
+  as_many_seen = many ∙ as_many ∙ sym (ap (λ (g : Grid). length g.cells) (sym a.is_other) ∙ length-map cb (seen lb))
 
   pub over_layers : la ≡ lb
   over_layers =

@@ -1,15 +1,8 @@
 -- What is noted ends with the lines of the map.
 use Rattle.std.proofs.Common.{◌≡◌, ℕ, ◌*◌, ◌/◌, ◌%◌, ◌<◌, Bool, arith, ◌∙◌, subst}
-use Rattle.pz_planes.specs.Planes.{PlaneSets, IsEmpty, AreChanged, HaveSameLines}
+use Rattle.pz_planes.specs.Planes.{PlaneSets, AreChanged, HaveSameLines}
 use Rattle.pz_planes.proofs.PlaneLemmas.{column_in, row_in}
 use Rattle.pz_sheet.specs.Noting.{EndWithin}
-
--- nothing is noted at all
-pub ends_none : (width height : ℕ) (planes : PlaneSets) → IsEmpty planes.rows → IsEmpty planes.columns → EndWithin width height planes
-ends_none width height planes rows columns = record {
-  rows = λ object line at line_in past small. rows object line at;
-  columns = λ object line at line_in past small. columns object line at;
-}
 
 -- a change at a position of the map
 pub ends_still : (width height : ℕ) (old new : PlaneSets) (x y : ℕ) (noted : ℕ → Bool → Bool) → x < width → y < height → old.columns.count ≡ width → old.rows.count ≡ height → AreChanged old new x y noted → EndWithin width height old → EndWithin width height new

@@ -1,37 +1,13 @@
 -- The set of some objects, and a cell that holds one of them.
-use Rattle.std.proofs.Common.{◌≡◌, ◌+◌, ◌<◌, ◌≤◌, ℕ, zero, suc, List, [], ◌∷◌, Bool, true, false, not, ◌&&◌, ◌||◌, inl, inr, nat_eq, take, length, get_or, arith, ap, sym, ◌∙◌, refl, eq-eqb}
+use Rattle.std.proofs.Common.{◌≡◌, ◌<◌, ◌≤◌, ℕ, zero, suc, List, [], ◌∷◌, Bool, true, false, not, ◌&&◌, ◌||◌, inl, inr, nat_eq, length, get_or, arith, ap, sym, ◌∙◌, refl, eq-eqb}
 use Rattle.std.specs.Prelude.{nat_lt, IsTrue, ◌↔◌}
 use Rattle.std.specs.List.{All, list_any}
 use Rattle.std.proofs.lemmas.Bool.{and_parts, cases_lt, eqb-true, false≢true, lt-ltb, or_cases, or_left, or_right}
-use Rattle.std.proofs.lemmas.List.Folds.{list_any_more}
 use Rattle.pz_sets.specs.Sets.{member, AreApart}
 use Rattle.pz_sets.proofs.SetLemmas.{member_past}
 use Rattle.pz_sets.specs.declared.set.TheConstants.{CAPACITY}
 use Rattle.pz_sheet.specs.Holding.{IsSetFor}
-
--- ---- the set
-set_bools : (own low any hit : Bool) → (hit ≡ true → own ≡ low) → ((own && hit) || (low && any)) ≡ (low && (any || hit))
-set_bools own low any true same = ap (λ (o : Bool). (o && true) || (low && any)) (same refl) ∙ with_hit low any where
-  with_hit : (low any : Bool) → ((low && true) || (low && any)) ≡ (low && (any || true))
-  with_hit true true = refl
-  with_hit true false = refl
-  with_hit false any = refl
-set_bools own low any false same = without own low any where
-  without : (own low any : Bool) → ((own && false) || (low && any)) ≡ (low && (any || false))
-  without true true true = refl
-  without true true false = refl
-  without true false any = refl
-  without false true true = refl
-  without false true false = refl
-  without false false any = refl
-
--- one more object
-pub set_more : (objects : List ℕ) (index d other : ℕ) → index < length objects
-    → ((nat_lt (get_or objects index d) CAPACITY && nat_eq other (get_or objects index d)) || (nat_lt other CAPACITY && list_any (nat_eq other) (take index objects))) ≡ (nat_lt other CAPACITY && list_any (nat_eq other) (take (index + 1) objects))
-set_more objects index d other within =
-    let next = get_or objects index d in
-    set_bools (nat_lt next CAPACITY) (nat_lt other CAPACITY) (list_any (nat_eq other) (take index objects)) (nat_eq other next) (λ hit. ap (λ (n : ℕ). nat_lt n CAPACITY) (sym (eqb-true other next hit)))
-    ∙ ap (λ (b : Bool). nat_lt other CAPACITY && b) (sym (list_any_more (nat_eq other) objects index d within))
+use Rattle.pz_sheet.proofs.SheetLemmas.{only_false}
 
 -- ---- a cell
 any_at : (test : ℕ → Bool) (xs : List ℕ) (k d : ℕ) → k < length xs → test (get_or xs k d) ≡ true → list_any test xs ≡ true
@@ -60,23 +36,15 @@ low_number words short number there = elim (cases_lt number CAPACITY) [
 module _ (objects words set : List ℕ) (is : IsSetFor objects set) (low : (object : ℕ) → member words object ≡ true → object < CAPACITY) where
   -- a cell that is apart from the set has none of the objects
   pub each_missing : AreApart words set → All (λ object. member words object ≡ false) objects
-  each_missing apart k d within = by_there (member words (get_or objects k d)) refl where
-    by_there : (b : Bool) → member words (get_or objects k d) ≡ b → member words (get_or objects k d) ≡ false
-    by_there false e = e
-    by_there true e =
-        let object = get_or objects k d in
-        let here : list_any (nat_eq object) objects ≡ true = any_at (nat_eq object) objects k d within (eq-eqb object object refl) in
-        let both : (nat_lt object CAPACITY && list_any (nat_eq object) objects) ≡ true = ap (λ (b : Bool). b && list_any (nat_eq object) objects) (lt-ltb object CAPACITY (low object e)) ∙ here in
-        let f : false ≡ true = sym (apart object e) ∙ is object ∙ both in cc
+  each_missing apart k d within =
+      let object = get_or objects k d in
+      let here : list_any (nat_eq object) objects ≡ true = any_at (nat_eq object) objects k d within (eq-eqb object object refl) in
+      only_false (member words object) (λ e. sym (apart object e) ∙ is object ∙ ap (λ (b : Bool). b && list_any (nat_eq object) objects) (lt-ltb object CAPACITY (low object e)) ∙ here)
 
   -- one that has none of them is apart
   apart_from : list_any (member words) objects ≡ false → AreApart words set
-  apart_from none number e = by_set (member set number) refl where
-    by_set : (b : Bool) → member set number ≡ b → member set number ≡ false
-    by_set false s = s
-    by_set true s =
-        let both = and_parts (nat_lt number CAPACITY) (list_any (nat_eq number) objects) (sym (is number) ∙ s) in
-        let f : false ≡ true = sym none ∙ any_same (member words) number objects both.1 e in cc
+  apart_from none number e = only_false (member set number) (λ s.
+      sym none ∙ any_same (member words) number objects (and_parts (nat_lt number CAPACITY) (list_any (nat_eq number) objects) (sym (is number) ∙ s)).1 e)
 
   pub found_by_set : (b : Bool) → (IsTrue b ↔ AreApart words set) → not b ≡ list_any (member words) objects
   found_by_set true h = sym (none_of (member words) objects (each_missing (h.0 refl)))

@@ -11,11 +11,8 @@ pub mod StillLemmas
 pub mod HoldingLemmas
 pub mod PlacedLemmas
 pub mod StartLemmas
-pub mod CopyLemmas
-pub mod NoteLemmas
 pub mod AxisLemmas
 pub mod NewerLemmas
-pub mod NextLemmas
 pub mod CountLemmas
 pub mod TellLemmas
 pub mod EndLemmas

@@ -1,6 +1,6 @@
 -- The cells of a level in words are changed one by one.
 use Rattle.pz_cells.specs.Layering.{Layering}
-use Rattle.std.proofs.Common.{◌≡◌, ℕ, ◌*◌, ◌<◌, List, Option, map, length, ap, sym, ◌∙◌, subst, arith}
+use Rattle.std.proofs.Common.{◌≡◌, ℕ, List, Option, map, length, ap, sym, ◌∙◌, subst}
 use Rattle.std.proofs.lemmas.List.{length-map}
 use Rattle.pz_cells.specs.declared.cell.Cell.{Cell}
 use Rattle.pz_cells.specs.declared.piece.Piece.{Piece}
@@ -22,17 +22,3 @@ stored_mapped N width height layering f old new notes next s m noted = record {
 pub noted_read : (N width height wide high : ℕ) (notes : HeadingSets) (cells cells_read : List (Cell N)) → wide ≡ width → high ≡ height → cells_read ≡ cells → AreNoted N wide high notes cells_read → AreNoted N width height notes cells
 noted_read N width height wide high notes cells cells_read is_width is_height same noted =
     subst (λ (w : ℕ). AreNoted N w height notes cells) is_width (subst (λ (h : ℕ). AreNoted N wide h notes cells) is_height (subst (AreNoted N wide high notes) same noted))
-
--- the number of a cell is one of those whose headings are noted
-pub noted_within : (N width height at : ℕ) (notes : HeadingSets) (cells : List (Cell N)) → AreNoted N width height notes cells → length cells ≡ width * height → at < length cells → at < length notes.columns * length notes.rows
-noted_within N width height at notes cells noted covers within =
-    let product : length notes.columns * length notes.rows ≡ width * height = ap (λ (w : ℕ). w * length notes.rows) noted.column_count ∙ ap (λ (h : ℕ). width * h) noted.row_count in
-    omega (arith, within, covers, product)
-
-pub noted_covers : (N width height count : ℕ) (notes : HeadingSets) (cells : List (Cell N)) → AreNoted N width height notes cells → count ≡ width * height → count ≡ length notes.columns * length notes.rows
-noted_covers N width height count notes cells noted covers =
-    covers ∙ sym (ap (λ (w : ℕ). w * length notes.rows) noted.column_count ∙ ap (λ (h : ℕ). width * h) noted.row_count)
-
-pub all_mapped_long : (N : ℕ) (layering : Layering) (f : List (Option Piece) → List (Option Piece)) (old new : List (Cell N)) → AreMapped layering f old new → length new ≡ length old
-all_mapped_long N layering f old new mapped =
-    sym (length-map new (seen layering)) ∙ (ap length mapped.cells ∙ (length-map (map (seen layering) old) f ∙ length-map old (seen layering)))

@@ -1,7 +1,7 @@
 -- The objects that are noted in a line are those that stand there.
 use Rattle.std.proofs.Common.{◌≡◌, inl, inr, ℕ, ◌+◌, ◌*◌, ◌<◌, ◌≤◌, List, [], Option, Bool, true, false, length, get_or, arith, ap, sym, ◌∙◌, refl}
 use Rattle.std.specs.Prelude.{◌↔◌}
-use Rattle.std.specs.List.{list_any, range_with_len}
+use Rattle.std.specs.List.{All, list_any, range_with_len}
 use Rattle.std.proofs.lemmas.Bool.{cases_lt}
 use Rattle.std.proofs.lemmas.List.{get_or_default}
 use Rattle.std.proofs.lemmas.List.Folds.{list_any_none, list_any_at}
@@ -22,9 +22,9 @@ use Rattle.pz_sheet.specs.Grid.{Grid, cell_at}
 use Rattle.pz_sheet.specs.Line.{line_length, line_count}
 use Rattle.pz_sheet.specs.Marks.{AreMarksOf}
 use Rattle.pz_sheet.specs.Noting.{ArePlaced}
-use Rattle.pz_sheet.specs.Presence.{is_in, stands_in_line}
+use Rattle.pz_sheet.specs.Presence.{AreMissing, is_in, stands_in_line}
 use Rattle.pz_sheet.specs.Seen.{grid_of, IsStored}
-use Rattle.pz_sheet.proofs.SheetLemmas.{seen_at}
+use Rattle.pz_sheet.proofs.SheetLemmas.{only_false, seen_at}
 
 -- ---- numbers below one that fail a test
 none_below : (p : ℕ → Bool) (n : ℕ) → ((k : ℕ) → k < n → p k ≡ false) → list_any p (range_with_len 0 n) ≡ false
@@ -33,12 +33,8 @@ none_below p n none = list_any_none p (range_with_len 0 n) (λ k d within.
     ap p (get_or-range_with_len 0 n k d low ∙ (let e : 0 + k ≡ k = omega arith in e)) ∙ none k low)
 
 each_fails : (p : ℕ → Bool) (n k : ℕ) → list_any p (range_with_len 0 n) ≡ false → k < n → p k ≡ false
-each_fails p n k none low = by_value (p k) refl where
-  by_value : (b : Bool) → p k ≡ b → p k ≡ false
-  by_value false e = e
-  by_value true e =
-      let here = list_any_at p (range_with_len 0 n) k 0 (omega (arith, low, length-range_with_len 0 n)) (ap p (get_or-range_with_len 0 n k 0 low ∙ (let e : 0 + k ≡ k = omega arith in e)) ∙ e) in
-      let f : false ≡ true = sym none ∙ here in cc
+each_fails p n k none low = only_false (p k) (λ e.
+    sym none ∙ list_any_at p (range_with_len 0 n) k 0 (omega (arith, low, length-range_with_len 0 n)) (ap p (get_or-range_with_len 0 n k 0 low ∙ (let e : 0 + k ≡ k = omega arith in e)) ∙ e))
 
 -- the objects that are noted in the lines of an axis are those that stand there
 abbrev pub Gives : PlaneSets → Axis → List (List ℕ) → Grid → Type 0
@@ -72,6 +68,12 @@ module _ (N width height : ℕ) (layering : Layering) (cells : List (Cell N)) (n
   known_at Horizontal number at object line_in at_in e = omega (arith, known_in at number object at_in line_in e, p.fits.row_objects)
   known_at Vertical number at object line_in at_in e = omega (arith, known_in number at object line_in at_in e, p.fits.column_objects)
 
+  -- objects that no row notes stand in no cell of it
+  pub missing_in_row : (objects : List ℕ) (x y : ℕ) → x < width → y < height → x < 128 → All (IsMissingIn planes.rows y) objects → AreMissing objects (cell_at grid x y)
+  missing_in_row objects x y x_in y_in small missing k other within =
+      let object = get_or objects k other in
+      only_false _ (λ e. sym (missing k other within x (known_at Horizontal y x object y_in x_in e) small) ∙ noted_at Horizontal y x object y_in x_in small ∙ e)
+
   none_past : (axis : Axis) (number at object : ℕ) → number < line_count grid axis → line_length grid axis ≤ at → at < 128 → stands_in (lines_of planes axis) object number at ≡ false
   none_past Horizontal number at object line_in past small = p.ends.rows object number at line_in past small
   none_past Vertical number at object line_in past small = p.ends.columns object number at line_in past small
@@ -91,12 +93,9 @@ module _ (N width height : ℕ) (layering : Layering) (cells : List (Cell N)) (n
     ]
 
     none_from_missing : IsMissingIn (lines_of planes axis) number object → list_any stands (range_with_len 0 (line_length grid axis)) ≡ false
-    none_from_missing missing = none_below stands (line_length grid axis) (λ at at_in. by_value at at_in (stands at) refl) where
-      by_value : (at : ℕ) → at < line_length grid axis → (b : Bool) → stands at ≡ b → stands at ≡ false
-      by_value at at_in false e = e
-      by_value at at_in true e =
-          let small : at < 128 = omega (arith, at_in, short) in
-          sym (noted_at axis number at object line_in at_in small) ∙ missing at (known_at axis number at object line_in at_in e) small
+    none_from_missing missing = none_below stands (line_length grid axis) (λ at at_in. only_false (stands at) (λ e.
+        let small : at < 128 = omega (arith, at_in, short) in
+        sym (missing at (known_at axis number at object line_in at_in e) small) ∙ noted_at axis number at object line_in at_in small ∙ e))
 
     exact : (marked any : Bool) → list_any stands (range_with_len 0 (line_length grid axis)) ≡ any → (marked ≡ false) ↔ IsMissingIn (lines_of planes axis) number object → marked ≡ any
     exact false any is h = sym (none_from_missing (h.0 refl)) ∙ is

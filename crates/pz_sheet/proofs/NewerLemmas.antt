@@ -1,5 +1,5 @@
 -- A level becomes a newer one if it gets the newer one's cells wherever the changes that lead back say that the two differ.
-use Rattle.std.proofs.Common.{◌≡◌, inl, inr, ℕ, ◌+◌, ◌*◌, ◌<◌, List, [], ◌∷◌, ◌++◌, Option, Some, None, Bool, true, false, not, cond, set, length, get_or, ap, sym, ◌∙◌, refl, arith, get_or-set_same, get_or-set_other}
+use Rattle.std.proofs.Common.{◌≡◌, inl, inr, ℕ, ◌+◌, ◌<◌, List, [], ◌∷◌, ◌++◌, Option, Some, None, Bool, true, false, not, cond, set, length, get_or, ap, sym, ◌∙◌, refl, arith, get_or-set_same, get_or-set_other}
 use Rattle.std.specs.Prelude.{fold}
 use Rattle.std.proofs.lemmas.Bool.{cases_eq, cases_lt}
 use Rattle.std.proofs.lemmas.List.{length-append}
@@ -10,7 +10,7 @@ use Rattle.pz_cells.specs.Sameness.{same_cell}
 use Rattle.pz_cells.proofs.SameLemmas.{same_cell_is, same_cell_self}
 use Rattle.pz_sheet.specs.declared.changes.Change.{Change}
 use Rattle.pz_sheet.specs.Changes.{CellChange, changed_from, changed_cells, changes_seen, with_cell, differ_in, cell_there}
-use Rattle.pz_sheet.specs.Grid.{Grid, IsLawful, SameSize}
+use Rattle.pz_sheet.specs.Grid.{Grid, SameSize}
 use Rattle.pz_sheet.specs.Presence.{cell_of}
 use Rattle.pz_sheet.proofs.ChangeLemmas.{shift}
 
@@ -56,13 +56,8 @@ taken_cells : (N : ℕ) (newer : Grid) (changes : List (Change N)) (grid : Grid)
 taken_cells N newer [] grid = refl
 taken_cells N newer (change ∷ changes) grid = taken_cells N newer changes (with_cell grid (cell_there newer change.index))
 
-pub as_many : (newer grid : Grid) → SameSize newer grid → IsLawful newer → IsLawful grid → length newer.cells ≡ length grid.cells
-as_many newer grid size lawful lawful_older =
-    lawful.covers ∙ (ap (λ (w : ℕ). w * newer.height) (sym size.width) ∙ (ap (λ (h : ℕ). grid.width * h) (sym size.height) ∙ sym lawful_older.covers))
-
-pub all_taken : (N : ℕ) (newer grid : Grid) (changes : List (Change N)) → SameSize newer grid → IsLawful newer → IsLawful grid → changes_seen newer changes ≡ changed_cells newer grid → taken N newer changes grid ≡ newer
-all_taken N newer grid changes size lawful lawful_older e =
-    let long : length newer.cells ≡ length grid.cells = as_many newer grid size lawful lawful_older in
+pub all_taken : (N : ℕ) (newer grid : Grid) (changes : List (Change N)) → SameSize newer grid → length newer.cells ≡ length grid.cells → changes_seen newer changes ≡ changed_cells newer grid → taken N newer changes grid ≡ newer
+all_taken N newer grid changes size long e =
     let cells : fold (put_there newer.cells) grid.cells (changes_seen newer changes) ≡ newer.cells =
     ap (λ (l : List CellChange). fold (put_there newer.cells) grid.cells l) e ∙ forth_from [] newer.cells grid.cells long in
     taken_cells N newer changes grid ∙ (λ i. record { width = size.width i; height = size.height i; depth = size.depth i; layers = size.layers i; cells = cells i })

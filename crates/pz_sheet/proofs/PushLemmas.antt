@@ -3,7 +3,7 @@ use Rattle.std.proofs.Common.{◌≡◌, ◌≢◌, inl, inr, ℕ, zero, suc, �
 use Rattle.std.proofs.Math.Nat.{mul_comm, suc-mul, mul-le-mul_right}
 use Rattle.std.specs.Prelude.{IfSome}
 use Rattle.std.proofs.lemmas.Bool.{cases_eq, false≢true, ne_eqb}
-use Rattle.std.proofs.lemmas.List.{append-nil, drop_more, drop_all, get_or_default, length-map, set-get_or, take_all}
+use Rattle.std.proofs.lemmas.List.{drop_more, drop_all, get_or_default, length-map, set-get_or}
 use Rattle.std.proofs.lemmas.List.Edits.{map_over_more}
 use Rattle.pz_sets.specs.Sets.{member}
 use Rattle.pz_game.specs.declared.direction.Dir.{Dir}
@@ -15,7 +15,7 @@ use Rattle.pz_cells.specs.Standing.{standing}
 use Rattle.pz_sheet.specs.Grid.{Grid, cell_at}
 use Rattle.pz_sheet.specs.Presence.{is_in, AreMissing}
 use Rattle.pz_sheet.proofs.HoldingLemmas.{none_of}
-use Rattle.pz_sheet.specs.Pushing.{is_one_of, pushed_place, pushed_at, pushed}
+use Rattle.pz_sheet.specs.Pushing.{is_one_of, pushed_place, pushed_at}
 use Rattle.pz_cells.proofs.ListLemmas.{cell_mapped}
 
 pub pushed_none : (dir : Dir) (place : Option Piece) → pushed_place [] dir place ≡ place
@@ -142,10 +142,6 @@ ArePushedTo players dir count old now = now ≡ record old { cells = map (map (p
 pub pushed_as : (players : List ℕ) (dir : Dir) (count other : ℕ) (old now : Grid) → count ≡ other → ArePushedTo players dir count old now → ArePushedTo players dir other old now
 pushed_as players dir count other old now same is = subst (λ (n : ℕ). ArePushedTo players dir n old now) same is
 
--- none is pushed yet
-pub pushed_to_none : (players : List ℕ) (dir : Dir) (count : ℕ) (grid : Grid) → 0 ≡ count → ArePushedTo players dir count grid grid
-pushed_to_none players dir count grid none = pushed_as players dir 0 count grid grid none refl
-
 -- one more cell is pushed
 pub pushed_on : (players : List ℕ) (dir : Dir) (index : ℕ) (old now next : Grid) → index < length now.cells → ArePushedTo players dir index old now → next ≡ pushed_at players dir index now → ArePushedTo players dir (index + 1) old next
 pushed_on players dir index old now next inside is e =
@@ -167,15 +163,6 @@ pushed_past players dir from (suc count) old now within missing is =
     pushed_as players dir (at + 1) (from + suc count) old now (omega arith)
     (pushed_on players dir at old now now (omega (arith, within)) before (unpushed_at players dir at now (absent_pushed players dir (get_or now.cells at []) (missing count (omega arith)))))
 
--- all cells are pushed
-pub pushed_end : (players : List ℕ) (dir : Dir) (count : ℕ) (old now : Grid) → length now.cells ≤ count → ArePushedTo players dir count old now → now ≡ pushed players dir old
-pushed_end players dir count old now past is =
-    let f = map (pushed_place players dir) in
-    let all : length old.cells ≤ count = omega (arith, past, ap (λ (g : Grid). length g.cells) is, pushed_length f count old.cells) in
-    is ∙ ap (λ (cells : List (List (Option Piece))). record old { cells = cells })
-    (ap (λ (rest : List (List (Option Piece))). map f (take count old.cells) ++ rest) (drop_all count old.cells all)
-    ∙ (append-nil (map f (take count old.cells)) ∙ ap (map f) (take_all count old.cells all)))
-
 -- one more row is pushed
 pub pushed_row : (players : List ℕ) (dir : Dir) (y at : ℕ) (old now : Grid) → at ≡ old.width → ArePushedTo players dir (y * old.width + at) old now → ArePushedTo players dir ((y + 1) * old.width) old now
 pushed_row players dir y at old now end is = pushed_as players dir (y * old.width + at) ((y + 1) * old.width) old now (omega (arith, end, suc-mul y old.width)) is
@@ -190,11 +177,3 @@ passed_row players dir y old now covers y_in missing is =
     let within : y * now.width + now.width ≤ length now.cells = omega (arith, long, covers, wide, ap (λ (w : ℕ). y * w) wide, suc-mul y old.width, mul_comm old.width old.height, mul-le-mul_right old.width y_in) in
     let after : ArePushedTo players dir (y * now.width + now.width) old now = pushed_past players dir (y * now.width) now.width old now within missing here in
     pushed_as players dir (y * now.width + now.width) ((y + 1) * old.width) old now (omega (arith, suc-mul y old.width, wide, ap (λ (w : ℕ). y * w) wide)) after
-
--- as many rows are pushed as there are
-pub pushed_rows : (players : List ℕ) (dir : Dir) (rows : ℕ) (old now : Grid) → length now.cells ≡ now.width * now.height → old.height ≤ rows → ArePushedTo players dir (rows * old.width) old now → now ≡ pushed players dir old
-pushed_rows players dir rows old now covers all is =
-    let wide : now.width ≡ old.width = ap (λ (g : Grid). g.width) is in
-    let high : now.height ≡ old.height = ap (λ (g : Grid). g.height) is in
-    let product : now.width * now.height ≡ old.height * old.width = ap (λ (w : ℕ). w * now.height) wide ∙ ap (λ (h : ℕ). old.width * h) high ∙ mul_comm old.width old.height in
-    pushed_end players dir (rows * old.width) old now (omega (arith, covers, product, mul-le-mul_right old.width all)) is

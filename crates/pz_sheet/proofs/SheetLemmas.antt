@@ -25,6 +25,11 @@ use Rattle.pz_planes.specs.Notes.{HeadingSets, IsWider}
 use Rattle.pz_cells.specs.Lists.{seen, IsSound}
 use Rattle.pz_sheet.specs.Seen.{grid_of, IsNoted, IsStored}
 
+-- a test that cannot pass fails
+pub only_false : (b : Bool) → (b ≡ true → false ≡ true) → b ≡ false
+only_false true h = sym (h refl)
+only_false false h = refl
+
 -- a number of a seen cell is one of a cell in words
 pub seen_within : (N width height : ℕ) (layering : Layering) (cells : List (Cell N)) (grid : Grid) (at : ℕ) → grid_of width height layering cells ≡ grid → at < length grid.cells → at < length cells
 seen_within N width height layering cells grid at e h = omega (arith, h, ap (λ (g : Grid). length g.cells) e, length-map cells (seen layering))

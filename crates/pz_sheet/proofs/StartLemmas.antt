@@ -1,6 +1,6 @@
 -- Where rules' cells hold one after another, the objects that they name as present are noted, and those that they name as absent are not.
 use Rattle.pz_cells.specs.Layering.{Layering}
-use Rattle.std.proofs.Common.{◌≡◌, inl, inr, ℕ, ◌+◌, ◌*◌, ◌<◌, ◌≤◌, List, Option, Bool, true, false, not, ◌&&◌, nat_eq, eq-eqb, length, get_or, arith, ap, sym, ◌∙◌, refl}
+use Rattle.std.proofs.Common.{◌≡◌, inl, inr, ℕ, ◌+◌, ◌*◌, ◌<◌, ◌≤◌, List, Bool, true, false, not, ◌&&◌, nat_eq, eq-eqb, length, get_or, arith, ap, sym, ◌∙◌, refl}
 use Rattle.std.specs.List.{All, list_all, enumerate_from}
 use Rattle.std.proofs.lemmas.Bool.{cases_lt}
 use Rattle.std.proofs.lemmas.List.{get_or_default}
@@ -11,12 +11,10 @@ use Rattle.pz_game.specs.declared.pattern.Item.{Item}
 use Rattle.pz_game.specs.Items.{names}
 use Rattle.pz_game.specs.Pattern.{AreOf}
 use Rattle.pz_cells.specs.declared.cell.Cell.{Cell}
-use Rattle.pz_cells.specs.declared.piece.Piece.{Piece}
 use Rattle.pz_cells.specs.Pattern.{pattern_holds}
 use Rattle.pz_cells.proofs.HoldLemmas.{AreMet, met_all}
 use Rattle.pz_sheet.specs.Grid.{Grid, cell_at}
-use Rattle.pz_sheet.specs.Presence.{AreMissing, is_in}
-use Rattle.pz_planes.specs.Planes.{LineSets, PlaneSets, IsMissingIn, AreItemsOf, MayHold, MayRun, lines_of}
+use Rattle.pz_planes.specs.Planes.{LineSets, PlaneSets, AreItemsOf, MayHold, MayRun, lines_of}
 use Rattle.pz_planes.specs.declared.line.Axis.{Axis}
 use Rattle.pz_planes.specs.declared.line.Axis.TheVariants.{Horizontal, Vertical}
 use Rattle.pz_planes.specs.declared.line.Way.{Way}
@@ -31,14 +29,8 @@ use Rattle.pz_planes.specs.Notes.{HeadingSets}
 use Rattle.pz_sheet.specs.Seen.{grid_of, IsStored}
 use Rattle.pz_sheet.proofs.SheetLemmas.{seen_at}
 use Rattle.pz_cells.proofs.ListLemmas.{no_cell}
-use Rattle.pz_cells.proofs.RewriteLemmas.{member_seen}
 use Rattle.pz_sheet.proofs.RunLemmas.{enumerate_fails}
 use Rattle.pz_sheet.proofs.AxisLemmas.{along_in, run_past}
-
--- what is true of some is not false of all
-pub holds_unless : (b d : Bool) → (b ≡ true → d ≡ true) → d ≡ false → b ≡ false
-holds_unless true d h none = let f : true ≡ false = sym (h refl) ∙ none in cc
-holds_unless false d h none = refl
 
 -- each passes where all do
 each_passes : (p : ℕ × List Item → Bool) (patterns : List (List Item)) → list_all p (enumerate_from 0 patterns) ≡ true → (index : ℕ) (other : List Item) → index < length patterns → p (index, get_or patterns index other) ≡ true
@@ -98,32 +90,6 @@ module _ (N width height : ℕ) (layering : Layering) (cells : List (Cell N)) (n
       (p.there at number (no_cell N) at_in line_in).row (get_or pattern k other).object small ∙ stands_here at number at_in line_in pattern are holds k other within
   noted_in_line Vertical number at line_in at_in small pattern are holds k other within =
       (p.there number at (no_cell N) line_in at_in).column (get_or pattern k other).object small ∙ stands_here number at line_in at_in pattern are holds k other within
-
-  -- objects that no row notes stand in no cell of it
-  pub missing_in_row : (objects : List ℕ) (x y : ℕ) → x < width → y < height → x < 128 → All (IsMissingIn planes.rows y) objects → AreMissing objects (cell_at grid x y)
-  missing_in_row objects x y x_in y_in small missing k other within = by_there (member cell.objects object) refl where
-    at : ℕ
-    at = y * width + x
-
-    cell : Cell N
-    cell = get_or cells at (no_cell N)
-
-    object : ℕ
-    object = get_or objects k other
-
-    there : at < length cells
-    there = omega (arith, mul-add-lt y width x height y_in x_in, s.covers)
-
-    is_there : member cell.objects object ≡ is_in (cell_at grid x y) object
-    is_there =
-        member_seen layering.depth layering.layers cell.objects cell.movement object s.law.layered (s.sound at (no_cell N) there)
-        ∙ ap (λ (here : List (Option Piece)). is_in here object) (seen_at N width height layering cells grid at cell refl there (get_or_default cells at (no_cell N) cell there))
-
-    by_there : (b : Bool) → member cell.objects object ≡ b → is_in (cell_at grid x y) object ≡ false
-    by_there false e = sym is_there ∙ e
-    by_there true e =
-        let low : object < planes.rows.objects = omega (arith, (s.sound at (no_cell N) there).of_game object e, p.fits.row_objects) in
-        let f : false ≡ true = sym (missing k other within x low small) ∙ (p.there x y (no_cell N) x_in y_in).row object small ∙ e in cc
 
   pub admits : (line : Line) (pattern : List Item) → Admits planes line pattern grid
   admits line pattern line_in short are at at_in holds = noted_in_line line.axis line.number at line_in at_in (omega (arith, at_in, short)) pattern are holds

@@ -19,7 +19,7 @@ use Rattle.pz_sheet.specs.Movement.{IsStillAt, AreColumnsStill}
 use Rattle.pz_planes.specs.Notes.{HeadingSets, HaveNoneBetween}
 use Rattle.pz_cells.specs.Lists.{seen, IsSound, HeadNowhere}
 use Rattle.pz_sheet.specs.Seen.{grid_of, HeadsWithin, AreNoted, IsStored}
-use Rattle.pz_sheet.proofs.SheetLemmas.{seen_at}
+use Rattle.pz_sheet.proofs.SheetLemmas.{only_false, seen_at}
 use Rattle.pz_cells.proofs.ListLemmas.{no_cell, cell_mapped, still_shows}
 
 pub still_seen : (N : ℕ) (layering : Layering) (cell : Cell N) → IsSound layering cell → ((number : ℕ) → member cell.movement number ≡ false) → seen layering cell ≡ map still_place (seen layering cell)
@@ -36,10 +36,7 @@ place_is_still layers objects movement layer nowhere = by_found (find (stands_on
 
 -- what is within nothing has nothing
 none_within : (wanted words : List ℕ) → IsWithin wanted words → ((number : ℕ) → member words number ≡ false) → (number : ℕ) → member wanted number ≡ false
-none_within wanted words within none number = by_there (member wanted number) refl where
-  by_there : (b : Bool) → member wanted number ≡ b → member wanted number ≡ false
-  by_there false e = e
-  by_there true e = let f : false ≡ true = sym (none number) ∙ within number e in cc
+none_within wanted words within none number = only_false (member wanted number) (λ e. sym (none number) ∙ within number e)
 
 same_all : (f : List (Option Piece) → List (Option Piece)) (cells : List (List (Option Piece))) → All (λ cell. cell ≡ f cell) cells → cells ≡ map f cells
 same_all f [] same = refl

@@ -1,5 +1,5 @@
 -- Where nothing heads, the planes of the rows tell in which cells two levels differ.
-use Rattle.std.proofs.Common.{◌≡◌, inl, inr, ℕ, ◌*◌, ◌/◌, ◌%◌, ◌<◌, ◌≤◌, List, Option, Some, None, Bool, true, false, length, get_or, arith, ap, sym, ◌∙◌, refl, subst}
+use Rattle.std.proofs.Common.{◌≡◌, inl, inr, ℕ, ◌*◌, ◌/◌, ◌%◌, ◌<◌, ◌≤◌, List, Option, Some, None, false, length, get_or, arith, ap, sym, ◌∙◌, subst}
 use Rattle.std.specs.List.{All}
 use Rattle.std.proofs.lemmas.Bool.{cases_lt}
 use Rattle.std.proofs.lemmas.List.{get_or_default}
@@ -16,6 +16,7 @@ use Rattle.pz_sheet.specs.Grid.{Grid}
 use Rattle.pz_sheet.specs.Noting.{ArePlaced}
 use Rattle.pz_sheet.proofs.ChangeLemmas.{AreBoth, over_layers, same_width, same_height, next_is}
 use Rattle.pz_sheet.proofs.PlacedLemmas.{there_of}
+use Rattle.pz_sheet.proofs.SheetLemmas.{only_false}
 
 -- cells of a level whose rows fit in a word, with its planes; nothing heads anywhere
 pub record AreTold (N width height : ℕ) (layering : Layering) (cells : List (Cell N)) (planes : PlaneSets) : Type 0 where
@@ -35,10 +36,7 @@ module _ (N width height : ℕ) (layering : Layering) (cells : List (Cell N)) (p
 
   -- and no others
   none_past : (number : ℕ) (cell : Cell N) → number < length cells → (object : ℕ) → length layering.layers ≤ object → member (get_or cells number cell).objects object ≡ false
-  none_past number cell within object past = by_there (member (get_or cells number cell).objects object) refl where
-    by_there : (b : Bool) → member (get_or cells number cell).objects object ≡ b → member (get_or cells number cell).objects object ≡ false
-    by_there false e = e
-    by_there true e = absurd (omega (arith, (a.sound number cell within).of_game object e, past))
+  none_past number cell within object past = only_false _ (λ e. absurd (omega (arith, (a.sound number cell within).of_game object e, past)))
 
 module _ (N width height : ℕ) (layering : Layering) (cells others : List (Cell N)) (planes other_planes : PlaneSets) (a : AreTold N width height layering cells planes) (b : AreTold N width height layering others other_planes) where
   as_many : length cells ≡ length others

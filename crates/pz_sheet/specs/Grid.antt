@@ -31,6 +31,10 @@ pub record LevelState : Type 0 where
   pub column_marks : List (List ℕ)
   pub level_marks : List ℕ
 
+-- a position of the map
+abbrev pub IsOnMap : Grid → ℕ → ℕ → Type 0
+IsOnMap grid x y = (x < grid.width) × (y < grid.height)
+
 -- the cell at a position of the map
 abbrev pub cell_at : Grid → ℕ → ℕ → List (Option Piece)
 cell_at grid x y = slice_index_or grid.cells (y * grid.width + x) []

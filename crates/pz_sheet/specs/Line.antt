@@ -1,5 +1,5 @@
 -- The lines of a map: rows and columns, and their positions.
-use Rattle.std.specs.Prelude.{ℕ, List, Bool}
+use Rattle.std.specs.Prelude.{ℕ, ◌<◌, List, Bool}
 use Rattle.pz_game.specs.declared.direction.Dir.{Dir}
 use Rattle.pz_game.specs.declared.direction.Dir.TheVariants.{Up, Down, Left, Right}
 use Rattle.pz_game.specs.declared.pattern.Item.{Item}
@@ -28,6 +28,10 @@ line_length grid Vertical = grid.height
 abbrev pub line_count : Grid → Axis → ℕ
 line_count grid Horizontal = grid.height
 line_count grid Vertical = grid.width
+
+-- a position of a line of the map
+abbrev pub IsOnLine : Grid → Line → ℕ → Type 0
+IsOnLine grid line at = (line.number < line_count grid line.axis) × (at < line_length grid line.axis)
 
 -- the column and the row of a position of a line
 abbrev pub x_at : Axis → ℕ → ℕ → ℕ

@@ -1,11 +1,16 @@
 -- Rules' cells that hold one after another in a direction. Off the map nothing holds.
-use Rattle.std.specs.Prelude.{ℕ, ◌+◌, ◌-◌, List, Bool, false, Option, Some, None, nat_lt, nat_le, ◌&&◌, if◌then◌else◌}
+use Rattle.std.specs.Prelude.{ℕ, ◌+◌, ◌-◌, ◌<◌, All, length, List, Bool, false, Option, Some, None, nat_lt, nat_le, ◌&&◌, if◌then◌else◌}
 use Rattle.std.specs.List.{list_all, enumerate_from}
 use Rattle.pz_game.specs.declared.direction.Dir.{Dir}
 use Rattle.pz_game.specs.declared.direction.Dir.TheVariants.{Up, Down, Left, Right, Action}
 use Rattle.pz_game.specs.declared.pattern.Item.{Item}
+use Rattle.pz_game.specs.Pattern.{AreOf}
 use Rattle.pz_cells.specs.Pattern.{pattern_holds}
 use Rattle.pz_sheet.specs.Grid.{Grid, cell_at}
+
+-- a run of a game whose objects have these layers: one or more rules' cells, each of the game's objects
+abbrev pub IsRunOf : List ℕ → List (List Item) → Type 0
+IsRunOf layers patterns = (0 < length patterns) × All (AreOf layers) patterns
 
 -- a position, if it is on the map
 abbrev pub on_map : Grid → ℕ → ℕ → Option (ℕ × ℕ)

@@ -37,10 +37,7 @@ impl<const N: usize> Sheet<N> {
         ensures objects { (object : ℕ) → member result.now object ≡ is_in (cell_of self.now.grid index) object }
         ensures short { length result.now ≤ 4 }
     {
-        let cell = &self.cells[index];
-        // (brings the proof how many words a cell has)
-        let _ = cell.word_count();
-        &cell.objects
+        objects_of(&self.cells[index])
     }
 
     /// Replaces the cell of this number, and notes where the new one heads and what stands there.
@@ -52,8 +49,18 @@ impl<const N: usize> Sheet<N> {
         let before = self.cells[index];
         self.cells[index] = cell;
         note_heading(&mut self.notes, &self.layers, index, &cell);
-        // (brings the proof how many words a cell has)
-        let _ = (before.word_count(), cell.word_count());
-        self.planes.note_at(index, &before.objects, &cell.objects);
+        self.planes
+            .note_at(index, objects_of(&before), objects_of(&cell));
     }
+}
+
+/// The words of the objects that stand in a cell.
+#[inline(always)]
+pub(crate) fn objects_of<const N: usize>(cell: &Cell<N>) -> &[u128]
+    ensures objects { result.now ≡ cell.now.objects }
+    ensures count { length result.now ≡ N }
+{
+    // (brings the proof how many words a cell has)
+    let _ = cell.word_count();
+    &cell.objects
 }

@@ -2,7 +2,7 @@
 
 ghost use Rattle.std.specs.Prelude.{◌≡◌, true, ◌<◌, ◌≤◌, ◌+◌, All, IfOk, OnOk, OnErr, length};
 ghost use Rattle.pz_sheet.specs.Changes.{changed_cells, changes_seen, IsChangeOf, with_cell, restored, differ_in, cell_there};
-ghost use Rattle.pz_sheet.specs.Grid.{SameSize};
+ghost use Rattle.pz_sheet.specs.Grid.{IsLawful, SameSize};
 ghost use Rattle.pz_sets.specs.Next.{IsNext};
 
 use crate::Sheet;
@@ -32,22 +32,10 @@ impl<const N: usize> Sheet<N> {
         ensures way_back { IfOk result (λ changes. restored (changes_seen newer.now.grid changes.items) newer.now.grid ≡ self.old.grid) }
     {
         let changes = newer.changes_to(self)?;
-        self.catch_up(newer, &changes);
-        Ok(changes)
-    }
-
-    /// Copies the cells of a newer level in which, by the way back from it, the two differ.
-    fn catch_up(&mut self, newer: &Sheet<N>, way: &[Change<N>])
-        requires size { SameSize newer.now.grid self.old.grid }
-        requires changes { changes_seen newer.now.grid way.now ≡ changed_cells newer.now.grid self.old.grid }
-        requires of_level { All (IsChangeOf newer.now.grid) way.now }
-        ensures { self.new.grid ≡ newer.now.grid }
-    {
-        // (brings the proof the law of both levels)
-        let _ = (self.width(), newer.width());
-        for change in way {
+        for change in &changes {
             self.take_cell(newer, change.index);
         }
+        Ok(changes)
     }
 
     /// The way back to an older level of the same size: exactly the cells in which it differs. Err: memory was refused.
@@ -56,9 +44,8 @@ impl<const N: usize> Sheet<N> {
         ensures changes { IfOk result (λ changes. changes_seen self.now.grid changes.items ≡ changed_cells self.now.grid older.now.grid) }
         ensures of_level { IfOk result (λ changes. All (IsChangeOf self.now.grid) changes.items) }
         ensures way_back { IfOk result (λ changes. restored (changes_seen self.now.grid changes.items) self.now.grid ≡ older.now.grid) }
+        ensures as_many { length self.now.grid.cells ≡ length older.now.grid.cells }
     {
-        // (brings the proof the law of the older level)
-        let _ = older.width();
         let mut changes = Vec::new(*self.cells.allocator());
         let mut from = 0;
         'changes: while let Some(index) = self.next_change(older, from) {
@@ -83,7 +70,9 @@ impl<const N: usize> Sheet<N> {
     /// The first cell, from number `from` on, in which another level of the same size differs.
     pub fn next_change(&self, other: &Sheet<N>, from: usize) -> Option<usize>
         requires size { SameSize self.now.grid other.now.grid }
-        ensures { IsNext (differ_in self.now.grid other.now.grid) from (length self.now.grid.cells) result }
+        ensures next { IsNext (differ_in self.now.grid other.now.grid) from (length self.now.grid.cells) result }
+        ensures as_many { length self.now.grid.cells ≡ length other.now.grid.cells }
+        ensures lawful { IsLawful self.now.grid }
     {
         let are_still = are_empty(&self.notes, &other.notes);
         if are_still && self.is_told_by_planes() {
@@ -100,8 +89,6 @@ impl<const N: usize> Sheet<N> {
         requires size { SameSize self.old.grid other.now.grid }
         ensures { self.new.grid ≡ other.now.grid }
     {
-        // (brings the proof the law of both levels)
-        let _ = (self.width(), other.width());
         let mut from = 0;
         'changes: while let Some(index) = self.next_change(other, from) {
             self.take_cell(other, index);

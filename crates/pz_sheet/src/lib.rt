@@ -2,7 +2,7 @@
 #![tactic(auto)]
 
 ghost use Rattle.std.specs.Prelude.{◌≡◌, ◌+◌, ◌*◌, ◌<◌, length};
-ghost use Rattle.pz_sheet.specs.Grid.{IsLawful};
+ghost use Rattle.pz_sheet.specs.Grid.{IsLawful, IsOnMap};
 
 use pz_cells::cell::Cell;
 use pz_cells::layers::Layers;
@@ -69,6 +69,7 @@ impl<const N: usize> Model for Sheet<N> {
 
 impl<const N: usize> Sheet<N> {
     /// The number of columns.
+    #[tactic(auto, using(crate::proofs::SheetLemmas::lawful_here))]
     pub fn width(&self) -> u32
         ensures width { result ≡ self.now.grid.width }
         ensures lawful { IsLawful self.now.grid }
@@ -77,6 +78,7 @@ impl<const N: usize> Sheet<N> {
     }
 
     /// The number of rows.
+    #[tactic(auto, using(crate::proofs::SheetLemmas::lawful_here))]
     pub fn height(&self) -> u32
         ensures height { result ≡ self.now.grid.height }
         ensures lawful { IsLawful self.now.grid }
@@ -85,6 +87,7 @@ impl<const N: usize> Sheet<N> {
     }
 
     /// The number of layers.
+    #[tactic(auto, using(crate::proofs::SheetLemmas::lawful_here))]
     pub fn depth(&self) -> usize
         ensures depth { result ≡ self.now.grid.depth }
         ensures lawful { IsLawful self.now.grid }
@@ -94,8 +97,7 @@ impl<const N: usize> Sheet<N> {
 
     /// The number of the cell at a position of the map. Cells are numbered row by row.
     fn index(&self, x: u32, y: u32) -> usize
-        requires x_in { x < self.now.grid.width }
-        requires y_in { y < self.now.grid.height }
+        requires on_map { IsOnMap self.now.grid x y }
         ensures index { result ≡ y * self.now.grid.width + x }
         ensures within { result < length self.now.grid.cells }
     {

@@ -5,7 +5,7 @@ ghost use Rattle.pz_game.specs.Pattern.{AreOf};
 ghost use Rattle.pz_cells.specs.Pattern.{pattern_holds};
 ghost use Rattle.pz_planes.specs.Line.{room_from};
 ghost use Rattle.pz_sheet.specs.Grid.{IsLawful};
-ghost use Rattle.pz_sheet.specs.Line.{row_of, column_of, line_length, line_count, x_at, y_at, holds_in};
+ghost use Rattle.pz_sheet.specs.Line.{row_of, column_of, IsOnLine, line_length, x_at, y_at, holds_in};
 ghost use Rattle.pz_sheet.specs.Presence.{cell_of};
 
 use crate::Sheet;
@@ -66,8 +66,7 @@ impl<const N: usize> Sheet<N> {
 
     /// The number of the cell at a position of a line.
     pub(crate) fn index_in(&self, line: Line, at: u32) -> usize
-        requires line_in { line.number < line_count self.now.grid line.axis }
-        requires at_in { at < line_length self.now.grid line.axis }
+        requires on_line { IsOnLine self.now.grid line at }
         ensures index { result ≡ y_at line.axis line.number at * self.now.grid.width + x_at line.axis line.number at }
         ensures within { result < length self.now.grid.cells }
     {
@@ -89,8 +88,7 @@ impl<const N: usize> Sheet<N> {
 
     /// Whether a rule's cell holds at a position of a line.
     pub(crate) fn holds_in(&self, line: Line, at: u32, pattern: &Pattern) -> bool
-        requires line_in { line.number < line_count self.now.grid line.axis }
-        requires at_in { at < line_length self.now.grid line.axis }
+        requires on_line { IsOnLine self.now.grid line at }
         requires of_game { AreOf self.now.grid.layers pattern.now }
         ensures { result ≡ holds_in self.now.grid line pattern.now at }
     {

@@ -1,8 +1,8 @@
 //! Which objects stand in the lines.
 
-ghost use Rattle.std.specs.Prelude.{◌≡◌, ◌<◌, ◌≤◌, ℕ, length};
+ghost use Rattle.std.specs.Prelude.{◌≡◌, ◌<◌, ℕ, length};
 ghost use Rattle.pz_sets.specs.Sets.{member};
-ghost use Rattle.pz_sheet.specs.Line.{line_length, line_count};
+ghost use Rattle.pz_sheet.specs.Line.{line_count};
 ghost use Rattle.pz_sheet.specs.Marks.{AreMarksOf};
 ghost use Rattle.pz_sheet.specs.Presence.{in_line};
 
@@ -21,20 +21,10 @@ impl<const N: usize> Sheet<N> {
     {
         let long = self.line_length(axis);
         if long <= bits::ROOM && self.layers.object_count() <= long as usize {
-            self.mark_by_planes(axis, marks);
-        } else {
-            self.mark_by_cells(axis, marks);
+            self.planes.lines(axis).mark(marks);
+            return;
         }
-    }
-
-    /// The same, from what the planes have of each object.
-    fn mark_by_planes(&self, axis: Axis, marks: &mut [NumberSet])
-        requires short { line_length self.now.grid axis ≤ 128 }
-        requires count { length marks.old ≡ line_count self.now.grid axis }
-        ensures count { length marks.new ≡ length marks.old }
-        ensures exact { AreMarksOf self.now.grid axis marks.new }
-    {
-        self.planes.lines(axis).mark(marks);
+        self.mark_by_cells(axis, marks);
     }
 
     /// The same, cell by cell.

@@ -1,8 +1,8 @@
 //! Draws levels and fills their background.
 
-ghost use Rattle.std.specs.Prelude.{◌≡◌, ◌≤◌, ◌<◌, ◌*◌, IfOk, All, length, slice_index};
+ghost use Rattle.std.specs.Prelude.{◌≡◌, ◌≤◌, ◌<◌, IfOk, All, length, slice_index};
 ghost use Rattle.pz_sheet.specs.Grid.{IsLawful};
-ghost use Rattle.pz_sheet.specs.Loading.{drawn, filled};
+ghost use Rattle.pz_sheet.specs.Loading.{IsRoomFor, drawn, filled};
 
 use crate::Sheet;
 use crate::noting::{note_all, noted, renew_notes};
@@ -17,14 +17,11 @@ impl<const N: usize> Sheet<N> {
     /// The level of a drawing, before its background is filled. `N` words must be enough for the game. Err: memory was refused.
     pub fn drawn(alloc: Global, game: &Game, drawing: &DrawnLevel) -> Result<Sheet<N>, AllocError>
         requires short { N ≤ 4 }
-        requires room { length game.now.layers ≤ 128 * N }
-        requires movement_room { game.now.depth ≤ 25 * N }
+        requires room { IsRoomFor N game.now }
         requires numbers { All (λ number. number < length game.now.values) drawing.now.cells }
         ensures { IfOk result (λ sheet. sheet.grid ≡ drawn game.now drawing.now) }
     {
         let layers = Layers::of_game(alloc, game)?;
-        // (brings the proof the law of the layers)
-        let _ = layers.depth();
         let cells = glyph_cells(alloc, game, &layers, drawing.cells())?;
         let width = drawing.width();
         let height = drawing.height();
@@ -41,13 +38,12 @@ impl<const N: usize> Sheet<N> {
 
     /// Puts a piece on a layer, in each cell where nothing stands on it.
     pub fn fill(&mut self, layer: usize, piece: Piece)
-        requires layer_in { layer < self.old.grid.depth }
         requires on_layer { (piece.object < length self.old.grid.layers) × (slice_index self.old.grid.layers piece.object ≡ layer) }
         ensures filled { self.new.grid ≡ filled layer piece self.old.grid }
         ensures lawful { IsLawful self.new.grid }
     {
         fill_cells(&mut self.cells, &self.layers, layer, piece);
         renew_notes(&mut self.notes, &self.layers, &self.cells);
-        note_all(&mut self.planes, &self.layers, &self.cells);
+        note_all(&mut self.planes, &self.cells);
     }
 }

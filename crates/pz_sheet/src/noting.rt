@@ -1,13 +1,15 @@
 //! Makes the notes and planes of a level: where its cells head, and where its objects stand.
 
 ghost use Rattle.std.specs.Prelude.{◌≡◌, ◌≤◌, ◌<◌, ◌*◌, All, length, IfOk};
-ghost use Rattle.pz_game.specs.declared.limits.TheConstants.{MAX_SIDE};
+ghost use Rattle.pz_game.specs.Size.{IsSize};
+ghost use Rattle.pz_cells.specs.Layering.{IsLayering};
 ghost use Rattle.pz_cells.specs.Lists.{IsSound};
 ghost use Rattle.pz_planes.specs.Notes.{IsWider};
 ghost use Rattle.pz_planes.specs.Planes.{AreKnown, HaveSameLines};
 ghost use Rattle.pz_sheet.specs.Noting.{AreAllThere, ArePlaced, EndWithin};
 ghost use Rattle.pz_sheet.specs.Seen.{IsNoted, AreNoted};
 
+use crate::cells::objects_of;
 use pz_cells::cell::Cell;
 use pz_cells::layers::Layers;
 use pz_planes::notes::Notes;
@@ -22,18 +24,18 @@ pub(crate) fn noted<const N: usize>(
     height: usize,
     cells: &[Cell<N>],
 ) -> Result<(Notes, Planes), AllocError>
-    requires narrow { width ≤ MAX_SIDE }
-    requires low { height ≤ MAX_SIDE }
+    requires size { IsSize width height }
     requires covers { length cells.now ≡ width * height }
     requires sound { All (IsSound layers.now) cells.now }
     ensures notes { IfOk result (λ found. AreNoted N width height found.0 cells.now) }
     ensures planes { IfOk result (λ found. ArePlaced N (length layers.now.layers) width height found.1 cells.now) }
+    ensures law { IsLayering N layers.now }
 {
     let objects = layers.object_count();
     let mut notes = Notes::empty(alloc, width, height)?;
     renew_notes(&mut notes, layers, cells);
     let mut planes = Planes::empty(alloc, objects, width, height)?;
-    note_all(&mut planes, layers, cells);
+    note_all(&mut planes, cells);
     Ok((notes, planes))
 }
 
@@ -65,7 +67,8 @@ pub(crate) fn renew_notes<const N: usize>(notes: &mut Notes, layers: &Layers<N>,
 }
 
 /// Notes the objects of all cells, and nothing else.
-pub(crate) fn note_all<const N: usize>(planes: &mut Planes, layers: &Layers<N>, cells: &[Cell<N>])
+pub(crate) fn note_all<const N: usize>(planes: &mut Planes, cells: &[Cell<N>])
+    requires short { N ≤ 4 }
     requires covers { length cells.now ≡ planes.old.columns.count * planes.old.rows.count }
     requires known { All (λ cell. AreKnown planes.old cell.objects) cells.now }
     ensures size { HaveSameLines planes.old planes.new }
@@ -74,9 +77,6 @@ pub(crate) fn note_all<const N: usize>(planes: &mut Planes, layers: &Layers<N>, 
 {
     planes.clear();
     for index in 0..cells.len() {
-        let cell = &cells[index];
-        // (brings the proof how many words a cell has)
-        let _ = (layers.depth(), cell.word_count());
-        planes.note_at(index, &[0; N], &cell.objects);
+        planes.note_at(index, &[0; N], objects_of(&cells[index]));
     }
 }

@@ -5,7 +5,7 @@ ghost use Rattle.pz_sets.specs.declared.set.TheConstants.{CAPACITY};
 ghost use Rattle.pz_game.specs.Pattern.{AreOf};
 ghost use Rattle.pz_cells.specs.Cell.{IsOnLayer};
 ghost use Rattle.pz_cells.specs.Pattern.{pattern_holds};
-ghost use Rattle.pz_sheet.specs.Grid.{cell_at, place_at, with_place};
+ghost use Rattle.pz_sheet.specs.Grid.{IsOnMap, cell_at, place_at, with_place};
 ghost use Rattle.pz_sheet.specs.Rewriting.{with_rewritten, changes};
 
 use crate::Sheet;
@@ -15,8 +15,7 @@ use pz_game::pattern::Pattern;
 impl<const N: usize> Sheet<N> {
     /// What stands on a layer of a position of the map.
     pub fn place(&self, x: u32, y: u32, layer: usize) -> Option<Piece>
-        requires x_in { x < self.now.grid.width }
-        requires y_in { y < self.now.grid.height }
+        requires on_map { IsOnMap self.now.grid x y }
         requires layer_in { layer < self.now.grid.depth }
         ensures place { result ≡ place_at self.now.grid x y layer }
         ensures on_layer { IsOnLayer self.now.grid.layers layer result }
@@ -28,8 +27,7 @@ impl<const N: usize> Sheet<N> {
 
     /// Puts a piece, or nothing, on a layer of a position of the map.
     pub fn put(&mut self, x: u32, y: u32, layer: usize, place: Option<Piece>)
-        requires x_in { x < self.old.grid.width }
-        requires y_in { y < self.old.grid.height }
+        requires on_map { IsOnMap self.old.grid x y }
         requires layer_in { layer < self.old.grid.depth }
         requires on_layer { IsOnLayer self.old.grid.layers layer place }
         ensures put { self.new.grid ≡ with_place self.old.grid x y layer place }
@@ -44,8 +42,7 @@ impl<const N: usize> Sheet<N> {
 
     /// Whether a rule's cell holds at a position of the map.
     pub fn holds(&self, x: u32, y: u32, pattern: &Pattern) -> bool
-        requires x_in { x < self.now.grid.width }
-        requires y_in { y < self.now.grid.height }
+        requires on_map { IsOnMap self.now.grid x y }
         requires of_game { AreOf self.now.grid.layers pattern.now }
         ensures { result ≡ pattern_holds (cell_at self.now.grid x y) pattern.now }
     {
@@ -53,9 +50,9 @@ impl<const N: usize> Sheet<N> {
     }
 
     /// Rewrites the cell at a position of the map from a left cell of a rule to its right cell, and says whether the cell changed.
+    #[tactic(auto, using(crate::proofs::SheetLemmas::unrewritten))]
     pub fn rewrite(&mut self, x: u32, y: u32, left: &Pattern, right: &Pattern) -> bool
-        requires x_in { x < self.old.grid.width }
-        requires y_in { y < self.old.grid.height }
+        requires on_map { IsOnMap self.old.grid x y }
         requires left_of { AreOf self.old.grid.layers left.now }
         requires right_of { AreOf self.old.grid.layers right.now }
         ensures level { self.new.grid ≡ with_rewritten self.old.grid x y left.now right.now }

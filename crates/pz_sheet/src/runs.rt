@@ -4,8 +4,9 @@ ghost use Rattle.std.specs.Prelude.{◌≡◌, ℕ, ◌<◌, ◌≤◌, ◌^◌,
 ghost use Rattle.std.specs.List.{count_by, range_with_len};
 ghost use Rattle.pz_sets.specs.Sets.{in_word};
 ghost use Rattle.pz_game.specs.Pattern.{AreOf};
-ghost use Rattle.pz_sheet.specs.Line.{line_length, line_count, holds_in, runs_in};
-ghost use Rattle.pz_sheet.specs.Runs.{on_map, along, holds_at, run_holds};
+ghost use Rattle.pz_sheet.specs.Grid.{IsOnMap};
+ghost use Rattle.pz_sheet.specs.Line.{IsOnLine, line_length, line_count, holds_in, runs_in};
+ghost use Rattle.pz_sheet.specs.Runs.{IsRunOf, on_map, along, holds_at, run_holds};
 ghost use Rattle.pz_sets.specs.Next.{IsNext};
 
 use crate::Sheet;
@@ -48,9 +49,7 @@ impl<const N: usize> Sheet<N> {
     /// Whether rules' cells hold from a position of a line on, when the first does. (Not inlined: few positions of a search come here.)
     #[inline(never)]
     fn rest_holds(&self, line: Line, way: Way, at: u32, patterns: &[Pattern]) -> bool
-        requires some { 0 < length patterns.now }
-        requires line_in { line.number < line_count self.now.grid line.axis }
-        requires at_in { at < line_length self.now.grid line.axis }
+        requires on_line { IsOnLine self.now.grid line at }
         requires of_game { All (AreOf self.now.grid.layers) patterns.now }
         requires first { holds_in self.now.grid line (slice_index_or patterns.now 0 []) at ≡ true }
         ensures { result ≡ runs_in self.now.grid line way patterns.now at }
@@ -71,21 +70,18 @@ impl<const N: usize> Sheet<N> {
     /// Whether rules' cells hold from a position of a line on. (Inlined: most positions of a search fail at the first cell.)
     #[inline(always)]
     fn runs_from(&self, line: Line, way: Way, at: u32, patterns: &[Pattern]) -> bool
-        requires some { 0 < length patterns.now }
-        requires line_in { line.number < line_count self.now.grid line.axis }
-        requires at_in { at < line_length self.now.grid line.axis }
-        requires of_game { All (AreOf self.now.grid.layers) patterns.now }
+        requires on_line { IsOnLine self.now.grid line at }
+        requires run { IsRunOf self.now.grid.layers patterns.now }
         ensures { result ≡ runs_in self.now.grid line way patterns.now at }
     {
         self.holds_in(line, at, &patterns[0]) && self.rest_holds(line, way, at, patterns)
     }
 
     /// Whether rules' cells hold from a position of the map on. The action leads nowhere.
+    #[tactic(auto, using(crate::proofs::RunLemmas::action_leads_nowhere))]
     fn runs_on_map(&self, dir: Dir, x: u32, y: u32, patterns: &[Pattern]) -> bool
-        requires some { 0 < length patterns.now }
-        requires x_in { x < self.now.grid.width }
-        requires y_in { y < self.now.grid.height }
-        requires of_game { All (AreOf self.now.grid.layers) patterns.now }
+        requires on_map { IsOnMap self.now.grid x y }
+        requires run { IsRunOf self.now.grid.layers patterns.now }
         ensures { result ≡ run_holds self.now.grid dir x y patterns.now }
     {
         match dir {
@@ -98,9 +94,9 @@ impl<const N: usize> Sheet<N> {
     }
 
     /// Whether rules' cells hold from a position on, on the map or not.
+    #[tactic(auto, using(crate::proofs::RunLemmas::run_off))]
     pub fn run_holds(&self, dir: Dir, x: u32, y: u32, patterns: &[Pattern]) -> bool
-        requires some { 0 < length patterns.now }
-        requires of_game { All (AreOf self.now.grid.layers) patterns.now }
+        requires run { IsRunOf self.now.grid.layers patterns.now }
         ensures { result ≡ run_holds self.now.grid dir x y patterns.now }
     {
         if x < self.width() && y < self.height() {
@@ -114,9 +110,8 @@ impl<const N: usize> Sheet<N> {
     /// other.
     fn starts_in(&self, line: Line, way: Way, patterns: &[Pattern]) -> u128
         requires short { line_length self.now.grid line.axis ≤ 128 }
-        requires some { 0 < length patterns.now }
         requires line_in { line.number < line_count self.now.grid line.axis }
-        requires of_game { All (AreOf self.now.grid.layers) patterns.now }
+        requires run { IsRunOf self.now.grid.layers patterns.now }
         ensures { (at : ℕ) → at < line_length self.now.grid line.axis → runs_in self.now.grid line way patterns.now at ≡ true → in_word result at ≡ true }
     {
         self.planes
@@ -126,9 +121,8 @@ impl<const N: usize> Sheet<N> {
 
     /// The first position of a line, from `from` on, from which rules' cells hold.
     pub fn next_run(&self, line: Line, way: Way, from: u32, patterns: &[Pattern]) -> Option<u32>
-        requires some { 0 < length patterns.now }
         requires line_in { line.number < line_count self.now.grid line.axis }
-        requires of_game { All (AreOf self.now.grid.layers) patterns.now }
+        requires run { IsRunOf self.now.grid.layers patterns.now }
         ensures { IsNext (runs_in self.now.grid line way patterns.now) from (line_length self.now.grid line.axis) result }
     {
         let end = self.line_length(line.axis);
@@ -154,9 +148,8 @@ impl<const N: usize> Sheet<N> {
         from: u32,
         patterns: &[Pattern],
     ) -> Option<u32>
-        requires some { 0 < length patterns.now }
         requires line_in { line.number < line_count self.now.grid line.axis }
-        requires of_game { All (AreOf self.now.grid.layers) patterns.now }
+        requires run { IsRunOf self.now.grid.layers patterns.now }
         ensures { IsNext (runs_in self.now.grid line way patterns.now) from (line_length self.now.grid line.axis) result }
     {
         for at in from..self.line_length(line.axis) {
@@ -169,10 +162,10 @@ impl<const N: usize> Sheet<N> {
 
     /// At how many positions of a line a search tests whether rules' cells hold from there on. In a line of up to 128 positions they are
     /// those that the planes leave, in a longer line all.
+    #[tactic(auto, using(crate::proofs::CountLemmas::count_fewer, crate::proofs::CountLemmas::count_within))]
     pub fn tested_in(&self, line: Line, way: Way, patterns: &[Pattern]) -> u32
-        requires some { 0 < length patterns.now }
         requires line_in { line.number < line_count self.now.grid line.axis }
-        requires of_game { All (AreOf self.now.grid.layers) patterns.now }
+        requires run { IsRunOf self.now.grid.layers patterns.now }
         ensures low { count_by (runs_in self.now.grid line way patterns.now) (range_with_len 0 (line_length self.now.grid line.axis)) ≤ result }
         ensures high { result ≤ line_length self.now.grid line.axis }
     {
@@ -185,6 +178,7 @@ impl<const N: usize> Sheet<N> {
 }
 
 /// How many positions of a set are below `end`.
+#[tactic(auto, using(crate::proofs::CountLemmas::count_yes, crate::proofs::CountLemmas::count_no))]
 fn count_below(set: u128, end: u32) -> u32
     requires { end ≤ 128 }
     ensures { result ≡ count_by (in_word set) (range_with_len 0 end) }

@@ -18,8 +18,6 @@ impl<const N: usize> Sheet<N> {
     pub fn equals(&self, other: &Sheet<N>) -> bool
         ensures { IsTrue result ↔ (self.now.grid ≡ other.now.grid) }
     {
-        // (brings the proof the law of both levels)
-        let _ = (self.width(), other.width());
         self.same_size(other) && self.next_change(other, 0).is_none()
     }
 }

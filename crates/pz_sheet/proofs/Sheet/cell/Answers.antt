@@ -1,8 +1,8 @@
-use Rattle.std.proofs.Common.{ap, sym, ◌∙◌, subst}
-use Rattle.pz_cells.specs.Lists.{seen, IsSound}
+use Rattle.std.proofs.Common.{ap, subst}
+use Rattle.pz_cells.specs.Lists.{IsSound}
 use Rattle.pz_cells.proofs.ListLemmas.{sound_at}
 use Rattle.pz_sheet.specs.Grid.{Grid, BareState, layers_in}
-use Rattle.pz_sheet.proofs.SheetLemmas.{seen_within, seen_at}
+use Rattle.pz_sheet.proofs.SheetLemmas.{seen_within}
 use Rattle.pz_sheet.proofs.Sheet.cell.Goals as goal
 
 pub returns-clause-sound : goal.returns-clause-sound
@@ -11,10 +11,3 @@ returns-clause-sound g c =
     let e = ap (λ (s : BareState). s.grid) c.self.view_is in
     let within = seen_within _ _ _ a.layers a.cells.items _ c.args.index e c.requires in
     subst (λ (grid : Grid). IsSound (layers_in grid) c.index.result.now) e (sound_at a.layers a.cells.items c.args.index c.index.result.now c.self.invariant.stored.sound within c.index.ensures)
-
-pub returns-clause-cell : goal.returns-clause-cell
-returns-clause-cell g c =
-    let a = c.self.inside in
-    let e = ap (λ (s : BareState). s.grid) c.self.view_is in
-    let within = seen_within _ _ _ a.layers a.cells.items _ c.args.index e c.requires in
-    ap (λ (grid : Grid). seen (layers_in grid) c.index.result.now) (sym e) ∙ seen_at _ _ _ a.layers a.cells.items c.args.self.now.grid c.args.index c.index.result.now e within c.index.ensures

@@ -1,4 +1,3 @@
-use Rattle.pz_sheet.proofs.NewerLemmas.{as_many}
 use Rattle.pz_sheet.proofs.SameLemmas.{size_of, none_differs}
 use Rattle.pz_sheet.proofs.Sheet.equals.Goals as goal
 
@@ -7,4 +6,4 @@ returns-then-same_size g c =
     let grid = c.args.self.now.grid in
     let other = c.args.other.now.grid in
     let size = size_of grid other (c.same_size.ensures.0 c.if-same_size.true) in
-    none_differs grid other c.next_change.result c.is_none.result size (as_many grid other size c.width.ensures.lawful c.width-2.ensures.lawful) c.is_none.ensures c.next_change.ensures
+    none_differs grid other c.next_change.result c.is_none.result size c.next_change.ensures.as_many c.is_none.ensures c.next_change.ensures.next

@@ -1,19 +1,16 @@
-use Rattle.std.proofs.Common.{ℕ, List, Option, Some, length, arith, ap, sym, ◌∙◌, subst}
+use Rattle.std.proofs.Common.{◌<◌, ℕ, List, Some, length, arith, ap, sym, ◌∙◌, subst}
 use Rattle.std.specs.List.{All}
 use Rattle.pz_cells.specs.declared.cell.Cell.{Cell}
-use Rattle.pz_cells.specs.declared.piece.Piece.{Piece}
 use Rattle.pz_cells.specs.Cell.{IsOnLayer}
 use Rattle.pz_sheet.specs.Grid.{Grid, BareState}
 use Rattle.pz_cells.specs.Drawing.{filled_cell}
-use Rattle.pz_sheet.specs.Loading.{filled}
 use Rattle.pz_planes.specs.Planes.{AreKnown}
 use Rattle.pz_sheet.specs.Noting.{AreAllThere}
-use Rattle.pz_sheet.specs.Seen.{grid_of}
 use Rattle.pz_planes.proofs.PlaneLemmas.{covers_all}
 use Rattle.pz_sheet.proofs.PlacedLemmas.{all_known, placed_all}
 use Rattle.pz_cells.proofs.ListLemmas.{small_cell}
 use Rattle.pz_sheet.proofs.SheetLemmas.{lawful_seen}
-use Rattle.pz_sheet.proofs.MapLemmas.{stored_mapped, noted_read, noted_covers, all_mapped_long}
+use Rattle.pz_sheet.proofs.MapLemmas.{stored_mapped, noted_read}
 use Rattle.pz_sheet.proofs.Sheet.fill.Goals as goal
 
 pub fill_cells-requires : goal.fill_cells-requires
@@ -21,7 +18,8 @@ fill_cells-requires g c =
     let a = c.self.inside in
     let e = ap (λ (s : BareState). s.grid) c.self.view_is in
     let on_layer = subst (λ (layers : List ℕ). IsOnLayer layers c.args.layer (Some c.args.piece)) (sym (ap (λ (grid : Grid). grid.layers) e)) c.requires.on_layer in
-    (small_cell _ c.self.invariant.stored.law.short, (omega arith, (omega (arith, c.requires.layer_in, ap (λ (grid : Grid). grid.depth) e), (on_layer, c.self.invariant.stored.sound))))
+    let layer_in : c.args.layer < a.layers.depth = omega (arith, c.self.invariant.stored.law.layered c.args.piece.object 0 on_layer.0, on_layer.1) in
+    (small_cell _ c.self.invariant.stored.law.short, (omega arith, (layer_in, (on_layer, c.self.invariant.stored.sound))))
 
 pub note_all-requires : goal.note_all-requires
 note_all-requires g c =
@@ -34,7 +32,7 @@ note_all-requires g c =
     let is = c.deref-2.ensures.value in
     let covers = covers_all _ a.width a.height _ a.planes fits (ap (λ (all : List (Cell g.row.N)). length all) is ∙ stored.covers) in
     let known = subst (λ (all : List (Cell g.row.N)). All (λ cell. AreKnown a.planes cell.objects) all) (sym is) (all_known _ a.layers a.width a.height a.planes cells fits stored.sound) in
-    (omega arith, (small_cell _ c.self.invariant.stored.law.short, (covers, known)))
+    (small_cell _ c.self.invariant.stored.law.short, (c.self.invariant.stored.law.short, (covers, known)))
 
 pub invariant_of-self : goal.invariant_of-self
 invariant_of-self g c =
@@ -50,19 +48,3 @@ invariant_of-self g c =
 
 pub returns-clause-lawful : goal.returns-clause-lawful
 returns-clause-lawful g c = lawful_seen _ _ _ _ _ _ (invariant_of-self g c).stored
-
-pub renew_notes-requires : goal.renew_notes-requires
-renew_notes-requires g c =
-    let a = c.self.inside in
-    let stored = c.self.invariant.stored in
-    let cells = c.fill_cells.new.cells.items in
-    let mapped = c.fill_cells.ensures in
-    let long = all_mapped_long g.row.N a.layers (filled_cell c.args.layer c.args.piece) a.cells.items cells mapped in
-    (omega arith, (small_cell _ stored.law.short, noted_covers _ a.width a.height _ a.notes a.cells.items stored.noted (ap (λ (all : List (Cell g.row.N)). length all) c.deref.ensures.value ∙ (long ∙ stored.covers))))
-
-pub returns-clause-filled : goal.returns-clause-filled
-returns-clause-filled g c =
-    let a = c.self.inside in
-    let mapped = c.fill_cells.ensures in
-    ap (λ (cells : List (List (Option Piece))). record (grid_of a.width a.height a.layers a.cells.items) { cells = cells }) mapped.cells
-    ∙ ap (λ (s : BareState). filled c.args.layer c.args.piece s.grid) c.self.view_is

@@ -3,13 +3,8 @@ use Rattle.std.specs.List.{All}
 use Rattle.pz_planes.specs.Planes.{LineSets, IsMissingIn}
 use Rattle.pz_sheet.specs.Grid.{Grid, BareState, cell_at}
 use Rattle.pz_sheet.specs.Presence.{AreMissing}
-use Rattle.pz_sheet.proofs.StartLemmas.{missing_in_row}
+use Rattle.pz_sheet.proofs.MarkLemmas.{missing_in_row}
 use Rattle.pz_sheet.proofs.Sheet.may_stand_in_row.Goals as goal
-
-pub has_one_of-requires : goal.has_one_of-requires
-has_one_of-requires g c =
-    let e = ap (λ (s : BareState). s.grid) c.self.view_is in
-    omega (arith, c.requires, ap (λ (grid : Grid). grid.height) e, c.self.invariant.placed.fits.row_count, ap (λ (sets : LineSets). sets.count) c.lines-rows.ensures)
 
 pub returns-else-self-gt-ROOM : goal.returns-else-self-gt-ROOM
 returns-else-self-gt-ROOM g c = λ none x x_in.

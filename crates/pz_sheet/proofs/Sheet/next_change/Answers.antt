@@ -2,8 +2,9 @@ use Rattle.std.proofs.Common.{◌≤◌, List, length, ap, sym, ◌∙◌, refl,
 use Rattle.pz_cells.specs.declared.cell.Cell.{Cell}
 use Rattle.pz_cells.specs.Differing.{IsNextDiffering}
 use Rattle.pz_planes.specs.Planes.{LineSets, IsNextDiffering as IsNextPosition}
-use Rattle.pz_sheet.specs.Grid.{Grid, BareState}
-use Rattle.pz_sheet.proofs.ChangeLemmas.{AreBoth, as_many, next_is}
+use Rattle.pz_sheet.specs.Grid.{Grid}
+use Rattle.pz_sheet.proofs.SheetLemmas.{lawful_here}
+use Rattle.pz_sheet.proofs.ChangeLemmas.{both_of, as_many, as_many_seen, next_is}
 use Rattle.pz_cells.proofs.ListLemmas.{small_cell}
 use Rattle.pz_sheet.proofs.StillLemmas.{nowhere_read, all_head_nowhere}
 use Rattle.pz_sheet.proofs.TellLemmas.{next_by_planes}
@@ -13,25 +14,23 @@ pub returns-then-is_told_by_planes : goal.returns-then-is_told_by_planes
 returns-then-is_told_by_planes g c =
     let a = c.self.inside in
     let b = c.other.inside in
-    let e = ap (λ (s : BareState). s.grid) c.self.view_is in
-    let f = ap (λ (s : BareState). s.grid) c.other.view_is in
-    let stored = c.self.invariant.stored in
-    let stored_other = c.other.invariant.stored in
-    let both : AreBoth g.row.N a.width a.height a.layers a.cells.items b.width b.height b.layers b.cells.items c.args.self.now.grid c.args.other.now.grid = record { size = c.requires.size; is = e; is_other = f; notes = a.notes; notes_other = b.notes; stored = stored; stored_other = stored_other } in
-    let short : a.width ≤ 128 = subst (λ (grid : Grid). grid.width ≤ 128) (sym e) (c.if-is_told_by_planes.ensures refl) in
+    let both = both_of a b c.requires.size c.self.view_is c.other.view_is c.self.invariant.stored c.other.invariant.stored in
+    let short : a.width ≤ 128 = subst (λ (grid : Grid). grid.width ≤ 128) (sym both.is) (c.if-is_told_by_planes.ensures refl) in
     let next : IsNextPosition a.planes.rows b.planes.rows a.width c.args.from c.next_differing.result =
     subst (λ (sets : LineSets). IsNextPosition a.planes.rows sets a.width c.args.from c.next_differing.result) c.lines-others.ensures
     (subst (λ (sets : LineSets). IsNextPosition sets c.lines-others.result.now a.width c.args.from c.next_differing.result) c.lines-rows.ensures c.next_differing.ensures) in
-    next_by_planes g.row.N a.width a.height a.layers a.cells.items a.planes b.width b.height b.layers b.cells.items b.planes _ _ both short c.self.invariant.placed c.other.invariant.placed
-    (all_head_nowhere g.row.N a.width a.height a.layers a.cells.items a.notes stored (c.if-are_still.ensures.first refl)) (all_head_nowhere g.row.N b.width b.height b.layers b.cells.items b.notes stored_other (c.if-are_still.ensures.second refl)) c.args.from c.next_differing.result next
+    record {
+      next = next_by_planes g.row.N a.width a.height a.layers a.cells.items a.planes b.width b.height b.layers b.cells.items b.planes _ _ both short c.self.invariant.placed c.other.invariant.placed
+          (all_head_nowhere g.row.N a.width a.height a.layers a.cells.items a.notes c.self.invariant.stored (c.if-are_still.ensures.first refl)) (all_head_nowhere g.row.N b.width b.height b.layers b.cells.items b.notes c.other.invariant.stored (c.if-are_still.ensures.second refl)) c.args.from c.next_differing.result next;
+      as_many = as_many_seen _ _ _ _ _ _ _ _ _ _ _ both;
+      lawful = lawful_here _ _ _ _ _ _ _ c.self.invariant.stored c.self.view_is;
+    }
 
 pub next_differing-requires-else-are_still : goal.next_differing-requires-else-are_still
 next_differing-requires-else-are_still g c =
     let a = c.self.inside in
     let b = c.other.inside in
-    let e = ap (λ (s : BareState). s.grid) c.self.view_is in
-    let f = ap (λ (s : BareState). s.grid) c.other.view_is in
-    let both : AreBoth g.row.N a.width a.height a.layers a.cells.items b.width b.height b.layers b.cells.items c.args.self.now.grid c.args.other.now.grid = record { size = c.requires.size; is = e; is_other = f; notes = a.notes; notes_other = b.notes; stored = c.self.invariant.stored; stored_other = c.other.invariant.stored } in
+    let both = both_of a b c.requires.size c.self.view_is c.other.view_is c.self.invariant.stored c.other.invariant.stored in
     let long = ap length c.deref.ensures.value ∙ (as_many _ _ _ _ _ _ _ _ _ _ _ both ∙ sym (ap length c.deref-else-are_still.ensures.value)) in
     let nowhere = nowhere_read _ _ _ _ _ _ _ _ c.self.invariant.stored c.deref.ensures.value c.are_empty-are_still.ensures.first in
     let nowhere_there = nowhere_read _ _ _ _ _ _ _ _ c.other.invariant.stored c.deref-else-are_still.ensures.value c.are_empty-are_still.ensures.second in
@@ -41,11 +40,13 @@ pub returns-else-are_still : goal.returns-else-are_still
 returns-else-are_still g c =
     let a = c.self.inside in
     let b = c.other.inside in
-    let e = ap (λ (s : BareState). s.grid) c.self.view_is in
-    let f = ap (λ (s : BareState). s.grid) c.other.view_is in
-    let both : AreBoth g.row.N a.width a.height a.layers a.cells.items b.width b.height b.layers b.cells.items c.args.self.now.grid c.args.other.now.grid = record { size = c.requires.size; is = e; is_other = f; notes = a.notes; notes_other = b.notes; stored = c.self.invariant.stored; stored_other = c.other.invariant.stored } in
+    let both = both_of a b c.requires.size c.self.view_is c.other.view_is c.self.invariant.stored c.other.invariant.stored in
     let found = c.next_differing-else-are_still.result in
     let next : IsNextDiffering a.cells.items b.cells.items c.args.from found =
     subst (λ (there : List (Cell g.row.N)). IsNextDiffering a.cells.items there c.args.from found) c.deref-else-are_still.ensures.value
     (subst (λ (here : List (Cell g.row.N)). IsNextDiffering here c.deref-else-are_still.result.now c.args.from found) c.deref.ensures.value c.next_differing-else-are_still.ensures) in
-    next_is _ _ _ _ _ _ _ _ _ _ _ both c.args.from found next
+    record {
+      next = next_is _ _ _ _ _ _ _ _ _ _ _ both c.args.from found next;
+      as_many = as_many_seen _ _ _ _ _ _ _ _ _ _ _ both;
+      lawful = lawful_here _ _ _ _ _ _ _ c.self.invariant.stored c.self.view_is;
+    }

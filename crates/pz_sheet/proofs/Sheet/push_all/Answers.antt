@@ -1,31 +1,9 @@
-use Rattle.std.proofs.Common.{◌≡◌, ℕ, ◌+◌, ◌*◌, arith, rules, ap, sym, ◌∙◌, subst}
+use Rattle.std.proofs.Common.{◌≡◌, ℕ, ◌+◌, ◌*◌, arith, ap, sym, ◌∙◌, subst}
 use Rattle.pz_sheet.specs.Grid.{Grid, BareState}
 use Rattle.pz_sheet.specs.Pushing.{pushed_at}
-use Rattle.pz_sheet.proofs.PushLemmas.{ArePushedTo, pushed_to_none, pushed_on, pushed_as, pushed_row, passed_row, pushed_rows}
+use Rattle.pz_sheet.proofs.PushLemmas.{ArePushedTo, pushed_on, pushed_as, pushed_row, passed_row}
 use Rattle.pz_sheet.proofs.Sheet.push_all.Goals as goal
 use Rattle.pz_sheet.proofs.Sheet.push_all.Goals.{then-may_stand_in_row+else-loop-x-test, else-may_stand_in_row}
-
-pub loop-y-init : goal.loop-y-init
-loop-y-init g c = pushed_to_none c.args.players.now c.args.dir _ c.args.self.now.grid (omega arith)
-
-pub may_stand_in_row-requires : goal.may_stand_in_row-requires
-may_stand_in_row-requires g c = (search rules, omega (arith, c.loop-y-test.true, c.height-y-end.ensures.height, ap (λ (grid : Grid). grid.height) c.loop-y.invariant))
-
-pub loop-x-init : goal.loop-x-init
-loop-x-init g c = λ old before. pushed_as c.args.players.now c.args.dir _ _ old c.loop-y.self.grid (omega arith) before
-
-pub index-requires : goal.index-requires
-index-requires g c =
-    let is = c.loop-x.invariant c.args.self.now.grid c.loop-y.invariant in (
-      search rules,
-      (
-        omega (arith, c.loop-x-test.true, c.width-x-end.ensures.width, ap (λ (grid : Grid). grid.width) c.loop-y.invariant, ap (λ (grid : Grid). grid.width) is),
-        omega (arith, c.loop-y-test.true, c.height-y-end.ensures.height, ap (λ (grid : Grid). grid.height) is),
-      ),
-    )
-
-pub push_at-requires : goal.push_at-requires
-push_at-requires g c = (search rules, (c.index.ensures.within, c.set_of-set.ensures))
 
 pub loop-x-preserved : goal.loop-x-preserved
 loop-x-preserved g c = λ old before.
@@ -49,7 +27,3 @@ loop-y-preserved g c =
       | else-may_stand_in_row w ↦ subst (λ (s : BareState). ArePushedTo players dir ((c.loop-y.y + 1) * old.width) old s.grid) (sym w.self-is)
           (passed_row players dir c.loop-y.y old c.loop-y.self.grid c.height-y-end.ensures.lawful.covers (omega (arith, c.loop-y-test.true, c.height-y-end.ensures.height)) (c.may_stand_in_row.ensures w.if-may_stand_in_row.false) before)
     ]
-
-pub returns-clause-pushed : goal.returns-clause-pushed
-returns-clause-pushed g c =
-    pushed_rows c.args.players.now c.args.dir c.loop-y.y c.args.self.now.grid c.loop-y.self.grid c.width.ensures.lawful.covers (omega (arith, c.loop-y-test.false, c.height-y-end.ensures.height)) c.loop-y.invariant

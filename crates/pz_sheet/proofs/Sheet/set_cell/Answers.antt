@@ -1,37 +1,32 @@
-use Rattle.std.proofs.Common.{List, length, Option, arith, ap, sym, ◌∙◌, subst}
+use Rattle.std.proofs.Common.{◌/◌, ◌%◌, ℕ, List, length, Option, ap, sym, ◌∙◌, subst}
 use Rattle.std.proofs.lemmas.List.{map-set}
+use Rattle.pz_sets.specs.Sets.{member}
 use Rattle.pz_cells.specs.declared.piece.Piece.{Piece}
+use Rattle.pz_planes.specs.Planes.{AreChanged, AreKnown, AreThere}
 use Rattle.pz_cells.specs.Lists.{seen, IsSound}
 use Rattle.pz_sheet.specs.Changes.{with_cell}
 use Rattle.pz_sheet.specs.Grid.{Grid, BareState, layers_in}
 use Rattle.pz_sheet.specs.Seen.{grid_of}
-use Rattle.pz_planes.proofs.PlaneLemmas.{within_at, known_of}
+use Rattle.pz_planes.proofs.PlaneLemmas.{known_of}
 use Rattle.pz_sheet.proofs.PlacedLemmas.{there_at, placed_at}
-use Rattle.pz_cells.proofs.ListLemmas.{sound_at, small_cell}
+use Rattle.pz_cells.proofs.ListLemmas.{sound_at}
 use Rattle.pz_sheet.proofs.SheetLemmas.{seen_within, stored_set}
-use Rattle.pz_sheet.proofs.MapLemmas.{noted_within}
 use Rattle.pz_sheet.proofs.Sheet.set_cell.Goals as goal
 
-pub note_at-requires : goal.note_at-requires
-note_at-requires g c =
+pub note_at-requires-clause-known_before : goal.note_at-requires-clause-known_before
+note_at-requires-clause-known_before g c =
     let a = c.self.inside in
-    let new = c.args.cell in
-    let e = ap (λ (s : BareState). s.grid) c.self.view_is in
-    let old = c.index.result.now in
+    let within = seen_within _ _ _ a.layers a.cells.items _ c.args.index (ap (λ (s : BareState). s.grid) c.self.view_is) c.requires.within in
+    let sound = sound_at a.layers a.cells.items c.args.index c.index.result.now c.self.invariant.stored.sound within c.index.ensures in
+    subst (AreKnown a.planes) (sym c.objects_of.ensures.objects) (known_of a.layers.layers a.width a.height a.planes c.index.result.now.objects c.self.invariant.placed.fits sound.of_game)
+
+pub note_at-requires-clause-there : goal.note_at-requires-clause-there
+note_at-requires-clause-there g c =
+    let a = c.self.inside in
     let at = c.args.index in
-    let placed = c.self.invariant.placed in
-    let covers = c.self.invariant.stored.covers in
-    let within = seen_within _ _ _ a.layers a.cells.items _ at e c.requires.within in
-    let sound = sound_at a.layers a.cells.items at old c.self.invariant.stored.sound within c.index.ensures in
-    let sound_new = subst (λ (grid : Grid). IsSound (layers_in grid) new) (sym e) c.requires.sound in
-    record {
-      short = omega (arith, c.word_count-2.ensures.objects, c.self.invariant.stored.law.short);
-      long = c.word_count.ensures.objects ∙ sym c.word_count-2.ensures.objects;
-      within = within_at _ a.width a.height at _ a.planes placed.fits within covers;
-      known_before = known_of a.layers.layers a.width a.height a.planes old.objects placed.fits sound.of_game;
-      known = known_of a.layers.layers a.width a.height a.planes new.objects placed.fits sound_new.of_game;
-      there = there_at _ _ a.width a.height at a.planes a.cells.items old placed within covers c.index.ensures;
-    }
+    let within = seen_within _ _ _ a.layers a.cells.items _ at (ap (λ (s : BareState). s.grid) c.self.view_is) c.requires.within in
+    subst (λ (words : List ℕ). AreThere a.planes (at % a.planes.columns.count) (at / a.planes.columns.count) (member words)) (sym c.objects_of.ensures.objects)
+    (there_at _ _ a.width a.height at a.planes a.cells.items c.index.result.now c.self.invariant.placed within c.self.invariant.stored.covers c.index.ensures)
 
 pub invariant_of-self : goal.invariant_of-self
 invariant_of-self g c =
@@ -43,7 +38,8 @@ invariant_of-self g c =
     record {
       stored = stored_set _ a.width a.height a.layers a.cells.items at new a.notes c.note_heading.new.notes c.self.invariant.stored
           (subst (λ (grid : Grid). IsSound (layers_in grid) new) (sym e) c.requires.sound) c.note_heading.ensures.noted c.note_heading.ensures.wider;
-      placed = placed_at _ (length a.layers.layers) a.width a.height a.planes c.note_at.new.self a.cells.items at new c.self.invariant.placed within c.self.invariant.stored.covers c.note_at.ensures;
+      placed = placed_at _ (length a.layers.layers) a.width a.height a.planes c.note_at.new.self a.cells.items at new c.self.invariant.placed within c.self.invariant.stored.covers
+          (subst (λ (words : List ℕ). AreChanged a.planes c.note_at.new.self (at % a.planes.columns.count) (at / a.planes.columns.count) (λ object was. member words object)) c.objects_of-2.ensures.objects c.note_at.ensures);
     }
 
 pub returns : goal.returns
@@ -52,11 +48,3 @@ returns g c =
     let e = ap (λ (s : BareState). s.grid) c.self.view_is in
     ap (λ (cells : List (List (Option Piece))). record (grid_of a.width a.height a.layers a.cells.items) { cells = cells }) (map-set (seen a.layers) a.cells.items c.args.index c.args.cell)
     ∙ ap (λ (grid : Grid). with_cell grid (record { number = c.args.index; cell = seen (layers_in grid) c.args.cell })) e
-
-pub note_heading-requires : goal.note_heading-requires
-note_heading-requires g c =
-    let a = c.self.inside in
-    let e = ap (λ (s : BareState). s.grid) c.self.view_is in
-    let stored = c.self.invariant.stored in
-    let within = seen_within _ _ _ a.layers a.cells.items _ c.args.index e c.requires.within in
-    (omega arith, (small_cell _ stored.law.short, noted_within _ a.width a.height c.args.index a.notes a.cells.items stored.noted stored.covers within))

@@ -11,4 +11,4 @@ returns g c at at_in holds =
     let way = c.args.way in
     let patterns = c.args.patterns.now in
     let all = subst (AdmitsRun a.planes line way patterns) (ap (λ (s : BareState). s.grid) c.self.view_is) (admits_run g.row.N a.width a.height a.layers a.cells.items a.notes a.planes c.self.invariant.stored c.self.invariant.placed line way patterns) in
-    c.starts.ensures at (omega (arith, at_in, c.requires.short)) (subst (λ (sets : LineSets). MayRun sets line.number way patterns at) (sym c.lines.ensures) (all c.requires.line_in c.requires.short c.requires.some c.requires.of_game at at_in holds))
+    c.starts.ensures at (omega (arith, at_in, c.requires.short)) (subst (λ (sets : LineSets). MayRun sets line.number way patterns at) (sym c.lines.ensures) (all c.requires.line_in c.requires.short c.requires.run.0 c.requires.run.1 at at_in holds))

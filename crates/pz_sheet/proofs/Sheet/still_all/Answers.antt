@@ -1,4 +1,4 @@
-use Rattle.std.proofs.Common.{◌≡◌, ℕ, List, Option, false, length, map, arith, ap, sym, ◌∙◌}
+use Rattle.std.proofs.Common.{◌≡◌, ℕ, List, Option, false, length, map, ap, sym, ◌∙◌}
 use Rattle.pz_sets.specs.Sets.{member}
 use Rattle.pz_cells.specs.declared.piece.Piece.{Piece}
 use Rattle.pz_sheet.specs.Grid.{BareState}
@@ -8,7 +8,6 @@ use Rattle.pz_sheet.proofs.SheetLemmas.{lawful_here}
 use Rattle.pz_sheet.proofs.StillLemmas.{all_are_still}
 use Rattle.pz_cells.specs.Cell.{still_place}
 use Rattle.pz_sheet.proofs.PlacedLemmas.{placed_same}
-use Rattle.pz_cells.proofs.ListLemmas.{small_cell}
 use Rattle.pz_sheet.proofs.SheetLemmas.{lawful_seen}
 use Rattle.pz_sheet.proofs.MapLemmas.{stored_mapped}
 use Rattle.pz_sheet.proofs.StillLemmas.{noted_nowhere}
@@ -25,9 +24,6 @@ returns-then-is_empty-clause-stilled g c =
 
 pub returns-then-is_empty-clause-lawful : goal.returns-then-is_empty-clause-lawful
 returns-then-is_empty-clause-lawful g c = lawful_here _ _ _ _ _ _ _ c.self.invariant.stored c.self.view_is
-
-pub still_cells-requires : goal.still_cells-requires
-still_cells-requires g c = (small_cell _ c.self.invariant.stored.law.short, (omega arith, c.self.invariant.stored.sound))
 
 pub invariant_of-self : goal.invariant_of-self
 invariant_of-self g c =

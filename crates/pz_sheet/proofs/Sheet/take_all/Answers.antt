@@ -2,17 +2,9 @@ use Rattle.std.proofs.Common.{length, arith, ap, sym, ◌∙◌, subst, length-s
 use Rattle.pz_sheet.specs.Changes.{differ_in}
 use Rattle.pz_sheet.specs.Grid.{Grid, SameSize}
 use Rattle.pz_sheet.specs.Presence.{cell_of}
-use Rattle.pz_sheet.proofs.NewerLemmas.{as_many, same_before, same_all}
+use Rattle.pz_sheet.proofs.NewerLemmas.{same_before, same_all}
 use Rattle.pz_sheet.proofs.SameLemmas.{same_grids}
 use Rattle.pz_sheet.proofs.Sheet.take_all.Goals as goal
-
-pub changes-init : goal.changes-init
-changes-init g c = record {
-  size = c.requires.size;
-  long = as_many c.args.self.now.grid c.args.other.now.grid c.requires.size c.width.ensures.lawful c.width-2.ensures.lawful;
-  low = omega arith;
-  same = λ number low. absurd (omega (arith, low));
-}
 
 pub changes-preserved : goal.changes-preserved
 changes-preserved g c =
@@ -23,13 +15,12 @@ changes-preserved g c =
     let long = ap (λ (level : Grid). length level.cells) is ∙ length-set grid.cells index (cell_of other index) in
     record {
       size = subst (λ (level : Grid). SameSize level other) (sym is) (record { width = c.changes.invariant.size.width; height = c.changes.invariant.size.height; depth = c.changes.invariant.size.depth; layers = c.changes.invariant.size.layers });
-      long = long ∙ c.changes.invariant.long;
-      low = omega (arith, long, c.in-Some.ensures.1);
-      same = λ number below. ap (λ (level : Grid). differ_in level other number) is ∙ same_before grid other c.changes.from index c.in-Some.ensures c.changes.invariant.same number below;
+      low = omega (arith, long, c.in-Some.ensures.next.1);
+      same = λ number below. ap (λ (level : Grid). differ_in level other number) is ∙ same_before grid other c.changes.from index c.in-Some.ensures.next c.changes.invariant.same number below;
     }
 
 pub returns : goal.returns
 returns g c =
     let grid = c.changes.self.grid in
     let other = c.args.other.now.grid in
-    same_grids grid other c.changes.invariant.size c.changes.invariant.long (same_all grid other c.changes.from c.in_default.ensures c.changes.invariant.same)
+    same_grids grid other c.changes.invariant.size c.in_default.ensures.as_many (same_all grid other c.changes.from c.in_default.ensures.next c.changes.invariant.same)

@@ -6,7 +6,6 @@ use Rattle.pz_sheet.proofs.Sheet.take_all.Given as goal
 abbrev pub invariant-changes : goal.invariant-changes
 invariant-changes g l = record {
   size : SameSize l.self.grid l.other.grid;
-  long : length l.self.grid.cells ≡ length l.other.grid.cells;
   low : l.from ≤ length l.self.grid.cells;
   same : (number : ℕ) → number < l.from → differ_in l.self.grid l.other.grid number ≡ false;
 }

@@ -1,11 +1,11 @@
 use Rattle.std.proofs.Common.{◌≡◌, drop, length}
 use Rattle.pz_sheet.specs.Grid.{SameSize}
 use Rattle.pz_sheet.proofs.NewerLemmas.{taken}
-use Rattle.pz_sheet.proofs.Sheet.catch_up.Given as goal
+use Rattle.pz_sheet.proofs.Sheet.go_on.Given as goal
 
 abbrev pub invariant-loop-change : goal.invariant-loop-change
 invariant-loop-change g l = record {
-  level : taken g.row.N l.newer.grid (drop l.change-index l.way) l.self.grid ≡ l.newer.grid;
+  level : taken g.row.N l.newer.grid (drop l.change-index l.change-items) l.self.grid ≡ l.newer.grid;
   size : SameSize l.self.grid l.newer.grid;
   long : length l.self.grid.cells ≡ length l.newer.grid.cells;
 }
