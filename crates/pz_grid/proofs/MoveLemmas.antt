@@ -13,7 +13,7 @@ use Rattle.pz_game.specs.Items.{names, names_object}
 use Rattle.pz_grid.specs.Marks.{is_marked, IsMarkedAt, IsMore, IsWidened, IsWidenedBy}
 use Rattle.pz_grid.specs.Staying.{IsStill, KeepsStill, IsMove}
 use Rattle.pz_grid.proofs.StayLemmas.{still-moved_to}
-use Rattle.pz_grid.proofs.MarkLemmas.{in_row_from, in_column_from, is_in_at, is_in_cells, piece_is_in, still_same}
+use Rattle.pz_grid.proofs.MarkLemmas.{more_only, in_row_from, in_column_from, is_in_at, is_in_cells, piece_is_in, still_same}
 
 -- one part of a movement after another
 pub moves_on : (a b d : LevelState) → IsMove a b → IsMove b d → IsMove a d
@@ -46,13 +46,6 @@ moves_on a b d p q = record {
     ]
   ];
 }
-
--- what is new in a line's set that got one more object
-more_only : (old new : List (List ℕ)) (line added : ℕ) → IsMore old new line (nat_eq added) → (other object : ℕ) → is_marked new other object ≡ true → (is_marked old other object ≡ true) ⊎ ((other ≡ line) × (added ≡ object))
-more_only old new line added more other object e = elim (or_cases (nat_eq other line && nat_eq added object) (is_marked old other object) (sym (more other object) ∙ e)) [
-  | inr before ↦ inl before
-  | inl both ↦ (let parts = and_parts (nat_eq other line) (nat_eq added object) both in inr (eqb-true _ _ parts.0, eqb-true _ _ parts.1))
-]
 
 -- a piece is lifted, marked where it goes, and landed there
 pub moves_piece : (old lifted marked new : LevelState) (x y layer : ℕ) (piece : Piece) (next_x next_y : ℕ) → place_at old.grid x y layer ≡ Some piece → heading_goal old.grid (spot x y layer) piece.heading ≡ Some (next_x, next_y) → next_x < old.grid.width → next_y < old.grid.height

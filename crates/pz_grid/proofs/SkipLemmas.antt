@@ -178,14 +178,6 @@ pub count_none : {X : Type 0} (p : X → Bool) (xs : List X) → ((x : X) → p 
 count_none p [] h = refl
 count_none p (x ∷ xs) h = count_cons p x xs ∙ ap (λ (b : Bool). cond b 1 0 + count_by p xs) (h x) ∙ (let e : 0 + count_by p xs ≡ 0 = omega (arith, count_none p xs h) in e)
 
-sum_none : {X : Type 0} (f : X → ℕ) (xs : List X) → ((x : X) → f x ≡ 0) → sum_by f xs ≡ 0
-sum_none f [] h = refl
-sum_none f (x ∷ xs) h = sum_cons f x xs ∙ (let e : f x + sum_by f xs ≡ 0 = omega (arith, h x, sum_none f xs h) in e)
-
--- nothing starts where there is no place
-pub starts_of_none : (grid : Grid) (dir : Dir) → start_count grid dir [] ≡ 0
-starts_of_none grid dir = sum_none (starts_in dir [] (line_length grid dir)) (range_with_len 0 (line_count grid dir)) (λ line. count_none (λ (start : ℕ). list_any (starts_at dir line start) []) (range_with_len 0 (line_length grid dir)) (λ start. refl))
-
 -- a stricter test passes no more often
 count_fewer : {X : Type 0} (p q : X → Bool) (xs : List X) → ((x : X) → p x ≡ true → q x ≡ true) → count_by p xs ≤ count_by q xs
 count_fewer p q [] h = omega arith

@@ -25,14 +25,6 @@ starts_at grid Action line start gap head = refl
 row_fails : (grid : Grid) (row : RuleRow) (dir : Dir) (line start gap : ℕ) → starts_with grid dir line (head_of row) start ≡ false → row_holds grid row dir (place_in dir line start gap) ≡ false
 row_fails grid row dir line start gap e = false_from_ne_true (row_holds grid row dir (place_in dir line start gap)) (λ h. absurd (let f : false ≡ true = sym e ∙ starts_at grid dir line start gap (head_of row) ∙ head_from_row grid row dir (place_in dir line start gap) h in cc))
 
--- a row without a gap holds where its cells hold one after another
-pub row_starts : (grid : Grid) (row : RuleRow) (dir : Dir) (line start : ℕ) → row.gap_at ≡ None → starts_with grid dir line (head_of row) start ≡ true → row_holds grid row dir (place_in dir line start 0) ≡ true
-row_starts grid row dir line start none e =
-    let place = place_in dir line start 0 in
-    row_is_run grid row dir place none
-    ∙ ap (λ (gap_at : Option ℕ). run_holds grid dir place.x place.y (cells_before gap_at row.cells)) (sym none)
-    ∙ sym (starts_at grid dir line start 0 (head_of row)) ∙ e
-
 none_pass : {X Y : Type 0} (p : Y → Bool) (f : X → Y) (xs : List X) → ((x : X) → p (f x) ≡ false) → filter p (map f xs) ≡ []
 none_pass p f [] h = refl
 none_pass p f (x ∷ xs) h = ap (λ b. cond b (f x ∷ filter p (map f xs)) (filter p (map f xs))) (h x) ∙ none_pass p f xs h

@@ -1,7 +1,7 @@
 -- The places of a row of a rule: each start cell with each gap for which all cells of the row are on the map and hold. A cell
 -- of a rule *holds* where it fits. Left and right scan row by row from the top, each from the left. Up and down scan column by
 -- column from the left, each from the top. At a start cell gaps ascend. A row without `...` has only the gap 0.
-use Rattle.std.specs.Prelude.{ℕ, ◌+◌, List, take, map, filter, length, Bool, Option, Some, None, Result, Ok, Err, nat_lt, nat_le, nat_eq, ◌&&◌, ◌||◌, if◌then◌else◌, is_some}
+use Rattle.std.specs.Prelude.{◌<◌, ℕ, ◌+◌, List, take, map, filter, length, Bool, Option, Some, None, Result, Ok, Err, nat_lt, nat_le, nat_eq, ◌&&◌, ◌||◌, if◌then◌else◌, is_some}
 use Rattle.std.specs.List.{list_all, enumerate_from, flat_map, range_with_len, zip}
 use Rattle.pz_game.specs.declared.direction.Dir.{Dir}
 use Rattle.pz_game.specs.declared.direction.Dir.TheVariants.{Up, Down}
@@ -15,6 +15,10 @@ use Rattle.pz_grid.specs.declared.placing.TheConstants.{MATCH_LIMIT}
 use Rattle.pz_sheet.specs.Grid.{Grid}
 use Rattle.pz_sheet.specs.Runs.{run_holds}
 pub use Rattle.pz_sheet.specs.Runs.{on_map, along, holds_at}
+
+-- the position is on the map
+abbrev pub IsOnMap : Grid → ℕ → ℕ → Type 0
+IsOnMap grid x y = (x < grid.width) × (y < grid.height)
 
 -- how far the row's cell of this number is from its start: a cell behind the gap is farther by the gap
 abbrev pub distance : Option ℕ → ℕ → ℕ → ℕ

@@ -13,8 +13,6 @@ impl Level {
     pub fn may_head_in(&self, asked: &[u128]) -> bool
         ensures { result ≡ false → (row : RuleRow) (dir : Dir) → IsRowOf self.now.grid.layers row → AsksAmong asked.now row.cells → places self.now.grid row dir ≡ [] }
     {
-        // (brings the proof what the level is)
-        let _ = &self.level_marks;
-        self.bare.may_head_in(asked)
+        self.bare().may_head_in(asked)
     }
 }

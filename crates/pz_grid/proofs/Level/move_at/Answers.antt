@@ -4,21 +4,16 @@ use Rattle.pz_cells.specs.Cell.{IsOnLayer, still_piece}
 use Rattle.pz_sheet.specs.Grid.{Grid, SameSize, with_place}
 use Rattle.pz_grid.specs.Marks.{IsMarkedAt}
 use Rattle.pz_grid.specs.Movement.{Pass, in_pass, spot}
+use Rattle.pz_grid.specs.Places.{IsOnMap}
 use Rattle.pz_grid.proofs.MoveLemmas.{moves_pass, moves_piece, placed_marked}
 use Rattle.pz_grid.proofs.MovementLemmas.{size-move_at}
 use Rattle.pz_grid.proofs.Level.move_at.Goals as goal
 
-pub mark-requires-clause-x_in : goal.mark-requires-clause-x_in
-mark-requires-clause-x_in c = subst (λ (grid : Grid). c.in-Some.next_x < grid.width) (sym c.put.ensures.put) c.in-Some.ensures.x_in
+pub mark-requires-clause-on_map : goal.mark-requires-clause-on_map
+mark-requires-clause-on_map c = subst (λ (grid : Grid). IsOnMap grid c.in-Some.next_x c.in-Some.next_y) (sym c.put.ensures.put) c.in-Some.ensures.on_map
 
-pub mark-requires-clause-y_in : goal.mark-requires-clause-y_in
-mark-requires-clause-y_in c = subst (λ (grid : Grid). c.in-Some.next_y < grid.height) (sym c.put.ensures.put) c.in-Some.ensures.y_in
-
-pub put-requires-in-Some-clause-x_in : goal.put-requires-in-Some-clause-x_in
-put-requires-in-Some-clause-x_in c = subst (λ (grid : Grid). c.in-Some.next_x < grid.width) (sym (c.mark.ensures.grid ∙ c.put.ensures.put)) c.in-Some.ensures.x_in
-
-pub put-requires-in-Some-clause-y_in : goal.put-requires-in-Some-clause-y_in
-put-requires-in-Some-clause-y_in c = subst (λ (grid : Grid). c.in-Some.next_y < grid.height) (sym (c.mark.ensures.grid ∙ c.put.ensures.put)) c.in-Some.ensures.y_in
+pub put-requires-in-Some-clause-on_map : goal.put-requires-in-Some-clause-on_map
+put-requires-in-Some-clause-on_map c = subst (λ (grid : Grid). IsOnMap grid c.in-Some.next_x c.in-Some.next_y) (sym (c.mark.ensures.grid ∙ c.put.ensures.put)) c.in-Some.ensures.on_map
 
 pub put-requires-in-Some-clause-on_layer : goal.put-requires-in-Some-clause-on_layer
 put-requires-in-Some-clause-on_layer c =
@@ -55,7 +50,7 @@ returns-in-Some-clause-marks c =
     let leaves = c.in-Some.ensures in
     let still : Some c.still.result ≡ Some (still_piece piece.object) = ap Some c.still.ensures in
     moves_piece c.args.self.now c.put.new.self c.mark.new.self c.put-in-Some.new.self c.args.x c.args.y c.args.layer piece x y
-    leaves.there leaves.goes leaves.x_in leaves.y_in
+    leaves.there leaves.goes leaves.on_map.0 leaves.on_map.1
     c.put.ensures.put c.put.ensures.row_marks c.put.ensures.column_marks
     c.mark.ensures.grid c.mark.ensures.rows c.mark.ensures.columns
     (c.put-in-Some.ensures.put ∙ ap (λ (p : Option Piece). with_place c.mark.new.self.grid x y c.args.layer p) still) c.put-in-Some.ensures.row_marks c.put-in-Some.ensures.column_marks

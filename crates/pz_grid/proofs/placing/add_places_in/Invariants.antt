@@ -7,9 +7,8 @@ use Rattle.pz_grid.proofs.placing.add_places_in.Given as goal
 
 abbrev pub invariant-starts : goal.invariant-starts
 invariant-starts g l = record {
-  added : l.found.items ≡ l.initial.found.items ++ gather (found_at l.sheet.grid l.row l.line.dir l.line.number) l.from;
+  added : l.found ≡ l.initial.found ++ gather (found_at l.sheet.grid l.row l.line.dir l.line.number) l.from;
   within : l.from ≤ line_length l.sheet.grid l.line.dir;
-  room : length l.found.items ≤ MATCH_LIMIT;
 }
 
 abbrev pub decreases-starts : goal.decreases-starts

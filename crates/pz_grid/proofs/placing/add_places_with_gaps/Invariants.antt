@@ -7,9 +7,8 @@ use Rattle.pz_grid.proofs.placing.add_places_with_gaps.Given as goal
 
 abbrev pub invariant-gaps : goal.invariant-gaps
 invariant-gaps g l = record {
-  added : l.found.items ≡ l.initial.found.items ++ gather (found_with l.sheet.grid l.row l.line.dir l.line.number l.start) l.from;
+  added : l.found ≡ l.initial.found ++ gather (found_with l.sheet.grid l.row l.line.dir l.line.number l.start) l.from;
   within : l.from ≤ line_length l.sheet.grid l.line.dir;
-  room : length l.found.items ≤ MATCH_LIMIT;
 }
 
 abbrev pub decreases-gaps : goal.decreases-gaps

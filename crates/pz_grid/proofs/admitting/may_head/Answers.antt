@@ -2,7 +2,7 @@ use Rattle.std.proofs.Common.{inl, inr, sym, subst}
 use Rattle.pz_game.specs.declared.direction.Dir.{Dir}
 use Rattle.pz_grid.specs.Admitted.{StartsNowhere}
 use Rattle.pz_grid.proofs.SomewhereLemmas.{right_nowhere, left_nowhere, down_nowhere, up_nowhere, action_nowhere}
-use Rattle.pz_grid.proofs.admitting.line_may_head.Goals as goal
+use Rattle.pz_grid.proofs.admitting.may_head.Goals as goal
 
 pub returns-in-Up : goal.returns-in-Up
 returns-in-Up g c = record {
