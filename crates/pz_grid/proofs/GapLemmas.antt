@@ -12,14 +12,8 @@ use Rattle.pz_sheet.proofs.RunLemmas.{enumerate_fails}
 use Rattle.pz_grid.proofs.FoundLemmas.{found_with, found_at, found_at_all}
 use Rattle.pz_grid.proofs.GatherLemmas.{gather}
 use Rattle.pz_grid.proofs.HeadLemmas.{IsBehind, gap_spans}
+use Rattle.pz_grid.proofs.PlaceLemmas.{own_gap}
 use Rattle.pz_grid.proofs.StartLemmas.{gather_skip}
-
-pub own_gap : (dir : Dir) (line start gap : ℕ) → (place_in dir line start gap).gap ≡ gap
-own_gap Right line start gap = refl
-own_gap Left line start gap = refl
-own_gap Down line start gap = refl
-own_gap Up line start gap = refl
-own_gap Action line start gap = refl
 
 pub behind_gap : (row : RuleRow) (at : ℕ) (cells : List (List Item)) (behind : List Item) → IsRow row → row.gap_at ≡ Some at → cells ≡ row.cells → behind ≡ get_or cells at behind → IsBehind row at behind
 behind_gap row at cells behind law has same is = record {

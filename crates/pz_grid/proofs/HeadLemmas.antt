@@ -1,6 +1,6 @@
 -- A row's cells before its gap stand one after another.
-use Rattle.std.proofs.Common.{◌≡◌, ℕ, zero, suc, ◌+◌, ◌<◌, ◌≤◌, List, [], ◌∷◌, Option, Some, None, Bool, true, ◌&&◌, cond, length, get_or, take, arith, ap, sym, ◌∙◌, refl, subst, filter, length-take}
-use Rattle.std.specs.Prelude.{All, nat_le}
+use Rattle.std.proofs.Common.{◌≡◌, ℕ, zero, suc, ◌+◌, ◌<◌, ◌≤◌, List, [], ◌∷◌, Option, Some, None, Bool, true, ◌&&◌, cond, length, get_or, take, arith, ap, sym, ◌∙◌, refl, filter, length-take}
+use Rattle.std.specs.Prelude.{nat_le}
 use Rattle.std.specs.List.{list_all, enumerate_from}
 use Rattle.std.proofs.lemmas.Bool.{leb-true, le-leb, false_from_ne_true}
 use Rattle.std.proofs.lemmas.List.FromFn.{length-enumerate_from}

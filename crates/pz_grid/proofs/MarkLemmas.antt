@@ -2,9 +2,8 @@
 use Rattle.std.proofs.Common.{◌≡◌, ◌⊎◌, inl, inr, ℕ, zero, suc, ◌+◌, ◌*◌, ◌<◌, ◌≤◌, List, [], ◌∷◌, Option, Some, None, Bool, true, false, cond, ◌&&◌, ◌||◌, nat_eq, length, get_or, set, map, arith, ap, sym, ◌∙◌, refl, subst, eq-eqb}
 use Rattle.std.specs.Prelude.{IfSome, is_some}
 use Rattle.std.specs.List.{list_any, range_with_len}
-use Rattle.std.proofs.lemmas.Bool.{and_parts, cases_eq, ne_eqb, cases_lt, cases_order, eqb-true, or_cases, or_left, or_right}
+use Rattle.std.proofs.lemmas.Bool.{and_parts, cases_eq, cases_lt, cases_order, eqb-true, or_cases, or_left, or_right}
 use Rattle.std.proofs.lemmas.Nat.{mul-add-lt}
-use Rattle.std.proofs.lemmas.Grind.{get_or-set_at}
 use Rattle.std.proofs.lemmas.List.{length-set, get_or_past, get_or-set_same, get_or-set_other}
 use Rattle.pz_sets.specs.Sets.{member}
 use Rattle.pz_game.specs.declared.direction.Dir.{Dir}
@@ -246,10 +245,6 @@ marked_put state x y layer place x_in at h = marked_cell state x y (set (cell_at
   by_place (Some piece) at = record { row = λ object e. at.row object (is_in_piece piece object e); column = λ object e. at.column object (is_in_piece piece object e) }
 
 -- ---- a mark
--- a line's new set is the old one with one object more
-abbrev pub IsOneMore : List (List ℕ) → ℕ → List ℕ → ℕ → Type 0
-IsOneMore marks line new added = (object : ℕ) → member new object ≡ (nat_eq object added || member (get_or marks line []) object)
-
 -- what is new in a line's set that got one more object
 pub more_only : (old new : List (List ℕ)) (line added : ℕ) → IsMore old new line (nat_eq added) → (other object : ℕ) → is_marked new other object ≡ true → (is_marked old other object ≡ true) ⊎ ((other ≡ line) × (added ≡ object))
 more_only old new line added more other object e = elim (or_cases (nat_eq other line && nat_eq added object) (is_marked old other object) (sym (more other object) ∙ e)) [
@@ -269,36 +264,4 @@ marked_mark state x y added rows columns all high wide row column level h = reco
     | inl old ↦ level object ∙ or_right _ _ (h.all line object within old)
     | inr (_, is) ↦ level object ∙ or_left _ _ (eq-eqb object added (sym is))
   ];
-}
-
-turned : (a b : ℕ) → nat_eq a b ≡ nat_eq b a
-turned a b = elim (cases_eq a b) [
-  | inl same ↦ eq-eqb a b same ∙ sym (eq-eqb b a (sym same))
-  | inr differs ↦ ne_eqb a b differs ∙ sym (ne_eqb b a (λ same. differs (sym same)))
-]
-
--- sets of lines with an object more in one
-pub more_in_line : (marks : List (List ℕ)) (line : ℕ) (new : List ℕ) (added : ℕ) → line < length marks → IsOneMore marks line new added → IsMore marks (set marks line new) line (nat_eq added)
-more_in_line marks line new added within more other object = elim (cases_eq other line) [
-  | inl same ↦ ap (λ (m : List ℕ). member m object) (get_or-set_at marks line other new [] same within)
-      ∙ (more object
-      ∙ (ap (λ (b : Bool). b || member (get_or marks line []) object) (turned object added)
-      ∙ (ap (λ (k : ℕ). nat_eq added object || member (get_or marks k []) object) (sym same)
-      ∙ ap (λ (b : Bool). (b && nat_eq added object) || member (get_or marks other []) object) (sym (eq-eqb other line same)))))
-  | inr differs ↦ ap (λ (m : List ℕ). member m object) (get_or-set_other marks line other new [] differs)
-      ∙ ap (λ (b : Bool). (b && nat_eq added object) || member (get_or marks other []) object) (sym (ne_eqb other line differs))
-]
-
--- ---- sets that hold exactly what stands in their lines
-pub marked_exact : (state : LevelState) → length state.row_marks ≡ state.grid.height → length state.column_marks ≡ state.grid.width
-    → ((line object : ℕ) → line < state.grid.height → is_marked state.row_marks line object ≡ in_row state.grid line object)
-    → ((line object : ℕ) → line < state.grid.width → is_marked state.column_marks line object ≡ in_column state.grid line object)
-    → ((line object : ℕ) → line < length state.row_marks → is_marked state.row_marks line object ≡ true → member state.level_marks object ≡ true)
-    → IsMarked state
-marked_exact state high wide rows columns all = record {
-  row_count = high;
-  column_count = wide;
-  rows = λ line object within here. rows line object within ∙ here;
-  columns = λ line object within here. columns line object within ∙ here;
-  all = λ line object within here. all line object (subst (λ (n : ℕ). line < n) (sym high) within) here;
 }

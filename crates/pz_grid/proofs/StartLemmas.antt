@@ -1,5 +1,5 @@
 -- Starts that are left out since the row's cells before its gap don't hold there.
-use Rattle.std.proofs.Common.{◌≡◌, ℕ, zero, suc, ◌+◌, ◌-◌, ◌<◌, ◌≤◌, List, [], ◌∷◌, ◌++◌, map, filter, Bool, true, false, Option, None, cond, arith, ap, sym, ◌∙◌, refl}
+use Rattle.std.proofs.Common.{◌≡◌, ℕ, zero, suc, ◌+◌, ◌-◌, ◌<◌, ◌≤◌, List, [], ◌∷◌, ◌++◌, map, filter, Bool, true, false, cond, arith, ap, sym, ◌∙◌, refl}
 use Rattle.std.specs.List.{range_with_len}
 use Rattle.std.proofs.lemmas.List.{append-nil}
 use Rattle.std.proofs.lemmas.Bool.{false_from_ne_true}
@@ -9,10 +9,10 @@ use Rattle.pz_game.specs.declared.pattern.Item.{Item}
 use Rattle.pz_game.specs.Pattern.{RuleRow}
 use Rattle.pz_sheet.specs.Grid.{Grid}
 use Rattle.pz_sheet.specs.Runs.{run_holds}
-use Rattle.pz_grid.specs.Places.{row_holds, place_in, gap_count, cells_before, head_of, starts_with}
+use Rattle.pz_grid.specs.Places.{row_holds, place_in, gap_count, head_of, starts_with}
 use Rattle.pz_grid.proofs.FoundLemmas.{found_at}
 use Rattle.pz_grid.proofs.GatherLemmas.{gather, gather_more}
-use Rattle.pz_grid.proofs.HeadLemmas.{row_is_run, head_from_row}
+use Rattle.pz_grid.proofs.HeadLemmas.{head_from_row}
 
 -- the start of a line is that of each place there
 pub starts_at : (grid : Grid) (dir : Dir) (line start gap : ℕ) (head : List (List Item)) → starts_with grid dir line head start ≡ run_holds grid dir (place_in dir line start gap).x (place_in dir line start gap).y head

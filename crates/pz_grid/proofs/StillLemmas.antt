@@ -7,7 +7,7 @@ use Rattle.pz_cells.specs.declared.piece.Piece.{Piece}
 use Rattle.pz_cells.specs.Cell.{still_piece, still_place}
 use Rattle.pz_sheet.specs.Grid.{Grid, cell_at, place_at}
 use Rattle.pz_sheet.specs.Movement.{AreStill}
-use Rattle.pz_grid.specs.Movement.{Pass, Spot, spot, in_pass, heading_goal, moved_to, move_place, move_at, spots_at, Stays}
+use Rattle.pz_grid.specs.Movement.{Pass, Spot, spot, in_pass, heading_goal, moved_to, move_place, move_at, spots_at}
 use Rattle.pz_grid.proofs.GatherLemmas.{gather}
 use Rattle.pz_grid.proofs.MovementLemmas.{fold_gather_more}
 

@@ -3,9 +3,11 @@
 ghost use Rattle.std.specs.Prelude.{◌≡◌, ◌<◌, All, true, false, []};
 ghost use Rattle.std.specs.List.{list_all};
 ghost use Rattle.pz_game.specs.Pattern.{IsRowOf};
-ghost use Rattle.pz_grid.specs.Admitted.{marks_of, marks_item, marks_cell, admits, admits_line, searches_level, searches_line, StartsNowhere};
+ghost use Rattle.pz_grid.specs.Admitted.{line_at, marks_of, marks_item, marks_cell, admits, admits_line, searches_level, searches_line, StartsNowhere};
 ghost use Rattle.pz_grid.specs.Marks.{IsMarked};
 ghost use Rattle.pz_grid.specs.Places.{line_count, places};
+ghost use Rattle.pz_sheet.specs.Grid.{Grid};
+ghost use Rattle.pz_sheet.specs.Line.{line_count as lines_along};
 ghost use Rattle.pz_game.specs.declared.direction.Dir.{Dir};
 
 use crate::Level;
@@ -16,7 +18,7 @@ use pz_game::pattern::{Item, Pattern, Row};
 use pz_sets::set::NumberSet;
 use pz_sets::words::has_subset;
 use pz_sheet::Sheet;
-use pz_sheet::line::{Axis, Line};
+use pz_sheet::line::{Line, column, row};
 
 /// Whether a set has an item's object, if the item names it as present.
 fn marks_item(marks: &NumberSet, item: Item) -> bool
@@ -121,26 +123,22 @@ impl Level {
     }
 }
 
+/// The line of this number, as it lies on the map: a column for up and down, else a row.
+fn line_at(dir: Dir, number: u32) -> Line
+    ensures line { result ≡ line_at dir number }
+    ensures count { (grid : Grid) → lines_along grid result.axis ≡ line_count grid dir }
+{
+    match dir {
+        Dir::Up | Dir::Down => column(number),
+        Dir::Left | Dir::Right | Dir::Action => row(number),
+    }
+}
+
 /// Whether the headings noted in a line allow a place of the row to start there. If false, none does.
 fn may_head<const N: usize>(sheet: &Sheet<N>, row: &Row, dir: Dir, line: u32) -> bool
     requires of_game { IsRowOf sheet.now.grid.layers row.now }
     requires line_in { line < line_count sheet.now.grid dir }
     ensures none { result ≡ false → StartsNowhere sheet.now.grid row.now dir line }
 {
-    match dir {
-        Dir::Up | Dir::Down => sheet.may_hold_in_line(
-            Line {
-                axis: Axis::Vertical,
-                number: line,
-            },
-            row,
-        ),
-        Dir::Left | Dir::Right | Dir::Action => sheet.may_hold_in_line(
-            Line {
-                axis: Axis::Horizontal,
-                number: line,
-            },
-            row,
-        ),
-    }
+    sheet.may_hold_in_line(line_at(dir, line), row)
 }

@@ -1,34 +1,12 @@
-use Rattle.std.proofs.Common.{inl, inr, sym, subst}
-use Rattle.pz_game.specs.declared.direction.Dir.{Dir}
-use Rattle.pz_grid.specs.Admitted.{StartsNowhere}
-use Rattle.pz_grid.proofs.SomewhereLemmas.{right_nowhere, left_nowhere, down_nowhere, up_nowhere, action_nowhere}
+use Rattle.std.proofs.Common.{sym, subst}
+use Rattle.std.specs.Prelude.{All}
+use Rattle.pz_sheet.specs.declared.line.Line.{Line}
+use Rattle.pz_sheet.specs.Searching.{HoldsInLine}
+use Rattle.pz_grid.proofs.SomewhereLemmas.{line_nowhere}
 use Rattle.pz_grid.proofs.admitting.may_head.Goals as goal
 
-pub returns-in-Up : goal.returns-in-Up
-returns-in-Up g c = record {
-  none = λ no.
-      let grid = c.args.sheet.now.grid in
-      let row = c.args.row.now in
-      let line = c.args.line in
-      let h = c.may_hold_in_line.ensures in
-      elim c.in-Up.is [
-        | inl up ↦ subst (λ (dir : Dir). StartsNowhere grid row dir line) (sym up) (up_nowhere grid row line c.may_hold_in_line.result h no)
-        | inr down ↦ subst (λ (dir : Dir). StartsNowhere grid row dir line) (sym down) (down_nowhere grid row line c.may_hold_in_line.result h no)
-      ];
-}
-
-pub returns-in-Left : goal.returns-in-Left
-returns-in-Left g c = record {
-  none = λ no.
-      let grid = c.args.sheet.now.grid in
-      let row = c.args.row.now in
-      let line = c.args.line in
-      let h = c.may_hold_in_line-in-Left.ensures in
-      elim c.in-Left.is [
-        | inl left ↦ subst (λ (dir : Dir). StartsNowhere grid row dir line) (sym left) (left_nowhere grid row line c.may_hold_in_line-in-Left.result h no)
-        | inr other ↦ elim other [
-          | inl right ↦ subst (λ (dir : Dir). StartsNowhere grid row dir line) (sym right) (right_nowhere grid row line c.may_hold_in_line-in-Left.result h no)
-          | inr action ↦ subst (λ (dir : Dir). StartsNowhere grid row dir line) (sym action) (action_nowhere grid row line c.may_hold_in_line-in-Left.result h no)
-        ]
-      ];
+pub returns : goal.returns
+returns g c = record {
+  none = λ no. line_nowhere c.args.sheet.now.grid c.args.row.now c.args.dir c.args.line c.may_hold_in_line.result
+      (λ all. c.may_hold_in_line.ensures (subst (λ (line : Line). All (HoldsInLine c.args.sheet.now.grid line) c.args.row.now.cells) (sym c.line_at.ensures.line) (λ k d within. (all k d within).1))) no;
 }

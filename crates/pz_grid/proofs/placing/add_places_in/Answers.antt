@@ -32,9 +32,6 @@ returns-in_err-add_places_at-clause-limit g c = λ is.
     let t = gather_too_long (found_at grid row dir line) c.in-Some.start (line_length grid dir) MATCH_LIMIT c.args.found.now c.starts.found added c.in-Some.ensures.1 too_long in
     subst (λ (xs : List Place). MATCH_LIMIT < length (c.args.found.now ++ xs)) (found_in_all grid row dir line) t
 
-pub overflow_add-from : goal.overflow_add-from
-overflow_add-from g c = omega (arith, c.in-Some.ensures.1, c.line_length.ensures.value, c.line_length.ensures.small)
-
 pub starts-preserved : goal.starts-preserved
 starts-preserved g c =
     let h = found_at c.args.sheet.now.grid c.args.row.now c.args.line.dir c.args.line.number in

@@ -5,9 +5,10 @@ use Rattle.pz_grid.specs.declared.placing.TheConstants.{MATCH_LIMIT}
 use Rattle.pz_grid.specs.declared.placing.Place.{Place}
 use Rattle.pz_grid.specs.Places.{row_holds, cell_holds, holds_behind, place_in, head_of, line_length}
 use Rattle.pz_grid.proofs.HeadLemmas.{begun_with_gap}
+use Rattle.pz_grid.proofs.PlaceLemmas.{own_gap}
 use Rattle.pz_grid.proofs.StartLemmas.{starts_at}
 use Rattle.pz_grid.proofs.FoundLemmas.{gather_step, gather_too_long, found_with}
-use Rattle.pz_grid.proofs.GapLemmas.{own_gap, behind_gap, same_start, gaps_passed, found_with_gaps}
+use Rattle.pz_grid.proofs.GapLemmas.{behind_gap, same_start, gaps_passed, found_with_gaps}
 use Rattle.pz_grid.proofs.placing.add_places_with_gaps.Goals as goal
 
 pub returns-in_err-add_place-clause-limit : goal.returns-in_err-add_place-clause-limit

@@ -1,5 +1,4 @@
-use Rattle.std.proofs.Common.{◌≡◌, ◌≤◌, length}
-use Rattle.pz_grid.specs.declared.placing.TheConstants.{MATCH_LIMIT}
+use Rattle.std.proofs.Common.{◌≡◌}
 use Rattle.pz_grid.proofs.GatherLemmas.{gather}
 use Rattle.pz_grid.proofs.FoundLemmas.{found_in}
 use Rattle.pz_grid.proofs.placing.places.Given as goal
