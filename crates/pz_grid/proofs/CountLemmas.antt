@@ -48,7 +48,7 @@ count_low grid Left lawful = omega (arith, lawful.size.low)
 count_low grid Right lawful = omega (arith, lawful.size.low)
 count_low grid Action lawful = omega (arith, lawful.size.low)
 
-length_low : (grid : Grid) (dir : Dir) → IsLawful grid → line_length grid dir ≤ MAX_SIDE
+pub length_low : (grid : Grid) (dir : Dir) → IsLawful grid → line_length grid dir ≤ MAX_SIDE
 length_low grid Up lawful = omega (arith, lawful.size.low)
 length_low grid Down lawful = omega (arith, lawful.size.low)
 length_low grid Left lawful = omega (arith, lawful.size.narrow)

@@ -1,6 +1,6 @@
 -- A row's cells before its gap stand one after another.
-use Rattle.std.proofs.Common.{◌≡◌, ℕ, zero, suc, ◌+◌, ◌<◌, ◌≤◌, List, [], ◌∷◌, Option, Some, None, Bool, true, ◌&&◌, cond, length, get_or, take, arith, ap, sym, ◌∙◌, refl, subst, filter, length-take}
-use Rattle.std.specs.Prelude.{All, nat_le}
+use Rattle.std.proofs.Common.{◌≡◌, ℕ, zero, suc, ◌+◌, ◌<◌, ◌≤◌, List, [], ◌∷◌, Option, Some, None, Bool, true, ◌&&◌, cond, length, get_or, take, arith, ap, sym, ◌∙◌, refl, filter, length-take}
+use Rattle.std.specs.Prelude.{nat_le}
 use Rattle.std.specs.List.{list_all, enumerate_from}
 use Rattle.std.proofs.lemmas.Bool.{leb-true, le-leb, false_from_ne_true}
 use Rattle.std.proofs.lemmas.List.FromFn.{length-enumerate_from}
@@ -54,13 +54,6 @@ head_from_row grid row dir place h = by_gap row.gap_at refl where
       ∙ ap (λ (steps : ℕ). holds_at grid (get_or row.cells k []) (along grid dir place.x place.y steps)) (sym (ap (λ (o : Option ℕ). distance o place.gap k) e ∙ near at place.gap k low.0))
       ∙ holds_each_cell grid row dir place k low.1 h)
 
--- what holds of all cells holds of those before the gap
-pub all_before : (P : List Item → Type 0) (row : RuleRow) → All P row.cells → All P (head_of row)
-all_before P row all = by_gap row.gap_at where
-  by_gap : (gap_at : Option ℕ) → All P (cells_before gap_at row.cells)
-  by_gap None = all
-  by_gap (Some at) = λ k d within. let low = in_both at k row.cells within in subst P (sym (get_or-take at row.cells k d low.0)) (all k d low.1)
-
 pub filter_one : {X : Type 0} (p : X → Bool) (x : X) → p x ≡ true → filter p (x ∷ []) ≡ x ∷ []
 filter_one {X} p x e = ap (λ (b : Bool). let none : List X = [] in cond b (x ∷ none) none) e
 
@@ -70,27 +63,33 @@ each_from_all p xs d k within h =
     let all = AllPass-from_list_all p (enumerate_from 0 xs) h k (0, x) (omega (arith, length-enumerate_from 0 xs)) in
     sym (ap p (numbered_at xs k x within (sym (get_or_default xs k d x within)))) ∙ all
 
--- where the cells before a gap hold and so does the one behind it, what is left is the rest
-pub begun_with_gap : (grid : Grid) (row : RuleRow) (dir : Dir) (place : Place) (at : ℕ) (behind : List Item) → row.gap_at ≡ Some at → at < length row.cells → behind ≡ get_or row.cells at behind → run_holds grid dir place.x place.y (head_of row) ≡ true → holds_behind grid dir place.x place.y behind at place.gap ≡ true
-    → list_all (cell_holds grid row dir place) (take (at + 1) (enumerate_from 0 row.cells)) ≡ true
-begun_with_gap grid row dir place at behind has within is head here =
-    enumerate_more (cell_holds grid row dir place) row.cells at behind within is (up_to at (omega arith)) (ap (λ (steps : ℕ). holds_at grid behind (along grid dir place.x place.y steps)) far ∙ here) where
-      far : distance row.gap_at place.gap at ≡ at + place.gap
-      far = ap (λ (o : Option ℕ). distance o place.gap at) has ∙ ap (λ (b : Bool). cond b (at + place.gap) at) (le-leb at at (omega arith))
+-- a cell is the row's first behind its gap
+pub record IsBehind (row : RuleRow) (at : ℕ) (behind : List Item) : Type 0 where
+  pub has : row.gap_at ≡ Some at
+  pub within : at < length row.cells
+  pub is : behind ≡ get_or row.cells at behind
 
+pub gap_spans : (row : RuleRow) (at : ℕ) (behind : List Item) (gap : ℕ) → IsBehind row at behind → distance row.gap_at gap at ≡ at + gap
+gap_spans row at behind gap h = ap (λ (o : Option ℕ). distance o gap at) h.has ∙ ap (λ (b : Bool). cond b (at + gap) at) (le-leb at at (omega arith))
+
+-- where the cells before a gap hold and so does the one behind it, what is left is the rest
+pub begun_with_gap : (grid : Grid) (row : RuleRow) (dir : Dir) (place : Place) (at : ℕ) (behind : List Item) → IsBehind row at behind → run_holds grid dir place.x place.y (head_of row) ≡ true → holds_behind grid dir place.x place.y behind at place.gap ≡ true
+    → list_all (cell_holds grid row dir place) (take (at + 1) (enumerate_from 0 row.cells)) ≡ true
+begun_with_gap grid row dir place at behind h head here =
+    enumerate_more (cell_holds grid row dir place) row.cells at behind h.within h.is (up_to at (omega arith)) (ap (λ (steps : ℕ). holds_at grid behind (along grid dir place.x place.y steps)) (gap_spans row at behind place.gap h) ∙ here) where
       before : run_holds grid dir place.x place.y (take at row.cells) ≡ true
-      before = ap (λ (o : Option ℕ). run_holds grid dir place.x place.y (cells_before o row.cells)) (sym has) ∙ head
+      before = ap (λ (o : Option ℕ). run_holds grid dir place.x place.y (cells_before o row.cells)) (sym h.has) ∙ head
 
       each : (k : ℕ) → k < at → cell_holds grid row dir place (k, get_or row.cells k []) ≡ true
       each k low =
-          ap (λ (steps : ℕ). holds_at grid (get_or row.cells k []) (along grid dir place.x place.y steps)) (ap (λ (o : Option ℕ). distance o place.gap k) has ∙ near at place.gap k low)
+          ap (λ (steps : ℕ). holds_at grid (get_or row.cells k []) (along grid dir place.x place.y steps)) (ap (λ (o : Option ℕ). distance o place.gap k) h.has ∙ near at place.gap k low)
           ∙ ap (λ (pattern : List Item). holds_along grid dir place.x place.y (k, pattern)) (sym (get_or-take at row.cells k [] low))
-          ∙ each_from_all (holds_along grid dir place.x place.y) (take at row.cells) [] k (omega (arith, low, within, length-take at row.cells)) before
+          ∙ each_from_all (holds_along grid dir place.x place.y) (take at row.cells) [] k (omega (arith, low, h.within, length-take at row.cells)) before
 
       up_to : (n : ℕ) → n ≤ at → list_all (cell_holds grid row dir place) (take n (enumerate_from 0 row.cells)) ≡ true
       up_to zero low = refl
       up_to (suc n) low =
           let pattern = get_or row.cells n [] in
-          let there : n < length row.cells = omega (arith, low, within) in
+          let there : n < length row.cells = omega (arith, low, h.within) in
           ap (λ (k : ℕ). list_all (cell_holds grid row dir place) (take k (enumerate_from 0 row.cells))) (let e : suc n ≡ n + 1 = omega arith in e)
           ∙ enumerate_more (cell_holds grid row dir place) row.cells n pattern there (get_or_default row.cells n [] pattern there) (up_to n (omega (arith, low))) (each n (omega (arith, low)))

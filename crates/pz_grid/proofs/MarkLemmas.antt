@@ -1,10 +1,9 @@
 -- Which objects stand in a cell and in a line, and how a level stays marked.
 use Rattle.std.proofs.Common.{◌≡◌, ◌⊎◌, inl, inr, ℕ, zero, suc, ◌+◌, ◌*◌, ◌<◌, ◌≤◌, List, [], ◌∷◌, Option, Some, None, Bool, true, false, cond, ◌&&◌, ◌||◌, nat_eq, length, get_or, set, map, arith, ap, sym, ◌∙◌, refl, subst, eq-eqb}
-use Rattle.std.specs.Prelude.{is_some}
+use Rattle.std.specs.Prelude.{IfSome, is_some}
 use Rattle.std.specs.List.{list_any, range_with_len}
-use Rattle.std.proofs.lemmas.Bool.{cases_eq, ne_eqb, cases_lt, cases_order, eqb-true, or_cases, or_left, or_right}
+use Rattle.std.proofs.lemmas.Bool.{and_parts, cases_eq, cases_lt, cases_order, eqb-true, or_cases, or_left, or_right}
 use Rattle.std.proofs.lemmas.Nat.{mul-add-lt}
-use Rattle.std.proofs.lemmas.Grind.{get_or-set_at}
 use Rattle.std.proofs.lemmas.List.{length-set, get_or_past, get_or-set_same, get_or-set_other}
 use Rattle.pz_sets.specs.Sets.{member}
 use Rattle.pz_game.specs.declared.direction.Dir.{Dir}
@@ -239,78 +238,30 @@ marked_cell state x y new test x_in has at h =
 pub marked_rewritten : (state : LevelState) (x y : ℕ) (left right : List Item) → x < state.grid.width → IsMarkedAt state x y (λ object. names_object object right) → IsMarked state → IsMarked (record { grid = with_rewritten state.grid x y left right; row_marks = state.row_marks; column_marks = state.column_marks; level_marks = state.level_marks })
 marked_rewritten state x y left right x_in at h = marked_cell state x y (rewritten_cell left right (cell_at state.grid x y)) (λ object. names_object object right) x_in (has_rewritten left right (cell_at state.grid x y)) at h
 
-pub marked_lift : (state : LevelState) (x y layer : ℕ) → x < state.grid.width → IsMarked state → IsMarked (record { grid = with_place state.grid x y layer None; row_marks = state.row_marks; column_marks = state.column_marks; level_marks = state.level_marks })
-marked_lift state x y layer x_in h =
-    marked_cell state x y (set (cell_at state.grid x y) layer None) (λ object. false) x_in (λ object e. elim (has_put (cell_at state.grid x y) layer None object e) [ inl it ↦ inl it | inr old ↦ inr old ]) (record { row = λ object e. cc; column = λ object e. cc }) h
-
-pub marked_put : (state : LevelState) (x y layer : ℕ) (piece : Piece) → x < state.grid.width → IsMarkedAt state x y (nat_eq piece.object) → IsMarked state → IsMarked (record { grid = with_place state.grid x y layer (Some piece); row_marks = state.row_marks; column_marks = state.column_marks; level_marks = state.level_marks })
-marked_put state x y layer piece x_in at h =
-    marked_cell state x y (set (cell_at state.grid x y) layer (Some piece)) (nat_eq piece.object) x_in (λ object e. elim (has_put (cell_at state.grid x y) layer (Some piece) object e) [ inl it ↦ inl (is_in_piece piece object it) | inr old ↦ inr old ]) at h
+pub marked_put : (state : LevelState) (x y layer : ℕ) (place : Option Piece) → x < state.grid.width → IfSome place (λ piece. IsMarkedAt state x y (nat_eq piece.object)) → IsMarked state → IsMarked (record { grid = with_place state.grid x y layer place; row_marks = state.row_marks; column_marks = state.column_marks; level_marks = state.level_marks })
+marked_put state x y layer place x_in at h = marked_cell state x y (set (cell_at state.grid x y) layer place) (is_in (place ∷ [])) x_in (has_put (cell_at state.grid x y) layer place) (by_place place at) h where
+  by_place : (place : Option Piece) → IfSome place (λ piece. IsMarkedAt state x y (nat_eq piece.object)) → IsMarkedAt state x y (is_in (place ∷ []))
+  by_place None at = record { row = λ object e. cc; column = λ object e. cc }
+  by_place (Some piece) at = record { row = λ object e. at.row object (is_in_piece piece object e); column = λ object e. at.column object (is_in_piece piece object e) }
 
 -- ---- a mark
--- a line's set with one object more
-pub mark_more : (marks : List (List ℕ)) (line : ℕ) (new : List ℕ) (added : ℕ) → line < length marks → ((object : ℕ) → member new object ≡ (nat_eq object added || member (get_or marks line []) object)) → (other object : ℕ) → member (get_or marks other []) object ≡ true → member (get_or (set marks line new) other []) object ≡ true
-mark_more marks line new added within is other object e = elim (cases_eq other line) [
-  | inl same ↦ (let at : get_or (set marks line new) other [] ≡ new = ap (λ (k : ℕ). get_or (set marks line new) k []) same ∙ get_or-set_same marks line new [] within in
-      ap (λ (m : List ℕ). member m object) at ∙ is object ∙ or_right _ _ (ap (λ (k : ℕ). member (get_or marks k []) object) (sym same) ∙ e))
-  | inr apart ↦ ap (λ (m : List ℕ). member m object) (get_or-set_other marks line other new [] apart) ∙ e
+-- what is new in a line's set that got one more object
+pub more_only : (old new : List (List ℕ)) (line added : ℕ) → IsMore old new line (nat_eq added) → (other object : ℕ) → is_marked new other object ≡ true → (is_marked old other object ≡ true) ⊎ ((other ≡ line) × (added ≡ object))
+more_only old new line added more other object e = elim (or_cases (nat_eq other line && nat_eq added object) (is_marked old other object) (sym (more other object) ∙ e)) [
+  | inr before ↦ inl before
+  | inl both ↦ (let parts = and_parts (nat_eq other line) (nat_eq added object) both in inr (eqb-true _ _ parts.0, eqb-true _ _ parts.1))
 ]
-
-pub mark_only : (marks : List (List ℕ)) (line : ℕ) (new : List ℕ) (added : ℕ) → line < length marks → ((object : ℕ) → member new object ≡ (nat_eq object added || member (get_or marks line []) object)) → (other object : ℕ) → member (get_or (set marks line new) other []) object ≡ true → (member (get_or marks other []) object ≡ true) ⊎ ((other ≡ line) × (object ≡ added))
-mark_only marks line new added within is other object e = elim (cases_eq other line) [
-  | inl same ↦ (let at : get_or (set marks line new) other [] ≡ new = ap (λ (k : ℕ). get_or (set marks line new) k []) same ∙ get_or-set_same marks line new [] within in
-      elim (or_cases (nat_eq object added) (member (get_or marks line []) object) (sym (is object) ∙ sym (ap (λ (m : List ℕ). member m object) at) ∙ e)) [
-        | inl it ↦ inr (same, eqb-true _ _ it)
-        | inr old ↦ inl (ap (λ (k : ℕ). member (get_or marks k []) object) same ∙ old)
-      ])
-  | inr apart ↦ inl (sym (ap (λ (m : List ℕ). member m object) (get_or-set_other marks line other new [] apart)) ∙ e)
-]
-
--- a line's new set is the old one with one object more
-abbrev pub IsOneMore : List (List ℕ) → ℕ → List ℕ → ℕ → Type 0
-IsOneMore marks line new added = (object : ℕ) → member new object ≡ (nat_eq object added || member (get_or marks line []) object)
 
 -- a level stays marked where an object is marked in a row, in a column and in the whole
-pub marked_mark : (state : LevelState) (x y : ℕ) (new_row new_column new_level : List ℕ) (added : ℕ) → x < state.grid.width → y < state.grid.height → IsOneMore state.row_marks y new_row added → IsOneMore state.column_marks x new_column added → ((object : ℕ) → member new_level object ≡ (nat_eq object added || member state.level_marks object)) → IsMarked state → IsMarked (record { grid = state.grid; row_marks = set state.row_marks y new_row; column_marks = set state.column_marks x new_column; level_marks = new_level })
-marked_mark state x y new_row new_column new_level added x_in y_in row column level h = record {
-  row_count = length-set state.row_marks y new_row ∙ h.row_count;
-  column_count = length-set state.column_marks x new_column ∙ h.column_count;
-  rows = λ line object within e. mark_more state.row_marks y new_row added (omega (arith, h.row_count)) row line object (h.rows line object within e);
-  columns = λ line object within e. mark_more state.column_marks x new_column added (omega (arith, h.column_count)) column line object (h.columns line object within e);
-  all = λ line object within e. elim (mark_only state.row_marks y new_row added (omega (arith, h.row_count)) row line object e) [
+pub marked_mark : (state : LevelState) (x y added : ℕ) (rows columns : List (List ℕ)) (all : List ℕ) → length rows ≡ length state.row_marks → length columns ≡ length state.column_marks → IsMore state.row_marks rows y (nat_eq added) → IsMore state.column_marks columns x (nat_eq added)
+    → ((object : ℕ) → member all object ≡ (nat_eq object added || member state.level_marks object)) → IsMarked state → IsMarked (record { grid = state.grid; row_marks = rows; column_marks = columns; level_marks = all })
+marked_mark state x y added rows columns all high wide row column level h = record {
+  row_count = high ∙ h.row_count;
+  column_count = wide ∙ h.column_count;
+  rows = λ line object within e. row line object ∙ or_right _ _ (h.rows line object within e);
+  columns = λ line object within e. column line object ∙ or_right _ _ (h.columns line object within e);
+  all = λ line object within e. elim (more_only state.row_marks rows y added row line object e) [
     | inl old ↦ level object ∙ or_right _ _ (h.all line object within old)
-    | inr (_, is) ↦ level object ∙ or_left _ _ (eq-eqb object added is)
+    | inr (_, is) ↦ level object ∙ or_left _ _ (eq-eqb object added (sym is))
   ];
-}
-
-turned : (a b : ℕ) → nat_eq a b ≡ nat_eq b a
-turned a b = elim (cases_eq a b) [
-  | inl same ↦ eq-eqb a b same ∙ sym (eq-eqb b a (sym same))
-  | inr differs ↦ ne_eqb a b differs ∙ sym (ne_eqb b a (λ same. differs (sym same)))
-]
-
--- sets of lines with an object more in one
-pub more_in_line : (marks : List (List ℕ)) (line : ℕ) (new : List ℕ) (added : ℕ) → line < length marks → IsOneMore marks line new added → IsMore marks (set marks line new) line (nat_eq added)
-more_in_line marks line new added within more other object = elim (cases_eq other line) [
-  | inl same ↦ ap (λ (m : List ℕ). member m object) (get_or-set_at marks line other new [] same within)
-      ∙ (more object
-      ∙ (ap (λ (b : Bool). b || member (get_or marks line []) object) (turned object added)
-      ∙ (ap (λ (k : ℕ). nat_eq added object || member (get_or marks k []) object) (sym same)
-      ∙ ap (λ (b : Bool). (b && nat_eq added object) || member (get_or marks other []) object) (sym (eq-eqb other line same)))))
-  | inr differs ↦ ap (λ (m : List ℕ). member m object) (get_or-set_other marks line other new [] differs)
-      ∙ ap (λ (b : Bool). (b && nat_eq added object) || member (get_or marks other []) object) (sym (ne_eqb other line differs))
-]
-
--- ---- sets that hold exactly what stands in their lines
-pub marked_exact : (state : LevelState) → length state.row_marks ≡ state.grid.height → length state.column_marks ≡ state.grid.width
-    → ((line object : ℕ) → line < state.grid.height → is_marked state.row_marks line object ≡ in_row state.grid line object)
-    → ((line object : ℕ) → line < state.grid.width → is_marked state.column_marks line object ≡ in_column state.grid line object)
-    → ((line object : ℕ) → line < length state.row_marks → is_marked state.row_marks line object ≡ true → member state.level_marks object ≡ true)
-    → IsMarked state
-marked_exact state high wide rows columns all = record {
-  row_count = high;
-  column_count = wide;
-  rows = λ line object within here. rows line object within ∙ here;
-  columns = λ line object within here. columns line object within ∙ here;
-  all = λ line object within here. all line object (subst (λ (n : ℕ). line < n) (sym high) within) here;
 }

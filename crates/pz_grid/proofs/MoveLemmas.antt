@@ -1,19 +1,18 @@
 -- What a movement marks: what has landed stays, so in the end each line holds what was marked for it.
-use Rattle.std.proofs.Common.{◌≡◌, ◌⊎◌, inl, inr, ℕ, ◌+◌, ◌*◌, ◌<◌, List, [], Option, Some, None, Bool, true, false, ◌&&◌, ◌||◌, nat_eq, ◌∷◌, length, get_or, take, map, arith, ap, sym, ◌∙◌, refl, subst}
+use Rattle.std.proofs.Common.{◌≡◌, inl, inr, ℕ, ◌+◌, ◌*◌, ◌<◌, List, [], Option, Some, None, Bool, true, false, ◌&&◌, ◌||◌, nat_eq, ◌∷◌, length, get_or, take, map, arith, ap, sym, ◌∙◌, refl, subst}
 use Rattle.std.proofs.lemmas.List.Folds.{list_any_more}
-use Rattle.std.proofs.lemmas.Bool.{and_parts, eq-eqb, eqb-true, or_cases}
 use Rattle.pz_game.specs.declared.pattern.Item.{Item}
 use Rattle.pz_cells.specs.declared.piece.Piece.{Piece}
 use Rattle.pz_cells.specs.Cell.{still_piece, still_place}
 use Rattle.pz_sheet.specs.Presence.{is_in, in_row, in_column}
 use Rattle.pz_sheet.specs.Grid.{Grid, LevelState, place_at, with_place}
-use Rattle.pz_grid.specs.Movement.{in_pass, spot, heading_goal, moved_to, move_place, move_at, Leaves}
+use Rattle.pz_grid.specs.Movement.{in_pass, spot, heading_goal}
 use Rattle.pz_sheet.specs.Movement.{stilled}
 use Rattle.pz_game.specs.Items.{names, names_object}
-use Rattle.pz_grid.specs.Marks.{is_marked, IsMarkedAt, IsMore, IsWidened, IsWidenedBy}
+use Rattle.pz_grid.specs.Marks.{is_marked, IsMore, IsWidened, IsWidenedBy}
 use Rattle.pz_grid.specs.Staying.{IsStill, KeepsStill, IsMove}
 use Rattle.pz_grid.proofs.StayLemmas.{still-moved_to}
-use Rattle.pz_grid.proofs.MarkLemmas.{in_row_from, in_column_from, is_in_at, is_in_cells, piece_is_in, still_same}
+use Rattle.pz_grid.proofs.MarkLemmas.{more_only, in_row_from, in_column_from, is_in_at, is_in_cells, piece_is_in, still_same}
 
 -- one part of a movement after another
 pub moves_on : (a b d : LevelState) → IsMove a b → IsMove b d → IsMove a d
@@ -46,13 +45,6 @@ moves_on a b d p q = record {
     ]
   ];
 }
-
--- what is new in a line's set that got one more object
-more_only : (old new : List (List ℕ)) (line added : ℕ) → IsMore old new line (nat_eq added) → (other object : ℕ) → is_marked new other object ≡ true → (is_marked old other object ≡ true) ⊎ ((other ≡ line) × (added ≡ object))
-more_only old new line added more other object e = elim (or_cases (nat_eq other line && nat_eq added object) (is_marked old other object) (sym (more other object) ∙ e)) [
-  | inr before ↦ inl before
-  | inl both ↦ (let parts = and_parts (nat_eq other line) (nat_eq added object) both in inr (eqb-true _ _ parts.0, eqb-true _ _ parts.1))
-]
 
 -- a piece is lifted, marked where it goes, and landed there
 pub moves_piece : (old lifted marked new : LevelState) (x y layer : ℕ) (piece : Piece) (next_x next_y : ℕ) → place_at old.grid x y layer ≡ Some piece → heading_goal old.grid (spot x y layer) piece.heading ≡ Some (next_x, next_y) → next_x < old.grid.width → next_y < old.grid.height
@@ -88,13 +80,6 @@ moves_piece old lifted marked new x y layer piece next_x next_y here goes x_in y
         })
       ];
     }
-
--- the same of the pass: what leaves its spot moves
-pub moves_pass : (old lifted marked new : Grid) (moved : Bool) (x y layer : ℕ) (piece : Piece) (next_x next_y : ℕ) → Leaves old (spot x y layer) piece (next_x, next_y)
-    → lifted ≡ with_place old x y layer None → marked ≡ lifted → new ≡ with_place marked next_x next_y layer (Some (still_piece piece.object)) → in_pass new true ≡ move_at (in_pass old moved) (spot x y layer)
-moves_pass old lifted marked new moved x y layer piece next_x next_y leaves g1 g2 g3 =
-    ap (λ (g : Grid). in_pass g true) (g3 ∙ ap (λ (g : Grid). with_place g next_x next_y layer (Some (still_piece piece.object))) (g2 ∙ g1))
-    ∙ sym (ap (move_place (in_pass old moved) (spot x y layer)) leaves.there ∙ ap (moved_to (in_pass old moved) (spot x y layer) piece) leaves.goes)
 
 -- what stands still is there once all is stilled
 still_is_in : (cells : List (List (Option Piece))) (index layer object : ℕ) → IsStill cells index layer object → is_in (get_or (map (map still_place) cells) index []) object ≡ true
@@ -144,23 +129,3 @@ more_item old now new line items i item within is before more other object =
     ∙ ap (λ (b : Bool). (nat_eq other line && test item) || b) (before other object)
     ∙ more_bool (nat_eq other line) (names_object object (take i items)) (test item) (is_marked old other object)
     ∙ ap (λ (b : Bool). (nat_eq other line && b) || is_marked old other object) (sym next)
-
--- a cell is marked with what passes a test: it is in the sets then, and nothing else is new there
-pub placed_marked : (old new : LevelState) (x y : ℕ) (test : ℕ → Bool) → IsMore old.row_marks new.row_marks y test → IsMore old.column_marks new.column_marks x test → IsMarkedAt new x y test
-placed_marked old new x y test rows columns = record {
-  row = λ object h. rows y object ∙ ap (λ (b : Bool). (b && test object) || is_marked old.row_marks y object) (eq-eqb y y refl) ∙ ap (λ (b : Bool). b || is_marked old.row_marks y object) h;
-  column = λ object h. columns x object ∙ ap (λ (b : Bool). (b && test object) || is_marked old.column_marks x object) (eq-eqb x x refl) ∙ ap (λ (b : Bool). b || is_marked old.column_marks x object) h;
-}
-
-pub placed_widened : (old marked new : LevelState) (x y : ℕ) (test : ℕ → Bool) → IsMore old.row_marks marked.row_marks y test → IsMore old.column_marks marked.column_marks x test
-    → new.row_marks ≡ marked.row_marks → new.column_marks ≡ marked.column_marks → IsWidenedBy old new test
-placed_widened old marked new x y test rows columns r d = record {
-  rows = λ line object e. elim (or_cases (nat_eq line y && test object) (is_marked old.row_marks line object) (sym (rows line object) ∙ ap (λ (m : List (List ℕ)). is_marked m line object) (sym r) ∙ e)) [
-    | inr before ↦ inl before
-    | inl both ↦ inr (and_parts (nat_eq line y) (test object) both).1
-  ];
-  columns = λ line object e. elim (or_cases (nat_eq line x && test object) (is_marked old.column_marks line object) (sym (columns line object) ∙ ap (λ (m : List (List ℕ)). is_marked m line object) (sym d) ∙ e)) [
-    | inr before ↦ inl before
-    | inl both ↦ inr (and_parts (nat_eq line x) (test object) both).1
-  ];
-}

@@ -1,12 +1,10 @@
 -- The movement is folded over spots, and keeps the size of a level.
-use Rattle.std.proofs.Common.{◌≡◌, ℕ, ◌+◌, List, [], ◌∷◌, Option, Some, None, map, arith, ap, ◌∙◌, refl}
+use Rattle.std.proofs.Common.{◌≡◌, ℕ, ◌+◌, List, [], ◌∷◌, map, arith, ap, ◌∙◌, refl}
 use Rattle.std.specs.Prelude.{fold}
 use Rattle.std.specs.List.{range_with_len}
 use Rattle.std.proofs.lemmas.List.FromFn.{map-range_with_len_more}
 use Rattle.std.proofs.lemmas.List.Sums.{fold-append}
-use Rattle.pz_cells.specs.declared.piece.Piece.{Piece}
-use Rattle.pz_sheet.specs.Grid.{Grid, SameSize, place_at}
-use Rattle.pz_grid.specs.Movement.{Pass, Spot, move_at, move_place, moved_to, heading_goal}
+use Rattle.pz_sheet.specs.Grid.{Grid, SameSize}
 use Rattle.pz_grid.proofs.GatherLemmas.{gather, gather_more}
 
 -- one more of a fold over numbered items
@@ -19,18 +17,6 @@ fold_gather_more f start h n = ap (fold f start) (gather_more h n) ∙ fold-appe
 
 abbrev same_size : (grid : Grid) → SameSize grid grid
 same_size grid = record { width = refl; height = refl; depth = refl; layers = refl }
-
-pub size-moved_to : (pass : Pass) (at : Spot) (piece : Piece) (goal : Option (ℕ × ℕ)) → SameSize pass.grid (moved_to pass at piece goal).grid
-size-moved_to pass at piece None = same_size pass.grid
-size-moved_to pass at piece (Some (x, y)) = record { width = refl; height = refl; depth = refl; layers = refl }
-
-pub size-move_place : (pass : Pass) (at : Spot) (place : Option Piece) → SameSize pass.grid (move_place pass at place).grid
-size-move_place pass at None = same_size pass.grid
-size-move_place pass at (Some piece) = size-moved_to pass at piece (heading_goal pass.grid at piece.heading)
-
--- a move keeps the size
-pub size-move_at : (pass : Pass) (at : Spot) → SameSize pass.grid (move_at pass at).grid
-size-move_at pass at = size-move_place pass at (place_at pass.grid at.x at.y at.layer)
 
 pub same_size_on : (a b d : Grid) → SameSize a b → SameSize b d → SameSize a d
 same_size_on a b d p q = record { width = q.width ∙ p.width; height = q.height ∙ p.height; depth = q.depth ∙ p.depth; layers = q.layers ∙ p.layers }

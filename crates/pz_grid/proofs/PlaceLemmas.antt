@@ -13,7 +13,8 @@ use Rattle.pz_game.specs.declared.direction.Dir.TheVariants.{Up, Down, Left, Rig
 use Rattle.pz_game.specs.declared.pattern.Item.{Item}
 use Rattle.pz_game.specs.Pattern.{RuleRow, IsRow}
 use Rattle.pz_grid.specs.declared.placing.Place.{Place}
-use Rattle.pz_sheet.specs.Grid.{Grid}
+use Rattle.pz_cells.specs.Pattern.{pattern_holds}
+use Rattle.pz_sheet.specs.Grid.{Grid, cell_at}
 use Rattle.pz_grid.specs.Places.{on_map, along, distance, holds_at, cell_holds, row_holds, line_count, line_length, place_in, gap_count, pairs_at, pairs_in, pairs, places, still_holds}
 use Rattle.pz_sheet.proofs.RunLemmas.{numbered_at}
 
@@ -57,12 +58,12 @@ in_pairs grid row dir line start gap in_count in_length in_gaps =
     (subst (λ (xs : List Place). Contains xs place) (flat_map_single (place_in dir line start) (range_with_len 0 (gap_count grid row dir)))
     (gathered (λ k. place_in dir line start k ∷ []) 0 (gap_count grid row dir) gap place (omega arith) (omega arith) (alone place))))
 
-gap_in : (dir : Dir) (line start gap : ℕ) → (place_in dir line start gap).gap ≡ gap
-gap_in Up line start gap = refl
-gap_in Down line start gap = refl
-gap_in Left line start gap = refl
-gap_in Right line start gap = refl
-gap_in Action line start gap = refl
+pub own_gap : (dir : Dir) (line start gap : ℕ) → (place_in dir line start gap).gap ≡ gap
+own_gap Up line start gap = refl
+own_gap Down line start gap = refl
+own_gap Left line start gap = refl
+own_gap Right line start gap = refl
+own_gap Action line start gap = refl
 
 gap_from_pairs : (grid : Grid) (row : RuleRow) (dir : Dir) (place : Place) → Contains (pairs grid row dir) place → place.gap < gap_count grid row dir
 gap_from_pairs grid row dir place in_all =
@@ -74,7 +75,7 @@ gap_from_pairs grid row dir place in_all =
     let g = gathered_from (λ k. f k ∷ []) 0 (gap_count grid row dir) place (subst (λ (xs : List Place). Contains xs place) (sym (flat_map_single f (range_with_len 0 (gap_count grid row dir)))) b.2) in
     let is : f g.0 ≡ place = alone_from (f g.0) place g.2 in
     let less = g.1 in
-    let same : place.gap ≡ g.0 = sym (ap (λ (p : Place). p.gap) is) ∙ gap_in dir line start g.0 in
+    let same : place.gap ≡ g.0 = sym (ap (λ (p : Place). p.gap) is) ∙ own_gap dir line start g.0 in
     omega arith
 
 no_gap : (at : Option ℕ) (gap length : ℕ) → gap < (if is_some at then length else 1) → (is_some at || nat_eq gap 0) ≡ true
@@ -90,12 +91,12 @@ holds_from_place grid row dir place found =
     and_from _ _ (no_gap row.gap_at place.gap (line_length grid dir) (gap_from_pairs grid row dir place in_all)) passes
 
 -- a rule's cell that holds stands on the map
-inside_from : (grid : Grid) (pattern : List Item) (x y : ℕ) → holds_at grid pattern (on_map grid x y) ≡ true → (x < grid.width) × (y < grid.height)
-inside_from grid pattern x y = by_test (nat_lt x grid.width) (nat_lt y grid.height) refl refl where
-  by_test : (a b : Bool) → nat_lt x grid.width ≡ a → nat_lt y grid.height ≡ b → holds_at grid pattern (cond (a && b) (Some (x, y)) None) ≡ true → (x < grid.width) × (y < grid.height)
-  by_test true true in_x in_y h = (ltb-true x grid.width in_x, ltb-true y grid.height in_y)
-  by_test true false in_x in_y h = cc
-  by_test false b in_x in_y h = cc
+pub on_map_holds : (grid : Grid) (pattern : List Item) (x y : ℕ) → holds_at grid pattern (on_map grid x y) ≡ true → (x < grid.width) × (y < grid.height) × (pattern_holds (cell_at grid x y) pattern ≡ true)
+on_map_holds grid pattern x y = by_tests (nat_lt x grid.width) (nat_lt y grid.height) refl refl where
+  by_tests : (a b : Bool) → nat_lt x grid.width ≡ a → nat_lt y grid.height ≡ b → holds_at grid pattern (cond (a && b) (Some (x, y)) None) ≡ true → (x < grid.width) × (y < grid.height) × (pattern_holds (cell_at grid x y) pattern ≡ true)
+  by_tests true true in_x in_y h = (ltb-true x grid.width in_x, ltb-true y grid.height in_y, h)
+  by_tests true false in_x in_y h = cc
+  by_tests false b in_x in_y h = cc
 
 pub back_from : (grid : Grid) (pattern : List Item) (steps x : ℕ) (there : Option (ℕ × ℕ)) → holds_at grid pattern (cond (nat_le steps x) there None) ≡ true → (steps ≤ x) × (holds_at grid pattern there ≡ true)
 back_from grid pattern steps x there = by_test (nat_le steps x) refl where
@@ -105,17 +106,17 @@ back_from grid pattern steps x there = by_test (nat_le steps x) refl where
 
 -- where a row starts is on the map
 start_inside : (grid : Grid) (pattern : List Item) (dir : Dir) (x y : ℕ) → holds_at grid pattern (along grid dir x y 0) ≡ true → (x < grid.width) × (y < grid.height)
-start_inside grid pattern Right x y h = let in_map = inside_from grid pattern (x + 0) y h in let in_x = in_map.0 in (let e : x < grid.width = omega arith in e, in_map.1)
-start_inside grid pattern Left x y h = let back = back_from grid pattern 0 x (on_map grid (x - 0) y) h in let in_map = inside_from grid pattern (x - 0) y back.1 in let in_x = in_map.0 in (let e : x < grid.width = omega arith in e, in_map.1)
-start_inside grid pattern Down x y h = let in_map = inside_from grid pattern x (y + 0) h in let in_y = in_map.1 in (in_map.0, let e : y < grid.height = omega arith in e)
-start_inside grid pattern Up x y h = let back = back_from grid pattern 0 y (on_map grid x (y - 0)) h in let in_map = inside_from grid pattern x (y - 0) back.1 in let in_y = in_map.1 in (in_map.0, let e : y < grid.height = omega arith in e)
+start_inside grid pattern Right x y h = let in_map = on_map_holds grid pattern (x + 0) y h in let in_x = in_map.0 in (let e : x < grid.width = omega arith in e, in_map.1)
+start_inside grid pattern Left x y h = let back = back_from grid pattern 0 x (on_map grid (x - 0) y) h in let in_map = on_map_holds grid pattern (x - 0) y back.1 in let in_x = in_map.0 in (let e : x < grid.width = omega arith in e, in_map.1)
+start_inside grid pattern Down x y h = let in_map = on_map_holds grid pattern x (y + 0) h in let in_y = in_map.1 in (in_map.0, let e : y < grid.height = omega arith in e)
+start_inside grid pattern Up x y h = let back = back_from grid pattern 0 y (on_map grid x (y - 0)) h in let in_map = on_map_holds grid pattern x (y - 0) back.1 in let in_y = in_map.1 in (in_map.0, let e : y < grid.height = omega arith in e)
 start_inside grid pattern Action x y h = let wrong : false ≡ true = h in cc
 
 -- a row doesn't reach farther than its line is long
 steps_inside : (grid : Grid) (pattern : List Item) (dir : Dir) (x y steps : ℕ) → x < grid.width → y < grid.height → holds_at grid pattern (along grid dir x y steps) ≡ true → steps < line_length grid dir
-steps_inside grid pattern Right x y steps in_x in_y h = let in_map = inside_from grid pattern (x + steps) y h in let less = in_map.0 in omega arith
+steps_inside grid pattern Right x y steps in_x in_y h = let in_map = on_map_holds grid pattern (x + steps) y h in let less = in_map.0 in omega arith
 steps_inside grid pattern Left x y steps in_x in_y h = let back = back_from grid pattern steps x (on_map grid (x - steps) y) h in let less = back.0 in omega arith
-steps_inside grid pattern Down x y steps in_x in_y h = let in_map = inside_from grid pattern x (y + steps) h in let less = in_map.1 in omega arith
+steps_inside grid pattern Down x y steps in_x in_y h = let in_map = on_map_holds grid pattern x (y + steps) h in let less = in_map.1 in omega arith
 steps_inside grid pattern Up x y steps in_x in_y h = let back = back_from grid pattern steps y (on_map grid x (y - steps)) h in let less = back.0 in omega arith
 steps_inside grid pattern Action x y steps in_x in_y h = let wrong : false ≡ true = h in cc
 

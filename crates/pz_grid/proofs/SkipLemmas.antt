@@ -1,9 +1,9 @@
 -- No place starts in a line that is not searched, and no more start cells are tested than admitted lines have.
-use Rattle.std.proofs.Common.{◌≡◌, ℕ, zero, suc, ◌+◌, ◌-◌, ◌*◌, ◌<◌, ◌≤◌, List, [], ◌∷◌, ◌++◌, filter, Bool, true, false, cond, not, ◌&&◌, ◌||◌, nat_eq, Option, None, Some, arith, ap, sym, ◌∙◌, refl, subst, mul-le-mul_right}
-use Rattle.std.specs.Prelude.{nat_lt, nat_le, is_some}
-use Rattle.std.specs.List.{list_all, list_any, flat_map, range_with_len, enumerate_from, count_by, sum_by}
-use Rattle.std.proofs.lemmas.Bool.{and_parts, ltb-true, eqb-true, false_from_ne_true}
-use Rattle.std.proofs.lemmas.List.Sums.{count_by-le-length, sum_by-append}
+use Rattle.std.proofs.Common.{◌≡◌, ℕ, zero, suc, ◌+◌, ◌-◌, ◌*◌, ◌≤◌, List, [], ◌∷◌, ◌++◌, filter, get_or, Bool, true, false, cond, not, ◌||◌, nat_eq, Option, None, Some, arith, ap, sym, ◌∙◌, refl, subst, mul-le-mul_right}
+use Rattle.std.specs.Prelude.{is_some}
+use Rattle.std.specs.List.{list_all, list_any, flat_map, range_with_len, count_by, sum_by}
+use Rattle.std.proofs.lemmas.Bool.{and_from, and_parts, eqb-true, false_from_ne_true}
+use Rattle.std.proofs.lemmas.List.Sums.{list_all-from_AllPass, count_by-le-length, sum_by-append}
 use Rattle.std.proofs.lemmas.List.FromFn.{length-range_with_len}
 use Rattle.pz_sets.specs.Sets.{member}
 use Rattle.pz_game.specs.declared.direction.Dir.{Dir}
@@ -20,111 +20,64 @@ use Rattle.pz_sheet.specs.Runs.{run_holds}
 use Rattle.pz_sheet.specs.Grid.{Grid, LevelState, cell_at}
 use Rattle.pz_game.specs.Items.{names}
 use Rattle.pz_cells.specs.Pattern.{word_holds, item_holds, pattern_holds}
-use Rattle.pz_grid.specs.Places.{on_map, along, distance, position_of, holds_at, cell_holds, row_holds, place_in, gap_count, line_length, line_count, pairs, places, head_of, starts_with}
+use Rattle.pz_grid.specs.Places.{row_holds, place_in, gap_count, line_length, line_count, pairs, places, head_of, starts_with}
 use Rattle.pz_grid.specs.Marks.{IsMarked}
 use Rattle.pz_grid.specs.Admitted.{marks_of, marks_item, marks_cell, admits, admits_line, admitted, searches_level, searches_line, line_of, start_of, starts_at, starts_in, start_count, StartsNowhere}
-use Rattle.pz_cells.proofs.RewriteLemmas.{and_no}
 use Rattle.pz_grid.proofs.MarkLemmas.{in_row_from, in_column_from}
 use Rattle.pz_sheet.proofs.CountLemmas.{sum_more, count_more}
+use Rattle.pz_sheet.specs.Searching.{HoldsSomewhere}
+use Rattle.pz_grid.proofs.SomewhereLemmas.{HoldsThere, line_nowhere, nowhere_none}
 use Rattle.pz_grid.proofs.GatherLemmas.{gather}
 use Rattle.pz_grid.proofs.HeadLemmas.{head_from_row}
 use Rattle.pz_grid.proofs.FoundLemmas.{found_with, found_at, found_in, found_at_all, found_in_all}
 
--- where an item's object isn't marked, the pattern doesn't hold
-item_none : (cell : List (Option Piece)) (marks : List ℕ) (item : Item) → (is_in cell item.object ≡ true → member marks item.object ≡ true) → marks_item marks item ≡ false → item_holds cell item ≡ false
-item_none cell marks item marked e = by_place item.word (standing cell item.object) (member marks item.object) marked e where
-  by_place : (word : Word) (place : Option (Option Dir)) (b : Bool) → (is_some place ≡ true → b ≡ true) → (not (names word) || b) ≡ false → word_holds word place ≡ false
-  by_place Absent place b h f = cc
-  by_place Present None b h f = refl
-  by_place Still None b h f = refl
-  by_place (Toward dir) None b h f = refl
-  by_place Present (Some d) b h f = (let g : false ≡ true = sym f ∙ h refl in cc)
-  by_place Still (Some d) b h f = (let g : false ≡ true = sym f ∙ h refl in cc)
-  by_place (Toward dir) (Some d) b h f = (let g : false ≡ true = sym f ∙ h refl in cc)
+-- what a cell that holds names is in each set that has all that stands there
+item_marked : (cell : List (Option Piece)) (marks : List ℕ) (item : Item) → (is_in cell item.object ≡ true → member marks item.object ≡ true) → item_holds cell item ≡ true → marks_item marks item ≡ true
+item_marked cell marks item marked e = by_place item.word (standing cell item.object) (member marks item.object) marked e where
+  by_place : (word : Word) (place : Option (Option Dir)) (b : Bool) → (is_some place ≡ true → b ≡ true) → word_holds word place ≡ true → (not (names word) || b) ≡ true
+  by_place Absent place b h f = refl
+  by_place Present None b h f = cc
+  by_place Still None b h f = cc
+  by_place (Toward dir) None b h f = cc
+  by_place Present (Some d) b h f = h refl
+  by_place Still (Some d) b h f = h refl
+  by_place (Toward dir) (Some d) b h f = h refl
 
-pub unmarked_none : (cell : List (Option Piece)) (marks : List ℕ) (pattern : List Item) → ((object : ℕ) → is_in cell object ≡ true → member marks object ≡ true) → marks_cell marks pattern ≡ false → pattern_holds cell pattern ≡ false
-unmarked_none cell marks [] marked e = e
-unmarked_none cell marks (item ∷ items) marked e = by_test (unmarked_none cell marks items marked) (marks_item marks item) refl e where
-  by_test : (marks_cell marks items ≡ false → pattern_holds cell items ≡ false) → (b : Bool) → marks_item marks item ≡ b → (b && marks_cell marks items) ≡ false → (item_holds cell item && pattern_holds cell items) ≡ false
-  by_test more true f rest = ap (λ b. item_holds cell item && b) (more rest) ∙ and_no (item_holds cell item)
-  by_test more false f rest = ap (λ b. b && pattern_holds cell items) (item_none cell marks item (marked item.object) f)
+cell_marked : (cell : List (Option Piece)) (marks : List ℕ) (pattern : List Item) → ((object : ℕ) → is_in cell object ≡ true → member marks object ≡ true) → pattern_holds cell pattern ≡ true → marks_cell marks pattern ≡ true
+cell_marked cell marks [] marked e = refl
+cell_marked cell marks (item ∷ items) marked e =
+    let both = and_parts (item_holds cell item) (pattern_holds cell items) e in
+    and_from _ _ (item_marked cell marks item (marked item.object) both.0) (cell_marked cell marks items marked both.1)
 
--- a position on the map is where it is said to be
-on_map_some : (grid : Grid) (x y : ℕ) (position : ℕ × ℕ) → on_map grid x y ≡ Some position → (x < grid.width) × (y < grid.height) × (position.0 ≡ x) × (position.1 ≡ y)
-on_map_some grid x y position e = by_tests (nat_lt x grid.width) refl (nat_lt y grid.height) refl e where
-  by_tests : (a : Bool) → nat_lt x grid.width ≡ a → (b : Bool) → nat_lt y grid.height ≡ b → cond (a && b) (Some (x, y)) None ≡ Some position → (x < grid.width) × (y < grid.height) × (position.0 ≡ x) × (position.1 ≡ y)
-  by_tests false f b g h = cc
-  by_tests true f false g h = cc
-  by_tests true f true g h = (let pair : ℕ × ℕ = (x, y) in
-      let same : pair ≡ position = cc in
-      (ltb-true x grid.width f, ltb-true y grid.height g, ap (λ (p : ℕ × ℕ). p.0) (sym same), ap (λ (p : ℕ × ℕ). p.1) (sym same)))
+row_marked : (state : LevelState) (line : ℕ) (pattern : List Item) → IsMarked state → HoldsThere state.grid Right line pattern → marks_cell (marks_of state Right line) pattern ≡ true
+row_marked state line pattern h f =
+    cell_marked (cell_at state.grid f.1.at line) (marks_of state Right line) pattern (λ object has. h.rows line object f.0 (in_row_from state.grid f.1.at line object f.1.at_in has)) f.1.holds
 
--- what a cell of a line has is in the line's set
-row_has : (state : LevelState) (x y line : ℕ) (position : ℕ × ℕ) → IsMarked state → on_map state.grid x y ≡ Some position → y ≡ line → (object : ℕ) → is_in (cell_at state.grid position.0 position.1) object ≡ true → member (marks_of state Right line) object ≡ true
-row_has state x y line position h e same object has =
-    let on = on_map_some state.grid x y position e in
-    ap (λ (k : ℕ). member (marks_of state Right k) object) (sym same) ∙ h.rows y object on.1 (in_row_from state.grid x y object on.0 (ap (λ (k : ℕ). is_in (cell_at state.grid k y) object) (sym on.2) ∙ ap (λ (k : ℕ). is_in (cell_at state.grid position.0 k) object) (sym on.3) ∙ has))
+column_marked : (state : LevelState) (line : ℕ) (pattern : List Item) → IsMarked state → HoldsThere state.grid Up line pattern → marks_cell (marks_of state Up line) pattern ≡ true
+column_marked state line pattern h f =
+    cell_marked (cell_at state.grid line f.1.at) (marks_of state Up line) pattern (λ object has. h.columns line object f.0 (in_column_from state.grid f.1.at line object f.1.at_in has)) f.1.holds
 
-column_has : (state : LevelState) (x y line : ℕ) (position : ℕ × ℕ) → IsMarked state → on_map state.grid x y ≡ Some position → x ≡ line → (object : ℕ) → is_in (cell_at state.grid position.0 position.1) object ≡ true → member (marks_of state Up line) object ≡ true
-column_has state x y line position h e same object has =
-    let on = on_map_some state.grid x y position e in
-    ap (λ (k : ℕ). member (marks_of state Up k) object) (sym same) ∙ h.columns x object on.0 (in_column_from state.grid y x object on.1 (ap (λ (k : ℕ). is_in (cell_at state.grid k y) object) (sym on.2) ∙ ap (λ (k : ℕ). is_in (cell_at state.grid position.0 k) object) (sym on.3) ∙ has))
+-- what holds in a line is marked there, and in the level's set
+line_marked : (state : LevelState) (dir : Dir) (line : ℕ) (pattern : List Item) → IsMarked state → HoldsThere state.grid dir line pattern → marks_cell (marks_of state dir line) pattern ≡ true
+line_marked state Right line pattern h f = row_marked state line pattern h f
+line_marked state Left line pattern h f = row_marked state line pattern h f
+line_marked state Action line pattern h f = row_marked state line pattern h f
+line_marked state Down line pattern h f = column_marked state line pattern h f
+line_marked state Up line pattern h f = column_marked state line pattern h f
 
-if_some : (b : Bool) (there : Option (ℕ × ℕ)) (position : ℕ × ℕ) → cond b there None ≡ Some position → there ≡ Some position
-if_some true there position e = e
-if_some false there position e = cc
-
-line_has : (state : LevelState) (dir : Dir) (place : Place) (steps : ℕ) (position : ℕ × ℕ) → IsMarked state → along state.grid dir place.x place.y steps ≡ Some position → (object : ℕ) → is_in (cell_at state.grid position.0 position.1) object ≡ true → member (marks_of state dir (line_of dir place)) object ≡ true
-line_has state Right place steps position h e = row_has state (place.x + steps) place.y place.y position h e refl
-line_has state Left place steps position h e = row_has state (place.x - steps) place.y place.y position h (if_some (nat_le steps place.x) (on_map state.grid (place.x - steps) place.y) position e) refl
-line_has state Down place steps position h e = column_has state place.x (place.y + steps) place.x position h e refl
-line_has state Up place steps position h e = column_has state place.x (place.y - steps) place.x position h (if_some (nat_le steps place.y) (on_map state.grid place.x (place.y - steps)) position e) refl
-line_has state Action place steps position h e = cc
-
--- what the cells that a place reaches have is in the level's set
-level_has : (state : LevelState) (x y : ℕ) (position : ℕ × ℕ) → IsMarked state → on_map state.grid x y ≡ Some position → (object : ℕ) → is_in (cell_at state.grid position.0 position.1) object ≡ true → member state.level_marks object ≡ true
-level_has state x y position h e object has =
-    h.all y object (on_map_some state.grid x y position e).1 (row_has state x y y position h e refl object has)
-
--- what the cells that a place reaches have is in a set
-abbrev HasReached : LevelState → Dir → Place → List ℕ → Type 0
-HasReached state dir place marks = (steps : ℕ) (position : ℕ × ℕ) → along state.grid dir place.x place.y steps ≡ Some position → (object : ℕ) → is_in (cell_at state.grid position.0 position.1) object ≡ true → member marks object ≡ true
-
-reached_line : (state : LevelState) (dir : Dir) (place : Place) → IsMarked state → HasReached state dir place (marks_of state dir (line_of dir place))
-reached_line state dir place h steps position e = line_has state dir place steps position h e
-
-reached_level : (state : LevelState) (dir : Dir) (place : Place) → IsMarked state → HasReached state dir place state.level_marks
-reached_level state Right place h steps position e = level_has state (place.x + steps) place.y position h e
-reached_level state Left place h steps position e = level_has state (place.x - steps) place.y position h (if_some (nat_le steps place.x) (on_map state.grid (place.x - steps) place.y) position e)
-reached_level state Down place h steps position e = level_has state place.x (place.y + steps) position h e
-reached_level state Up place h steps position e = level_has state place.x (place.y - steps) position h (if_some (nat_le steps place.y) (on_map state.grid place.x (place.y - steps)) position e)
-reached_level state Action place h steps position e = cc
-
--- a cell of a row that names an object which isn't in the set doesn't hold
-cell_none : (state : LevelState) (row : RuleRow) (dir : Dir) (place : Place) (marks : List ℕ) (index : ℕ) (pattern : List Item) → HasReached state dir place marks → marks_cell marks pattern ≡ false → cell_holds state.grid row dir place (index, pattern) ≡ false
-cell_none state row dir place marks index pattern has e = by_position (position_of state.grid dir row.gap_at place index) refl where
-  by_position : (position : Option (ℕ × ℕ)) → position_of state.grid dir row.gap_at place index ≡ position → holds_at state.grid pattern position ≡ false
-  by_position None f = refl
-  by_position (Some position) f = unmarked_none (cell_at state.grid position.0 position.1) marks pattern (has (distance row.gap_at place.gap index) position f) e
-
-cells_none : (state : LevelState) (row : RuleRow) (dir : Dir) (place : Place) (marks : List ℕ) (n : ℕ) (cells : List (List Item)) → HasReached state dir place marks → list_all (marks_cell marks) cells ≡ false → list_all (cell_holds state.grid row dir place) (enumerate_from n cells) ≡ false
-cells_none state row dir place marks n [] has e = e
-cells_none state row dir place marks n (cell ∷ cells) has e = by_test (cells_none state row dir place marks (n + 1) cells has) (marks_cell marks cell) refl e where
-  by_test : (list_all (marks_cell marks) cells ≡ false → list_all (cell_holds state.grid row dir place) (enumerate_from (n + 1) cells) ≡ false) → (b : Bool) → marks_cell marks cell ≡ b → (b && list_all (marks_cell marks) cells) ≡ false → (cell_holds state.grid row dir place (n, cell) && list_all (cell_holds state.grid row dir place) (enumerate_from (n + 1) cells)) ≡ false
-  by_test rest true f g = ap (λ b. cell_holds state.grid row dir place (n, cell) && b) (rest g) ∙ and_no (cell_holds state.grid row dir place (n, cell))
-  by_test rest false f g = ap (λ b. b && list_all (cell_holds state.grid row dir place) (enumerate_from (n + 1) cells)) (cell_none state row dir place marks n cell has f)
+level_marked : (state : LevelState) (pattern : List Item) → IsMarked state → HoldsSomewhere state.grid pattern → marks_cell state.level_marks pattern ≡ true
+level_marked state pattern h f =
+    cell_marked (cell_at state.grid f.x f.y) state.level_marks pattern (λ object has. h.all f.y object f.y_in (h.rows f.y object f.y_in (in_row_from state.grid f.x f.y object f.x_in has))) f.holds
 
 -- no place starts in a line that isn't searched
-pub line_none : (state : LevelState) (row : RuleRow) (dir : Dir) (place : Place) → IsMarked state → searches_line state row dir (line_of dir place) ≡ false → row_holds state.grid row dir place ≡ false
-line_none state row dir place h e = cells_none state row dir place (marks_of state dir (line_of dir place)) 0 row.cells (reached_line state dir place h) e
-
-pub filter_none : {X : Type 0} (p : X → Bool) (xs : List X) → ((x : X) → p x ≡ false) → filter p xs ≡ []
-filter_none p [] h = refl
-filter_none p (x ∷ xs) h = ap (λ (b : Bool). cond b (x ∷ filter p xs) (filter p xs)) (h x) ∙ filter_none p xs h
+pub unsearched_nowhere : (state : LevelState) (row : RuleRow) (dir : Dir) (line : ℕ) → IsMarked state → searches_line state row dir line ≡ false → StartsNowhere state.grid row dir line
+unsearched_nowhere state row dir line h e =
+    line_nowhere state.grid row dir line (searches_line state row dir line) (λ all. list_all-from_AllPass (marks_cell (marks_of state dir line)) row.cells (λ k d within. line_marked state dir line (get_or row.cells k d) h (all k d within))) e
 
 -- no place is in a level that isn't searched
 pub places_none : (state : LevelState) (row : RuleRow) (dir : Dir) → IsMarked state → searches_level state row ≡ false → places state.grid row dir ≡ []
-places_none state row dir h e = filter_none (row_holds state.grid row dir) (pairs state.grid row dir) (λ place. cells_none state row dir place state.level_marks 0 row.cells (reached_level state dir place h) e)
+places_none state row dir h e =
+    nowhere_none state.grid row dir (searches_level state row) (λ all. list_all-from_AllPass (marks_cell state.level_marks) row.cells (λ k d within. level_marked state (get_or row.cells k d) h (all k d within))) e
 
 -- a line that is searched is admitted
 pub searched_admitted : (state : LevelState) (row : RuleRow) (dir : Dir) (line : ℕ) → searches_line state row dir line ≡ true → admits_line state row dir line ≡ true
@@ -134,10 +87,8 @@ searched_admitted state row dir line e = by_cells row.cells e where
   by_cells (first ∷ rest) f = (and_parts (marks_cell (marks_of state dir line) first) (list_all (marks_cell (marks_of state dir line)) rest) f).0
 
 pub admitted_none : (state : LevelState) (row : RuleRow) (dir : Dir) (place : Place) → IsMarked state → admits_line state row dir (line_of dir place) ≡ false → row_holds state.grid row dir place ≡ false
-admitted_none state row dir place h e = by_test (searches_line state row dir (line_of dir place)) refl where
-  by_test : (b : Bool) → searches_line state row dir (line_of dir place) ≡ b → row_holds state.grid row dir place ≡ false
-  by_test false f = line_none state row dir place h f
-  by_test true f = (let g : false ≡ true = sym e ∙ searched_admitted state row dir (line_of dir place) f in cc)
+admitted_none state row dir place h e =
+    unsearched_nowhere state row dir (line_of dir place) h (false_from_ne_true (searches_line state row dir (line_of dir place)) (λ f. absurd (let g : false ≡ true = sym e ∙ searched_admitted state row dir (line_of dir place) f in cc))) place refl
 
 line_of_place : (dir : Dir) (line start gap : ℕ) → line_of dir (place_in dir line start gap) ≡ line
 line_of_place Up line start gap = refl
@@ -155,9 +106,6 @@ gather_none {X} h none n = from 0 n where
 pub found_nowhere : (grid : Grid) (row : RuleRow) (dir : Dir) (line : ℕ) → StartsNowhere grid row dir line → found_in grid row dir line ≡ []
 found_nowhere grid row dir line none =
     sym (found_in_all grid row dir line) ∙ gather_none (found_at grid row dir line) (λ start. sym (found_at_all grid row dir line start) ∙ gather_none (found_with grid row dir line start) (λ n. ap (λ (b : Bool). cond b (place_in dir line start n ∷ []) []) (none (place_in dir line start n) (line_of_place dir line start n))) (gap_count grid row dir)) (line_length grid dir)
-
-pub unsearched_nowhere : (state : LevelState) (row : RuleRow) (dir : Dir) (line : ℕ) → IsMarked state → searches_line state row dir line ≡ false → StartsNowhere state.grid row dir line
-unsearched_nowhere state row dir line h e place at = line_none state row dir place h (ap (searches_line state row dir) at ∙ e)
 
 -- ---- the count
 any_none : {X : Type 0} (p q : X → Bool) (xs : List X) → ((x : X) → p x ≡ true → q x ≡ false) → list_any p (filter q xs) ≡ false
@@ -177,14 +125,6 @@ count_cons p x xs = sum_cons (λ y. let n : ℕ = cond (p y) 1 0 in n) x xs
 pub count_none : {X : Type 0} (p : X → Bool) (xs : List X) → ((x : X) → p x ≡ false) → count_by p xs ≡ 0
 count_none p [] h = refl
 count_none p (x ∷ xs) h = count_cons p x xs ∙ ap (λ (b : Bool). cond b 1 0 + count_by p xs) (h x) ∙ (let e : 0 + count_by p xs ≡ 0 = omega (arith, count_none p xs h) in e)
-
-sum_none : {X : Type 0} (f : X → ℕ) (xs : List X) → ((x : X) → f x ≡ 0) → sum_by f xs ≡ 0
-sum_none f [] h = refl
-sum_none f (x ∷ xs) h = sum_cons f x xs ∙ (let e : f x + sum_by f xs ≡ 0 = omega (arith, h x, sum_none f xs h) in e)
-
--- nothing starts where there is no place
-pub starts_of_none : (grid : Grid) (dir : Dir) → start_count grid dir [] ≡ 0
-starts_of_none grid dir = sum_none (starts_in dir [] (line_length grid dir)) (range_with_len 0 (line_count grid dir)) (λ line. count_none (λ (start : ℕ). list_any (starts_at dir line start) []) (range_with_len 0 (line_length grid dir)) (λ start. refl))
 
 -- a stricter test passes no more often
 count_fewer : {X : Type 0} (p q : X → Bool) (xs : List X) → ((x : X) → p x ≡ true → q x ≡ true) → count_by p xs ≤ count_by q xs

@@ -1,5 +1,5 @@
 -- Starts that are left out since the row's cells before its gap don't hold there.
-use Rattle.std.proofs.Common.{◌≡◌, ℕ, zero, suc, ◌+◌, ◌-◌, ◌<◌, ◌≤◌, List, [], ◌∷◌, ◌++◌, map, filter, Bool, true, false, Option, None, cond, arith, ap, sym, ◌∙◌, refl}
+use Rattle.std.proofs.Common.{◌≡◌, ℕ, zero, suc, ◌+◌, ◌-◌, ◌<◌, ◌≤◌, List, [], ◌∷◌, ◌++◌, map, filter, Bool, true, false, cond, arith, ap, sym, ◌∙◌, refl}
 use Rattle.std.specs.List.{range_with_len}
 use Rattle.std.proofs.lemmas.List.{append-nil}
 use Rattle.std.proofs.lemmas.Bool.{false_from_ne_true}
@@ -9,10 +9,10 @@ use Rattle.pz_game.specs.declared.pattern.Item.{Item}
 use Rattle.pz_game.specs.Pattern.{RuleRow}
 use Rattle.pz_sheet.specs.Grid.{Grid}
 use Rattle.pz_sheet.specs.Runs.{run_holds}
-use Rattle.pz_grid.specs.Places.{row_holds, place_in, gap_count, cells_before, head_of, starts_with}
+use Rattle.pz_grid.specs.Places.{row_holds, place_in, gap_count, head_of, starts_with}
 use Rattle.pz_grid.proofs.FoundLemmas.{found_at}
 use Rattle.pz_grid.proofs.GatherLemmas.{gather, gather_more}
-use Rattle.pz_grid.proofs.HeadLemmas.{row_is_run, head_from_row}
+use Rattle.pz_grid.proofs.HeadLemmas.{head_from_row}
 
 -- the start of a line is that of each place there
 pub starts_at : (grid : Grid) (dir : Dir) (line start gap : ℕ) (head : List (List Item)) → starts_with grid dir line head start ≡ run_holds grid dir (place_in dir line start gap).x (place_in dir line start gap).y head
@@ -24,14 +24,6 @@ starts_at grid Action line start gap head = refl
 
 row_fails : (grid : Grid) (row : RuleRow) (dir : Dir) (line start gap : ℕ) → starts_with grid dir line (head_of row) start ≡ false → row_holds grid row dir (place_in dir line start gap) ≡ false
 row_fails grid row dir line start gap e = false_from_ne_true (row_holds grid row dir (place_in dir line start gap)) (λ h. absurd (let f : false ≡ true = sym e ∙ starts_at grid dir line start gap (head_of row) ∙ head_from_row grid row dir (place_in dir line start gap) h in cc))
-
--- a row without a gap holds where its cells hold one after another
-pub row_starts : (grid : Grid) (row : RuleRow) (dir : Dir) (line start : ℕ) → row.gap_at ≡ None → starts_with grid dir line (head_of row) start ≡ true → row_holds grid row dir (place_in dir line start 0) ≡ true
-row_starts grid row dir line start none e =
-    let place = place_in dir line start 0 in
-    row_is_run grid row dir place none
-    ∙ ap (λ (gap_at : Option ℕ). run_holds grid dir place.x place.y (cells_before gap_at row.cells)) (sym none)
-    ∙ sym (starts_at grid dir line start 0 (head_of row)) ∙ e
 
 none_pass : {X Y : Type 0} (p : Y → Bool) (f : X → Y) (xs : List X) → ((x : X) → p (f x) ≡ false) → filter p (map f xs) ≡ []
 none_pass p f [] h = refl

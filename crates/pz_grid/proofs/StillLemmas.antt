@@ -7,7 +7,7 @@ use Rattle.pz_cells.specs.declared.piece.Piece.{Piece}
 use Rattle.pz_cells.specs.Cell.{still_piece, still_place}
 use Rattle.pz_sheet.specs.Grid.{Grid, cell_at, place_at}
 use Rattle.pz_sheet.specs.Movement.{AreStill, AreColumnsStill}
-use Rattle.pz_grid.specs.Movement.{Pass, Spot, spot, in_pass, heading_goal, moved_to, move_place, move_at, spots_at, spots_in, Stays}
+use Rattle.pz_grid.specs.Movement.{Pass, Spot, spot, in_pass, heading_goal, moved_to, move_place, move_at, spots_at, spots_in}
 use Rattle.pz_grid.proofs.GatherLemmas.{gather}
 use Rattle.pz_grid.proofs.MovementLemmas.{fold_gather_more}
 
@@ -22,16 +22,6 @@ stays pass at (Some piece) is =
     let same : piece ≡ still_piece piece.object = cc in
     let still : piece.heading ≡ None = ap (λ (it : Piece). it.heading) same in
     ap (λ (heading : Option Dir). moved_to pass at piece (heading_goal pass.grid at heading)) still
-
--- what is still, what isn't there, and what can't go on stay at their spot
-pub still_stays : (grid : Grid) (at : Spot) → place_at grid at.x at.y at.layer ≡ still_place (place_at grid at.x at.y at.layer) → Stays grid at
-still_stays grid at is = λ moved. stays (in_pass grid moved) at (place_at grid at.x at.y at.layer) is
-
-pub none_stays : (grid : Grid) (at : Spot) → place_at grid at.x at.y at.layer ≡ None → Stays grid at
-none_stays grid at none = λ moved. ap (move_place (in_pass grid moved) at) none
-
-pub blocked_stays : (grid : Grid) (at : Spot) (piece : Piece) → place_at grid at.x at.y at.layer ≡ Some piece → heading_goal grid at piece.heading ≡ None → Stays grid at
-blocked_stays grid at piece here blocked = λ moved. ap (move_place (in_pass grid moved) at) here ∙ ap (moved_to (in_pass grid moved) at piece) blocked
 
 pub all_stay : (grid : Grid) (moved : Bool) (x y : ℕ) (layers : List ℕ) → cell_at grid x y ≡ map still_place (cell_at grid x y)
     → fold move_at (in_pass grid moved) (map (spot x y) layers) ≡ in_pass grid moved

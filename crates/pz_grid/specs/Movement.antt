@@ -8,7 +8,7 @@ use Rattle.pz_game.specs.declared.direction.Dir.TheVariants.{Up, Down, Left, Rig
 use Rattle.pz_cells.specs.declared.piece.Piece.{Piece}
 use Rattle.pz_cells.specs.Cell.{IsOnLayer, still_piece}
 use Rattle.pz_sets.specs.declared.set.TheConstants.{CAPACITY}
-use Rattle.pz_sheet.specs.Grid.{Grid, place_at, with_place}
+use Rattle.pz_sheet.specs.Grid.{IsOnMap, Grid, place_at, with_place}
 use Rattle.pz_sheet.specs.Movement.{stilled}
 
 -- the next position in a direction, if it is on the map
@@ -72,8 +72,7 @@ Stays grid spot = (moved : Bool) → move_at (in_pass grid moved) spot ≡ in_pa
 pub record Leaves (grid : Grid) (spot : Spot) (piece : Piece) (goal : ℕ × ℕ) : Type 0 where
   pub there : place_at grid spot.x spot.y spot.layer ≡ Some piece
   pub goes : heading_goal grid spot piece.heading ≡ Some goal
-  pub x_in : goal.0 < grid.width
-  pub y_in : goal.1 < grid.height
+  pub on_map : IsOnMap grid goal.0 goal.1
   pub on_layer : IsOnLayer grid.layers spot.layer (Some piece)
   pub low : piece.object < CAPACITY
 

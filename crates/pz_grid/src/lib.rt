@@ -78,7 +78,6 @@ impl Level {
         ensures lawful { IsLawful self.now.grid }
         ensures marked { IsMarked self.now }
     {
-        let _ = &self.row_marks;
         self.bare.width()
     }
 
@@ -88,7 +87,6 @@ impl Level {
         ensures lawful { IsLawful self.now.grid }
         ensures marked { IsMarked self.now }
     {
-        let _ = &self.row_marks;
         self.bare.height()
     }
 

@@ -3,7 +3,7 @@
 ghost use Rattle.std.specs.Prelude.{◌≡◌, ℕ, ◌<◌, ◌&&◌, All, IfOk, IfErr, OnOk, OnErr, true, length, nat_eq, []};
 ghost use Rattle.pz_sets.specs.Sets.{member};
 ghost use Rattle.pz_sets.specs.declared.set.TheConstants.{CAPACITY};
-ghost use Rattle.pz_sheet.specs.Grid.{IsLawful};
+ghost use Rattle.pz_sheet.specs.Grid.{IsOnMap, IsLawful};
 ghost use Rattle.pz_sheet.specs.Presence.{in_row, in_column};
 ghost use Rattle.pz_game.specs.Items.{names, names_object};
 ghost use Rattle.pz_game.specs.Level.{is_playable, entry_at};
@@ -99,22 +99,20 @@ impl Level {
 
     /// Marks an object in the row and the column of a position.
     pub(crate) fn mark(&mut self, x: u32, y: u32, object: usize)
-        requires x_in { x < self.old.grid.width }
-        requires y_in { y < self.old.grid.height }
+        requires on_map { IsOnMap self.old.grid x y }
         requires low { object < CAPACITY }
         ensures grid { self.new.grid ≡ self.old.grid }
         ensures rows { IsMore self.old.row_marks self.new.row_marks y (nat_eq object) }
         ensures columns { IsMore self.old.column_marks self.new.column_marks x (nat_eq object) }
     {
-        self.row_marks[y as usize].insert(object);
-        self.column_marks[x as usize].insert(object);
+        mark_in(&mut self.row_marks, y, object);
+        mark_in(&mut self.column_marks, x, object);
         self.level_marks.insert(object);
     }
 
     /// Marks an item's object in the row and the column of a position, if the item names it as present.
     fn mark_item(&mut self, x: u32, y: u32, item: Item)
-        requires x_in { x < self.old.grid.width }
-        requires y_in { y < self.old.grid.height }
+        requires on_map { IsOnMap self.old.grid x y }
         requires low { item.object < CAPACITY }
         ensures grid { self.new.grid ≡ self.old.grid }
         ensures rows { IsMore self.old.row_marks self.new.row_marks y (λ object. names item.word && nat_eq item.object object) }
@@ -127,8 +125,7 @@ impl Level {
 
     /// Marks each object that a right cell of a rule places in the row and the column of a position.
     pub(crate) fn mark_placed(&mut self, x: u32, y: u32, right: &Pattern)
-        requires x_in { x < self.old.grid.width }
-        requires y_in { y < self.old.grid.height }
+        requires on_map { IsOnMap self.old.grid x y }
         requires low { All (λ item. item.object < CAPACITY) right.now }
         ensures grid { self.new.grid ≡ self.old.grid }
         ensures rows { IsMore self.old.row_marks self.new.row_marks y (λ object. names_object object right.now) }
@@ -138,6 +135,16 @@ impl Level {
             self.mark_item(x, y, *item);
         }
     }
+}
+
+/// Adds an object to the marks of a line.
+fn mark_in(marks: &mut Vec<NumberSet>, line: u32, object: usize)
+    requires line_in { line < length marks.old.items }
+    requires low { object < CAPACITY }
+    ensures count { length marks.new.items ≡ length marks.old.items }
+    ensures more { IsMore marks.old.items marks.new.items line (nat_eq object) }
+{
+    marks[line as usize].insert(object);
 }
 
 /// Sets the marks of each row to the objects that stand there.

@@ -2,7 +2,7 @@
 
 ghost use Rattle.std.specs.Prelude.{◌≡◌, ◌<◌, ◌≤◌, IfSome, MatchOption, fold, map, nat_eq, true};
 ghost use Rattle.pz_cells.specs.Cell.{IsOnLayer};
-ghost use Rattle.pz_sheet.specs.Grid.{IsLawful, IsOfGame, SameSize, place_at, with_place};
+ghost use Rattle.pz_sheet.specs.Grid.{IsOnMap, IsLawful, IsOfGame, SameSize, place_at, with_place};
 ghost use Rattle.pz_sheet.specs.Presence.{in_row, in_column};
 ghost use Rattle.pz_grid.specs.Marks.{IsMarked, IsMarkedAt, IsWidened};
 ghost use Rattle.pz_grid.specs.Staying.{IsMove};
@@ -31,10 +31,9 @@ pub fn resolve(game: &Game, level: &mut Level)
 
 /// The next position in a direction, if it is on the map. The action leads nowhere.
 fn neighbour<const N: usize>(sheet: &Sheet<N>, dir: Dir, x: u32, y: u32) -> Option<(u32, u32)>
-    requires x_in { x < sheet.now.grid.width }
-    requires y_in { y < sheet.now.grid.height }
+    requires on_map { IsOnMap sheet.now.grid x y }
     ensures next { result ≡ neighbour sheet.now.grid dir x y }
-    ensures on_map { IfSome result (λ next. (next.0 < sheet.now.grid.width) × (next.1 < sheet.now.grid.height)) }
+    ensures on_map { IfSome result (λ next. IsOnMap sheet.now.grid next.0 next.1) }
 {
     let (width, height) = (sheet.width(), sheet.height());
     match dir {
@@ -54,11 +53,10 @@ fn goal<const N: usize>(
     layer: usize,
     heading: Option<Dir>,
 ) -> Option<(u32, u32)>
-    requires x_in { x < sheet.now.grid.width }
-    requires y_in { y < sheet.now.grid.height }
+    requires on_map { IsOnMap sheet.now.grid x y }
     requires layer_in { layer < sheet.now.grid.depth }
     ensures goal { result ≡ heading_goal sheet.now.grid (spot x y layer) heading }
-    ensures on_map { IfSome result (λ next. (next.0 < sheet.now.grid.width) × (next.1 < sheet.now.grid.height)) }
+    ensures on_map { IfSome result (λ next. IsOnMap sheet.now.grid next.0 next.1) }
 {
     match heading {
         None => None,
@@ -79,8 +77,7 @@ fn leaving<const N: usize>(
     y: u32,
     layer: usize,
 ) -> Option<(Piece, (u32, u32))>
-    requires x_in { x < sheet.now.grid.width }
-    requires y_in { y < sheet.now.grid.height }
+    requires on_map { IsOnMap sheet.now.grid x y }
     requires layer_in { layer < sheet.now.grid.depth }
     ensures { MatchOption result (Stays sheet.now.grid (spot x y layer)) (λ leaves. Leaves sheet.now.grid (spot x y layer) leaves.0 leaves.1) }
 {
@@ -105,8 +102,7 @@ impl Level {
 
     /// The piece that leaves this layer of a position, and where it goes. `None`: nothing leaves.
     fn leaving(&self, x: u32, y: u32, layer: usize) -> Option<(Piece, (u32, u32))>
-        requires x_in { x < self.now.grid.width }
-        requires y_in { y < self.now.grid.height }
+        requires on_map { IsOnMap self.now.grid x y }
         requires layer_in { layer < self.now.grid.depth }
         ensures { MatchOption result (Stays self.now.grid (spot x y layer)) (λ leaves. Leaves self.now.grid (spot x y layer) leaves.0 leaves.1) }
     {
@@ -136,8 +132,7 @@ impl Level {
 
     /// Puts a piece, or nothing, on a layer of a position of the map. The piece's object must be marked there.
     fn put(&mut self, x: u32, y: u32, layer: usize, place: Option<Piece>)
-        requires x_in { x < self.old.grid.width }
-        requires y_in { y < self.old.grid.height }
+        requires on_map { IsOnMap self.old.grid x y }
         requires layer_in { layer < self.old.grid.depth }
         requires on_layer { IsOnLayer self.old.grid.layers layer place }
         requires marked { IfSome place (λ piece. IsMarkedAt self.old x y (nat_eq piece.object)) }
@@ -162,8 +157,7 @@ impl Level {
 
     /// Moves what stands on a layer of a position, if it can. True: something has moved in this pass, here or before.
     fn move_at(&mut self, x: u32, y: u32, layer: usize, moved: bool) -> bool
-        requires x_in { x < self.old.grid.width }
-        requires y_in { y < self.old.grid.height }
+        requires on_map { IsOnMap self.old.grid x y }
         requires layer_in { layer < self.old.grid.depth }
         ensures pass { in_pass self.new.grid result ≡ move_at (in_pass self.old.grid moved) (spot x y layer) }
         ensures size { SameSize self.old.grid self.new.grid }
@@ -181,8 +175,7 @@ impl Level {
     }
 
     fn pass_at(&mut self, x: u32, y: u32, moved_before: bool) -> bool
-        requires x_in { x < self.old.grid.width }
-        requires y_in { y < self.old.grid.height }
+        requires on_map { IsOnMap self.old.grid x y }
         ensures pass { in_pass self.new.grid result ≡ fold move_at (in_pass self.old.grid moved_before) (spots_at self.old.grid.depth x y) }
         ensures size { SameSize self.old.grid self.new.grid }
         ensures marks { IsMove self.old self.new }

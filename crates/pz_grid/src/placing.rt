@@ -7,6 +7,7 @@ ghost use Rattle.pz_game.specs.Pattern.{AreOf, IsRowOf, AreRowsOf};
 ghost use Rattle.pz_grid.specs.Admitted.{admitted, searches_line, starts_in, start_count};
 ghost use Rattle.pz_grid.specs.Places.{on_map, along, position_of, distance, cell_holds, row_holds, line_count, line_length, place_in, holds_behind, pairs_at, head_of, pairs_in, places, searched, starts_with, still_holds, still_matches};
 ghost use Rattle.pz_sets.specs.Next.{IsNext};
+ghost use Rattle.pz_sheet.specs.Grid.{IsOnMap, IsLawful};
 
 use crate::Level;
 use pz_bare::{AnySheet, BareLevel};
@@ -16,6 +17,7 @@ use pz_program::instance::Instance;
 use pz_sheet::Sheet;
 use pz_sheet::line::{self, Axis, Way, column, row};
 use std::alloc::Global;
+use std::marker::Model;
 
 /// The most places that a row may have.
 pub const MATCH_LIMIT: usize = 1_048_576;
@@ -35,6 +37,24 @@ struct Line {
     number: u32,
 }
 
+/// The places that a search has found so far, at most `MATCH_LIMIT`.
+#[derive(Drop)]
+struct Found {
+    places: Vec<Place>,
+}
+
+impl Model for Found {
+    ghost use Rattle.std.specs.Prelude.{◌≤◌, List, length};
+    ghost use Rattle.pz_grid.specs.declared.placing.TheConstants.{MATCH_LIMIT};
+    ghost use Rattle.pz_grid.specs.declared.placing.Place.{Place};
+
+    ghost Value = { List Place };
+
+    ghost view = { λ a. a.places.items };
+
+    ghost invariant = { λ a. length a.places.items ≤ MATCH_LIMIT };
+}
+
 /// Why a search has no answer: memory was refused, or the row has more places than `MATCH_LIMIT`.
 #[derive(Clone, Copy, Debug, PartialEq, Eq)]
 pub enum GridFault {
@@ -45,7 +65,7 @@ pub enum GridFault {
 impl Level {
     fn on_map(&self, x: usize, y: usize) -> Option<(u32, u32)>
         ensures position { result ≡ on_map self.now.grid x y }
-        ensures inside { IfSome result (λ at. (at.0 < self.now.grid.width) × (at.1 < self.now.grid.height)) }
+        ensures inside { IfSome result (λ at. IsOnMap self.now.grid at.0 at.1) }
     {
         if x < self.width() as usize && y < self.height() as usize {
             Some((x as u32, y as u32))
@@ -57,7 +77,7 @@ impl Level {
     fn along(&self, dir: Dir, x: u32, y: u32, steps: usize) -> Option<(u32, u32)>
         requires near { steps < 2 ^ 33 }
         ensures position { result ≡ along self.now.grid dir x y steps }
-        ensures inside { IfSome result (λ at. (at.0 < self.now.grid.width) × (at.1 < self.now.grid.height)) }
+        ensures inside { IfSome result (λ at. IsOnMap self.now.grid at.0 at.1) }
     {
         let x = x as usize;
         let y = y as usize;
@@ -149,16 +169,6 @@ fn row_holds(bare: &BareLevel, row: &Row, dir: Dir, place: Place) -> bool
         AnySheet::Small(sheet) => holds_in(sheet, row, dir, place),
         AnySheet::Middle(sheet) => holds_in(sheet, row, dir, place),
         AnySheet::Large(sheet) => holds_in(sheet, row, dir, place),
-    }
-}
-
-fn line_count(bare: &BareLevel, dir: Dir) -> u32
-    ensures value { result ≡ line_count bare.now.grid dir }
-    ensures small { result ≤ MAX_SIDE }
-{
-    match dir {
-        Dir::Up | Dir::Down => bare.width(),
-        Dir::Left | Dir::Right | Dir::Action => bare.height(),
     }
 }
 
@@ -262,10 +272,7 @@ fn tested_in<const N: usize>(sheet: &Sheet<N>, line: Line, head: &[Pattern]) -> 
     requires of_game { All (AreOf sheet.now.grid.layers) head.now }
     ensures low { count_by (starts_with sheet.now.grid line.dir line.number head.now) (range_with_len 0 (line_length sheet.now.grid line.dir)) ≤ result }
     ensures high { result ≤ line_length sheet.now.grid line.dir }
-    ensures short { result ≤ MAX_SIDE }
 {
-    // (brings the proof how short a line is)
-    let _ = line_length(sheet, line.dir);
     let number = line.number;
     match line.dir {
         Dir::Right => sheet.tested_in(row(number), Way::Ahead, head),
@@ -276,20 +283,28 @@ fn tested_in<const N: usize>(sheet: &Sheet<N>, line: Line, head: &[Pattern]) -> 
     }
 }
 
-/// Adds a place, unless there are `MATCH_LIMIT` already.
-fn add_found(place: Place, found: &mut Vec<Place>) -> Result<(), GridFault>
-    requires room { length found.old.items ≤ MATCH_LIMIT }
-    ensures added { OnOk result (found.new.items ≡ found.old.items ++ (place ∷ [])) }
-    ensures room { OnOk result (length found.new.items ≤ MATCH_LIMIT) }
-    ensures limit { result ≡ Err GridFault.MatchLimit → MATCH_LIMIT < length (found.old.items ++ (place ∷ [])) }
-{
-    if found.len() == MATCH_LIMIT {
-        return Err(GridFault::MatchLimit);
+impl Found {
+    /// Adds a place, unless there are `MATCH_LIMIT` already.
+    fn add(&mut self, place: Place) -> Result<(), GridFault>
+        ensures added { OnOk result (self.new ≡ self.old ++ (place ∷ [])) }
+        ensures limit { result ≡ Err GridFault.MatchLimit → MATCH_LIMIT < length (self.old ++ (place ∷ [])) }
+    {
+        if self.places.len() == MATCH_LIMIT {
+            return Err(GridFault::MatchLimit);
+        }
+        if self.places.push(place).is_err() {
+            return Err(GridFault::Memory);
+        }
+        Ok(())
     }
-    if found.push(place).is_err() {
-        return Err(GridFault::Memory);
+
+    /// All of them.
+    fn all(self) -> Vec<Place>
+        ensures all { result.items ≡ self }
+        ensures few { length result.items ≤ MATCH_LIMIT }
+    {
+        self.places
     }
-    Ok(())
 }
 
 /// Adds the place if the row holds there. The caller knows that its cells before the number `from` do.
@@ -299,17 +314,15 @@ fn add_place<const N: usize>(
     dir: Dir,
     place: Place,
     from: usize,
-    found: &mut Vec<Place>,
+    found: &mut Found,
 ) -> Result<(), GridFault>
     requires of_game { IsRowOf sheet.now.grid.layers row.now }
     requires begun { list_all (cell_holds sheet.now.grid row.now dir place) (take from (enumerate_from 0 row.now.cells)) ≡ true }
-    requires room { length found.old.items ≤ MATCH_LIMIT }
-    ensures added { OnOk result (found.new.items ≡ found.old.items ++ filter (row_holds sheet.now.grid row.now dir) (place ∷ [])) }
-    ensures room { OnOk result (length found.new.items ≤ MATCH_LIMIT) }
-    ensures limit { result ≡ Err GridFault.MatchLimit → MATCH_LIMIT < length (found.old.items ++ filter (row_holds sheet.now.grid row.now dir) (place ∷ [])) }
+    ensures added { OnOk result (found.new ≡ found.old ++ filter (row_holds sheet.now.grid row.now dir) (place ∷ [])) }
+    ensures limit { result ≡ Err GridFault.MatchLimit → MATCH_LIMIT < length (found.old ++ filter (row_holds sheet.now.grid row.now dir) (place ∷ [])) }
 {
     if spread_holds(sheet, row, dir, place, from) {
-        add_found(place, found)
+        found.add(place)
     } else {
         Ok(())
     }
@@ -324,9 +337,10 @@ fn next_gap<const N: usize>(
     at: u32,
     behind: &Pattern,
 ) -> Option<u32>
-    requires inside { (from.x < sheet.now.grid.width) × (from.y < sheet.now.grid.height) }
+    requires on_map { IsOnMap sheet.now.grid from.x from.y }
     requires of_game { AreOf sheet.now.grid.layers behind.now }
-    ensures { IsNext (holds_behind sheet.now.grid dir from.x from.y behind.now at) from.gap (line_length sheet.now.grid dir) result }
+    ensures next { IsNext (holds_behind sheet.now.grid dir from.x from.y behind.now at) from.gap (line_length sheet.now.grid dir) result }
+    ensures short { IfSome result (λ gap. gap < MAX_SIDE) }
 {
     let steps = at as usize + from.gap as usize;
     if steps >= line_length(sheet, dir) as usize {
@@ -391,20 +405,16 @@ fn add_places_with_gaps<const N: usize>(
     line: Line,
     start: u32,
     at: u32,
-    found: &mut Vec<Place>,
+    found: &mut Found,
 ) -> Result<(), GridFault>
     requires of_game { IsRowOf sheet.now.grid.layers row.now }
     requires line_in { line.number < line_count sheet.now.grid line.dir }
     requires start_in { start < line_length sheet.now.grid line.dir }
     requires gap_at { row.now.gap_at ≡ Some at }
     requires starts { starts_with sheet.now.grid line.dir line.number (head_of row.now) start ≡ true }
-    requires room { length found.old.items ≤ MATCH_LIMIT }
-    ensures added { OnOk result (found.new.items ≡ found.old.items ++ filter (row_holds sheet.now.grid row.now line.dir) (pairs_at sheet.now.grid row.now line.dir line.number start)) }
-    ensures room { OnOk result (length found.new.items ≤ MATCH_LIMIT) }
-    ensures limit { result ≡ Err GridFault.MatchLimit → MATCH_LIMIT < length (found.old.items ++ filter (row_holds sheet.now.grid row.now line.dir) (pairs_at sheet.now.grid row.now line.dir line.number start)) }
+    ensures added { OnOk result (found.new ≡ found.old ++ filter (row_holds sheet.now.grid row.now line.dir) (pairs_at sheet.now.grid row.now line.dir line.number start)) }
+    ensures limit { result ≡ Err GridFault.MatchLimit → MATCH_LIMIT < length (found.old ++ filter (row_holds sheet.now.grid row.now line.dir) (pairs_at sheet.now.grid row.now line.dir line.number start)) }
 {
-    // (brings the proof how short a line is)
-    let _ = line_length(sheet, line.dir);
     let behind = &row.cells()[at as usize];
     let mut from = 0;
     'gaps: while let Some(gap) = next_gap(
@@ -427,19 +437,17 @@ fn add_places_at<const N: usize>(
     row: &Row,
     line: Line,
     start: u32,
-    found: &mut Vec<Place>,
+    found: &mut Found,
 ) -> Result<(), GridFault>
     requires of_game { IsRowOf sheet.now.grid.layers row.now }
     requires line_in { line.number < line_count sheet.now.grid line.dir }
     requires start_in { start < line_length sheet.now.grid line.dir }
     requires starts { starts_with sheet.now.grid line.dir line.number (head_of row.now) start ≡ true }
-    requires room { length found.old.items ≤ MATCH_LIMIT }
-    ensures added { OnOk result (found.new.items ≡ found.old.items ++ filter (row_holds sheet.now.grid row.now line.dir) (pairs_at sheet.now.grid row.now line.dir line.number start)) }
-    ensures room { OnOk result (length found.new.items ≤ MATCH_LIMIT) }
-    ensures limit { result ≡ Err GridFault.MatchLimit → MATCH_LIMIT < length (found.old.items ++ filter (row_holds sheet.now.grid row.now line.dir) (pairs_at sheet.now.grid row.now line.dir line.number start)) }
+    ensures added { OnOk result (found.new ≡ found.old ++ filter (row_holds sheet.now.grid row.now line.dir) (pairs_at sheet.now.grid row.now line.dir line.number start)) }
+    ensures limit { result ≡ Err GridFault.MatchLimit → MATCH_LIMIT < length (found.old ++ filter (row_holds sheet.now.grid row.now line.dir) (pairs_at sheet.now.grid row.now line.dir line.number start)) }
 {
     match row.gap_at() {
-        None => add_found(place_in(line, start, 0), found),
+        None => found.add(place_in(line, start, 0)),
         Some(at) => add_places_with_gaps(sheet, row, line, start, at, found),
     }
 }
@@ -449,14 +457,12 @@ fn add_places_in<const N: usize>(
     sheet: &Sheet<N>,
     row: &Row,
     line: Line,
-    found: &mut Vec<Place>,
+    found: &mut Found,
 ) -> Result<(), GridFault>
     requires of_game { IsRowOf sheet.now.grid.layers row.now }
     requires line_in { line.number < line_count sheet.now.grid line.dir }
-    requires room { length found.old.items ≤ MATCH_LIMIT }
-    ensures added { OnOk result (found.new.items ≡ found.old.items ++ filter (row_holds sheet.now.grid row.now line.dir) (pairs_in sheet.now.grid row.now line.dir line.number)) }
-    ensures room { OnOk result (length found.new.items ≤ MATCH_LIMIT) }
-    ensures limit { result ≡ Err GridFault.MatchLimit → MATCH_LIMIT < length (found.old.items ++ filter (row_holds sheet.now.grid row.now line.dir) (pairs_in sheet.now.grid row.now line.dir line.number)) }
+    ensures added { OnOk result (found.new ≡ found.old ++ filter (row_holds sheet.now.grid row.now line.dir) (pairs_in sheet.now.grid row.now line.dir line.number)) }
+    ensures limit { result ≡ Err GridFault.MatchLimit → MATCH_LIMIT < length (found.old ++ filter (row_holds sheet.now.grid row.now line.dir) (pairs_in sheet.now.grid row.now line.dir line.number)) }
 {
     // (brings the proof how short a line is)
     let _ = line_length(sheet, line.dir);
@@ -469,49 +475,25 @@ fn add_places_in<const N: usize>(
     Ok(())
 }
 
-/// Adds the places that start in a line of a level, whatever the size of its sheet.
-fn search_line(
-    bare: &BareLevel,
-    row: &Row,
-    line: Line,
-    found: &mut Vec<Place>,
-) -> Result<(), GridFault>
-    requires of_game { IsRowOf bare.now.grid.layers row.now }
-    requires line_in { line.number < line_count bare.now.grid line.dir }
-    requires room { length found.old.items ≤ MATCH_LIMIT }
-    ensures added { OnOk result (found.new.items ≡ found.old.items ++ filter (row_holds bare.now.grid row.now line.dir) (pairs_in bare.now.grid row.now line.dir line.number)) }
-    ensures room { OnOk result (length found.new.items ≤ MATCH_LIMIT) }
-    ensures limit { result ≡ Err GridFault.MatchLimit → MATCH_LIMIT < length (found.old.items ++ filter (row_holds bare.now.grid row.now line.dir) (pairs_in bare.now.grid row.now line.dir line.number)) }
+/// In how many cells of a line the search tests whether a row starts there, if it doesn't skip the line.
+fn tested_for<const N: usize>(sheet: &Sheet<N>, row: &Row, line: Line) -> u32
+    requires of_game { IsRowOf sheet.now.grid.layers row.now }
+    requires line_in { line.number < line_count sheet.now.grid line.dir }
+    ensures low { starts_in line.dir (places sheet.now.grid row.now line.dir) (line_length sheet.now.grid line.dir) line.number ≤ result }
+    ensures high { result ≤ line_length sheet.now.grid line.dir }
 {
-    match bare.sheet() {
-        AnySheet::Small(sheet) => add_places_in(sheet, row, line, found),
-        AnySheet::Middle(sheet) => add_places_in(sheet, row, line, found),
-        AnySheet::Large(sheet) => add_places_in(sheet, row, line, found),
-    }
-}
-
-/// How many cells of a line the search tests for a row, if it doesn't skip the line.
-fn tested_for(bare: &BareLevel, row: &Row, line: Line) -> u32
-    requires of_game { IsRowOf bare.now.grid.layers row.now }
-    requires line_in { line.number < line_count bare.now.grid line.dir }
-    ensures low { starts_in line.dir (places bare.now.grid row.now line.dir) (line_length bare.now.grid line.dir) line.number ≤ result }
-    ensures high { result ≤ line_length bare.now.grid line.dir }
-    ensures short { result ≤ MAX_SIDE }
-{
-    let head = head_of(row);
-    match bare.sheet() {
-        AnySheet::Small(sheet) => tested_in(sheet, line, head),
-        AnySheet::Middle(sheet) => tested_in(sheet, line, head),
-        AnySheet::Large(sheet) => tested_in(sheet, line, head),
-    }
+    tested_in(sheet, line, head_of(row))
 }
 
 impl Level {
     fn line_count(&self, dir: Dir) -> u32
         ensures value { result ≡ line_count self.now.grid dir }
-        ensures small { result ≤ MAX_SIDE }
+        ensures lawful { IsLawful self.now.grid }
     {
-        line_count(&self.bare, dir)
+        match dir {
+            Dir::Up | Dir::Down => self.width(),
+            Dir::Left | Dir::Right | Dir::Action => self.height(),
+        }
     }
 
     /// Adds the places that start in a line. A line that can't have one is skipped.
@@ -520,20 +502,21 @@ impl Level {
         row: &Row,
         dir: Dir,
         line: u32,
-        found: &mut Vec<Place>,
+        found: &mut Found,
     ) -> Result<(), GridFault>
         requires of_game { IsRowOf self.now.grid.layers row.now }
         requires line_in { line < line_count self.now.grid dir }
-        requires room { length found.old.items ≤ MATCH_LIMIT }
-        ensures added { OnOk result (found.new.items ≡ found.old.items ++ filter (row_holds self.now.grid row.now dir) (pairs_in self.now.grid row.now dir line)) }
-        ensures room { OnOk result (length found.new.items ≤ MATCH_LIMIT) }
-        ensures limit { result ≡ Err GridFault.MatchLimit → MATCH_LIMIT < length (found.old.items ++ filter (row_holds self.now.grid row.now dir) (pairs_in self.now.grid row.now dir line)) }
+        ensures added { OnOk result (found.new ≡ found.old ++ filter (row_holds self.now.grid row.now dir) (pairs_in self.now.grid row.now dir line)) }
+        ensures limit { result ≡ Err GridFault.MatchLimit → MATCH_LIMIT < length (found.old ++ filter (row_holds self.now.grid row.now dir) (pairs_in self.now.grid row.now dir line)) }
     {
-        let _ = &self.bare;
-        if self.may_start(row, dir, line) {
-            search_line(&self.bare, row, Line { dir, number: line }, found)
-        } else {
-            Ok(())
+        if !self.may_start(row, dir, line) {
+            return Ok(());
+        }
+        let line = Line { dir, number: line };
+        match self.bare().sheet() {
+            AnySheet::Small(sheet) => add_places_in(sheet, row, line, found),
+            AnySheet::Middle(sheet) => add_places_in(sheet, row, line, found),
+            AnySheet::Large(sheet) => add_places_in(sheet, row, line, found),
         }
     }
 
@@ -543,13 +526,16 @@ impl Level {
         requires line_in { line < line_count self.now.grid dir }
         ensures low { starts_in dir (places self.now.grid row.now dir) (line_length self.now.grid dir) line ≤ result }
         ensures high { result ≤ cond (searches_line self.now row.now dir line) (line_length self.now.grid dir) 0 }
-        ensures short { result ≤ MAX_SIDE }
+        ensures short { result ≤ line_length self.now.grid dir }
     {
-        let _ = &self.bare;
-        if self.may_start(row, dir, line) {
-            tested_for(&self.bare, row, Line { dir, number: line })
-        } else {
-            0
+        if !self.may_start(row, dir, line) {
+            return 0;
+        }
+        let line = Line { dir, number: line };
+        match self.bare().sheet() {
+            AnySheet::Small(sheet) => tested_for(sheet, row, line),
+            AnySheet::Middle(sheet) => tested_for(sheet, row, line),
+            AnySheet::Large(sheet) => tested_for(sheet, row, line),
         }
     }
 
@@ -559,8 +545,6 @@ impl Level {
         ensures low { start_count self.now.grid dir (places self.now.grid row.now dir) ≤ result }
         ensures high { result ≤ admitted self.now row.now dir * line_length self.now.grid dir }
     {
-        // (brings the proof the law of levels)
-        let _ = self.width();
         let mut tested = 0;
         for line in 0..self.line_count(dir) {
             tested += self.tested(row, dir, line) as u64;
@@ -577,16 +561,16 @@ pub fn places(alloc: Global, level: &Level, row: &Row, dir: Dir) -> Result<Vec<P
     ensures found { IfOk result (λ found. searched level.now.grid row.now dir ≡ Ok found.items) }
     ensures fault { IfErr result (λ fault. fault ≢ GridFault.Memory → searched level.now.grid row.now dir ≡ Err fault) }
 {
-    // (brings the proof the law of levels)
-    let _ = level.width();
-    let mut found = Vec::new(alloc);
     if !level.is_searched_for(row) {
-        return Ok(found);
+        return Ok(Vec::new(alloc));
     }
+    let mut found = Found {
+        places: Vec::new(alloc),
+    };
     for line in 0..level.line_count(dir) {
         level.add_searched(row, dir, line, &mut found)?;
     }
-    Ok(found)
+    Ok(found.all())
 }
 
 /// The places of a row as `places` gives them, and how many cells a search tests as starts of the row. It tests only lines that `admitted`

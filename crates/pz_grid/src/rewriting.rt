@@ -3,7 +3,7 @@
 ghost use Rattle.std.specs.Prelude.{false, ◌≡◌, ◌<◌, ◌^◌, IfSome};
 ghost use Rattle.pz_program.specs.Instance.{IsInstanceOf};
 ghost use Rattle.pz_game.specs.Pattern.{AreOf, IsRowOf, AreRowsOf};
-ghost use Rattle.pz_sheet.specs.Grid.{IsLawful, IsOfGame, SameSize};
+ghost use Rattle.pz_sheet.specs.Grid.{IsOnMap, IsLawful, IsOfGame, SameSize};
 ghost use Rattle.pz_grid.specs.Marks.{IsMarked, IsMarkedAt, IsWidenedBy, row_places, places_object};
 ghost use Rattle.pz_game.specs.Items.{names_object};
 ghost use Rattle.pz_sheet.specs.Rewriting.{with_rewritten, changes};
@@ -19,8 +19,7 @@ use pz_program::instance::Instance;
 impl Level {
     /// Rewrites the cell at a position, and says whether the cell changed. What the right places must be marked there.
     fn rewrite_marked(&mut self, x: u32, y: u32, left: &Pattern, right: &Pattern) -> bool
-        requires x_in { x < self.old.grid.width }
-        requires y_in { y < self.old.grid.height }
+        requires on_map { IsOnMap self.old.grid x y }
         requires left_of { AreOf self.old.grid.layers left.now }
         requires right_of { AreOf self.old.grid.layers right.now }
         requires marked { IsMarkedAt self.old x y (λ object. names_object object right.now) }
@@ -34,8 +33,7 @@ impl Level {
 
     /// Rewrites the cell at a position, and says whether the cell changed.
     fn rewrite_position(&mut self, x: u32, y: u32, left: &Pattern, right: &Pattern) -> bool
-        requires x_in { x < self.old.grid.width }
-        requires y_in { y < self.old.grid.height }
+        requires on_map { IsOnMap self.old.grid x y }
         requires left_of { AreOf self.old.grid.layers left.now }
         requires right_of { AreOf self.old.grid.layers right.now }
         ensures level { self.new.grid ≡ with_rewritten self.old.grid x y left.now right.now }
@@ -56,7 +54,7 @@ impl Level {
         position: Option<(u32, u32)>,
         changed: bool,
     ) -> bool
-        requires inside { IfSome position (λ at. (at.0 < self.old.grid.width) × (at.1 < self.old.grid.height)) }
+        requires on_map { IfSome position (λ at. IsOnMap self.old.grid at.0 at.1) }
         requires left_of { AreOf self.old.grid.layers left.now }
         requires right_of { AreOf self.old.grid.layers right.now }
         ensures rewritten { in_rewrite self.new.grid result ≡ rewritten_at (in_rewrite self.old.grid changed) left.now right.now position }

@@ -1,6 +1,7 @@
 -- The segments of a group, run one after another, give what its instances give.
-use Rattle.std.proofs.Common.{◌≡◌, ℕ, zero, suc, Result, Ok, Err, List, [], ◌∷◌, ◌++◌, Bool, true, false, cond, ◌||◌, inl, inr, Option, Some, None, fold, get_or, refl, ap, sym, subst, ◌∙◌}
+use Rattle.std.proofs.Common.{◌≡◌, ℕ, zero, suc, Result, Ok, Err, List, [], ◌∷◌, ◌++◌, Bool, false, cond, ◌||◌, inl, inr, Option, Some, None, fold, get_or, refl, ap, sym, subst, ◌∙◌}
 use Rattle.std.specs.List.{All, flat_map, find, range_with_len}
+use Rattle.std.proofs.Math.Bool.{or_assoc, or-false}
 use Rattle.std.proofs.lemmas.List.Elements.{All-nil, All-cons, All-head, All-tail}
 use Rattle.std.proofs.lemmas.List.Sums.{fold-append}
 use Rattle.pz_program.specs.declared.commands.Commands.{Commands}
@@ -39,25 +40,17 @@ all_in_each {X} P (xs ∷ xss) all =
     All-cons (All P) xs xss (all_left P xs rest all) (all_in_each P xss (all_right P xs rest all))
 
 -- ---- outcomes one after another
-or_three : (a b c : Bool) → ((a || b) || c) ≡ (a || (b || c))
-or_three true b c = refl
-or_three false b c = refl
-
-or_none : (a : Bool) → (a || false) ≡ a
-or_none true = refl
-or_none false = refl
-
 joined_twice : {L : Type 0} (first second : Outcome L) (third : Result (Outcome L) StepFault)
     → joined (record { level = second.level; commands = either first.commands second.commands; changed = first.changed || second.changed }) third ≡ joined first (joined second third)
 joined_twice first second (Err fault) = refl
 joined_twice first second (Ok third) =
     ap (λ (commands : Commands). Ok (record { level = third.level; commands = commands; changed = (first.changed || second.changed) || third.changed })) (either_assoc first.commands second.commands third.commands)
-    ∙ ap (λ (changed : Bool). Ok (record { level = third.level; commands = either first.commands (either second.commands third.commands); changed = changed })) (or_three first.changed second.changed third.changed)
+    ∙ ap (λ (changed : Bool). Ok (record { level = third.level; commands = either first.commands (either second.commands third.commands); changed = changed })) (or_assoc first.changed second.changed third.changed)
 
 joined_none : {L : Type 0} (o : Outcome L) → joined o (Ok (untouched o.level)) ≡ Ok o
 joined_none o =
     ap (λ (commands : Commands). Ok (record { level = o.level; commands = commands; changed = o.changed || false })) (either_comm o.commands no_commands)
-    ∙ ap (λ (changed : Bool). Ok (record { level = o.level; commands = o.commands; changed = changed })) (or_none o.changed)
+    ∙ ap (λ (changed : Bool). Ok (record { level = o.level; commands = o.commands; changed = changed })) (or-false o.changed)
 
 joined_follow : {L : Type 0} (o : Outcome L) (a : Result (Outcome L) StepFault) (run : Runs L) → followed_by (joined o a) run ≡ joined o (followed_by a run)
 joined_follow o (Err fault) run = refl

@@ -1,7 +1,8 @@
 -- What has not changed is as it was.
-use Rattle.std.proofs.Common.{◌≡◌, ℕ, ◌+◌, ◌*◌, List, [], ◌∷◌, Option, Some, None, Bool, true, false, ◌||◌, not, cond, set, fold, Result, Ok, Err, refl, ap, sym, ◌∙◌}
+use Rattle.std.proofs.Common.{◌≡◌, ℕ, ◌+◌, ◌*◌, List, [], ◌∷◌, Option, Some, None, Bool, true, false, not, cond, set, fold, Result, Ok, Err, refl, ap, sym, ◌∙◌}
 use Rattle.std.specs.Prelude.{IfOk}
 use Rattle.std.specs.List.{enumerate_from, zip, find, range_with_len}
+use Rattle.std.proofs.lemmas.Bool.{not-false, not-true, or_parts}
 use Rattle.std.proofs.lemmas.List.{set-get_or}
 use Rattle.pz_turn.specs.declared.outcome.StepFault.TheVariants.{MatchLimit}
 use Rattle.pz_game.specs.declared.direction.Dir.{Dir}
@@ -24,14 +25,6 @@ use Rattle.pz_turn.specs.Instance.{taken, applied_at, given, outcome_of, applied
 use Rattle.pz_turn.specs.Rest.{pass_of, passes, ends, ends_after, is_last, up_to, rest_of, rests}
 use Rattle.pz_turn.proofs.Passes.{fold_stopped}
 
-neither : (a b : Bool) → (a || b) ≡ false → (a ≡ false) × (b ≡ false)
-neither true b h = cc
-neither false b h = (refl, h)
-
-pub is_true : (b : Bool) → not b ≡ false → b ≡ true
-is_true true h = refl
-is_true false h = cc
-
 -- if nothing has changed at the end, nothing had at the start, and the level is the same
 abbrev pub Kept : Rewriting → Rewriting → Type 0
 Kept start end = end.changed ≡ false → (start.changed ≡ false) × (end.grid ≡ start.grid)
@@ -42,8 +35,8 @@ kept_at so_far left right (Some (x, y)) = λ h.
     let grid = so_far.grid in
     let i = y * grid.width + x in
     let new = rewritten_cell left right (cell_at grid x y) in
-    let both = neither so_far.changed (not (same_cell new (cell_at grid x y))) h in
-    let same : new ≡ cell_at grid x y = same_cell_is new (cell_at grid x y) (is_true (same_cell new (cell_at grid x y)) both.1) in
+    let both = or_parts so_far.changed (not (same_cell new (cell_at grid x y))) h in
+    let same : new ≡ cell_at grid x y = same_cell_is new (cell_at grid x y) (not-false (same_cell new (cell_at grid x y)) both.1) in
     let put : List (List (Option Piece)) → Grid = λ cells. record grid { cells = cells } in
     (both.0, ap (λ cell. put (set grid.cells i cell)) same ∙ ap put (set-get_or grid.cells i []))
 
@@ -101,7 +94,7 @@ fold_leaves (instance ∷ group) first o e h = by_run (λ next q. fold_leaves gr
   by_run rest (Err fault) is q = let stop = sym (fold_stopped applied fault group) ∙ q in cc
   by_run rest (Ok second) is q =
       let later = rest _ q in
-      let both = neither first.changed second.changed later.0 in
+      let both = or_parts first.changed second.changed later.0 in
       (both.0, later.1 ∙ applied_leaves instance first.level second is both.1)
 
 pub pass_leaves : (group : List Instance) (grid : Grid) → Leaves grid (pass_of applied group grid)
@@ -119,10 +112,6 @@ find_passes p (x ∷ xs) n e = by_test (find_passes p xs n) (p x) refl e where
   by_test rest true is q = let same : x ≡ n = cc in ap p (sym same) ∙ is
   by_test rest false is q = rest q
 
-pub not_from : (b : Bool) → not b ≡ true → b ≡ false
-not_from true h = cc
-not_from false h = refl
-
 abbrev level_or : Grid → Result (Outcome Grid) StepFault → Grid
 level_or grid (Err fault) = grid
 level_or grid (Ok p) = p.level
@@ -135,7 +124,7 @@ rest_rests limit group grid o e = by_found (find (is_last (pass_of applied group
   by_last before (Err fault) is h q = cc
   by_last before (Ok last) is h q =
       let level : o.level ≡ last.level = sym (ap (level_or grid) q) in
-      let same : last.level ≡ before.level = pass_leaves group before.level last is (not_from last.changed h) in
+      let same : last.level ≡ before.level = pass_leaves group before.level last is (not-true last.changed h) in
       ap (λ g. rests (pass_of applied group g)) (level ∙ same) ∙ ap rests is ∙ h
 
   by_before : (r : Result (Outcome Grid) StepFault) → ends_after (pass_of applied group) r ≡ true → followed_by r (pass_of applied group) ≡ Ok o → rests (pass_of applied group o.level) ≡ true

@@ -1,6 +1,5 @@
 //! Loops of groups, run to rest.
 
-ghost use Rattle.std.specs.Prelude.{Ok};
 ghost use Rattle.pz_program.specs.Instance.{AreGroupsOf};
 ghost use Rattle.pz_sheet.specs.Grid.{IsLawful, IsOfGame, SameSize};
 ghost use Rattle.pz_turn.specs.Instance.{applied};
@@ -8,7 +7,7 @@ ghost use Rattle.pz_turn.specs.Outcome.{GivesBoth};
 ghost use Rattle.pz_turn.specs.Rest.{pass_of, rest_of, group_runs};
 
 use crate::outcome::StepFault;
-use crate::resting::{PASSES, to_rest};
+use crate::resting::{PASSES, as_pair, to_rest};
 use pz_game::game::Game;
 use pz_grid::Level;
 use pz_program::commands::Commands;
@@ -30,10 +29,5 @@ pub fn rest_loop(
     ensures lawful { IsLawful level.new.grid }
 {
     let given = to_rest(alloc, level, groups.items());
-    // (brings the proof the law of levels)
-    let _ = level.width();
-    match given {
-        Ok(given) => Ok((given.commands, given.changed)),
-        Err(fault) => Err(fault),
-    }
+    as_pair(given, level)
 }

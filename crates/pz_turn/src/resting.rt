@@ -1,12 +1,13 @@
 //! Groups of instances, run to rest: passes repeat up to the first that changes nothing.
 
-ghost use Rattle.std.specs.Prelude.{◌≡◌, ◌≢◌, Ok, Err, IfOk, IfErr, All, take, cond, true, false};
+ghost use Rattle.std.specs.Prelude.{◌≡◌, ◌≢◌, Result, Ok, Err, IfOk, IfErr, All, take, cond, true, false};
 ghost use Rattle.pz_program.specs.Instance.{IsGroupOf};
-ghost use Rattle.pz_sheet.specs.Grid.{IsLawful, IsOfGame, SameSize};
+ghost use Rattle.pz_sheet.specs.Grid.{Grid, IsLawful, IsOfGame, SameSize};
 ghost use Rattle.pz_turn.specs.Calm.{AreCalmFrom};
 ghost use Rattle.pz_turn.specs.Instance.{applied};
-ghost use Rattle.pz_turn.specs.Outcome.{GivesOutcome, GivesBoth};
+ghost use Rattle.pz_turn.specs.Outcome.{Outcome, GivesOutcome, GivesBoth};
 ghost use Rattle.pz_turn.specs.Rest.{pass_of, rest_of};
+ghost use Rattle.pz_turn.specs.declared.outcome.StepFault.{StepFault};
 ghost use Rattle.pz_turn.specs.declared.outcome.StepFault.TheVariants.{Memory};
 
 use crate::group::rest_group;
@@ -120,6 +121,22 @@ pub(crate) fn to_rest<T: Runnable>(
     Err(StepFault::LoopLimit)
 }
 
+/// What a run gave as a pair, as callers outside see it.
+pub(crate) fn as_pair(
+    given: Result<Given, StepFault>,
+    level: &Level,
+) -> Result<(Commands, bool), StepFault>
+    ensures both { (outcome : Result (Outcome Grid) StepFault) → GivesOutcome outcome level.now.grid given → GivesBoth outcome level.now.grid result }
+    ensures lawful { IsLawful level.now.grid }
+{
+    // (brings the proof the law of levels)
+    let _ = level.width();
+    match given {
+        Ok(given) => Ok((given.commands, given.changed)),
+        Err(fault) => Err(fault),
+    }
+}
+
 /// Runs a group to rest: passes over its instances repeat up to the first that changes nothing. The result has the commands given in any
 /// pass, and whether a pass changed something. `LoopLimit`: the 200th pass still changed something. `MatchLimit`: a row has too many
 /// places, or an instance too many combinations. After a fault the level is lawful, but its contents are unspecified.
@@ -136,10 +153,5 @@ pub fn rest(
     ensures lawful { IsLawful level.new.grid }
 {
     let given = rest_group(alloc, level, group);
-    // (brings the proof the law of levels)
-    let _ = level.width();
-    match given {
-        Ok(given) => Ok((given.commands, given.changed)),
-        Err(fault) => Err(fault),
-    }
+    as_pair(given, level)
 }

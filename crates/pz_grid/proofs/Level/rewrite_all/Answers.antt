@@ -1,4 +1,4 @@
-use Rattle.std.proofs.Common.{◌≤◌, ◌≡◌, List, length, get_or, arith, ap, sym, ◌∙◌, min, subst}
+use Rattle.std.proofs.Common.{◌≤◌, ◌≡◌, List, length, get_or, arith, ap, sym, ◌∙◌, min}
 use Rattle.std.specs.Prelude.{fold}
 use Rattle.std.specs.List.{zip}
 use Rattle.std.proofs.lemmas.List.Folds.{list_any_at}
@@ -7,7 +7,7 @@ use Rattle.std.proofs.lemmas.Slice.Zip.{length-zip}
 use Rattle.pz_game.specs.Pattern.{RuleRow}
 use Rattle.pz_grid.specs.declared.placing.Place.{Place}
 use Rattle.pz_grid.specs.Rewriting.{Rewriting, in_rewrite, rewritten_row}
-use Rattle.pz_grid.specs.Marks.{IsWidenedBy, places_object, row_places}
+use Rattle.pz_grid.specs.Marks.{places_object, row_places}
 use Rattle.pz_grid.proofs.MoveLemmas.{widened_on}
 use Rattle.pz_grid.proofs.MovementLemmas.{same_size_on}
 use Rattle.pz_grid.proofs.FoldLemmas.{zip_at, fold_zip_more, fold_zip_all}
@@ -46,7 +46,3 @@ returns-clause-rewritten c =
     ∙ fold_zip_all f start c.args.places.now (zip lefts rights) c.loop-index.index past
     ∙ ap (λ l. run l rights) c.items-left.ensures
     ∙ ap (run c.args.instance.now.left) c.items-right.ensures
-
-pub returns-clause-marks : goal.returns-clause-marks
-returns-clause-marks c =
-    subst (λ (rows : List RuleRow). IsWidenedBy c.args.self.now c.loop-index.self (places_object rows)) c.items-right.ensures c.loop-index.invariant.marks

@@ -1,11 +1,10 @@
-use Rattle.std.proofs.Common.{ℕ, ◌≤◌, List, length, arith, ap, sym, ◌∙◌, min, subst}
+use Rattle.std.proofs.Common.{ℕ, ◌≤◌, List, length, arith, ap, sym, ◌∙◌, min}
 use Rattle.std.specs.Prelude.{fold, Option}
 use Rattle.std.specs.List.{enumerate_from, zip, list_any}
 use Rattle.std.proofs.lemmas.List.Folds.{list_any_at}
 use Rattle.pz_game.specs.declared.pattern.Item.{Item}
 use Rattle.pz_grid.specs.Rewriting.{Rewriting, in_rewrite, rewritten_along}
 use Rattle.pz_game.specs.Items.{names_object}
-use Rattle.pz_grid.specs.Marks.{IsWidenedBy}
 use Rattle.pz_grid.proofs.MoveLemmas.{widened_on}
 use Rattle.pz_grid.proofs.MovementLemmas.{same_size_on}
 use Rattle.pz_grid.proofs.FoldLemmas.{fold_numbered_more, fold_numbered_all}
@@ -34,7 +33,3 @@ returns-clause-rewritten c =
     ∙ ap (λ g. run g c.cells-left.result.now c.cells-right.result.now) c.gap_at-gap_at.ensures
     ∙ ap (λ l. run c.args.left.now.gap_at l c.cells-right.result.now) c.cells-left.ensures.cells
     ∙ ap (run c.args.left.now.gap_at c.args.left.now.cells) c.cells-right.ensures.cells
-
-pub returns-clause-marks : goal.returns-clause-marks
-returns-clause-marks c =
-    subst (λ (cells : List (List Item)). IsWidenedBy c.args.self.now c.loop-index.self (λ object. list_any (names_object object) cells)) c.cells-right.ensures.cells c.loop-index.invariant.marks

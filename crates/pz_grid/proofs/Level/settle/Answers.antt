@@ -28,8 +28,5 @@ returns-clause-settled c =
     let done : (pass_of c.loop.self.grid).moved ≡ false = sym (ap (λ (p : Pass). p.moved) e) ∙ c.if-not-pass.true in
     ap (λ (p : Pass). p.grid) e ∙ sym (settle_done c.loop.self.grid done) ∙ c.loop.invariant.settles
 
-pub returns-clause-size : goal.returns-clause-size
-returns-clause-size c = same_size_on _ _ _ c.loop.invariant.size c.pass.ensures.size
-
 pub returns-clause-marks : goal.returns-clause-marks
 returns-clause-marks c = moves_on _ _ _ c.loop.invariant.marks c.pass.ensures.marks

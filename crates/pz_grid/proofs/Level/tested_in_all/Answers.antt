@@ -1,7 +1,7 @@
 use Rattle.std.proofs.Common.{ℕ, ◌*◌, ◌≤◌, ◌≡◌, arith, subst}
-use Rattle.std.specs.List.{sum_by, range_with_len}
 use Rattle.pz_grid.specs.Places.{line_count, line_length, places}
 use Rattle.pz_grid.specs.Admitted.{searches_line, starts_in}
+use Rattle.pz_grid.proofs.CountLemmas.{length_low}
 use Rattle.pz_grid.proofs.SkipLemmas.{searched_lines, tested_more, starts_more, tested_bounded}
 use Rattle.pz_grid.proofs.Level.tested_in_all.Goals as goal
 
@@ -15,15 +15,8 @@ loop-line-preserved c =
     record {
       high = tested_more (searches_line state row dir) c.loop-line.line size c.loop-line.tested _ i.high (omega (arith, c.tested.ensures.high));
       low = starts_more (starts_in dir (places state.grid row dir) size) c.loop-line.line c.loop-line.tested _ i.low (omega (arith, c.tested.ensures.low));
-      few = omega (arith, i.few, c.tested.ensures.short);
+      few = omega (arith, i.few, c.tested.ensures.short, length_low state.grid dir c.line_count-line-end.ensures.lawful);
     }
-
-pub returns-clause-low : goal.returns-clause-low
-returns-clause-low c =
-    let state = c.args.self.now in
-    let dir = c.args.dir in
-    let last : c.loop-line.line ≡ line_count state.grid dir = omega arith in
-    subst (λ (n : ℕ). sum_by (starts_in dir (places state.grid c.args.row.now dir) (line_length state.grid dir)) (range_with_len 0 n) ≤ c.loop-line.tested) last c.loop-line.invariant.low
 
 pub returns-clause-high : goal.returns-clause-high
 returns-clause-high c =

@@ -1,5 +1,4 @@
-use Rattle.std.proofs.Common.{◌≡◌, ◌≤◌, ◌-◌, ◌++◌, length}
-use Rattle.pz_grid.specs.declared.placing.TheConstants.{MATCH_LIMIT}
+use Rattle.std.proofs.Common.{◌≡◌, ◌≤◌, ◌-◌, ◌++◌}
 use Rattle.pz_grid.specs.Places.{line_length}
 use Rattle.pz_grid.proofs.GatherLemmas.{gather}
 use Rattle.pz_grid.proofs.FoundLemmas.{found_at}
@@ -7,9 +6,8 @@ use Rattle.pz_grid.proofs.placing.add_places_in.Given as goal
 
 abbrev pub invariant-starts : goal.invariant-starts
 invariant-starts g l = record {
-  added : l.found.items ≡ l.initial.found.items ++ gather (found_at l.sheet.grid l.row l.line.dir l.line.number) l.from;
+  added : l.found ≡ l.initial.found ++ gather (found_at l.sheet.grid l.row l.line.dir l.line.number) l.from;
   within : l.from ≤ line_length l.sheet.grid l.line.dir;
-  room : length l.found.items ≤ MATCH_LIMIT;
 }
 
 abbrev pub decreases-starts : goal.decreases-starts

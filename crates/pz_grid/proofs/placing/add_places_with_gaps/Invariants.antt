@@ -1,5 +1,4 @@
-use Rattle.std.proofs.Common.{◌≡◌, ◌≤◌, ◌-◌, ◌++◌, length}
-use Rattle.pz_grid.specs.declared.placing.TheConstants.{MATCH_LIMIT}
+use Rattle.std.proofs.Common.{◌≡◌, ◌≤◌, ◌-◌, ◌++◌}
 use Rattle.pz_grid.specs.Places.{line_length}
 use Rattle.pz_grid.proofs.GatherLemmas.{gather}
 use Rattle.pz_grid.proofs.FoundLemmas.{found_with}
@@ -7,9 +6,8 @@ use Rattle.pz_grid.proofs.placing.add_places_with_gaps.Given as goal
 
 abbrev pub invariant-gaps : goal.invariant-gaps
 invariant-gaps g l = record {
-  added : l.found.items ≡ l.initial.found.items ++ gather (found_with l.sheet.grid l.row l.line.dir l.line.number l.start) l.from;
+  added : l.found ≡ l.initial.found ++ gather (found_with l.sheet.grid l.row l.line.dir l.line.number l.start) l.from;
   within : l.from ≤ line_length l.sheet.grid l.line.dir;
-  room : length l.found.items ≤ MATCH_LIMIT;
 }
 
 abbrev pub decreases-gaps : goal.decreases-gaps

@@ -1,11 +1,7 @@
-use Rattle.std.proofs.Common.{◌≡◌, ◌≤◌, length}
-use Rattle.pz_grid.specs.declared.placing.TheConstants.{MATCH_LIMIT}
+use Rattle.std.proofs.Common.{◌≡◌}
 use Rattle.pz_grid.proofs.GatherLemmas.{gather}
 use Rattle.pz_grid.proofs.FoundLemmas.{found_in}
 use Rattle.pz_grid.proofs.placing.places.Given as goal
 
 abbrev pub invariant-loop-line : goal.invariant-loop-line
-invariant-loop-line l = record {
-  added : l.found.items ≡ gather (found_in l.level.grid l.row l.dir) l.line;
-  room : length l.found.items ≤ MATCH_LIMIT;
-}
+invariant-loop-line l = l.found ≡ gather (found_in l.level.grid l.row l.dir) l.line

@@ -6,7 +6,7 @@ use Rattle.pz_grid.proofs.MovementLemmas.{same_size_on}
 use Rattle.pz_turn.specs.Outcome.{Outcome}
 use Rattle.pz_turn.specs.declared.outcome.Given.{Given}
 use Rattle.pz_turn.proofs.Calm.{Passing, passing_none, passing_changed, passing_quiet, passing_stops, passing_ended, passing_whole}
-use Rattle.pz_turn.proofs.Unchanged.{not_from}
+use Rattle.std.proofs.lemmas.Bool.{not-true}
 use Rattle.pz_turn.proofs.resting.pass_after.Goals.{then-given, else-given, else-index-calm_from-via-then-index-calm_from+else-not-so_far, else-index-calm_from-via-else-index-calm_from}
 use Rattle.pz_turn.proofs.resting.pass_after.Goals as goal
 
@@ -75,7 +75,7 @@ pub returns-after-loop-index-clause-size : goal.returns-after-loop-index-clause-
 returns-after-loop-index-clause-size g c = c.loop-index.invariant.size
 
 pub returns-then-not-so_far-clause-outcome : goal.returns-then-not-so_far-clause-outcome
-returns-then-not-so_far-clause-outcome g c = passing_ended g.T.Runnable.runs c.args.items.now _ _ _ _ _ c.loop-index.invariant.passing (c.if-index-calm_from.true, not_from c.loop-index.so_far.changed c.if-not-so_far.true)
+returns-then-not-so_far-clause-outcome g c = passing_ended g.T.Runnable.runs c.args.items.now _ _ _ _ _ c.loop-index.invariant.passing (c.if-index-calm_from.true, not-true c.loop-index.so_far.changed c.if-not-so_far.true)
 
 pub returns-then-not-so_far-clause-kept : goal.returns-then-not-so_far-clause-kept
 returns-then-not-so_far-clause-kept g c = c.loop-index.invariant.passing.kept

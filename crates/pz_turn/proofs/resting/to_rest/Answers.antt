@@ -9,7 +9,7 @@ use Rattle.pz_turn.specs.Outcome.{Outcome, joined}
 use Rattle.pz_turn.specs.Rest.{pass_of, ends}
 use Rattle.pz_turn.proofs.Calm.{calm_rest, calm_more}
 use Rattle.pz_turn.proofs.RestLemmas.{rest_ends, rest_never_ends, running_more}
-use Rattle.pz_turn.proofs.Unchanged.{not_from, is_true}
+use Rattle.std.proofs.lemmas.Bool.{not-false, not-true}
 use Rattle.pz_turn.proofs.resting.to_rest.Goals as goal
 
 pub returns-in_err-passed-clause-outcome : goal.returns-in_err-passed-clause-outcome
@@ -25,7 +25,7 @@ returns-then-not-passed-clause-outcome g c =
     let now = c.passes in
     let given = c.in_ok-passed.passed.given in
     let o : Outcome Grid = record { level = now.level.grid; commands = now.so_far.commands; changed = now.so_far.changed } in
-    let quiet = not_from given.changed c.if-not-passed.true in
+    let quiet = not-true given.changed c.if-not-passed.true in
     let rest = calm_rest g.T.Runnable.runs c.args.items.now o given.commands given.changed c.pass_after.new.level.grid now.calm_from now.invariant.calm c.in_ok-passed.ensures.outcome quiet (c.in_ok-passed.ensures.kept quiet) in
     rest_ends _ _ _ _ _ now.invariant.running (omega arith) rest.0 ∙ (rest.1 ∙ ap (λ (all : Given). Ok (record { level = c.pass_after.new.level.grid; commands = all.commands; changed = all.changed })) (sym c.and-so_far.ensures))
 
@@ -38,7 +38,7 @@ passes-preserved g c =
     let after = c.pass_after.new.level.grid in
     let o : Outcome Grid = record { level = now.level.grid; commands = now.so_far.commands; changed = now.so_far.changed } in
     let p : Outcome Grid = record { level = after; commands = passed.given.commands; changed = passed.given.changed } in
-    let changes = is_true passed.given.changed c.if-not-passed.false in
+    let changes = not-false passed.given.changed c.if-not-passed.false in
     record {
       running = running_more (pass_of runs items) c.args.level.now.grid now.counter o p _ now.invariant.running
           (subst (λ (b : Bool). pass_of runs (cond b items (take now.calm_from items)) o.level ≡ Ok p) changes c.in_ok-passed.ensures.outcome) changes

@@ -1,0 +1,12 @@
+use Rattle.std.proofs.Common.{sym, subst}
+use Rattle.std.specs.Prelude.{All}
+use Rattle.pz_sheet.specs.declared.line.Line.{Line}
+use Rattle.pz_sheet.specs.Searching.{HoldsInLine}
+use Rattle.pz_grid.proofs.SomewhereLemmas.{line_nowhere}
+use Rattle.pz_grid.proofs.admitting.may_head.Goals as goal
+
+pub returns : goal.returns
+returns g c = record {
+  none = λ no. line_nowhere c.args.sheet.now.grid c.args.row.now c.args.dir c.args.line c.may_hold_in_line.result
+      (λ all. c.may_hold_in_line.ensures (subst (λ (line : Line). All (HoldsInLine c.args.sheet.now.grid line) c.args.row.now.cells) (sym c.line_at.ensures.line) (λ k d within. (all k d within).1))) no;
+}
