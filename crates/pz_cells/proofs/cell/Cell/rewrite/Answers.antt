@@ -2,12 +2,12 @@ use Rattle.std.proofs.Common.{inl, inr, ℕ, List, not, ◌&&◌, ◌||◌, ap, 
 use Rattle.std.proofs.lemmas.Bool.{or_cases, and_parts}
 use Rattle.pz_sets.specs.Sets.{member}
 use Rattle.pz_game.specs.declared.masks.Masks.{Masks}
-use Rattle.pz_game.specs.Headings.{heads, IsProper}
+use Rattle.pz_game.specs.Headings.{IsProper}
 use Rattle.pz_game.specs.Masks.{AreMasksOf}
 use Rattle.pz_cells.specs.Rewriting.{rewritten_cell}
 use Rattle.pz_cells.specs.Shown.{cell_of}
 use Rattle.pz_cells.proofs.HoldLemmas.{masks_of_game, masks_fit}
-use Rattle.pz_cells.proofs.RewriteLemmas.{AreRewritten, Rewrites, rewrites_from, lawful_rewritten, cell_rewritten, placed_within, mid_proper, changed_by}
+use Rattle.pz_cells.proofs.RewriteLemmas.{AreRewritten, lawful_rewritten, cell_rewritten, placed_within, mid_proper, changed_by}
 use Rattle.pz_cells.proofs.cell.Cell.rewrite.Given.{Over}
 use Rattle.pz_cells.proofs.cell.Cell.rewrite.Goals.{After-self-3-1}
 use Rattle.pz_cells.proofs.cell.Cell.rewrite.Goals as goal
@@ -52,21 +52,14 @@ are_rewritten g c =
       others = λ layer dir none. c.end_leaving.ensures.others layer dir (λ o g on. none o (record { here = g.here; removed = sym (c.union-removed.ensures o) ∙ g.removed; free = g.free }) on);
     }
 
-rewrites : (g : Over) (c : After-self-3-1 g) → Rewrites c.args.layers.now.layers c.args.left.now c.args.right.now (member c.args.self.now.objects) (heads c.args.self.now.movement) (member c.replace-replaced.new.words) (heads c.end_leaving.new.movement)
-rewrites g c = rewrites_from c.args.layers.now.layers c.args.left.now c.args.right.now c.masks-was.result.now c.masks-is.result.now c.args.self.now.objects c.args.self.now.movement c.replace-replaced.new.words c.replace-moved.new.words c.end_leaving.new.movement
-    c.requires.right_of (masks_of g c).0 (masks_of g c).1 c.requires.sound.of_game (are_rewritten g c)
-
 proper_mid : (g : Over) (c : After-self-3-1 g) → IsProper c.replace-moved.new.words
-proper_mid g c = mid_proper c.args.layers.now.layers c.args.left.now c.args.right.now c.masks-was.result.now c.masks-is.result.now c.args.self.now.objects c.args.self.now.movement c.replace-replaced.new.words c.replace-moved.new.words c.end_leaving.new.movement
-    (masks_of g c).1 c.requires.sound.proper (are_rewritten g c)
+proper_mid g c = mid_proper c.args.layers.now.layers c.args.left.now c.args.right.now c.masks-was.result.now c.masks-is.result.now c.args.self.now.objects c.args.self.now.movement c.replace-replaced.new.words c.replace-moved.new.words c.end_leaving.new.movement c.requires.right_of (masks_of g c).0 (masks_of g c).1 c.requires.sound (are_rewritten g c)
 
 pub returns-clause-sound : goal.returns-clause-sound
-returns-clause-sound g c = lawful_rewritten c.args.layers.now.layers c.args.left.now c.args.right.now c.args.self.now.objects c.args.self.now.movement c.replace-replaced.new.words c.end_leaving.new.movement
-    c.requires.right_of c.requires.sound (rewrites g c) (are_rewritten g c).of_game (c.end_leaving.ensures.proper (proper_mid g c))
+returns-clause-sound g c = lawful_rewritten c.args.layers.now.layers c.args.left.now c.args.right.now c.masks-was.result.now c.masks-is.result.now c.args.self.now.objects c.args.self.now.movement c.replace-replaced.new.words c.replace-moved.new.words c.end_leaving.new.movement c.requires.right_of (masks_of g c).0 (masks_of g c).1 c.requires.sound (are_rewritten g c) (c.end_leaving.ensures.proper (proper_mid g c))
 
 pub returns-clause-cell : goal.returns-clause-cell
-returns-clause-cell g c = cell_rewritten c.args.layers.now.depth c.args.layers.now.layers c.args.left.now c.args.right.now c.args.self.now.objects c.args.self.now.movement c.replace-replaced.new.words c.end_leaving.new.movement
-    c.requires.right_of c.requires.sound (rewrites g c) (are_rewritten g c).of_game
+returns-clause-cell g c = cell_rewritten c.args.layers.now.layers c.args.left.now c.args.right.now c.masks-was.result.now c.masks-is.result.now c.args.self.now.objects c.args.self.now.movement c.replace-replaced.new.words c.replace-moved.new.words c.end_leaving.new.movement c.requires.right_of (masks_of g c).0 (masks_of g c).1 c.requires.sound (are_rewritten g c) c.args.layers.now.depth
 
 pub returns-clause-changed : goal.returns-clause-changed
 returns-clause-changed g c =
