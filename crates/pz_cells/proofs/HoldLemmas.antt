@@ -148,25 +148,21 @@ AreMetBy objects movement masks = (IsWithin masks.present objects × AreApart ma
 
 pub holds_by_sets : (depth : ℕ) (layers objects movement : List ℕ) (items : List Item) (masks : Masks) → AreMasksOf items masks → All (λ layer. layer < depth) layers → AreLawful layers objects movement → AreOf layers items
     → AreMetBy objects movement masks ↔ (pattern_holds (cell_of depth layers objects movement) items ≡ true)
-holds_by_sets depth layers objects movement items masks m low lawful are = (forth, back) where
-  forth : AreMetBy objects movement masks → pattern_holds (cell_of depth layers objects movement) items ≡ true
-  forth h =
-      all_met depth layers objects movement items low lawful are (record {
-        present = λ o n. h.0.0 o (m.present o ∙ n);
-        absent = λ o n. h.0.1 o (m.absent o ∙ n);
-        required = λ l dir n. h.1.0 (flag l dir) (m.required l dir ∙ n);
-        forbidden = λ l dir n. h.1.1 (flag l dir) (m.forbidden l dir ∙ n);
-      })
-
-  back : pattern_holds (cell_of depth layers objects movement) items ≡ true → AreMetBy objects movement masks
-  back h =
-      let met = met_all depth layers objects movement items low lawful are h in (
-        (λ o n. met.present o (sym (m.present o) ∙ n), λ o n. met.absent o (sym (m.absent o) ∙ n)),
-        (
-          λ k n. each_number (λ mine theirs. theirs ≡ true → mine ≡ true) movement masks.required lawful.proper m.proper_required (λ z. z) (λ l dir q. met.required l dir (sym (m.required l dir) ∙ q)) k n,
-          λ k n. each_number (λ mine theirs. theirs ≡ true → mine ≡ false) movement masks.forbidden lawful.proper m.proper_forbidden (λ z. refl) (λ l dir q. met.forbidden l dir (sym (m.forbidden l dir) ∙ q)) k n,
-        ),
-      )
+holds_by_sets depth layers objects movement items masks m low lawful are = (
+  λ h. all_met depth layers objects movement items low lawful are (record {
+    present = λ o n. h.0.0 o (m.present o ∙ n);
+    absent = λ o n. h.0.1 o (m.absent o ∙ n);
+    required = λ l dir n. h.1.0 (flag l dir) (m.required l dir ∙ n);
+    forbidden = λ l dir n. h.1.1 (flag l dir) (m.forbidden l dir ∙ n);
+  }),
+  λ h. (let met = met_all depth layers objects movement items low lawful are h in (
+    (λ o n. met.present o (sym (m.present o) ∙ n), λ o n. met.absent o (sym (m.absent o) ∙ n)),
+    (
+      λ k n. each_number (λ mine theirs. theirs ≡ true → mine ≡ true) movement masks.required lawful.proper m.proper_required (λ z. z) (λ l dir q. met.required l dir (sym (m.required l dir) ∙ q)) k n,
+      λ k n. each_number (λ mine theirs. theirs ≡ true → mine ≡ false) movement masks.forbidden lawful.proper m.proper_forbidden (λ z. refl) (λ l dir q. met.forbidden l dir (sym (m.forbidden l dir) ∙ q)) k n,
+    ),
+  )),
+)
 
 -- a cell of a rule of the game is within the limits of games
 pub low_of_game : (depth : ℕ) (layers : List ℕ) (items : List Item) → All (λ layer. layer < depth) layers → length layers ≤ MAX_OBJECTS → depth ≤ MAX_LAYERS → AreOf layers items → All IsLow items
