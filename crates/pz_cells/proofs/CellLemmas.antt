@@ -1,7 +1,7 @@
 -- What a cell says of an object is what stands on the layer of the object.
 use Rattle.std.proofs.Common.{◌≡◌, ◌≢◌, ℕ, suc, zero, ◌<◌, ◌≤◌, List, [], ◌∷◌, Option, Some, None, length, get_or, cond, arith, ap, sym, ◌∙◌, refl, subst}
 use Rattle.std.specs.Prelude.{IfSome}
-use Rattle.std.proofs.lemmas.Bool.{eq-eqb, ne_eqb}
+use Rattle.std.proofs.lemmas.Bool.{ne_eqb}
 use Rattle.pz_cells.specs.declared.piece.Piece.{Piece}
 use Rattle.pz_cells.specs.Standing.{standing}
 use Rattle.pz_cells.specs.Cell.{IsOnLayer}
@@ -14,16 +14,13 @@ OnItsLayer layers cell = (layer : ℕ) → IsOnLayer layers layer (get_or cell l
 pub standing_none : (cell : List (Option Piece)) (object : ℕ) → ((k : ℕ) → IfSome (get_or cell k None) (λ p. p.object ≢ object)) → standing cell object ≡ None
 standing_none [] object h = refl
 standing_none (None ∷ places) object h = standing_none places object (λ k. h (suc k))
-standing_none (Some piece ∷ places) object h =
-    ap (λ b. cond b (Some piece.heading) (standing places object)) (ne_eqb piece.object object (h 0)) ∙ standing_none places object (λ k. h (suc k))
+standing_none (Some piece ∷ places) object h = grind (arith, h 0, standing_none places object (λ k. h (suc k)))
 
 -- an object that one place alone has
 pub standing_found : (cell : List (Option Piece)) (object k : ℕ) (piece : Piece) → get_or cell k None ≡ Some piece → piece.object ≡ object → ((j : ℕ) → IfSome (get_or cell j None) (λ p. p.object ≡ object → j ≡ k)) → standing cell object ≡ Some piece.heading
 standing_found [] object k piece e f h = cc
 standing_found (None ∷ places) object zero piece e f h = cc
-standing_found (Some first ∷ places) object zero piece e f h =
-    let same : first ≡ piece = cc in
-    ap (λ b. cond b (Some first.heading) (standing places object)) (eq-eqb first.object object (ap (λ (p : Piece). p.object) same ∙ f)) ∙ ap (λ (p : Piece). Some p.heading) same
+standing_found (Some first ∷ places) object zero piece e f h = grind (arith, e, f)
 standing_found (None ∷ places) object (suc k) piece e f h =
     standing_found places object k piece e f (λ j. elim (get_or places j None) as (λ v. IfSome v (λ p. p.object ≡ object → suc j ≡ suc k) → IfSome v (λ p. p.object ≡ object → j ≡ k)) [ None ↦ λ x. x | Some p ↦ λ x y. omega (arith, x y) ] (h (suc j)))
 standing_found (Some first ∷ places) object (suc k) piece e f h =
@@ -41,7 +38,7 @@ standing_off_layer layers cell object h absent =
     standing_none cell object (λ k. elim (get_or cell k None) as (λ v. get_or cell k None ≡ v → IfSome v (λ p. (p.object < length layers) × (get_or layers p.object 0 ≡ k)) → IfSome v (λ p. p.object ≢ object)) [ None ↦ λ _ x. x | Some p ↦ λ is x same. not_there k p is x.1 same ] refl (h k)) where
       not_there : (k : ℕ) (p : Piece) → get_or cell k None ≡ Some p → get_or layers p.object 0 ≡ k → p.object ≡ object → ⊥
       not_there k p is at same =
-          let place : get_or cell (get_or layers object 0) None ≡ Some p = ap (λ o. get_or cell (get_or layers o 0) None) (sym same) ∙ ap (λ j. get_or cell j None) at ∙ is in
+          let place : get_or cell (get_or layers object 0) None ≡ Some p = grind (arith, is, at, same) in
           subst (λ (v : Option Piece). IfSome v (λ q. q.object ≢ object)) place absent same
 
 -- an object of no layer is nowhere

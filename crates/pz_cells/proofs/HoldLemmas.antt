@@ -52,7 +52,7 @@ standing_seen depth layers objects movement object low lawful = by_member (membe
 
   absent : member objects object ≡ false → (place : Option Piece) → place_of layers objects movement (get_or layers object 0) ≡ place → IfSome place (λ p. p.object ≢ object)
   absent none None e = tt
-  absent none (Some piece) e = λ same. (let there = object_there layers objects movement (get_or layers object 0) piece lawful e in let f : false ≡ true = sym none ∙ ap (member objects) (sym same) ∙ there.0 in cc)
+  absent none (Some piece) e = λ same. grind (arith, none, same, (object_there layers objects movement (get_or layers object 0) piece lawful e).0)
 
   by_member : (b : Bool) → member objects object ≡ b → standing (cell_of depth layers objects movement) object ≡ standing_by b (heading_in movement (get_or layers object 0))
   by_member true there =
@@ -78,13 +78,6 @@ pub record AreMet (items : List Item) (objects movement : List ℕ) : Type 0 whe
   pub absent : (object : ℕ) → forbids_object object items ≡ true → member objects object ≡ false
   pub required : (layer : ℕ) (dir : Dir) → asks_toward layer dir items ≡ true → heads movement layer dir ≡ true
   pub forbidden : (layer : ℕ) (dir : Dir) → asks_still layer items ≡ true → heads movement layer dir ≡ false
-
--- what one item asks
-pub record IsMet (item : Item) (objects movement : List ℕ) : Type 0 where
-  pub present : names item.word ≡ true → member objects item.object ≡ true
-  pub absent : not (names item.word) ≡ true → member objects item.object ≡ false
-  pub required : (dir : Dir) → is_toward (toward true item.word) dir ≡ true → heads movement item.layer dir ≡ true
-  pub forbidden : is_still item.word ≡ true → (dir : Dir) → heads movement item.layer dir ≡ false
 
 -- a heading without a direction
 none_toward : (heading : Option Dir) → ((dir : Dir) → is_toward heading dir ≡ false) → heading ≡ None
@@ -119,34 +112,14 @@ item_seen : (depth : ℕ) (layers objects movement : List ℕ) (item : Item) →
 item_seen depth layers objects movement item low lawful on =
     ap (word_holds item.word) (standing_seen depth layers objects movement item.object low lawful) ∙ ap (λ (l : ℕ). word_holds item.word (standing_by (member objects item.object) (heading_in movement l))) on
 
-item_met : (depth : ℕ) (layers objects movement : List ℕ) (item : Item) → AreLawful layers objects movement → Seen depth layers objects movement item → IsMet item objects movement → item_holds (cell_of depth layers objects movement) item ≡ true
-item_met depth layers objects movement item lawful seen met =
-    seen ∙ met_word item.word (member objects item.object) (heading_in movement item.layer) met.present met.absent
-    (λ dir t. sym (heads_toward layers objects movement item.layer dir lawful) ∙ met.required dir t)
-    (λ s dir. sym (heads_toward layers objects movement item.layer dir lawful) ∙ met.forbidden s dir)
-
-met_item : (depth : ℕ) (layers objects movement : List ℕ) (item : Item) → AreLawful layers objects movement → Seen depth layers objects movement item → item_holds (cell_of depth layers objects movement) item ≡ true → IsMet item objects movement
-met_item depth layers objects movement item lawful seen holds =
-    let h = sym seen ∙ holds in
-    record {
-      present = word_present item.word (member objects item.object) (heading_in movement item.layer) h;
-      absent = word_absent item.word (member objects item.object) (heading_in movement item.layer) h;
-      required = λ dir t. heads_toward layers objects movement item.layer dir lawful ∙ word_required item.word (member objects item.object) (heading_in movement item.layer) h dir t;
-      forbidden = λ s dir. heads_toward layers objects movement item.layer dir lawful ∙ word_forbidden item.word (member objects item.object) (heading_in movement item.layer) h s dir;
-    }
-
 -- all items hold if what they ask is met, and only then
 pub all_met : (depth : ℕ) (layers objects movement : List ℕ) (items : List Item) → All (λ layer. layer < depth) layers → AreLawful layers objects movement → AreOf layers items → AreMet items objects movement → pattern_holds (cell_of depth layers objects movement) items ≡ true
 all_met depth layers objects movement [] low lawful are met = refl
 all_met depth layers objects movement (x ∷ xs) low lawful are met =
-    let is = are 0 x (omega arith) in
+    let toward = λ (dir : Dir). sym (heads_toward layers objects movement x.layer dir lawful) in
     and_from _ _
-    (item_met depth layers objects movement x lawful (item_seen depth layers objects movement x low lawful is.layer) (record {
-      present = λ n. grind (arith, met.present x.object, n);
-      absent = λ n. grind (arith, met.absent x.object, n);
-      required = λ dir t. grind (arith, met.required x.layer dir, t);
-      forbidden = λ s dir. grind (arith, met.forbidden x.layer dir, s);
-    }))
+    (item_seen depth layers objects movement x low lawful (are 0 x (omega arith)).layer ∙ met_word x.word (member objects x.object) (heading_in movement x.layer)
+    (λ n. grind (arith, met.present x.object, n)) (λ n. grind (arith, met.absent x.object, n)) (λ dir t. toward dir ∙ grind (arith, met.required x.layer dir, t)) (λ s dir. toward dir ∙ grind (arith, met.forbidden x.layer dir, s)))
     (all_met depth layers objects movement xs low lawful (λ k d h. are (suc k) d (omega arith)) (record {
       present = λ o e. met.present o (or_right _ _ e);
       absent = λ o e. met.absent o (or_right _ _ e);
@@ -157,15 +130,16 @@ all_met depth layers objects movement (x ∷ xs) low lawful are met =
 pub met_all : (depth : ℕ) (layers objects movement : List ℕ) (items : List Item) → All (λ layer. layer < depth) layers → AreLawful layers objects movement → AreOf layers items → pattern_holds (cell_of depth layers objects movement) items ≡ true → AreMet items objects movement
 met_all depth layers objects movement [] low lawful are holds = record { present = λ o e. cc; absent = λ o e. cc; required = λ l d e. cc; forbidden = λ l d e. cc }
 met_all depth layers objects movement (x ∷ xs) low lawful are holds =
-    let is = are 0 x (omega arith) in
     let parts = and_parts (item_holds (cell_of depth layers objects movement) x) (pattern_holds (cell_of depth layers objects movement) xs) holds in
-    let here = met_item depth layers objects movement x lawful (item_seen depth layers objects movement x low lawful is.layer) parts.0 in
+    let h = sym (item_seen depth layers objects movement x low lawful (are 0 x (omega arith)).layer) ∙ parts.0 in
+    let there = member objects x.object in
+    let heading = heading_in movement x.layer in
     let rest = met_all depth layers objects movement xs low lawful (λ k d h. are (suc k) d (omega arith)) parts.1 in
     record {
-      present = λ o e. grind (arith, e, here.present, rest.present o);
-      absent = λ o e. grind (arith, e, here.absent, rest.absent o);
-      required = λ l d e. grind (arith, e, here.required d, rest.required l d);
-      forbidden = λ l d e. grind (arith, e, here.forbidden, rest.forbidden l d);
+      present = λ o e. grind (arith, e, word_present x.word there heading h, rest.present o);
+      absent = λ o e. grind (arith, e, word_absent x.word there heading h, rest.absent o);
+      required = λ l d e. grind (arith, e, heads_toward layers objects movement x.layer d lawful, word_required x.word there heading h d, rest.required l d);
+      forbidden = λ l d e. grind (arith, e, heads_toward layers objects movement x.layer d lawful, λ (s : is_still x.word ≡ true). word_forbidden x.word there heading h s d, rest.forbidden l d);
     }
 
 -- the sets of a cell of a rule are met by those of a cell
@@ -174,25 +148,21 @@ AreMetBy objects movement masks = (IsWithin masks.present objects × AreApart ma
 
 pub holds_by_sets : (depth : ℕ) (layers objects movement : List ℕ) (items : List Item) (masks : Masks) → AreMasksOf items masks → All (λ layer. layer < depth) layers → AreLawful layers objects movement → AreOf layers items
     → AreMetBy objects movement masks ↔ (pattern_holds (cell_of depth layers objects movement) items ≡ true)
-holds_by_sets depth layers objects movement items masks m low lawful are = (forth, back) where
-  forth : AreMetBy objects movement masks → pattern_holds (cell_of depth layers objects movement) items ≡ true
-  forth h =
-      all_met depth layers objects movement items low lawful are (record {
-        present = λ o n. h.0.0 o (m.present o ∙ n);
-        absent = λ o n. h.0.1 o (m.absent o ∙ n);
-        required = λ l dir n. h.1.0 (flag l dir) (m.required l dir ∙ n);
-        forbidden = λ l dir n. h.1.1 (flag l dir) (m.forbidden l dir ∙ n);
-      })
-
-  back : pattern_holds (cell_of depth layers objects movement) items ≡ true → AreMetBy objects movement masks
-  back h =
-      let met = met_all depth layers objects movement items low lawful are h in (
-        (λ o n. met.present o (sym (m.present o) ∙ n), λ o n. met.absent o (sym (m.absent o) ∙ n)),
-        (
-          λ k n. each_number (λ mine theirs. theirs ≡ true → mine ≡ true) movement masks.required lawful.proper m.proper_required (λ z. z) (λ l dir q. met.required l dir (sym (m.required l dir) ∙ q)) k n,
-          λ k n. each_number (λ mine theirs. theirs ≡ true → mine ≡ false) movement masks.forbidden lawful.proper m.proper_forbidden (λ z. refl) (λ l dir q. met.forbidden l dir (sym (m.forbidden l dir) ∙ q)) k n,
-        ),
-      )
+holds_by_sets depth layers objects movement items masks m low lawful are = (
+  λ h. all_met depth layers objects movement items low lawful are (record {
+    present = λ o n. h.0.0 o (m.present o ∙ n);
+    absent = λ o n. h.0.1 o (m.absent o ∙ n);
+    required = λ l dir n. h.1.0 (flag l dir) (m.required l dir ∙ n);
+    forbidden = λ l dir n. h.1.1 (flag l dir) (m.forbidden l dir ∙ n);
+  }),
+  λ h. (let met = met_all depth layers objects movement items low lawful are h in (
+    (λ o n. met.present o (sym (m.present o) ∙ n), λ o n. met.absent o (sym (m.absent o) ∙ n)),
+    (
+      λ k n. each_number (λ mine theirs. theirs ≡ true → mine ≡ true) movement masks.required lawful.proper m.proper_required (λ z. z) (λ l dir q. met.required l dir (sym (m.required l dir) ∙ q)) k n,
+      λ k n. each_number (λ mine theirs. theirs ≡ true → mine ≡ false) movement masks.forbidden lawful.proper m.proper_forbidden (λ z. refl) (λ l dir q. met.forbidden l dir (sym (m.forbidden l dir) ∙ q)) k n,
+    ),
+  )),
+)
 
 -- a cell of a rule of the game is within the limits of games
 pub low_of_game : (depth : ℕ) (layers : List ℕ) (items : List Item) → All (λ layer. layer < depth) layers → length layers ≤ MAX_OBJECTS → depth ≤ MAX_LAYERS → AreOf layers items → All IsLow items

@@ -40,14 +40,6 @@ pub record Stays (layers : List ℕ) (left right : List Item) (has : ℕ → Boo
   pub free : placed_on (get_or layers object 0) right ≡ None
   pub left_alone : is_removable left right object ≡ false
 
--- what a rewriting does to the objects and directions of a cell
-pub record Rewrites (layers : List ℕ) (left right : List Item) (has : ℕ → Bool) (toward : ℕ → Dir → Bool) (has_new : ℕ → Bool) (toward_new : ℕ → Dir → Bool) : Type 0 where
-  pub gives : (object : ℕ) → has_new object ≡ true → Stays layers left right has object ⊎ ((item : Item) × (placed_on (get_or layers object 0) right ≡ Some item) × (item.object ≡ object))
-  pub keeps : (object : ℕ) → Stays layers left right has object → has_new object ≡ true
-  pub puts : (layer : ℕ) (item : Item) → placed_on layer right ≡ Some item → has_new item.object ≡ true
-  pub ended : (object : ℕ) (dir : Dir) → Goes layers left right has object → toward_new (get_or layers object 0) dir ≡ false
-  pub others : (layer : ℕ) (dir : Dir) → ((object : ℕ) → Goes layers left right has object → get_or layers object 0 ≡ layer → ⊥) → toward_new layer dir ≡ ((toward layer dir && not (ends (tells_of layer left) (placed_on layer right))) || begins dir (placed_on layer right))
-
 pub and_no : (x : Bool) → (x && false) ≡ false
 and_no x = grind arith
 
@@ -57,58 +49,6 @@ new_toward word told here old dir n e = grind arith
 
 toward_shown : (layers : List ℕ) (has : ℕ → Bool) (toward : Dir → Bool) (layer : ℕ) (place : Option Piece) (dir : Dir) → Shows layers has toward layer place → toward dir ≡ is_toward (heading_of place) dir
 toward_shown layers has toward layer place dir h = grind arith
-
--- each layer shows what the definition says of it
-pub rewritten_shows : (layers : List ℕ) (left right : List Item) (has : ℕ → Bool) (toward : ℕ → Dir → Bool) (has_new : ℕ → Bool) (toward_new : ℕ → Dir → Bool) → AreOf layers right → Rewrites layers left right has toward has_new toward_new → (layer : ℕ) (here : Option Piece) → Shows layers has (toward layer) layer here → Shows layers has_new (toward_new layer) layer (rewritten_place left right layer here)
-rewritten_shows layers left right has toward has_new toward_new are r layer here shown = by_placed (placed_on layer right) refl where
-  at : (object : ℕ) → get_or layers object 0 ≡ layer → (found : Option Item) → placed_on layer right ≡ found → placed_on (get_or layers object 0) right ≡ found
-  at object on found e = ap (λ (k : ℕ). placed_on k right) on ∙ e
-
-  -- nothing is placed on the layer
-  toward_kept : placed_on layer right ≡ None → ((object : ℕ) → Goes layers left right has object → get_or layers object 0 ≡ layer → ⊥) → (dir : Dir) → toward_new layer dir ≡ toward layer dir
-  toward_kept e none dir = grind (arith, r.others layer dir none, e)
-
-  stays_only : placed_on layer right ≡ None → (object : ℕ) → has_new object ≡ true → get_or layers object 0 ≡ layer → Stays layers left right has object
-  stays_only e object new on = elim (r.gives object new) [ inl stays ↦ stays | inr (item, f, same) ↦ absurd (grind (arith, at object on None e, f)) ]
-
-  by_test : placed_on layer right ≡ None → (piece : Piece) → Shows layers has (toward layer) layer (Some piece) → (b : Bool) → is_removable left right piece.object ≡ b → Shows layers has_new (toward_new layer) layer (cond b None (Some piece))
-  by_test e piece shown true f = (
-    λ object new on. (let stays = stays_only e object new on in grind (arith, shown.2 object stays.here on, stays.left_alone, f)),
-    λ dir. ap (λ (k : ℕ). toward_new k dir) (sym shown.1) ∙ r.ended piece.object dir (record { here = shown.0; free = at piece.object shown.1 None e; removed = f }),
-  )
-  by_test e piece shown false f = (
-    r.keeps piece.object (record { here = shown.0; free = at piece.object shown.1 None e; left_alone = f }),
-    shown.1,
-    λ object new on. shown.2 object (stays_only e object new on).here on,
-    λ dir. toward_kept e (λ object goes on. grind (arith, shown.2 object goes.here on, goes.removed, f)) dir ∙ shown.3 dir,
-  )
-
-  by_here : placed_on layer right ≡ None → (place : Option Piece) → Shows layers has (toward layer) layer place → Shows layers has_new (toward_new layer) layer (kept left right place)
-  by_here e None shown = (
-    λ object new on. shown.0 object (stays_only e object new on).here on,
-    λ dir. toward_kept e (λ object goes on. shown.0 object goes.here on) dir ∙ shown.1 dir,
-  )
-  by_here e (Some piece) shown = by_test e piece shown (is_removable left right piece.object) refl
-
-  -- nothing of the layer goes where something is placed
-  none_goes : (item : Item) → placed_on layer right ≡ Some item → (object : ℕ) → Goes layers left right has object → get_or layers object 0 ≡ layer → ⊥
-  none_goes item e object goes on = grind (arith, goes.free, at object on (Some item) e)
-
-  only_placed : (item : Item) → placed_on layer right ≡ Some item → (object : ℕ) → has_new object ≡ true → get_or layers object 0 ≡ layer → object ≡ item.object
-  only_placed item e object new on = elim (r.gives object new) [
-    | inl stays ↦ absurd (grind (arith, stays.free, at object on (Some item) e))
-    | inr (other, f, same) ↦ grind (arith, f, at object on (Some item) e, same)
-  ]
-
-  by_placed : (found : Option Item) → placed_on layer right ≡ found → Shows layers has_new (toward_new layer) layer (replaced found (tells_of layer left) left right here)
-  by_placed None e = by_here e here shown
-  by_placed (Some item) e =
-      let is = placed_is layers layer right item are e in (
-        r.puts layer item e,
-        is.1,
-        only_placed item e,
-        λ dir. r.others layer dir (none_goes item e) ∙ ap (λ (o : Option Item). (toward layer dir && not (ends (tells_of layer left) o)) || begins dir o) e ∙ new_toward item.word (tells_of layer left) here (toward layer dir) dir is.2 (toward_shown layers has (toward layer) layer here dir shown),
-      )
 
 none_from : (o : Option Item) → is_some o ≡ false → o ≡ None
 none_from found e = grind arith
@@ -129,48 +69,103 @@ pub record AreRewritten (layers : List ℕ) (l r : Masks) (objects movement obje
   pub ended : (object : ℕ) (dir : Dir) → Leaves layers objects r.layers (removed_by l r) object → heads movement_new (get_or layers object 0) dir ≡ false
   pub others : (layer : ℕ) (dir : Dir) → ((object : ℕ) → Leaves layers objects r.layers (removed_by l r) object → get_or layers object 0 ≡ layer → ⊥) → heads movement_new layer dir ≡ heads mid layer dir
 
-pub rewrites_from : (layers : List ℕ) (left right : List Item) (l r : Masks) (objects movement objects_new mid movement_new : List ℕ) → AreOf layers right → AreMasksOf left l → AreMasksOf right r → ((object : ℕ) → member objects object ≡ true → object < length layers) → AreRewritten layers l r objects movement objects_new mid movement_new → Rewrites layers left right (member objects) (heads movement) (member objects_new) (heads movement_new)
-rewrites_from layers left right l r objects movement objects_new mid movement_new are ml mr of_game w =
-    let removable : (object : ℕ) → (member l.present object || member r.absent object) ≡ is_removable left right object = λ object. ap (λ b. b || member r.absent object) (ml.present object) ∙ ap (λ b. names_object object left || b) (mr.absent object) in
-    let leaves : (object : ℕ) → Goes layers left right (member objects) object → Leaves layers objects r.layers (removed_by l r) object = λ object goes. record { here = goes.here; removed = removable object ∙ goes.removed; free = mr.layers (get_or layers object 0) ∙ ap is_some goes.free } in
-    let goes : (object : ℕ) → Leaves layers objects r.layers (removed_by l r) object → Goes layers left right (member objects) object = λ object g. record { here = g.here; free = none_from (placed_on (get_or layers object 0) right) (sym (mr.layers (get_or layers object 0)) ∙ g.free); removed = sym (removable object) ∙ g.removed } in
-    record {
-      gives = λ object new. elim (or_cases (member objects object && not (gone_by layers l r object)) (member r.placed object) (sym (w.is_new object (w.of_game object new)) ∙ new)) [
-        | inl h ↦ inl (record { here = grind (arith, h); free = none_from (placed_on (get_or layers object 0) right) (grind (arith, h, mr.layers (get_or layers object 0))); left_alone = grind (arith, h, removable object) })
-        | inr h ↦ (let p = mr.placed_only object h in
-            let on = (placed_is layers p.0 right p.1 are p.2).1 in
-            inr (p.1, ap (λ (k : ℕ). placed_on k right) (ap (λ (k : ℕ). get_or layers k 0) (sym p.3) ∙ on) ∙ p.2, p.3))
-      ];
-      keeps = λ object stays. grind (arith, w.is_new object (of_game object stays.here), mr.layers (get_or layers object 0), stays.free, removable object, stays.left_alone, stays.here);
-      puts = λ layer item e. w.is_new item.object (placed_is layers layer right item are e).0 ∙ or_right _ _ (mr.placed layer item e);
-      ended = λ object dir goes. w.ended object dir (leaves object goes);
-      others = λ layer dir none. w.others layer dir (λ object g on. none object (goes object g) on) ∙ grind (arith, w.is_mid (flag layer dir), mr.settled layer dir, ml.told layer dir, mr.covered layer dir, mr.headed layer dir, ends_by (tells_of layer left) (placed_on layer right));
-    }
+module _ (layers : List ℕ) (left right : List Item) (l r : Masks) (objects movement objects_new mid movement_new : List ℕ) (are : AreOf layers right) (ml : AreMasksOf left l) (mr : AreMasksOf right r) (lawful : AreLawful layers objects movement) (w : AreRewritten layers l r objects movement objects_new mid movement_new) where
+  removable : (object : ℕ) → (member l.present object || member r.absent object) ≡ is_removable left right object
+  removable object = grind (arith, ml.present object, mr.absent object)
 
--- the new masks are lawful, and their view is the definition's cell
-pub lawful_rewritten : (layers : List ℕ) (left right : List Item) (objects movement objects_new movement_new : List ℕ) → AreOf layers right → AreLawful layers objects movement → Rewrites layers left right (member objects) (heads movement) (member objects_new) (heads movement_new) → ((object : ℕ) → member objects_new object ≡ true → object < length layers) → IsProper movement_new → AreLawful layers objects_new movement_new
-lawful_rewritten layers left right objects movement objects_new movement_new are lawful r of_game proper =
-    lawful_from_shows layers objects_new movement_new (λ layer. rewritten_place left right layer (place_of layers objects movement layer)) of_game
-    (λ layer. rewritten_shows layers left right (member objects) (heads movement) (member objects_new) (heads movement_new) are r layer (place_of layers objects movement layer) (lawful.shows layer))
-    proper
+  gives : (object : ℕ) → member objects_new object ≡ true → Stays layers left right (member objects) object ⊎ ((item : Item) × (placed_on (get_or layers object 0) right ≡ Some item) × (item.object ≡ object))
+  gives object new = elim (or_cases (member objects object && not (gone_by layers l r object)) (member r.placed object) (sym (w.is_new object (w.of_game object new)) ∙ new)) [
+    | inl h ↦ inl (record { here = grind (arith, h); free = none_from (placed_on (get_or layers object 0) right) (grind (arith, h, mr.layers (get_or layers object 0))); left_alone = grind (arith, h, removable object) })
+    | inr h ↦ (let p = mr.placed_only object h in inr (p.1, ap (λ (k : ℕ). placed_on k right) (ap (λ (k : ℕ). get_or layers k 0) (sym p.3) ∙ (placed_is layers p.0 right p.1 are p.2).1) ∙ p.2, p.3))
+  ]
 
-pub cell_rewritten : (depth : ℕ) (layers : List ℕ) (left right : List Item) (objects movement objects_new movement_new : List ℕ) → AreOf layers right → AreLawful layers objects movement → Rewrites layers left right (member objects) (heads movement) (member objects_new) (heads movement_new) → ((object : ℕ) → member objects_new object ≡ true → object < length layers) → cell_of depth layers objects_new movement_new ≡ rewritten_cell left right (cell_of depth layers objects movement)
-cell_rewritten depth layers left right objects movement objects_new movement_new are lawful r of_game =
-    let old = cell_of depth layers objects movement in
-    let f = λ (layer : ℕ). rewritten_place left right layer (get_or old layer None) in
-    let long : length old ≡ depth = length-map-range_with_len (place_of layers objects movement) 0 depth in
-    let place = λ (layer : ℕ) (low : layer < depth). get_or-map-range_with_len (place_of layers objects movement) 0 depth layer layer None low (omega arith) in
-    cell_from_shows depth layers objects_new movement_new (rewritten_cell left right old) (length-map-range_with_len f 0 (length old) ∙ long) of_game
-    (λ layer low. subst (Shows layers (member objects_new) (heads movement_new layer) layer) (sym (get_or-map-range_with_len f 0 (length old) layer layer None (omega (arith, long)) (omega arith)))
-    (rewritten_shows layers left right (member objects) (heads movement) (member objects_new) (heads movement_new) are r layer (get_or old layer None) (subst (Shows layers (member objects) (heads movement layer) layer) (sym (place layer low)) (lawful.shows layer))))
+  keeps : (object : ℕ) → Stays layers left right (member objects) object → member objects_new object ≡ true
+  keeps object stays = grind (arith, w.is_new object (lawful.of_game object stays.here), mr.layers (get_or layers object 0), stays.free, removable object, stays.left_alone, stays.here)
+
+  puts : (layer : ℕ) (item : Item) → placed_on layer right ≡ Some item → member objects_new item.object ≡ true
+  puts layer item e = w.is_new item.object (placed_is layers layer right item are e).0 ∙ or_right _ _ (mr.placed layer item e)
+
+  ended : (object : ℕ) (dir : Dir) → Goes layers left right (member objects) object → heads movement_new (get_or layers object 0) dir ≡ false
+  ended object dir goes = w.ended object dir (record { here = goes.here; removed = removable object ∙ goes.removed; free = mr.layers (get_or layers object 0) ∙ ap is_some goes.free })
+
+  others : (layer : ℕ) (dir : Dir) → ((object : ℕ) → Goes layers left right (member objects) object → get_or layers object 0 ≡ layer → ⊥) → heads movement_new layer dir ≡ ((heads movement layer dir && not (ends (tells_of layer left) (placed_on layer right))) || begins dir (placed_on layer right))
+  others layer dir none =
+      w.others layer dir (λ object g on. none object (record { here = g.here; free = none_from (placed_on (get_or layers object 0) right) (sym (mr.layers (get_or layers object 0)) ∙ g.free); removed = sym (removable object) ∙ g.removed }) on)
+      ∙ grind (arith, w.is_mid (flag layer dir), mr.settled layer dir, ml.told layer dir, mr.covered layer dir, mr.headed layer dir, ends_by (tells_of layer left) (placed_on layer right))
+
+  -- each layer shows what the definition says of it
+  rewritten_shows : (layer : ℕ) (here : Option Piece) → Shows layers (member objects) (heads movement layer) layer here → Shows layers (member objects_new) (heads movement_new layer) layer (rewritten_place left right layer here)
+  rewritten_shows layer here shown = by_placed (placed_on layer right) refl where
+    at : (object : ℕ) → get_or layers object 0 ≡ layer → (found : Option Item) → placed_on layer right ≡ found → placed_on (get_or layers object 0) right ≡ found
+    at object on found e = ap (λ (k : ℕ). placed_on k right) on ∙ e
+
+    -- nothing is placed on the layer
+    toward_kept : placed_on layer right ≡ None → ((object : ℕ) → Goes layers left right (member objects) object → get_or layers object 0 ≡ layer → ⊥) → (dir : Dir) → heads movement_new layer dir ≡ heads movement layer dir
+    toward_kept e none dir = grind (arith, others layer dir none, e)
+
+    stays_only : placed_on layer right ≡ None → (object : ℕ) → member objects_new object ≡ true → get_or layers object 0 ≡ layer → Stays layers left right (member objects) object
+    stays_only e object new on = elim (gives object new) [ inl stays ↦ stays | inr (item, f, same) ↦ absurd (grind (arith, at object on None e, f)) ]
+
+    by_test : placed_on layer right ≡ None → (piece : Piece) → Shows layers (member objects) (heads movement layer) layer (Some piece) → (b : Bool) → is_removable left right piece.object ≡ b → Shows layers (member objects_new) (heads movement_new layer) layer (cond b None (Some piece))
+    by_test e piece shown true f = (
+      λ object new on. (let stays = stays_only e object new on in grind (arith, shown.2 object stays.here on, stays.left_alone, f)),
+      λ dir. ap (λ (k : ℕ). heads movement_new k dir) (sym shown.1) ∙ ended piece.object dir (record { here = shown.0; free = at piece.object shown.1 None e; removed = f }),
+    )
+    by_test e piece shown false f = (
+      keeps piece.object (record { here = shown.0; free = at piece.object shown.1 None e; left_alone = f }),
+      shown.1,
+      λ object new on. shown.2 object (stays_only e object new on).here on,
+      λ dir. toward_kept e (λ object goes on. grind (arith, shown.2 object goes.here on, goes.removed, f)) dir ∙ shown.3 dir,
+    )
+
+    by_here : placed_on layer right ≡ None → (place : Option Piece) → Shows layers (member objects) (heads movement layer) layer place → Shows layers (member objects_new) (heads movement_new layer) layer (kept left right place)
+    by_here e None shown = (
+      λ object new on. shown.0 object (stays_only e object new on).here on,
+      λ dir. toward_kept e (λ object goes on. shown.0 object goes.here on) dir ∙ shown.1 dir,
+    )
+    by_here e (Some piece) shown = by_test e piece shown (is_removable left right piece.object) refl
+
+    -- nothing of the layer goes where something is placed
+    none_goes : (item : Item) → placed_on layer right ≡ Some item → (object : ℕ) → Goes layers left right (member objects) object → get_or layers object 0 ≡ layer → ⊥
+    none_goes item e object goes on = grind (arith, goes.free, at object on (Some item) e)
+
+    only_placed : (item : Item) → placed_on layer right ≡ Some item → (object : ℕ) → member objects_new object ≡ true → get_or layers object 0 ≡ layer → object ≡ item.object
+    only_placed item e object new on = elim (gives object new) [
+      | inl stays ↦ absurd (grind (arith, stays.free, at object on (Some item) e))
+      | inr (other, f, same) ↦ grind (arith, f, at object on (Some item) e, same)
+    ]
+
+    by_placed : (found : Option Item) → placed_on layer right ≡ found → Shows layers (member objects_new) (heads movement_new layer) layer (replaced found (tells_of layer left) left right here)
+    by_placed None e = by_here e here shown
+    by_placed (Some item) e =
+        let is = placed_is layers layer right item are e in (
+          puts layer item e,
+          is.1,
+          only_placed item e,
+          λ dir. others layer dir (none_goes item e) ∙ ap (λ (o : Option Item). (heads movement layer dir && not (ends (tells_of layer left) o)) || begins dir o) e ∙ new_toward item.word (tells_of layer left) here (heads movement layer dir) dir is.2 (toward_shown layers (member objects) (heads movement layer) layer here dir shown),
+        )
+
+  -- the new words are lawful, and what is seen of them is the definition's cell
+  pub lawful_rewritten : IsProper movement_new → AreLawful layers objects_new movement_new
+  lawful_rewritten proper =
+      lawful_from_shows layers objects_new movement_new (λ layer. rewritten_place left right layer (place_of layers objects movement layer)) w.of_game (λ layer. rewritten_shows layer (place_of layers objects movement layer) (lawful.shows layer)) proper
+
+  pub cell_rewritten : (depth : ℕ) → cell_of depth layers objects_new movement_new ≡ rewritten_cell left right (cell_of depth layers objects movement)
+  cell_rewritten depth =
+      let old = cell_of depth layers objects movement in
+      let f = λ (layer : ℕ). rewritten_place left right layer (get_or old layer None) in
+      let long : length old ≡ depth = length-map-range_with_len (place_of layers objects movement) 0 depth in
+      cell_from_shows depth layers objects_new movement_new (rewritten_cell left right old) (length-map-range_with_len f 0 (length old) ∙ long) w.of_game
+      (λ layer low. subst (Shows layers (member objects_new) (heads movement_new layer) layer) (sym (get_or-map-range_with_len f 0 (length old) layer layer None (omega (arith, long)) (omega arith)))
+      (rewritten_shows layer (get_or old layer None) (subst (Shows layers (member objects) (heads movement layer) layer) (sym (place_seen depth layers objects movement layer low)) (lawful.shows layer))))
+
+  -- the directions between have no bits between the fields
+  pub mid_proper : IsProper mid
+  mid_proper number high = grind (arith, w.is_mid number, lawful.proper number high, mr.proper_headed number high)
 
 -- what is placed is of the game
 pub placed_within : (layers : List ℕ) (right : List Item) (r : Masks) → AreOf layers right → AreMasksOf right r → (object : ℕ) → member r.placed object ≡ true → object < length layers
 placed_within layers right r are mr object here = (let p = mr.placed_only object here in subst (λ (k : ℕ). k < length layers) p.3 (placed_is layers p.0 right p.1 are p.2).0)
-
--- the directions between have no bits between the fields
-pub mid_proper : (layers : List ℕ) (left right : List Item) (l r : Masks) (objects movement objects_new mid movement_new : List ℕ) → AreMasksOf right r → IsProper movement → AreRewritten layers l r objects movement objects_new mid movement_new → IsProper mid
-mid_proper layers left right l r objects movement objects_new mid movement_new mr proper w number high = grind (arith, w.is_mid number, proper number high, mr.proper_headed number high)
 
 -- ---- whether the cell changed
 -- nothing stands past the layers
@@ -178,7 +173,7 @@ place_past : (depth : ℕ) (layers objects movement : List ℕ) (layer : ℕ) �
 place_past depth layers objects movement layer low lawful past = by_place (place_of layers objects movement layer) refl (lawful.shows layer) where
   by_place : (place : Option Piece) → place_of layers objects movement layer ≡ place → Shows layers (member objects) (heads movement layer) layer place → place_of layers objects movement layer ≡ None
   by_place None e shown = e
-  by_place (Some piece) e shown = absurd (let at : get_or layers piece.object 0 ≡ layer = shown.1 in let below = low piece.object 0 (lawful.of_game piece.object shown.0) in omega (arith, at, below))
+  by_place (Some piece) e shown = absurd (omega (arith, shown.1, low piece.object 0 (lawful.of_game piece.object shown.0)))
 
 -- words that answer alike show one cell
 pub cell_alike : (depth : ℕ) (layers objects movement objects_new movement_new : List ℕ) → AreLawful layers objects movement → AreLawful layers objects_new movement_new → ((object : ℕ) → member objects_new object ≡ member objects object) → ((layer : ℕ) (dir : Dir) → heads movement_new layer dir ≡ heads movement layer dir) → cell_of depth layers objects_new movement_new ≡ cell_of depth layers objects movement

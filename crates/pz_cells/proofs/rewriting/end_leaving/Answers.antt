@@ -7,16 +7,10 @@ use Rattle.pz_cells.proofs.rewriting.end_leaving.Goals as goal
 
 pub leaving-preserved : goal.leaving-preserved
 leaving-preserved g c =
-    let objects = c.args.objects.now in
-    let removed = c.args.removed.now in
     let i = c.leaving.invariant in
-    let cleared = c.args.cleared.now in
-    let now = c.leaving.movement in
-    let after = c.end_unless.new.movement in
-    let on = c.layer_of.ensures.layer in
     let f = c.in-Some.ensures in
-    let same = λ (k : ℕ). sym (ap (λ (ws : List ℕ). member objects k && member ws k) c.words.ensures.words) in
-    let e = ended_more c.args.layers.now.layers objects c.args.cleared.now (member removed) c.args.movement.now c.leaving.movement c.end_unless.new.movement c.leaving.start c.in-Some.object
+    let same = λ (k : ℕ). sym (ap (λ (ws : List ℕ). member c.args.objects.now k && member ws k) c.words.ensures.words) in
+    let e = ended_more c.args.layers.now.layers c.args.objects.now c.args.cleared.now (member c.args.removed.now) c.args.movement.now c.leaving.movement c.end_unless.new.movement c.leaving.start c.in-Some.object
     (record { ended = i.ended; others = i.others }) f.0 (same c.in-Some.object ∙ f.2) (λ k from below. same k ∙ f.3 k from below)
-    (subst (λ (k : ℕ). (other : ℕ) (dir : Dir) → heads after other dir ≡ ((member cleared k || not (nat_eq other k)) && heads now other dir)) on c.end_unless.ensures.heads) in
+    (subst (λ (k : ℕ). (other : ℕ) (dir : Dir) → heads c.end_unless.new.movement other dir ≡ ((member c.args.cleared.now k || not (nat_eq other k)) && heads c.leaving.movement other dir)) c.layer_of.ensures.layer c.end_unless.ensures.heads) in
     record { low = omega (arith, f.1, c.requires.short); ended = e.ended; others = e.others; proper = λ p. c.end_unless.ensures.proper (i.proper p) }

@@ -1,13 +1,11 @@
-use Rattle.std.proofs.Common.{inl, inr, ℕ, List, not, ◌&&◌, ◌||◌, ap, sym, ◌∙◌, arith}
-use Rattle.std.proofs.lemmas.Bool.{or_cases, and_parts}
+use Rattle.std.proofs.Common.{ℕ, List, ap, sym, ◌∙◌, arith}
 use Rattle.pz_sets.specs.Sets.{member}
-use Rattle.pz_game.specs.declared.masks.Masks.{Masks}
-use Rattle.pz_game.specs.Headings.{heads, IsProper}
+use Rattle.pz_game.specs.Headings.{IsProper}
 use Rattle.pz_game.specs.Masks.{AreMasksOf}
 use Rattle.pz_cells.specs.Rewriting.{rewritten_cell}
 use Rattle.pz_cells.specs.Shown.{cell_of}
 use Rattle.pz_cells.proofs.HoldLemmas.{masks_of_game, masks_fit}
-use Rattle.pz_cells.proofs.RewriteLemmas.{AreRewritten, Rewrites, rewrites_from, lawful_rewritten, cell_rewritten, placed_within, mid_proper, changed_by}
+use Rattle.pz_cells.proofs.RewriteLemmas.{AreRewritten, lawful_rewritten, cell_rewritten, placed_within, mid_proper, changed_by}
 use Rattle.pz_cells.proofs.cell.Cell.rewrite.Given.{Over}
 use Rattle.pz_cells.proofs.cell.Cell.rewrite.Goals.{After-self-3-1}
 use Rattle.pz_cells.proofs.cell.Cell.rewrite.Goals as goal
@@ -31,42 +29,22 @@ masks_of g c = (
 )
 
 are_rewritten : (g : Over) (c : After-self-3-1 g) → AreRewritten c.args.layers.now.layers c.masks-was.result.now c.masks-is.result.now c.args.self.now.objects c.args.self.now.movement c.replace-replaced.new.words c.replace-moved.new.words c.end_leaving.new.movement
-are_rewritten g c =
-    let layers = c.args.layers.now.layers in
-    let objects = c.args.self.now.objects in
-    let movement = c.args.self.now.movement in
-    let l : Masks = c.masks-was.result.now in
-    let r : Masks = c.masks-is.result.now in
-    let gone = c.union-gone.result in
-    let members = λ (o : ℕ). c.replace-replaced.ensures.members o
-    ∙ ap (λ (ws : List ℕ). (member objects o && not (member ws o)) || member c.words-4.result.now o) c.words-3.ensures.words
-    ∙ ap (λ (ws : List ℕ). (member objects o && not (member gone o)) || member ws o) c.words-4.ensures.words in
-    record {
-      is_new = λ o low. grind (arith, members o, c.union-gone.ensures o, c.objects_on.ensures.objects o low, c.union-removed.ensures o);
-      of_game = λ o here. elim (or_cases (member objects o && not (member gone o)) (member r.placed o) (sym (members o) ∙ here)) [
-        | inl old ↦ c.requires.sound.of_game o (and_parts (member objects o) (not (member gone o)) old).0
-        | inr new ↦ placed_within layers c.args.right.now r c.requires.right_of (masks_of g c).1 o new
-      ];
-      is_mid = λ n. grind (arith, c.replace-moved.ensures.members n, c.words.ensures.words, c.words-2.ensures.words, c.union-ending.ensures n, c.common.ensures n);
-      ended = λ o dir g. c.end_leaving.ensures.ended o dir (record { here = g.here; removed = c.union-removed.ensures o ∙ g.removed; free = g.free });
-      others = λ layer dir none. c.end_leaving.ensures.others layer dir (λ o g on. none o (record { here = g.here; removed = sym (c.union-removed.ensures o) ∙ g.removed; free = g.free }) on);
-    }
-
-rewrites : (g : Over) (c : After-self-3-1 g) → Rewrites c.args.layers.now.layers c.args.left.now c.args.right.now (member c.args.self.now.objects) (heads c.args.self.now.movement) (member c.replace-replaced.new.words) (heads c.end_leaving.new.movement)
-rewrites g c = rewrites_from c.args.layers.now.layers c.args.left.now c.args.right.now c.masks-was.result.now c.masks-is.result.now c.args.self.now.objects c.args.self.now.movement c.replace-replaced.new.words c.replace-moved.new.words c.end_leaving.new.movement
-    c.requires.right_of (masks_of g c).0 (masks_of g c).1 c.requires.sound.of_game (are_rewritten g c)
+are_rewritten g c = record {
+  is_new = λ o low. grind (arith, c.replace-replaced.ensures.members o, c.words-3.ensures.words, c.words-4.ensures.words, c.union-gone.ensures o, c.objects_on.ensures.objects o low, c.union-removed.ensures o);
+  of_game = λ o here. grind (arith, c.replace-replaced.ensures.members o, c.words-4.ensures.words, here, c.requires.sound.of_game o, placed_within c.args.layers.now.layers c.args.right.now c.masks-is.result.now c.requires.right_of (masks_of g c).1 o);
+  is_mid = λ n. grind (arith, c.replace-moved.ensures.members n, c.words.ensures.words, c.words-2.ensures.words, c.union-ending.ensures n, c.common.ensures n);
+  ended = λ o dir g. c.end_leaving.ensures.ended o dir (record { here = g.here; removed = c.union-removed.ensures o ∙ g.removed; free = g.free });
+  others = λ layer dir none. c.end_leaving.ensures.others layer dir (λ o g on. none o (record { here = g.here; removed = sym (c.union-removed.ensures o) ∙ g.removed; free = g.free }) on);
+}
 
 proper_mid : (g : Over) (c : After-self-3-1 g) → IsProper c.replace-moved.new.words
-proper_mid g c = mid_proper c.args.layers.now.layers c.args.left.now c.args.right.now c.masks-was.result.now c.masks-is.result.now c.args.self.now.objects c.args.self.now.movement c.replace-replaced.new.words c.replace-moved.new.words c.end_leaving.new.movement
-    (masks_of g c).1 c.requires.sound.proper (are_rewritten g c)
+proper_mid g c = mid_proper c.args.layers.now.layers c.args.left.now c.args.right.now c.masks-was.result.now c.masks-is.result.now c.args.self.now.objects c.args.self.now.movement c.replace-replaced.new.words c.replace-moved.new.words c.end_leaving.new.movement c.requires.right_of (masks_of g c).0 (masks_of g c).1 c.requires.sound (are_rewritten g c)
 
 pub returns-clause-sound : goal.returns-clause-sound
-returns-clause-sound g c = lawful_rewritten c.args.layers.now.layers c.args.left.now c.args.right.now c.args.self.now.objects c.args.self.now.movement c.replace-replaced.new.words c.end_leaving.new.movement
-    c.requires.right_of c.requires.sound (rewrites g c) (are_rewritten g c).of_game (c.end_leaving.ensures.proper (proper_mid g c))
+returns-clause-sound g c = lawful_rewritten c.args.layers.now.layers c.args.left.now c.args.right.now c.masks-was.result.now c.masks-is.result.now c.args.self.now.objects c.args.self.now.movement c.replace-replaced.new.words c.replace-moved.new.words c.end_leaving.new.movement c.requires.right_of (masks_of g c).0 (masks_of g c).1 c.requires.sound (are_rewritten g c) (c.end_leaving.ensures.proper (proper_mid g c))
 
 pub returns-clause-cell : goal.returns-clause-cell
-returns-clause-cell g c = cell_rewritten c.args.layers.now.depth c.args.layers.now.layers c.args.left.now c.args.right.now c.args.self.now.objects c.args.self.now.movement c.replace-replaced.new.words c.end_leaving.new.movement
-    c.requires.right_of c.requires.sound (rewrites g c) (are_rewritten g c).of_game
+returns-clause-cell g c = cell_rewritten c.args.layers.now.layers c.args.left.now c.args.right.now c.masks-was.result.now c.masks-is.result.now c.args.self.now.objects c.args.self.now.movement c.replace-replaced.new.words c.replace-moved.new.words c.end_leaving.new.movement c.requires.right_of (masks_of g c).0 (masks_of g c).1 c.requires.sound (are_rewritten g c) c.args.layers.now.depth
 
 pub returns-clause-changed : goal.returns-clause-changed
 returns-clause-changed g c =
