@@ -23,6 +23,7 @@ pub struct Change<const N: usize> {
 impl<const N: usize> Sheet<N> {
     /// Makes this level equal to a newer one of the same size, and gives the way back: exactly the cells in which they differed, as they
     /// were. Err: memory was refused, and the level is unchanged.
+    #[tactic(auto, using(crate::proofs::NewerLemmas::all_taken, crate::proofs::NewerLemmas::size_back))]
     pub fn go_on(&mut self, newer: &Sheet<N>) -> Result<Vec<Change<N>>, AllocError>
         requires size { SameSize newer.now.grid self.old.grid }
         ensures newer { OnOk result (self.new.grid ≡ newer.now.grid) }
@@ -85,6 +86,7 @@ impl<const N: usize> Sheet<N> {
     }
 
     /// Makes this level equal to another of the same size. Only the cells in which they differ are copied.
+    #[tactic(auto, using(crate::proofs::NewerLemmas::same_all, crate::proofs::SameLemmas::same_grids))]
     pub(crate) fn take_all(&mut self, other: &Sheet<N>)
         requires size { SameSize self.old.grid other.now.grid }
         ensures { self.new.grid ≡ other.now.grid }

@@ -17,6 +17,7 @@ use pz_planes::planes::Planes;
 use std::alloc::{AllocError, Global};
 
 /// Where these cells head, and where their objects stand. Err: memory was refused.
+#[tactic(auto, using(crate::proofs::PlacedLemmas::placed_all))]
 pub(crate) fn noted<const N: usize>(
     alloc: Global,
     layers: &Layers<N>,

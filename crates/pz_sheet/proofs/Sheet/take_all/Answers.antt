@@ -2,8 +2,7 @@ use Rattle.std.proofs.Common.{length, arith, ap, sym, ◌∙◌, subst, length-s
 use Rattle.pz_sheet.specs.Changes.{differ_in}
 use Rattle.pz_sheet.specs.Grid.{Grid, SameSize}
 use Rattle.pz_sheet.specs.Presence.{cell_of}
-use Rattle.pz_sheet.proofs.NewerLemmas.{same_before, same_all}
-use Rattle.pz_sheet.proofs.SameLemmas.{same_grids}
+use Rattle.pz_sheet.proofs.NewerLemmas.{same_before}
 use Rattle.pz_sheet.proofs.Sheet.take_all.Goals as goal
 
 pub changes-preserved : goal.changes-preserved
@@ -18,9 +17,3 @@ changes-preserved g c =
       low = omega (arith, long, c.in-Some.ensures.next.1);
       same = λ number below. ap (λ (level : Grid). differ_in level other number) is ∙ same_before grid other c.changes.from index c.in-Some.ensures.next c.changes.invariant.same number below;
     }
-
-pub returns : goal.returns
-returns g c =
-    let grid = c.changes.self.grid in
-    let other = c.args.other.now.grid in
-    same_grids grid other c.changes.invariant.size c.in_default.ensures.as_many (same_all grid other c.changes.from c.in_default.ensures.next c.changes.invariant.same)

@@ -1,7 +1,7 @@
 use Rattle.std.proofs.Common.{ℕ, length, subst}
 use Rattle.pz_planes.specs.Planes.{IsFor}
 use Rattle.pz_planes.proofs.PlaneLemmas.{covers_all}
-use Rattle.pz_sheet.proofs.PlacedLemmas.{all_known, placed_all}
+use Rattle.pz_sheet.proofs.PlacedLemmas.{all_known}
 use Rattle.pz_cells.proofs.ListLemmas.{small_cell}
 use Rattle.pz_sheet.proofs.noting.noted.Goals as goal
 
@@ -11,9 +11,3 @@ note_all-requires g c =
     let objects = length c.args.layers.now.layers in
     let fits = subst (λ (count : ℕ). IsFor count c.args.width c.args.height planes) c.object_count-objects.ensures.count c.in_ok-planes.ensures.size in
     (small_cell _ c.object_count-objects.ensures.law.short, (c.object_count-objects.ensures.law.short, (covers_all objects c.args.width c.args.height _ planes fits c.requires.covers, all_known g.row.N c.args.layers.now c.args.width c.args.height planes c.args.cells.now fits c.requires.sound)))
-
-pub returns-clause-planes : goal.returns-clause-planes
-returns-clause-planes g c =
-    let planes = c.in_ok-planes.planes in
-    let fits = subst (λ (count : ℕ). IsFor count c.args.width c.args.height planes) c.object_count-objects.ensures.count c.in_ok-planes.ensures.size in
-    placed_all g.row.N (length c.args.layers.now.layers) c.args.width c.args.height planes c.note_all.new.planes c.args.cells.now fits c.note_all.ensures.size c.note_all.ensures.there c.note_all.ensures.ends
