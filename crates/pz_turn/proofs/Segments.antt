@@ -1,6 +1,6 @@
 -- The segments of a group, run one after another, give what its instances give.
-use Rattle.std.proofs.Common.{◌≡◌, ℕ, zero, suc, Result, Ok, Err, List, [], ◌∷◌, ◌++◌, Bool, false, cond, ◌||◌, inl, inr, Option, Some, None, fold, get_or, refl, ap, sym, subst, ◌∙◌}
-use Rattle.std.specs.List.{All, flat_map, find, range_with_len}
+use Rattle.std.proofs.Common.{◌≡◌, ℕ, Result, Ok, Err, List, [], ◌∷◌, ◌++◌, Bool, false, ◌||◌, inl, inr, fold, get_or, refl, ap, sym, subst, ◌∙◌}
+use Rattle.std.specs.List.{All, flat_map}
 use Rattle.std.proofs.Math.Bool.{or_assoc, or-false}
 use Rattle.std.proofs.lemmas.List.Elements.{All-nil, All-cons, All-head, All-tail}
 use Rattle.std.proofs.lemmas.List.Sums.{fold-append}
@@ -18,7 +18,7 @@ use Rattle.pz_grid.specs.Places.{places}
 use Rattle.pz_turn.specs.declared.outcome.StepFault.{StepFault}
 use Rattle.pz_turn.specs.Instance.{applied}
 use Rattle.pz_turn.specs.Outcome.{Outcome, untouched, followed_by, joined}
-use Rattle.pz_turn.specs.Rest.{Runs, pass_of, passes, ends, ends_after, is_last, up_to, rest_of}
+use Rattle.pz_turn.specs.Rest.{Runs, pass_of, passes, rest_of}
 use Rattle.pz_turn.proofs.Calm.{either_assoc, either_comm}
 use Rattle.pz_turn.proofs.Effectless.{applied_without_effect}
 use Rattle.pz_turn.proofs.Passes.{fold_stopped}
@@ -79,40 +79,10 @@ module _ {L I : Type 0} (runs : I → Runs L) where
   pub pass_by_segments : (segments : List (List I)) (level : L) → pass_of (pass_of runs) segments level ≡ pass_of runs (flat_map (λ (segment : List I). segment) segments) level
   pass_by_segments segments level = fold_segments (Ok (untouched level)) segments
 
--- ---- passes that are the same on each level come to rest the same way
-find_same : {X : Type 0} (p q : X → Bool) → ((x : X) → p x ≡ q x) → (xs : List X) → find p xs ≡ find q xs
-find_same p q same [] = refl
-find_same {X} p q same (x ∷ xs) = ap (λ (b : Bool). cond b (Some x) (find p xs)) (same x) ∙ ap (λ (f : Option X). cond (q x) (Some x) f) (find_same p q same xs)
-
-module _ {L : Type 0} (p q : Runs L) (same : (level : L) → p level ≡ q level) where
-  follow_same : (r : Result (Outcome L) StepFault) → followed_by r p ≡ followed_by r q
-  follow_same (Err fault) = refl
-  follow_same (Ok o) = ap (joined o) (same o.level)
-
-  passes_same : (n : ℕ) (level : L) → passes p n level ≡ passes q n level
-  passes_same zero level = refl
-  passes_same (suc n) level = ap (λ (r : Result (Outcome L) StepFault). followed_by r p) (passes_same n level) ∙ follow_same (passes q n level)
-
-  ends_same : (r : Result (Outcome L) StepFault) → ends_after p r ≡ ends_after q r
-  ends_same (Err fault) = refl
-  ends_same (Ok o) = ap ends (same o.level)
-
-  last_same : (level : L) (n : ℕ) → is_last p level n ≡ is_last q level n
-  last_same level n = ap (ends_after p) (passes_same n level) ∙ ends_same (passes q n level)
-
-  up_to_same : (level : L) (last : Option ℕ) → up_to p level last ≡ up_to q level last
-  up_to_same level None = refl
-  up_to_same level (Some n) = passes_same (suc n) level
-
-  pub rest_same : (limit : ℕ) (level : L) → rest_of limit p level ≡ rest_of limit q level
-  unfolding rest_of
-  rest_same limit level =
-      ap (up_to p level) (find_same (is_last p level) (is_last q level) (last_same level) (range_with_len 0 limit))
-      ∙ up_to_same level (find (is_last q level) (range_with_len 0 limit))
-
+-- passes that give the same on each level come to rest the same way
 pub rest_by_segments : (limit : ℕ) (segments : List (List Instance)) (group : List Instance) (level : Grid) → instances_of segments ≡ group → rest_of limit (pass_of (pass_of applied) segments) level ≡ rest_of limit (pass_of applied group) level
 rest_by_segments limit segments group level is =
-    rest_same (pass_of (pass_of applied) segments) (pass_of applied (instances_of segments)) (pass_by_segments applied segments) limit level
+    ap (λ (pass : Runs Grid). rest_of limit pass level) (λ i at. pass_by_segments applied segments at i)
     ∙ ap (λ (instances : List Instance). rest_of limit (pass_of applied instances) level) is
 
 -- ---- instances that leave a level as it is

@@ -1,5 +1,5 @@
 -- Lines that ask for one of some objects in a cell, and for one of others.
-use Rattle.std.proofs.Common.{◌≡◌, ℕ, List, [], ◌∷◌, Option, Some, None, Bool, true, false, not, ◌&&◌, ◌||◌, ap, ◌∙◌, refl}
+use Rattle.std.proofs.Common.{◌≡◌, ℕ, List, Option, Some, None, Bool, true, false, not, ◌&&◌, ◌||◌, ap, ◌∙◌, refl}
 use Rattle.std.specs.Prelude.{IfSome}
 use Rattle.std.specs.List.{list_any, list_all}
 use Rattle.pz_game.specs.declared.game.GameParts.{GameParts}
@@ -36,9 +36,7 @@ asked_with (Some members) now game line number objects on first second = record 
 
 -- tests that agree
 pub any_alike : (test other : List (Option Piece) → Bool) (cells : List (List (Option Piece))) → ((cell : List (Option Piece)) → test cell ≡ other cell) → list_any test cells ≡ list_any other cells
-any_alike test other [] same = refl
-any_alike test other (cell ∷ cells) same = ap (λ (b : Bool). b || list_any test cells) (same cell) ∙ ap (λ (b : Bool). other cell || b) (any_alike test other cells same)
+any_alike test other cells same = ap (λ (t : List (Option Piece) → Bool). list_any t cells) (λ i cell. same cell i)
 
 pub all_alike : (test other : List (Option Piece) → Bool) (cells : List (List (Option Piece))) → ((cell : List (Option Piece)) → test cell ≡ other cell) → list_all test cells ≡ list_all other cells
-all_alike test other [] same = refl
-all_alike test other (cell ∷ cells) same = ap (λ (b : Bool). b && list_all test cells) (same cell) ∙ ap (λ (b : Bool). other cell && b) (all_alike test other cells same)
+all_alike test other cells same = ap (λ (t : List (Option Piece) → Bool). list_all t cells) (λ i cell. same cell i)
