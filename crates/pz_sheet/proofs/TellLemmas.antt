@@ -4,7 +4,7 @@ use Rattle.std.specs.List.{All}
 use Rattle.std.proofs.lemmas.Bool.{cases_lt}
 use Rattle.std.proofs.lemmas.List.{get_or_default}
 use Rattle.pz_sets.specs.Sets.{member}
-use Rattle.pz_planes.specs.Planes.{PlaneSets, AreSameAt, stands_in, IsNextDiffering}
+use Rattle.pz_planes.specs.Planes.{PlaneSets, AreSameAt, stands_in, IsNextDifferingPosition}
 use Rattle.pz_planes.proofs.PlaneLemmas.{number_of, column_in, row_in}
 use Rattle.pz_cells.specs.declared.cell.Cell.{Cell}
 use Rattle.pz_cells.specs.Differing.{IsNextDiffering as IsNextCell}
@@ -64,7 +64,7 @@ module _ (N width height : ℕ) (layering : Layering) (cells others : List (Cell
       ∙ sym (objects_there N width height layering others other_planes b number other (omega (arith, within, as_many)) object)
 
   -- the next position at which the planes differ is the number of the next cell that differs
-  pub next_told : (from : ℕ) (found : Option ℕ) → IsNextDiffering planes.rows other_planes.rows width from found → IsNextCell cells others from found
+  pub next_told : (from : ℕ) (found : Option ℕ) → IsNextDifferingPosition planes.rows other_planes.rows width from found → IsNextCell cells others from found
   next_told from None same = λ number cell other low high. alike_there number cell other high (same number low (omega (arith, high, all)))
   next_told from (Some found) next =
       let within : found < length cells = omega (arith, next.1, all) in (
@@ -92,6 +92,6 @@ module _ (N wa ha : ℕ) (la : Layering) (ca : List (Cell N)) (pa : PlaneSets) (
         placed = subst (λ (l : Layering). ArePlaced N (length l.layers) wa ha pb cb) over (subst (λ (w : ℕ). ArePlaced N (length lb.layers) w ha pb cb) width (subst (λ (h : ℕ). ArePlaced N (length lb.layers) wb h pb cb) height placed_other));
       }
 
-  pub next_by_planes : HeadNowhere ca → HeadNowhere cb → (from : ℕ) (found : Option ℕ) → IsNextDiffering pa.rows pb.rows wa from found → IsNext (differ_in grid other) from (length grid.cells) found
+  pub next_by_planes : HeadNowhere ca → HeadNowhere cb → (from : ℕ) (found : Option ℕ) → IsNextDifferingPosition pa.rows pb.rows wa from found → IsNext (differ_in grid other) from (length grid.cells) found
   next_by_planes still other_still from found next =
       next_is N wa ha la ca wb hb lb cb grid other both from found (next_told N wa ha la ca cb pa pb (is_told still) (other_told other_still) from found next)

@@ -1,7 +1,7 @@
 use Rattle.std.proofs.Common.{◌≤◌, List, length, ap, sym, ◌∙◌, refl, subst}
 use Rattle.pz_cells.specs.declared.cell.Cell.{Cell}
 use Rattle.pz_cells.specs.Differing.{IsNextDiffering}
-use Rattle.pz_planes.specs.Planes.{LineSets, IsNextDiffering as IsNextPosition}
+use Rattle.pz_planes.specs.Planes.{LineSets, IsNextDifferingPosition as IsNextPosition}
 use Rattle.pz_sheet.specs.Grid.{Grid}
 use Rattle.pz_sheet.proofs.SheetLemmas.{lawful_here}
 use Rattle.pz_sheet.proofs.ChangeLemmas.{both_of, as_many, as_many_seen, next_is}
