@@ -4,6 +4,7 @@ use Rattle.pz_sets.specs.Sets.{member, AreSame}
 use Rattle.pz_cells.specs.declared.cell.Cell.{Cell}
 use Rattle.pz_cells.specs.declared.piece.Piece.{Piece}
 use Rattle.pz_cells.specs.Shown.{place_of, cell_of, AreLawful, Changes}
+use Rattle.pz_cells.specs.Cell.{still_place}
 use Rattle.pz_cells.specs.Layering.{Layering}
 
 -- a cell, seen by layers
@@ -17,6 +18,13 @@ IsSound layering cell = AreLawful layering.layers cell.objects cell.movement
 -- no cell heads anywhere
 abbrev pub HeadNowhere : {N : ℕ} → List (Cell N) → Type 0
 HeadNowhere {N} cells = (index : ℕ) (cell : Cell N) (number : ℕ) → index < length cells → member (slice_index_or cells index cell).movement number ≡ false
+
+-- a cell becomes one in which the same stands and nothing heads anywhere
+pub record IsStilled {N : ℕ} (layering : Layering) (cell new : Cell N) : Type 0 where
+  pub sound : IsSound layering new
+  pub seen_so : seen layering new ≡ map still_place (seen layering cell)
+  pub nowhere : (number : ℕ) → member new.movement number ≡ false
+  pub objects : new.objects ≡ cell.objects
 
 -- cells with the same objects, one by one
 abbrev pub HaveSameObjects : {N : ℕ} → List (Cell N) → List (Cell N) → Type 0

@@ -1,22 +1,30 @@
 //! Lists of cells that are stilled.
 
-ghost use Rattle.std.specs.Prelude.{All, map};
-ghost use Rattle.pz_cells.specs.Cell.{still_place};
-ghost use Rattle.pz_cells.specs.Lists.{IsSound, AreMapped, HeadNowhere, HaveSameObjects};
+ghost use Rattle.std.specs.Prelude.{◌≡◌, ◌<◌, ◌≤◌, ℕ, All, length, slice_index_or};
+ghost use Rattle.pz_cells.specs.declared.cell.Cell.{Cell};
+ghost use Rattle.pz_cells.specs.Lists.{IsSound, IsStilled};
 
 use crate::cell::Cell;
 use crate::layers::Layers;
 
-/// Stills every piece of the cells.
-pub fn still_cells<const N: usize>(cells: &mut Vec<Cell<N>>, layers: &Layers<N>)
+/// Stills every piece of the cells from the number `from` on and before the number `end`.
+pub fn still_cells<const N: usize>(
+    cells: &mut Vec<Cell<N>>,
+    layers: &Layers<N>,
+    from: usize,
+    end: usize,
+)
     requires sound { All (IsSound layers.now) cells.old.items }
-    ensures mapped { AreMapped layers.now (map still_place) cells.old.items cells.new.items }
-    ensures nowhere { HeadNowhere cells.new.items }
-    ensures objects { HaveSameObjects cells.old.items cells.new.items }
+    requires order { from ≤ end }
+    requires within { end ≤ length cells.old.items }
+    ensures long { length cells.new.items ≡ length cells.old.items }
+    ensures stilled { (index : ℕ) (cell : Cell N) → from ≤ index → index < end → IsStilled layers.now (slice_index_or cells.old.items index cell) (slice_index_or cells.new.items index cell) }
+    ensures before { (index : ℕ) (cell : Cell N) → index < from → slice_index_or cells.new.items index cell ≡ slice_index_or cells.old.items index cell }
+    ensures behind { (index : ℕ) (cell : Cell N) → end ≤ index → slice_index_or cells.new.items index cell ≡ slice_index_or cells.old.items index cell }
 {
     // (brings the proof the law of the layers)
     let _ = layers.depth();
-    for index in 0..cells.len() {
+    for index in from..end {
         cells[index].still_all(layers);
     }
 }

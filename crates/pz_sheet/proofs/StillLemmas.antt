@@ -1,12 +1,14 @@
 -- A cell that heads nowhere is still. So is each cell of a line or of a level for which no heading is noted.
 use Rattle.pz_cells.specs.Layering.{Layering}
-use Rattle.std.proofs.Common.{◌≡◌, ◌+◌, ◌*◌, ◌<◌, ◌≤◌, ℕ, suc, List, [], ◌∷◌, Option, Some, None, Bool, true, false, map, length, get_or, arith, ap, sym, ◌∙◌, refl, subst}
+use Rattle.std.proofs.Common.{inl, inr, ◌≡◌, ◌+◌, ◌-◌, ◌*◌, ◌/◌, ◌<◌, ◌≤◌, ℕ, suc, List, [], ◌∷◌, Option, Some, None, Bool, true, false, map, length, get_or, arith, ap, sym, ◌∙◌, refl, subst}
 use Rattle.std.specs.Prelude.{find}
 use Rattle.std.specs.List.{All, range_with_len}
 use Rattle.std.specs.Option.{option_map}
+use Rattle.std.proofs.Math.Nat.{mul-le-mul_right}
+use Rattle.std.proofs.lemmas.Bool.{cases_lt}
 use Rattle.std.proofs.lemmas.List.{get_or_default}
 use Rattle.std.proofs.lemmas.List.Elements.{All-map}
-use Rattle.std.proofs.lemmas.Nat.{mul-add-lt, mod-mul-add}
+use Rattle.std.proofs.lemmas.Nat.{mul-add-lt, mod-mul-add, div-mul-add}
 use Rattle.pz_sets.specs.Sets.{member, IsWithin}
 use Rattle.pz_game.specs.declared.direction.Dir.{Dir}
 use Rattle.pz_game.specs.Headings.{heads, heading_in, flag}
@@ -17,10 +19,10 @@ use Rattle.pz_cells.specs.Shown.{place_of, stands_on, piece_with}
 use Rattle.pz_sheet.specs.Grid.{Grid, cell_at}
 use Rattle.pz_sheet.specs.Movement.{IsStillAt, AreColumnsStill}
 use Rattle.pz_planes.specs.Notes.{HeadingSets, HaveNoneBetween}
-use Rattle.pz_cells.specs.Lists.{seen, IsSound, HeadNowhere}
+use Rattle.pz_cells.specs.Lists.{seen, IsSound, IsStilled, HeadNowhere}
 use Rattle.pz_sheet.specs.Seen.{grid_of, HeadsWithin, AreNoted, IsStored}
 use Rattle.pz_sheet.proofs.SheetLemmas.{only_false, seen_at}
-use Rattle.pz_cells.proofs.ListLemmas.{no_cell, cell_mapped, still_shows}
+use Rattle.pz_cells.proofs.ListLemmas.{AreWalked, no_cell, cell_mapped, still_shows}
 
 pub still_seen : (N : ℕ) (layering : Layering) (cell : Cell N) → IsSound layering cell → ((number : ℕ) → member cell.movement number ≡ false) → seen layering cell ≡ map still_place (seen layering cell)
 still_seen N layering cell sound none =
@@ -43,6 +45,37 @@ same_all f [] same = refl
 same_all f (cell ∷ cells) same =
     ap (λ (first : List (Option Piece)). first ∷ cells) (same 0 cell (omega arith))
     ∙ ap (λ (rest : List (List (Option Piece))). f cell ∷ rest) (same_all f cells (λ k d within. same (suc k) d (omega (arith, within))))
+
+-- a row for which no heading is noted is stilled as it stands
+pub row_stays : (N width height : ℕ) (layering : Layering) (cells : List (Cell N)) (notes : HeadingSets) → All (IsSound layering) cells → length cells ≡ width * height → AreNoted N width height notes cells
+    → (y k : ℕ) (cell : Cell N) → y < height → ((number : ℕ) → member (get_or notes.rows y []) number ≡ false) → y * width ≤ k → k < y * width + width → IsStilled layering (get_or cells k cell) (get_or cells k cell)
+row_stays N width height layering cells notes sound covers noted y k cell y_in none late below =
+    let at = k - y * width in
+    let at_in : at < width = omega (arith, late, below) in
+    let number : k ≡ y * width + at = omega (arith, late) in
+    let within : k < length cells = omega (arith, mul-add-lt y width at height y_in at_in, covers, number) in
+    let row : k / width ≡ y = ap (λ (n : ℕ). n / width) number ∙ div-mul-add y width at at_in in
+    let here = get_or cells k cell in
+    let heads : HeadsWithin N (get_or notes.rows y []) here = subst (λ (line : ℕ). HeadsWithin N (get_or notes.rows line []) here) row (noted.each k cell within).row in
+    let nowhere = none_within here.movement (get_or notes.rows y []) heads none in
+    record { sound = sound k cell within; seen_so = still_seen N layering here (sound k cell within) nowhere; nowhere = nowhere; objects = refl }
+
+-- the cells of a row are cells of the map
+pub row_within : (y width height : ℕ) → y < height → y * width + width ≤ width * height
+row_within y width height y_in = (let h : y + 1 ≤ height = omega (arith, y_in) in omega (arith, mul-le-mul_right {m = y + 1} width h))
+
+-- more cells are turned
+pub walked_on : {N : ℕ} (Turns : Cell N → Cell N → Type 0) (old now next : List (Cell N)) (from end : ℕ) → from ≤ end → AreWalked Turns old now from → length next ≡ length now
+    → ((k : ℕ) (cell : Cell N) → from ≤ k → k < end → Turns (get_or old k cell) (get_or next k cell)) → ((k : ℕ) (cell : Cell N) → k < from → get_or next k cell ≡ get_or now k cell) → ((k : ℕ) (cell : Cell N) → end ≤ k → get_or next k cell ≡ get_or now k cell)
+    → AreWalked Turns old next end
+walked_on Turns old now next from end order w long between before behind = record {
+  long = long ∙ w.long;
+  turned = λ k cell below. elim (cases_lt k from) [
+    | inl early ↦ subst (Turns (get_or old k cell)) (sym (before k cell early)) (w.turned k cell early)
+    | inr late ↦ between k cell late below
+  ];
+  rest = λ k cell past. behind k cell past ∙ w.rest k cell (omega (arith, order, past));
+}
 
 module _ (N width height : ℕ) (layering : Layering) (cells : List (Cell N)) (notes : HeadingSets) (s : IsStored N width height layering cells notes) where
   -- no heading is noted for a column

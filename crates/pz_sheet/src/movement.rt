@@ -1,13 +1,18 @@
 //! The end of all movement.
 
-ghost use Rattle.std.specs.Prelude.{◌≡◌, ◌<◌, ◌≤◌, true, MatchOption};
+ghost use Rattle.std.specs.Prelude.{◌≡◌, ◌<◌, ◌≤◌, ◌*◌, All, length, map, true, MatchOption};
 ghost use Rattle.pz_cells.specs.Cell.{still_place};
+ghost use Rattle.pz_cells.specs.Lists.{IsSound, AreMapped, HeadNowhere, HaveSameObjects};
+ghost use Rattle.pz_sheet.specs.Seen.{AreNoted};
 ghost use Rattle.pz_sheet.specs.Grid.{IsLawful, place_at};
 ghost use Rattle.pz_sheet.specs.Movement.{stilled, IsStillAt, AreStill, AreColumnsStill};
 
 use crate::Sheet;
+use crate::line::Axis;
+use pz_cells::cell::Cell;
+use pz_cells::layers::Layers;
 use pz_cells::stilling::still_cells;
-use pz_planes::notes::is_empty;
+use pz_planes::notes::{Notes, is_empty};
 
 impl<const N: usize> Sheet<N> {
     /// Whether nothing at a position of the map heads anywhere.
@@ -65,7 +70,36 @@ impl<const N: usize> Sheet<N> {
         if is_empty(self.notes.whole()) {
             return;
         }
-        still_cells(&mut self.cells, &self.layers);
+        still_rows(
+            &mut self.cells,
+            &self.layers,
+            &self.notes,
+            self.width,
+            self.height,
+        );
         self.notes.clear();
+    }
+}
+
+/// Stills every piece of the cells. Rows for which no heading is noted are left as they are.
+fn still_rows<const N: usize>(
+    cells: &mut Vec<Cell<N>>,
+    layers: &Layers<N>,
+    notes: &Notes,
+    width: u32,
+    height: u32,
+)
+    requires sound { All (IsSound layers.now) cells.old.items }
+    requires covers { length cells.old.items ≡ width * height }
+    requires noted { AreNoted N width height notes.now cells.old.items }
+    ensures mapped { AreMapped layers.now (map still_place) cells.old.items cells.new.items }
+    ensures nowhere { HeadNowhere cells.new.items }
+    ensures objects { HaveSameObjects cells.old.items cells.new.items }
+{
+    for y in 0..height {
+        if !is_empty(notes.line(Axis::Horizontal, y)) {
+            let from = y as usize * width as usize;
+            still_cells(cells, layers, from, from + width as usize);
+        }
     }
 }

@@ -29,9 +29,9 @@ pub invariant_of-self : goal.invariant_of-self
 invariant_of-self g c =
     let a = c.self.inside in
     record {
-      stored = stored_mapped _ a.width a.height a.layers (map still_place) a.cells.items c.still_cells.new.cells.items a.notes c.clear.new.self c.self.invariant.stored c.still_cells.ensures.mapped
-          (noted_nowhere _ a.width a.height c.clear.new.self c.still_cells.new.cells.items (c.clear.ensures.rows ∙ c.self.invariant.stored.noted.row_count) (c.clear.ensures.columns ∙ c.self.invariant.stored.noted.column_count) c.still_cells.ensures.nowhere);
-      placed = placed_same _ (length a.layers.layers) a.width a.height a.planes a.cells.items c.still_cells.new.cells.items c.still_cells.ensures.objects c.self.invariant.placed;
+      stored = stored_mapped _ a.width a.height a.layers (map still_place) a.cells.items c.still_rows.new.cells.items a.notes c.clear.new.self c.self.invariant.stored c.still_rows.ensures.mapped
+          (noted_nowhere _ a.width a.height c.clear.new.self c.still_rows.new.cells.items (c.clear.ensures.rows ∙ c.self.invariant.stored.noted.row_count) (c.clear.ensures.columns ∙ c.self.invariant.stored.noted.column_count) c.still_rows.ensures.nowhere);
+      placed = placed_same _ (length a.layers.layers) a.width a.height a.planes a.cells.items c.still_rows.new.cells.items c.still_rows.ensures.objects c.self.invariant.placed;
     }
 
 pub returns-clause-lawful : goal.returns-clause-lawful
