@@ -1,5 +1,5 @@
 -- Rewritten cells are cells of the game.
-use Rattle.std.proofs.Common.{◌≡◌, inl, inr, ℕ, suc, ◌<◌, ◌≤◌, List, [], ◌∷◌, Option, Some, None, Bool, true, false, cond, ◌&&◌, ◌||◌, length, get_or, arith, sym, ◌∙◌, refl, subst}
+use Rattle.std.proofs.Common.{◌≡◌, inl, inr, ℕ, suc, ◌<◌, List, [], ◌∷◌, Option, Some, None, Bool, true, false, cond, ◌&&◌, ◌||◌, length, get_or, arith, sym, ◌∙◌, refl, subst}
 use Rattle.std.specs.Prelude.{IfSome}
 use Rattle.std.proofs.lemmas.Bool.{cases_lt, eqb-true}
 use Rattle.std.proofs.lemmas.List.{get_or_past}
@@ -46,9 +46,3 @@ rewritten_is_cell depth layers left right cell are h =
         | inr past ↦ subst (IsOnLayer layers layer) (sym (get_or_past (rewritten_cell left right cell) layer None (omega (arith, length-map-range_with_len f 0 (length cell))))) tt
       ];
     }
-
--- the places below a layer are written, the others as they were
-pub record WrittenUpTo (f : ℕ → Option Piece) (old : List (Option Piece)) (layer : ℕ) (cell : List (Option Piece)) : Type 0 where
-  pub whole : length cell ≡ length old
-  pub below : (k : ℕ) → k < layer → get_or cell k None ≡ f k
-  pub above : (k : ℕ) → layer ≤ k → get_or cell k None ≡ get_or old k None

@@ -1,4 +1,3 @@
-pub mod Winning
 pub mod Applying
 pub mod Combining
 pub mod Limits

@@ -1,38 +1,19 @@
-use Rattle.std.proofs.Common.{◌≡◌, ◌+◌, ℕ, true, false, not, List, ◌||◌, refl, arith, sym, ◌∙◌, subst, ap}
+use Rattle.std.proofs.Common.{◌≡◌, ◌+◌, ℕ, true, false, not, ◌||◌, sym, ◌∙◌, subst, ap}
 use Rattle.std.proofs.lemmas.Result.{err_from_is_err_and}
 use Rattle.pz_program.specs.Commands.{either}
 use Rattle.pz_sheet.specs.Grid.{Grid}
 use Rattle.pz_grid.proofs.MovementLemmas.{same_size_on}
 use Rattle.pz_turn.specs.Outcome.{Outcome}
 use Rattle.pz_turn.specs.declared.outcome.Given.{Given}
-use Rattle.pz_turn.proofs.Calm.{Passing, passing_none, passing_changed, passing_quiet, passing_stops, passing_ended, passing_whole}
-use Rattle.std.proofs.lemmas.Bool.{not-true}
+use Rattle.pz_turn.proofs.Calm.{Passing, passing_changed, passing_quiet, passing_stops}
 use Rattle.pz_turn.proofs.resting.pass_after.Goals.{then-given, else-given, else-index-calm_from-via-then-index-calm_from+else-not-so_far, else-index-calm_from-via-else-index-calm_from}
 use Rattle.pz_turn.proofs.resting.pass_after.Goals as goal
-
-pub loop-index-init : goal.loop-index-init
-loop-index-init g c = record {
-  passing = subst (λ (given : Given). Passing g.T.Runnable.runs c.args.items.now c.args.level.now.grid c.args.calm_from 0 (record { level = c.args.level.now.grid; commands = given.commands; changed = given.changed }) 0) (sym c.nothing-so_far.ensures) (passing_none g.T.Runnable.runs c.args.items.now c.args.level.now.grid c.args.calm_from);
-  size = record { width = refl; height = refl; depth = refl; layers = refl };
-}
-
-pub run-requires : goal.run-requires
-run-requires g c =
-    let layers = c.args.level.now.grid.layers in
-    let item = c.index-items-index.result in
-    record {
-      of_game = subst (λ (now : List ℕ). g.T.Runnable.is_of now item) (sym c.loop-index.invariant.size.layers)
-          (subst (g.T.Runnable.is_of layers) (sym c.index-items-index.is) (c.requires.of_game c.loop-index.index item c.loop-index-test.true));
-    }
 
 pub returns-in_err-given-clause-fault : goal.returns-in_err-given-clause-fault
 returns-in_err-given-clause-fault g c =
     let p = err_from_is_err_and c.from_residual.result c.from_residual.ensures.1 in
     rw (p.1, p.2)
     (λ not_memory. passing_stops g.T.Runnable.runs c.args.items.now c.args.level.now.grid c.args.calm_from c.loop-index.index c.index-items-index.result _ c.loop-index.behind_changed _ c.loop-index-test.true c.index-items-index.is c.loop-index.invariant.passing (c.in_err-given.ensures.outcome not_memory))
-
-pub returns-in_err-given-clause-size : goal.returns-in_err-given-clause-size
-returns-in_err-given-clause-size g c = same_size_on _ _ _ c.loop-index.invariant.size c.in_err-given.ensures.size
 
 pub loop-index-preserved : goal.loop-index-preserved
 loop-index-preserved g c =
@@ -61,24 +42,3 @@ loop-index-preserved g c =
       ]);
       size = same_size_on _ _ _ c.loop-index.invariant.size c.in_ok-given.ensures.size;
     }
-
-pub returns-after-loop-index-clause-outcome : goal.returns-after-loop-index-clause-outcome
-returns-after-loop-index-clause-outcome g c = passing_whole g.T.Runnable.runs c.args.items.now _ _ _ _ _ c.loop-index.invariant.passing c.loop-index-test.false
-
-pub returns-after-loop-index-clause-kept : goal.returns-after-loop-index-clause-kept
-returns-after-loop-index-clause-kept g c = c.loop-index.invariant.passing.kept
-
-pub returns-after-loop-index-clause-calm : goal.returns-after-loop-index-clause-calm
-returns-after-loop-index-clause-calm g c _ number other from below = c.loop-index.invariant.passing.calm number other from (omega (arith, below, c.loop-index-test.false))
-
-pub returns-after-loop-index-clause-size : goal.returns-after-loop-index-clause-size
-returns-after-loop-index-clause-size g c = c.loop-index.invariant.size
-
-pub returns-then-not-so_far-clause-outcome : goal.returns-then-not-so_far-clause-outcome
-returns-then-not-so_far-clause-outcome g c = passing_ended g.T.Runnable.runs c.args.items.now _ _ _ _ _ c.loop-index.invariant.passing (c.if-index-calm_from.true, not-true c.loop-index.so_far.changed c.if-not-so_far.true)
-
-pub returns-then-not-so_far-clause-kept : goal.returns-then-not-so_far-clause-kept
-returns-then-not-so_far-clause-kept g c = c.loop-index.invariant.passing.kept
-
-pub returns-then-not-so_far-clause-size : goal.returns-then-not-so_far-clause-size
-returns-then-not-so_far-clause-size g c = c.loop-index.invariant.size

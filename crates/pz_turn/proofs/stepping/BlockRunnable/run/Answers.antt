@@ -2,8 +2,5 @@ use Rattle.std.proofs.Common.{subst}
 use Rattle.pz_program.specs.Instance.{IsBlockOf}
 use Rattle.pz_turn.proofs.stepping.BlockRunnable.run.Goals as goal
 
-pub rest_group-requires : goal.rest_group-requires
-rest_group-requires c = record { of_game = subst (IsBlockOf c.args.level.now.grid.layers) c.in-One.is c.requires.of_game }
-
 pub to_rest-requires : goal.to_rest-requires
 to_rest-requires c = record { of_game = rw c.items.ensures (subst (IsBlockOf c.args.level.now.grid.layers) c.in-Loop.is c.requires.of_game) }
