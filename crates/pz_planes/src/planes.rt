@@ -165,11 +165,13 @@ impl LinePlanes {
         requires line_in { line < self.now.count }
         ensures { result ≡ true → (at : ℕ) → at < 128 → AreSameAt self.now other.now line at }
     {
+        // (steps from the word of one object to that of the next, without a product)
+        let mut number = line;
         for object in 0..self.objects {
-            let number = self.index(object, line);
             if self.words[number] != other.words[number] {
                 return false;
             }
+            number += self.count;
         }
         true
     }

@@ -2,7 +2,7 @@ use Rattle.std.proofs.Common.{◌≡◌, ◌<◌, inl, inr, ℕ, set, length, ge
 use Rattle.std.proofs.lemmas.Bool.{cases_eq}
 use Rattle.std.proofs.lemmas.List.{get_or_default}
 use Rattle.pz_cells.specs.declared.cell.Cell.{Cell}
-use Rattle.pz_cells.specs.Lists.{IsSound, IsStilled}
+use Rattle.pz_cells.specs.Lists.{IsStilled}
 use Rattle.pz_cells.proofs.ListLemmas.{small_cell, sound_at}
 use Rattle.pz_cells.proofs.stilling.still_cells.Goals as goal
 
