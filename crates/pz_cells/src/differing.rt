@@ -16,8 +16,7 @@ pub fn next_differing<const N: usize>(
 ) -> Option<usize>
     requires short { N ≤ 4 }
     requires long { length cells.now ≡ length others.now }
-    requires still { are_still ≡ true → HeadNowhere cells.now }
-    requires others_still { are_still ≡ true → HeadNowhere others.now }
+    requires still { are_still ≡ true → HeadNowhere cells.now × HeadNowhere others.now }
     ensures { IsNextDiffering cells.now others.now from result }
 {
     if are_still {

@@ -11,7 +11,7 @@ still_all-requires g c =
     let index = c.loop-index.index in
     let i = c.loop-index.invariant in
     let here = c.index_mut.result.now in
-    let sound = sound_at c.args.layers.now c.args.cells.now.items index here c.requires.sound (omega (arith, c.loop-index-test.true, c.requires.within)) (c.index_mut.ensures.value ∙ i.behind index here (omega arith)) in
+    let sound = sound_at c.args.layers.now c.args.cells.now.items index here c.requires.sound (omega (arith, c.loop-index-test.true, c.requires.range.1)) (c.index_mut.ensures.value ∙ i.behind index here (omega arith)) in
     (small_cell _ c.depth.ensures.law.short, (search, sound))
 
 pub loop-index-preserved : goal.loop-index-preserved
@@ -22,7 +22,7 @@ loop-index-preserved g c =
     let new = c.still_all.new.self in
     let old = c.args.cells.now.items in
     let now = c.loop-index.cells.items in
-    let within : index < length now = omega (arith, c.loop-index-test.true, c.requires.within, i.long) in
+    let within : index < length now = omega (arith, c.loop-index-test.true, c.requires.range.1, i.long) in
     record {
       long = length-set now index new ∙ i.long;
       stilled = λ k cell late below. elim (cases_eq k index) [

@@ -34,7 +34,7 @@ next_differing-requires-else-are_still g c =
     let long = ap length c.deref.ensures.value ∙ (as_many _ _ _ _ _ _ _ _ _ _ _ both ∙ sym (ap length c.deref-else-are_still.ensures.value)) in
     let nowhere = nowhere_read _ _ _ _ _ _ _ _ c.self.invariant.stored c.deref.ensures.value c.are_empty-are_still.ensures.first in
     let nowhere_there = nowhere_read _ _ _ _ _ _ _ _ c.other.invariant.stored c.deref-else-are_still.ensures.value c.are_empty-are_still.ensures.second in
-    (small_cell _ c.self.invariant.stored.law.short, (c.self.invariant.stored.law.short, (long, (nowhere, nowhere_there))))
+    (small_cell _ c.self.invariant.stored.law.short, (c.self.invariant.stored.law.short, (long, λ still. (nowhere still, nowhere_there still))))
 
 pub returns-else-are_still : goal.returns-else-are_still
 returns-else-are_still g c =
