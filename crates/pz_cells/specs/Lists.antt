@@ -19,10 +19,10 @@ IsSound layering cell = AreLawful layering.layers cell.objects cell.movement
 abbrev pub HeadNowhere : {N : ℕ} → List (Cell N) → Type 0
 HeadNowhere {N} cells = (index : ℕ) (cell : Cell N) (number : ℕ) → index < length cells → member (slice_index_or cells index cell).movement number ≡ false
 
--- a cell becomes one in which the same stands and nothing heads anywhere
+-- a cell of these layers, in which the same stands as in another, and nothing heads anywhere
 pub record IsStilled {N : ℕ} (layering : Layering) (cell new : Cell N) : Type 0 where
   pub sound : IsSound layering new
-  pub seen_so : seen layering new ≡ map still_place (seen layering cell)
+  pub seen_still : seen layering new ≡ map still_place (seen layering cell)
   pub nowhere : (number : ℕ) → member new.movement number ≡ false
   pub objects : new.objects ≡ cell.objects
 

@@ -1,7 +1,7 @@
 -- The places of a row of a rule: each start cell with each gap for which all cells of the row are on the map and hold. A cell
 -- of a rule *holds* where it fits. Left and right scan row by row from the top, each from the left. Up and down scan column by
 -- column from the left, each from the top. At a start cell gaps ascend. A row without `...` has only the gap 0.
-use Rattle.std.specs.Prelude.{◌<◌, ℕ, ◌+◌, List, take, map, filter, length, Bool, Option, Some, None, Result, Ok, Err, nat_lt, nat_le, nat_eq, ◌&&◌, ◌||◌, if◌then◌else◌, is_some}
+use Rattle.std.specs.Prelude.{ℕ, ◌+◌, List, take, map, filter, length, Bool, Option, Some, None, Result, Ok, Err, nat_lt, nat_le, nat_eq, ◌&&◌, ◌||◌, if◌then◌else◌, is_some}
 use Rattle.std.specs.List.{list_all, enumerate_from, flat_map, range_with_len, zip}
 use Rattle.pz_game.specs.declared.direction.Dir.{Dir}
 use Rattle.pz_game.specs.declared.direction.Dir.TheVariants.{Up, Down}

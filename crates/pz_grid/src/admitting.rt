@@ -1,12 +1,12 @@
 //! The lines in which a row of a rule may start, as far as marks and headings show. The search skips the others.
 
-ghost use Rattle.std.specs.Prelude.{◌≡◌, ◌<◌, All, true, false, []};
+ghost use Rattle.std.specs.Prelude.{◌≡◌, ◌<◌, true, false, []};
 ghost use Rattle.std.specs.List.{list_all};
 ghost use Rattle.pz_game.specs.Pattern.{IsRowOf};
 ghost use Rattle.pz_grid.specs.Admitted.{line_at, marks_of, marks_item, marks_cell, admits, admits_line, searches_level, searches_line, StartsNowhere};
 ghost use Rattle.pz_grid.specs.Marks.{IsMarked};
 ghost use Rattle.pz_grid.specs.Places.{line_count, places};
-ghost use Rattle.pz_sheet.specs.Grid.{Grid, IsLawful};
+ghost use Rattle.pz_sheet.specs.Grid.{Grid};
 ghost use Rattle.pz_sheet.specs.Line.{line_count as lines_along};
 ghost use Rattle.pz_game.specs.declared.direction.Dir.{Dir};
 
@@ -58,11 +58,10 @@ impl Level {
         }
     }
 
-    /// Whether a set has every object that any cell of the row names as present.
+    /// Whether a set has every object that any cell of the row names as present. (The level brings the proof the law of levels.)
     fn marks_all(&self, marks: &NumberSet, row: &Row) -> bool
         requires of_game { IsRowOf self.now.grid.layers row.now }
         ensures all { result ≡ list_all (marks_cell marks.now) row.now.cells }
-        ensures lawful { IsLawful self.now.grid }
         ensures marked { IsMarked self.now }
     {
         // (brings the proof the law of levels)
@@ -75,7 +74,6 @@ impl Level {
         requires of_game { IsRowOf self.now.grid.layers row.now }
         ensures searched { result ≡ searches_level self.now row.now }
         ensures none { result ≡ false → (dir : Dir) → places self.now.grid row.now dir ≡ [] }
-        ensures lawful { IsLawful self.now.grid }
     {
         self.marks_all(&self.level_marks, row)
     }

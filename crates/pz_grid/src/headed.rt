@@ -4,7 +4,6 @@ ghost use Rattle.std.specs.Prelude.{◌≡◌, [], false};
 ghost use Rattle.pz_game.specs.declared.direction.Dir.{Dir};
 ghost use Rattle.pz_game.specs.Pattern.{RuleRow, IsRowOf, AsksAmong};
 ghost use Rattle.pz_grid.specs.Places.{places};
-ghost use Rattle.pz_sheet.specs.Grid.{IsLawful};
 
 use crate::Level;
 
@@ -12,11 +11,8 @@ impl Level {
     /// Whether the level's headings allow a heading of the set `asked`. If false, no row that asks for one of these headings has a place,
     /// in any direction.
     pub fn may_head_in(&self, asked: &[u128]) -> bool
-        ensures none { result ≡ false → (row : RuleRow) (dir : Dir) → IsRowOf self.now.grid.layers row → AsksAmong asked.now row.cells → places self.now.grid row dir ≡ [] }
-        ensures lawful { IsLawful self.now.grid }
+        ensures { result ≡ false → (row : RuleRow) (dir : Dir) → IsRowOf self.now.grid.layers row → AsksAmong asked.now row.cells → places self.now.grid row dir ≡ [] }
     {
-        // (brings the proof the law of levels)
-        let _ = self.width();
         self.bare().may_head_in(asked)
     }
 }

@@ -202,7 +202,7 @@ impl Level {
         moved
     }
 
-    /// Makes one pass, column by column, and says whether a piece moved. Columns in which nothing heads anywhere are left out.
+    /// Makes one pass, column by column, and says whether a piece moved. Columns for which no heading is noted are left out.
     fn pass(&mut self) -> bool
         ensures pass { in_pass self.new.grid result ≡ pass_of self.old.grid }
         ensures size { SameSize self.old.grid self.new.grid }

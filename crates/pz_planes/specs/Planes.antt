@@ -55,7 +55,7 @@ IsNextDifferingPosition sets other long from None = AreSameBetween sets other lo
 IsNextDifferingPosition sets other long from (Some found) =
     (from ≤ found) × (found < sets.count * long) × (AreSameAt sets other (found / long) (found % long) → ⊥) × AreSameBetween sets other long from found
 
--- a note that is toggled: it comes if it isn't there, and goes if it is
+-- a note after a toggle: if it is toggled, it comes if it wasn't there and goes if it was; else it stays
 abbrev pub toggled : Bool → Bool → Bool
 toggled true was = not was
 toggled false was = was

@@ -73,6 +73,7 @@ pub fn first(set: u128) -> usize
     requires { 0 < set }
     ensures there { in_word set result ≡ true }
     ensures low { result < 128 }
+    ensures least { (at : ℕ) → at < result → in_word set at ≡ false }
 {
     set.trailing_zeros() as usize
 }

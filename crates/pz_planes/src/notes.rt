@@ -73,7 +73,8 @@ impl Notes {
         }
     }
 
-    /// The first column, from number `from` on, for which a heading is noted.
+    /// The first column, from number `from` on, for which a heading is noted. The contract promises only that none is noted for those before
+    /// it: an earlier answer would cost time alone.
     pub fn next_column(&self, from: usize) -> Option<usize>
         ensures { MatchOption result (HaveNoneBetween self.now.columns from (length self.now.columns)) (λ column. (from ≤ column) × (column < length self.now.columns) × HaveNoneBetween self.now.columns from column) }
     {

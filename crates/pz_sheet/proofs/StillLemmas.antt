@@ -58,7 +58,7 @@ row_stays N width height layering cells notes sound covers noted y k cell y_in n
     let here = get_or cells k cell in
     let heads : HeadsWithin N (get_or notes.rows y []) here = subst (λ (line : ℕ). HeadsWithin N (get_or notes.rows line []) here) row (noted.each k cell within).row in
     let nowhere = none_within here.movement (get_or notes.rows y []) heads none in
-    record { sound = sound k cell within; seen_so = still_seen N layering here (sound k cell within) nowhere; nowhere = nowhere; objects = refl }
+    record { sound = sound k cell within; seen_still = still_seen N layering here (sound k cell within) nowhere; nowhere = nowhere; objects = refl }
 
 -- the cells of a row are cells of the map
 pub row_within : (y width height : ℕ) → y < height → y * width + width ≤ width * height

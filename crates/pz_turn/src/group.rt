@@ -20,6 +20,8 @@ fn is_left_out(level: &Level, segment: &Segment) -> bool
     requires of_game { IsGroupOf level.now.grid.layers segment.now }
     ensures { result ≡ true → pass_of applied segment.now level.now.grid ≡ Ok (untouched level.now.grid) }
 {
+    // (brings the proof the law of levels)
+    let _ = level.width();
     match segment.asked() {
         None => false,
         Some(asked) => !level.may_head_in(asked),

@@ -4,7 +4,7 @@ ghost use Rattle.std.specs.Prelude.{◌≡◌, ◌≢◌, ◌≤◌, ◌<◌, �
 ghost use Rattle.pz_game.specs.declared.direction.Dir.{Dir};
 ghost use Rattle.pz_program.specs.Instance.{IsInstanceOf};
 ghost use Rattle.pz_game.specs.Pattern.{IsRowOf, AreRowsOf};
-ghost use Rattle.pz_sheet.specs.Grid.{IsLawful, SameSize};
+ghost use Rattle.pz_sheet.specs.Grid.{SameSize};
 ghost use Rattle.pz_grid.specs.Places.{places, searched};
 ghost use Rattle.pz_grid.specs.Rewriting.{in_rewrite};
 ghost use Rattle.pz_turn.specs.Combinations.{combinations};
@@ -59,8 +59,7 @@ fn search(alloc: Global, level: &Level, row: &Row, dir: Dir) -> Result<Listed<Pl
 
 /// Whether a level has so few cells that no row can have too many places there, not even one with a gap.
 fn is_small(level: &Level) -> bool
-    ensures small { result ≡ true → level.now.grid.width * level.now.grid.height ≤ FEW_CELLS }
-    ensures lawful { IsLawful level.now.grid }
+    ensures { result ≡ true → level.now.grid.width * level.now.grid.height ≤ FEW_CELLS }
 {
     level.width() * level.height() <= FEW_CELLS
 }
@@ -69,8 +68,7 @@ fn is_small(level: &Level) -> bool
 /// only plays a sound. In a small level the row isn't read: there may be thousands of such instances, each with its row elsewhere in
 /// memory.
 fn has_no_effect(level: &Level, instance: &Instance) -> bool
-    ensures effectless { result ≡ true → HasNoEffect level.now.grid instance.now }
-    ensures lawful { result ≡ true → IsLawful level.now.grid }
+    ensures { result ≡ true → HasNoEffect level.now.grid instance.now }
 {
     if !instance.right.items().is_empty() || !instance.commands.is_empty() {
         return false;
@@ -84,8 +82,7 @@ fn has_no_effect(level: &Level, instance: &Instance) -> bool
 /// Whether the marks and headings of a level allow a place of a row. If false, the row has none, in any direction.
 fn may_have_place(level: &Level, row: &Row) -> bool
     requires of_game { IsRowOf level.now.grid.layers row.now }
-    ensures none { result ≡ false → (dir : Dir) → places level.now.grid row.now dir ≡ [] }
-    ensures lawful { IsLawful level.now.grid }
+    ensures { result ≡ false → (dir : Dir) → places level.now.grid row.now dir ≡ [] }
 {
     level.is_searched_for(row) && level.may_hold(row)
 }
@@ -96,6 +93,8 @@ fn is_left_out(level: &Level, instance: &Instance) -> bool
     requires of_game { AreRowsOf level.now.grid.layers instance.now.left }
     ensures { result ≡ true → applied instance.now level.now.grid ≡ Ok (untouched level.now.grid) }
 {
+    // (brings the proof the law of levels)
+    let _ = level.width();
     if has_no_effect(level, instance) {
         return true;
     }

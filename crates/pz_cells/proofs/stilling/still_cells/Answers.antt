@@ -28,7 +28,7 @@ loop-index-preserved g c =
       stilled = λ k cell late below. elim (cases_eq k index) [
         | inl same ↦
             let was : here ≡ get_or old index cell = c.index_mut.ensures.value ∙ get_or_default now index here cell within ∙ i.behind index cell (omega arith) in
-            let is : IsStilled c.args.layers.now here new = record { sound = c.still_all.ensures.sound; seen_so = c.still_all.ensures.cell; nowhere = c.still_all.ensures.none; objects = c.still_all.ensures.objects } in
+            let is : IsStilled c.args.layers.now here new = record { sound = c.still_all.ensures.sound; seen_still = c.still_all.ensures.cell; nowhere = c.still_all.ensures.none; objects = c.still_all.ensures.objects } in
             subst (λ (n : ℕ). IsStilled c.args.layers.now (get_or old n cell) (get_or (set now index new) n cell)) (sym same)
             (subst (IsStilled c.args.layers.now (get_or old index cell)) (sym (get_or-set_same now index new cell within)) (subst (λ (it : Cell g.row.N). IsStilled c.args.layers.now it new) was is))
         | inr other ↦ subst (IsStilled c.args.layers.now (get_or old k cell)) (sym (get_or-set_other now index k new cell other)) (i.stilled k cell late (omega (arith, below, other)))

@@ -6,8 +6,8 @@ use Rattle.pz_sheet.specs.Searching.{HoldsSomewhere}
 use Rattle.pz_grid.proofs.SomewhereLemmas.{nowhere_none}
 use Rattle.pz_grid.proofs.Level.may_head_in.Goals as goal
 
-pub returns-clause-none : goal.returns-clause-none
-returns-clause-none c = λ absent row dir are asks.
+pub returns : goal.returns
+returns c = λ absent row dir are asks.
     let e = sym c.bare.ensures in
     nowhere_none c.args.self.now.grid row dir c.may_head_in.result
     (λ hold. c.may_head_in.ensures row.cells (subst (λ (grid : Grid). All (AreOf grid.layers) row.cells) e are) asks (subst (λ (grid : Grid). All (HoldsSomewhere grid) row.cells) e hold))

@@ -53,4 +53,4 @@ returns-clause-mapped g c =
     let top : c.loop-y.y ≡ c.args.height = omega (arith, c.loop-y-test.false, c.loop-y.auto.y-end) in
     let below : k < c.loop-y.y * c.args.width = omega (arith, within, c.requires.covers, ap (λ (n : ℕ). n * c.args.width) top) in
     let stilled = i.turned k cell below in
-    (stilled.sound, stilled.seen_so)) i.long
+    (stilled.sound, stilled.seen_still)) i.long
