@@ -8,6 +8,7 @@ use Rattle.pz_entries.specs.declared.entry.Entry.{Entry}
 use Rattle.pz_entries.specs.declared.fault.FileFault.TheVariants as fault
 use Rattle.pz_entries.specs.declared.file.TheConstants.{MOST_BYTES}
 use Rattle.pz_record.specs.declared.order.Order.{Order}
+use Rattle.pz_case.specs.declared.recording.Record.{Record}
 use Rattle.pz_lines.specs.declared.fault.WriteFault.{WriteFault}
 use Rattle.pz_lines.specs.Lines.{text_of}
 use Rattle.pz_lines.specs.Writing.{Writes, EndsFor, HasWritten}
@@ -29,6 +30,15 @@ pub record WritesPart (order : Order) (bytes : List ℕ) (cut : WriteFault) (old
   pub entries : List Entry
   pub read : sessions_in bytes ≡ Ok entries
   pub ended : EndsFor cut (text_of (shown_of order entries)) old new
+
+-- what playing sessions leaves in its output, if it ends so: all lines of what they show, as many first bytes as a fault of writing
+-- tells, or nothing
+abbrev pub Plays : List Record → Writes → Writes → Result Bool Failure → Type 0
+Plays shown old new (Ok passed) = (passed ≡ all_passed shown) × HasWritten (text_of shown) old new
+Plays shown old new (Err (failure.WriteFault cut)) = EndsFor cut (text_of shown) old new
+Plays shown old new (Err failure.Memory) = new ≡ old
+Plays shown old new (Err failure.LaneLost) = new ≡ old
+Plays shown old new (Err other) = ⊥
 
 -- these are the bytes of the input, if its bytes are known
 abbrev pub AreOf : Option (List ℕ) → List ℕ → Type 0

@@ -4,21 +4,20 @@ ghost use Rattle.std.specs.Prelude.{◌≡◌, ◌≢◌, ◌≤◌, ◌⊎◌, 
 ghost use Rattle.std.specs.IoError.{error_kind};
 ghost use Rattle.pz_console.specs.declared.options.TheConstants.{MOST_WORKERS};
 ghost use Rattle.pz_console.specs.declared.failure.Failure.{Failure};
-ghost use Rattle.pz_engine.specs.Sessions.{shown_of};
-ghost use Rattle.pz_serving.specs.Serving.{ReadsFor, Reports, Serves, ServesOpened, failure_at, status_of};
+ghost use Rattle.pz_session.specs.Recording.{recording};
+ghost use Rattle.pz_serving.specs.Serving.{Plays, ReadsFor, Reports, Serves, ServesOpened, failure_at, status_of};
 
-use pz_case::recording::Recording;
+use pz_case::job::Job;
 use pz_console::counted::Counted;
 use pz_console::failure::{Failure, fail_with};
 use pz_console::input::{InputFault, read_input};
 use pz_console::options::Options;
+use pz_engine::engine::play;
 use pz_engine::sessions::{all_passed, decode};
-use pz_entries::entry::Entry;
 use pz_entries::fault::FileFault;
 use pz_job::job::prepare_with;
 use pz_lines::output::Output;
 use pz_lines::writing::write_recording;
-use pz_record::limits::MOST_ENTRIES;
 use pz_replay::{Always, ReplayFault, replay_with};
 use std::alloc::Global;
 use std::io::{self, ErrorKind, Read, Write};
@@ -42,23 +41,59 @@ fn failure_of(fault: ReplayFault) -> Failure
     }
 }
 
-/// What the sessions of the entries show when the workers play them.
-fn record<T: Threads + Wait + Sync>(
+/// Plays a job in the calling thread, and writes its lines; tells whether every session passed. Each item becomes a line before the next is
+/// played.
+fn play_alone<W: Write>(alloc: Global, job: &Job, output: &mut Output<W>) -> Result<bool, Failure>
+    requires sound { output.old.failure ≡ None }
+    ensures played { Plays (recording job.now) output.old output.new result }
+{
+    let played = play(alloc, job, 0)?;
+    match output.write_whole(&played.lines) {
+        Ok(()) => Ok(played.passed),
+        Err(fault) => Err(Failure::WriteFault(fault)),
+    }
+}
+
+/// Plays a job by several workers, and writes the lines of its recording; tells whether every session passed.
+fn play_by_crew<T: Threads + Wait + Sync, W: Write>(
     rt: &T,
     alloc: Global,
-    entries: Vec<Entry>,
-    options: Options,
-) -> Result<Recording, Failure>
-    requires entries { length entries.items ≤ MOST_ENTRIES }
-    requires some { 1 ≤ options.workers }
-    requires few { options.workers ≤ MOST_WORKERS }
-    ensures shown { IfOk result (λ shown. shown ≡ shown_of options.order entries.items) }
-    ensures refused { IfErr result (λ failure. (failure ≡ Failure.Memory) ⊎ (failure ≡ Failure.LaneLost)) }
+    job: &Job,
+    workers: usize,
+    output: &mut Output<W>,
+) -> Result<bool, Failure>
+    requires sound { output.old.failure ≡ None }
+    requires some { 1 ≤ workers }
+    requires few { workers ≤ MOST_WORKERS }
+    ensures played { Plays (recording job.now) output.old output.new result }
 {
-    let job = prepare_with(rt, alloc, entries, options.order, options.workers)?;
-    match replay_with(rt, alloc, &job, options.workers, LANE, &Always) {
-        Ok(recording) => Ok(recording),
-        Err(fault) => Err(failure_of(fault)),
+    let recording = match replay_with(rt, alloc, job, workers, LANE, &Always) {
+        Ok(recording) => recording,
+        Err(fault) => return Err(failure_of(fault)),
+    };
+    match write_recording(alloc, &recording, output) {
+        Ok(()) => Ok(all_passed(&recording)),
+        Err(fault) => Err(Failure::WriteFault(fault)),
+    }
+}
+
+/// Plays a job and writes its lines; tells whether every session passed. A worker that would be alone has no thread of its own.
+fn play_job<T: Threads + Wait + Sync, W: Write>(
+    rt: &T,
+    alloc: Global,
+    job: &Job,
+    workers: usize,
+    output: &mut Output<W>,
+) -> Result<bool, Failure>
+    requires sound { output.old.failure ≡ None }
+    requires some { 1 ≤ workers }
+    requires few { workers ≤ MOST_WORKERS }
+    ensures played { Plays (recording job.now) output.old output.new result }
+{
+    if workers == 1 {
+        play_alone(alloc, job, output)
+    } else {
+        play_by_crew(rt, alloc, job, workers, output)
     }
 }
 
@@ -87,11 +122,9 @@ fn run<T: Threads + Wait + Sync, R: Read, W: Write>(
         Ok(entries) => entries,
         Err(fault) => return Err(Failure::File(fault)),
     };
-    let recording = record(rt, alloc, entries, options)?;
-    match write_recording(alloc, &recording, output) {
-        Ok(()) => Ok(all_passed(&recording)),
-        Err(fault) => Err(Failure::WriteFault(fault)),
-    }
+    drop(bytes);
+    let job = prepare_with(rt, alloc, entries, options.order, options.workers)?;
+    play_job(rt, alloc, &job, options.workers, output)
 }
 
 /// Reads a file of sessions to its end, replays them on as many threads as there are workers, writes the lines of their
