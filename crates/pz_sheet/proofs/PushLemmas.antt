@@ -14,35 +14,22 @@ use Rattle.pz_cells.proofs.PlaceLemmas.{lawful_changed, shows_changed, place_som
 use Rattle.pz_cells.specs.Standing.{standing}
 use Rattle.pz_sheet.specs.Grid.{Grid, cell_at}
 use Rattle.pz_sheet.specs.Presence.{is_in, AreMissing}
-use Rattle.pz_sheet.proofs.HoldingLemmas.{none_of}
+use Rattle.std.proofs.lemmas.List.Folds.{list_any_none, map_fixed}
 use Rattle.pz_sheet.specs.Pushing.{is_one_of, pushed_place, pushed_at}
 use Rattle.pz_cells.proofs.ListLemmas.{cell_mapped}
 
-pub pushed_none : (dir : Dir) (place : Option Piece) → pushed_place [] dir place ≡ place
-pushed_none dir None = refl
-pushed_none dir (Some piece) = refl
+pub all_pushed_none : (dir : Dir) (cell : List (Option Piece)) → map (pushed_place [] dir) cell ≡ cell
+all_pushed_none dir cell = map_fixed (pushed_place [] dir) cell (λ k d within. pushed_none (get_or cell k d)) where
+  pushed_none : (place : Option Piece) → pushed_place [] dir place ≡ place
+  pushed_none place = grind arith
 
 -- an object and others are pushed one after the other
 pub pushed_more : (object : ℕ) (others : List ℕ) (dir : Dir) (place : Option Piece) → pushed_place others dir (pushed_place (object ∷ []) dir place) ≡ pushed_place (object ∷ others) dir place
-pushed_more object others dir None = refl
-pushed_more object others dir (Some piece) = by_tests (nat_eq object piece.object) (is_one_of others piece.object) refl where
-  turned : Option Piece
-  turned = Some (record { object = piece.object; heading = Some dir })
-
-  by_tests : (b d : Bool) → is_one_of others piece.object ≡ d → pushed_place others dir (cond (b || false) turned (Some piece)) ≡ cond (b || is_one_of others piece.object) turned (Some piece)
-  by_tests false d e = refl
-  by_tests true true e = ap (λ x. cond x turned turned) e
-  by_tests true false e = ap (λ x. cond x turned turned) e
-
-pub all_pushed_none : (dir : Dir) (cell : List (Option Piece)) → map (pushed_place [] dir) cell ≡ cell
-all_pushed_none dir [] = refl
-all_pushed_none dir (place ∷ cell) = ap (λ (p : Option Piece). p ∷ map (pushed_place [] dir) cell) (pushed_none dir place) ∙ ap (λ (c : List (Option Piece)). place ∷ c) (all_pushed_none dir cell)
+pushed_more object others dir place = grind arith
 
 pub all_pushed_more : (object : ℕ) (others : List ℕ) (dir : Dir) (cell : List (Option Piece)) → map (pushed_place others dir) (map (pushed_place (object ∷ []) dir) cell) ≡ map (pushed_place (object ∷ others) dir) cell
 all_pushed_more object others dir [] = refl
-all_pushed_more object others dir (place ∷ cell) =
-    ap (λ (p : Option Piece). p ∷ map (pushed_place others dir) (map (pushed_place (object ∷ []) dir) cell)) (pushed_more object others dir place)
-    ∙ ap (λ (c : List (Option Piece)). pushed_place (object ∷ others) dir place ∷ c) (all_pushed_more object others dir cell)
+all_pushed_more object others dir (place ∷ cell) = grind (arith, pushed_more object others dir place, all_pushed_more object others dir cell)
 
 -- the next of some players is pushed, before the rest
 pub rest_pushed : (players : List ℕ) (index d : ℕ) (dir : Dir) (now next whole : List (Option Piece)) → index < length players → next ≡ map (pushed_place (get_or players index d ∷ []) dir) now → map (pushed_place (drop index players) dir) now ≡ whole → map (pushed_place (drop (index + 1) players) dir) next ≡ whole
@@ -122,7 +109,7 @@ absent_pushed players dir [] none = refl
 absent_pushed players dir (None ∷ places) none = ap (λ (rest : List (Option Piece)). None ∷ rest) (absent_pushed players dir places none)
 absent_pushed players dir (Some piece ∷ places) none =
     let apart : (player : ℕ) → is_in (Some piece ∷ places) player ≡ false → (nat_eq piece.object player ≡ false) × (is_in places player ≡ false) = λ player. apart_by (nat_eq piece.object player) piece.heading (standing places player) in
-    let none_first : is_one_of players piece.object ≡ false = none_of (λ other. nat_eq other piece.object) players (λ k d within. apart_back piece.object (get_or players k d) (apart (get_or players k d) (none k d within)).0) in
+    let none_first : is_one_of players piece.object ≡ false = list_any_none (λ other. nat_eq other piece.object) players (λ k d within. apart_back piece.object (get_or players k d) (apart (get_or players k d) (none k d within)).0) in
     ap (λ (b : Bool). cond b (Some (record { object = piece.object; heading = Some dir })) (Some piece) ∷ map (pushed_place players dir) places) none_first
     ∙ ap (λ (rest : List (Option Piece)). Some piece ∷ rest) (absent_pushed players dir places (λ k d within. (apart (get_or players k d) (none k d within)).1))
 

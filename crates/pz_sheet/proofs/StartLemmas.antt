@@ -30,7 +30,7 @@ use Rattle.pz_sheet.specs.Seen.{grid_of, IsStored}
 use Rattle.pz_sheet.proofs.SheetLemmas.{seen_at}
 use Rattle.pz_cells.proofs.ListLemmas.{no_cell}
 use Rattle.pz_sheet.proofs.RunLemmas.{enumerate_fails}
-use Rattle.pz_sheet.proofs.AxisLemmas.{along_in, run_past}
+use Rattle.pz_sheet.proofs.RunLemmas.{along_in, run_past}
 
 -- each passes where all do
 each_passes : (p : ℕ × List Item → Bool) (patterns : List (List Item)) → list_all p (enumerate_from 0 patterns) ≡ true → (index : ℕ) (other : List Item) → index < length patterns → p (index, get_or patterns index other) ≡ true

@@ -7,8 +7,7 @@ use Rattle.pz_cells.specs.Lists.{IsSound}
 use Rattle.pz_cells.proofs.DrawLemmas.{AreGlyphs}
 use Rattle.pz_sheet.specs.Noting.{ArePlaced}
 use Rattle.pz_cells.proofs.ListLemmas.{small_cell}
-use Rattle.pz_sheet.proofs.MapLemmas.{noted_read}
-use Rattle.pz_sheet.proofs.LoadLemmas.{stored_drawn, drawn_covers}
+use Rattle.pz_sheet.proofs.MapLemmas.{noted_read, stored_drawn, drawn_covers}
 use Rattle.pz_sheet.proofs.Sheet.drawn.Goals as goal
 
 pub noted-requires : goal.noted-requires
