@@ -1,8 +1,8 @@
 -- Objects that get a direction.
-use Rattle.std.proofs.Common.{◌≡◌, ◌≢◌, inl, inr, ℕ, zero, suc, ◌+◌, ◌*◌, ◌<◌, ◌≤◌, List, [], ◌∷◌, ◌++◌, Option, Some, None, Bool, true, false, ◌||◌, cond, is_some, map, set, take, drop, length, get_or, nat_eq, arith, ap, sym, ◌∙◌, refl, subst, eq-eqb, length-append, length-drop, length-take}
+use Rattle.std.proofs.Common.{◌≡◌, ◌≢◌, inl, inr, ℕ, zero, suc, ◌+◌, ◌*◌, ◌<◌, ◌≤◌, List, [], ◌∷◌, ◌++◌, Option, Some, None, Bool, true, false, cond, is_some, map, set, take, drop, length, get_or, nat_eq, arith, ap, sym, ◌∙◌, refl, subst, length-append, length-drop, length-take}
 use Rattle.std.proofs.Math.Nat.{mul_comm, suc-mul, mul-le-mul_right}
 use Rattle.std.specs.Prelude.{IfSome}
-use Rattle.std.proofs.lemmas.Bool.{cases_eq, false≢true, ne_eqb}
+use Rattle.std.proofs.lemmas.Bool.{cases_eq, false≢true}
 use Rattle.std.proofs.lemmas.List.{drop_more, drop_all, get_or_default, length-map, set-get_or}
 use Rattle.std.proofs.lemmas.List.Edits.{map_over_more}
 use Rattle.pz_sets.specs.Sets.{member}
@@ -44,11 +44,10 @@ none_pushed players index dir now whole past rest =
     sym (all_pushed_none dir now) ∙ (ap (λ (all : List ℕ). map (pushed_place all dir) now) (sym (drop_all index players past)) ∙ rest)
 
 pushed_other : (object : ℕ) (dir : Dir) (place : Option Piece) → IfSome place (λ p. p.object ≢ object) → pushed_place (object ∷ []) dir place ≡ place
-pushed_other object dir None h = refl
-pushed_other object dir (Some piece) h = ap (λ b. cond (b || false) (Some (record { object = piece.object; heading = Some dir })) (Some piece)) (ne_eqb object piece.object (λ e. h (sym e)))
+pushed_other object dir place h = grind arith
 
 pushed_same : (object : ℕ) (dir : Dir) (heading : Option Dir) → pushed_place (object ∷ []) dir (Some (record { object = object; heading = heading })) ≡ Some (record { object = object; heading = Some dir })
-pushed_same object dir heading = ap (λ b. cond (b || false) (Some (record { object = object; heading = Some dir })) (Some (record { object = object; heading = heading }))) (eq-eqb object object refl)
+pushed_same object dir heading = grind arith
 
 -- words in which one object was turned, if it stands there
 pub record AreTurned (layers objects movement objects_new movement_new : List ℕ) (object : ℕ) (dir : Dir) : Type 0 where
@@ -71,23 +70,19 @@ turned_shows layers objects movement objects_new movement_new object dir t layer
   there : List ℕ → List ℕ → Type 0
   there o m = Shows layers (member o) (heads m layer) layer (place_of layers objects movement layer)
 
-  absent : member objects object ≡ false → (place : Option Piece) → place_of layers objects movement layer ≡ place → IfSome place (λ p. p.object ≢ object)
-  absent none None e = tt
-  absent none (Some piece) e = λ same. (let here = object_there layers objects movement layer piece t.lawful e in let f : false ≡ true = sym none ∙ (ap (member objects) (sym same) ∙ here.0) in cc)
-
-  elsewhere : layer ≢ get_or layers object 0 → (place : Option Piece) → place_of layers objects movement layer ≡ place → IfSome place (λ p. p.object ≢ object)
+  elsewhere : (member objects object ≡ true → layer ≢ get_or layers object 0) → (place : Option Piece) → place_of layers objects movement layer ≡ place → IfSome place (λ p. p.object ≢ object)
   elsewhere apart None e = tt
-  elsewhere apart (Some piece) e = λ same. (let here = object_there layers objects movement layer piece t.lawful e in apart (sym here.1 ∙ ap (λ (o : ℕ). get_or layers o 0) same))
+  elsewhere apart (Some piece) e = λ same. (let here = object_there layers objects movement layer piece t.lawful e in apart (ap (member objects) (sym same) ∙ here.0) (sym here.1 ∙ ap (λ (o : ℕ). get_or layers o 0) same))
 
   by_there : (b : Bool) → member objects object ≡ b → new_shows (pushed_place (object ∷ []) dir (place_of layers objects movement layer))
   by_there false e =
-      subst new_shows (sym (pushed_other object dir (place_of layers objects movement layer) (absent e (place_of layers objects movement layer) refl)))
+      subst new_shows (sym (pushed_other object dir (place_of layers objects movement layer) (elsewhere (λ there. absurd (false≢true (sym e ∙ there))) (place_of layers objects movement layer) refl)))
       (subst (λ (m : List ℕ). there objects_new m) (sym (t.same_movement e)) (subst (λ (o : List ℕ). there o movement) (sym (t.same_objects e)) (t.lawful.shows layer)))
   by_there true e = elim (cases_eq layer (get_or layers object 0)) [
     | inl same ↦ (let piece : place_of layers objects movement layer ≡ Some (record { object = object; heading = heading_in movement layer }) = sym (place_some layers objects movement layer object t.lawful e (sym same)) in
         subst new_shows (sym (ap (pushed_place (object ∷ []) dir) piece ∙ pushed_same object dir (heading_in movement layer)))
         (subst (λ (k : ℕ). Shows layers (member objects_new) (heads movement_new k) k (Some (record { object = object; heading = Some dir }))) (sym same) (t.turned e).here))
-    | inr apart ↦ subst new_shows (sym (pushed_other object dir (place_of layers objects movement layer) (elsewhere apart (place_of layers objects movement layer) refl)))
+    | inr apart ↦ subst new_shows (sym (pushed_other object dir (place_of layers objects movement layer) (elsewhere (λ there. apart) (place_of layers objects movement layer) refl)))
         (shows_changed layers objects movement objects_new movement_new (get_or layers object 0) (Some (record { object = object; heading = Some dir })) (t.turned e) layer apart (place_of layers objects movement layer) (t.lawful.shows layer))
   ]
 
@@ -100,16 +95,13 @@ apart_by : (same : Bool) (heading : Option Dir) (rest : Option (Option Dir)) →
 apart_by true heading rest e = cc
 apart_by false heading rest e = (refl, e)
 
-apart_back : (a b : ℕ) → nat_eq a b ≡ false → nat_eq b a ≡ false
-apart_back a b apart = ne_eqb b a (λ same. false≢true (sym apart ∙ eq-eqb a b (sym same)))
-
 -- nobody of some players stands there
 pub absent_pushed : (players : List ℕ) (dir : Dir) (cell : List (Option Piece)) → AreMissing players cell → map (pushed_place players dir) cell ≡ cell
 absent_pushed players dir [] none = refl
 absent_pushed players dir (None ∷ places) none = ap (λ (rest : List (Option Piece)). None ∷ rest) (absent_pushed players dir places none)
 absent_pushed players dir (Some piece ∷ places) none =
     let apart : (player : ℕ) → is_in (Some piece ∷ places) player ≡ false → (nat_eq piece.object player ≡ false) × (is_in places player ≡ false) = λ player. apart_by (nat_eq piece.object player) piece.heading (standing places player) in
-    let none_first : is_one_of players piece.object ≡ false = list_any_none (λ other. nat_eq other piece.object) players (λ k d within. apart_back piece.object (get_or players k d) (apart (get_or players k d) (none k d within)).0) in
+    let none_first : is_one_of players piece.object ≡ false = list_any_none (λ other. nat_eq other piece.object) players (λ k d within. grind (arith, (apart (get_or players k d) (none k d within)).0)) in
     ap (λ (b : Bool). cond b (Some (record { object = piece.object; heading = Some dir })) (Some piece) ∷ map (pushed_place players dir) places) none_first
     ∙ ap (λ (rest : List (Option Piece)). Some piece ∷ rest) (absent_pushed players dir places (λ k d within. (apart (get_or players k d) (none k d within)).1))
 

@@ -2,7 +2,7 @@
 use Rattle.pz_cells.specs.Layering.{Layering}
 use Rattle.std.proofs.Common.{◌≡◌, ℕ, ◌+◌, ◌*◌, ◌/◌, ◌%◌, ◌<◌, ◌≤◌, List, [], Option, Some, None, Bool, true, false, not, ◌&&◌, cond, set, length, get_or, ap, sym, ◌∙◌, refl, subst, arith, inl, inr, get_or-set_same, get_or-set_other}
 use Rattle.std.specs.Prelude.{nat_lt, IfSome, MatchOption}
-use Rattle.std.proofs.lemmas.Bool.{lt-ltb, cases_eq}
+use Rattle.std.proofs.lemmas.Bool.{lt-ltb, cases_eq, not-false}
 use Rattle.std.proofs.lemmas.List.{length-map, length-set, get_or-map, get_or_default, set-get_or}
 use Rattle.std.proofs.lemmas.List.FromFn.{length-map-range_with_len}
 use Rattle.std.proofs.lemmas.List.Elements.{All-map, All-set}
@@ -63,8 +63,7 @@ pub lawful_here : (N width height : ℕ) (layering : Layering) (cells : List (Ce
 lawful_here N width height layering cells notes level s is = subst IsLawful (ap (λ (l : BareState). l.grid) is) (lawful_seen N width height layering cells notes s)
 
 pub low_place : (layers : List ℕ) (layer : ℕ) (place : Option Piece) → length layers ≤ MAX_OBJECTS → IsOnLayer layers layer place → IfSome place (λ piece. piece.object < MAX_OBJECTS)
-low_place layers layer None few on = tt
-low_place layers layer (Some piece) few on = omega (arith, on.0, few)
+low_place layers layer place few on = grind arith
 
 -- a position on the map
 pub standing_on_map : (grid : Grid) (x y object : ℕ) → x < grid.width → y < grid.height → standing_at grid x y object ≡ standing (cell_at grid x y) object
@@ -74,8 +73,7 @@ standing_on_map grid x y object wide high =
 
 -- what a cell's piece says
 pub piece_seen : (there : Bool) (heading : Option Dir) (object : ℕ) (stand : Option (Option Dir)) (piece : Option Piece) → stand ≡ standing_by there heading → MatchOption piece (there ≡ false) (λ p. (there ≡ true) × (p.object ≡ object) × (p.heading ≡ heading)) → MatchOption piece (stand ≡ None) (λ p. stand ≡ Some p.heading)
-piece_seen there heading object stand None e h = e ∙ ap (λ b. standing_by b heading) h
-piece_seen there heading object stand (Some p) e h = e ∙ (ap (λ b. standing_by b heading) h.0 ∙ ap (λ (way : Option Dir). Some way) (sym h.2))
+piece_seen there heading object stand piece e h = grind arith
 
 -- ---- one cell anew
 pub still_noted : (N width index : ℕ) (old new : HeadingSets) (cell : Cell N) → IsWider old new → IsNoted N width old index cell → IsNoted N width new index cell
@@ -124,8 +122,5 @@ placed_there grid x y layer place within deep =
 pub unrewritten : (grid : Grid) (x y : ℕ) (left right : List Item) (here : List (Option Piece)) → here ≡ cell_at grid x y → not (same_cell (rewritten_cell left right here) here) ≡ false → grid ≡ with_rewritten grid x y left right
 unrewritten grid x y left right here is same =
     let at = y * grid.width + x in
-    let kept : rewritten_cell left right here ≡ here = same_cell_is _ _ (by_test (same_cell (rewritten_cell left right here) here) same) in
-    ap (λ (cells : List (List (Option Piece))). record grid { cells = cells }) (sym (ap (set grid.cells at) (ap (rewritten_cell left right) (sym is) ∙ kept ∙ is) ∙ set-get_or grid.cells at [])) where
-      by_test : (b : Bool) → not b ≡ false → b ≡ true
-      by_test true e = refl
-      by_test false e = sym e
+    let kept : rewritten_cell left right here ≡ here = same_cell_is _ _ (not-false _ same) in
+    ap (λ (cells : List (List (Option Piece))). record grid { cells = cells }) (sym (ap (set grid.cells at) (ap (rewritten_cell left right) (sym is) ∙ kept ∙ is) ∙ set-get_or grid.cells at []))

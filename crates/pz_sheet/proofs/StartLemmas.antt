@@ -1,9 +1,9 @@
 -- Where rules' cells hold one after another, the objects that they name as present are noted, and those that they name as absent are not.
 use Rattle.pz_cells.specs.Layering.{Layering}
-use Rattle.std.proofs.Common.{◌≡◌, inl, inr, ℕ, ◌+◌, ◌*◌, ◌<◌, ◌≤◌, List, Bool, true, false, not, ◌&&◌, nat_eq, eq-eqb, length, get_or, arith, ap, sym, ◌∙◌, refl}
+use Rattle.std.proofs.Common.{◌≡◌, inl, inr, ℕ, ◌+◌, ◌*◌, ◌<◌, ◌≤◌, List, [], Bool, true, false, not, ◌&&◌, nat_eq, eq-eqb, length, get_or, arith, ap, sym, ◌∙◌, refl}
 use Rattle.std.specs.List.{All, list_all, enumerate_from}
-use Rattle.std.proofs.lemmas.Bool.{cases_lt}
-use Rattle.std.proofs.lemmas.List.{get_or_default}
+use Rattle.std.proofs.lemmas.Bool.{cases_lt, false≢true, true_from_ne_false}
+use Rattle.std.proofs.lemmas.List.{get_or_default, get_or-map}
 use Rattle.std.proofs.lemmas.List.Folds.{list_any_at}
 use Rattle.std.proofs.lemmas.Nat.{mul-add-lt}
 use Rattle.pz_sets.specs.Sets.{member}
@@ -27,21 +27,13 @@ use Rattle.pz_sheet.specs.Noting.{ArePlaced}
 use Rattle.pz_sheet.specs.Runs.{holds_along}
 use Rattle.pz_planes.specs.Notes.{HeadingSets}
 use Rattle.pz_sheet.specs.Seen.{grid_of, IsStored}
-use Rattle.pz_sheet.proofs.SheetLemmas.{seen_at}
+use Rattle.pz_cells.specs.Lists.{seen}
 use Rattle.pz_cells.proofs.ListLemmas.{no_cell}
-use Rattle.pz_sheet.proofs.RunLemmas.{enumerate_fails}
-use Rattle.pz_sheet.proofs.RunLemmas.{along_in, run_past}
+use Rattle.pz_sheet.proofs.RunLemmas.{enumerate_fails, along_in, run_past}
 
 -- each passes where all do
 each_passes : (p : ℕ × List Item → Bool) (patterns : List (List Item)) → list_all p (enumerate_from 0 patterns) ≡ true → (index : ℕ) (other : List Item) → index < length patterns → p (index, get_or patterns index other) ≡ true
-each_passes p patterns all index other within = by_value (p (index, get_or patterns index other)) refl where
-  by_value : (b : Bool) → p (index, get_or patterns index other) ≡ b → p (index, get_or patterns index other) ≡ true
-  by_value true e = e
-  by_value false e = let f : false ≡ true = sym (enumerate_fails p patterns index (get_or patterns index other) within (get_or_default patterns index other (get_or patterns index other) within) e) ∙ all in cc
-
--- a run that isn't false is on the map
-not_past : {X : Type 0} (b : Bool) → b ≡ true → b ≡ false → X
-not_past b holds fails = absurd (let f : false ≡ true = sym fails ∙ holds in cc)
+each_passes p patterns all index other within = true_from_ne_false _ (λ e. absurd (false≢true (sym (enumerate_fails p patterns index (get_or patterns index other) within (get_or_default patterns index other (get_or patterns index other) within) e) ∙ all)))
 
 -- where a rule's cell holds in a line it may hold by what is noted
 abbrev pub Admits : PlaneSets → Line → List Item → Grid → Type 0
@@ -76,7 +68,7 @@ module _ (N width height : ℕ) (layering : Layering) (cells : List (Cell N)) (n
     met : AreMet pattern cell.objects cell.movement
     met =
         let there : at < length cells = omega (arith, mul-add-lt y width x height y_in x_in, s.covers) in
-        let here = seen_at N width height layering cells grid at cell refl there (get_or_default cells at (no_cell N) cell there) in
+        let here = sym (get_or-map (seen layering) cells at (no_cell N) [] there) in
         met_all layering.depth layering.layers cell.objects cell.movement pattern s.law.layered (s.sound at (no_cell N) there) are (ap (λ places. pattern_holds places pattern) here ∙ holds)
 
     by_word : (named : Bool) → names item.word ≡ named → member cell.objects item.object ≡ names item.word
@@ -98,7 +90,7 @@ module _ (N width height : ℕ) (layering : Layering) (cells : List (Cell N)) (n
   admits_run line way patterns line_in short some are at at_in holds =
       let long = line_length grid line.axis in
       let inside : length patterns ≤ room_from long way at = (elim (cases_lt (room_from long way at) (length patterns)) [
-        | inl past ↦ not_past _ holds (run_past grid line way at patterns some at_in past)
+        | inl past ↦ absurd (false≢true (sym (run_past grid line way at patterns some at_in past) ∙ holds))
         | inr fits ↦ fits
       ]) in
       record {
