@@ -1,10 +1,6 @@
 -- How many numbers below one pass a test, and whether one does.
-use Rattle.std.proofs.Common.{◌≡◌, ℕ, zero, suc, ◌+◌, ◌<◌, ◌≤◌, [], ◌∷◌, ◌++◌, Bool, true, false, ◌||◌, cond, arith, refl, subst}
-use Rattle.std.specs.List.{range_with_len, count_by, sum_by, list_any}
-use Rattle.std.proofs.lemmas.List.{map-id}
-use Rattle.std.proofs.lemmas.List.Folds.{list_any-append}
+use Rattle.pz_sheet.proofs.Common.{◌≡◌, ℕ, zero, suc, ◌+◌, ◌<◌, ◌≤◌, [], ◌∷◌, ◌++◌, Bool, true, false, ◌||◌, cond, arith, refl, subst, range_with_len, count_by, sum_by, list_any, map-id, list_any-append, length-range_with_len, map-range_with_len_more, sum_by-map-range_with_len_more}
 use Rattle.std.proofs.lemmas.List.Sums.{count_by-le-length}
-use Rattle.std.proofs.lemmas.List.FromFn.{length-range_with_len, map-range_with_len_more, sum_by-map-range_with_len_more}
 
 pub range_more : (a n : ℕ) → range_with_len a (n + 1) ≡ range_with_len a n ++ (a + n) ∷ []
 range_more a n = simp map-id at (map-range_with_len_more (λ (k : ℕ). k) a n (a + n) refl)

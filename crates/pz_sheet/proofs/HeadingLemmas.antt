@@ -1,31 +1,6 @@
 -- If all cells of a rule's row hold somewhere, each heading that the row asks for is noted, for the whole level and for the
 -- lines.
-use Rattle.pz_cells.specs.Layering.{Layering}
-use Rattle.std.proofs.Common.{◌≡◌, ◌+◌, ◌*◌, ◌%◌, ◌<◌, ℕ, List, [], ◌∷◌, Bool, true, false, not, inl, inr, suc, length, get_or, arith, ap, sym, ◌∙◌, subst}
-use Rattle.std.specs.Prelude.{IsTrue, ◌↔◌}
-use Rattle.std.specs.List.{All, list_any}
-use Rattle.std.proofs.lemmas.Bool.{cases_lt}
-use Rattle.std.proofs.lemmas.List.{get_or-map}
-use Rattle.std.proofs.lemmas.Nat.{mul-add-lt, div-mul-add, mod-mul-add}
-use Rattle.pz_sets.specs.Sets.{member, IsWithin, AreApart}
-use Rattle.pz_game.specs.declared.direction.Dir.{Dir}
-use Rattle.pz_game.specs.declared.pattern.Item.{Item}
-use Rattle.pz_game.specs.Headings.{flag, heads}
-use Rattle.pz_game.specs.Masks.{asks_toward}
-use Rattle.pz_game.specs.Pattern.{AreOf, AreRequired}
-use Rattle.pz_game.proofs.FlagLemmas.{flag_of}
-use Rattle.pz_cells.specs.declared.cell.Cell.{Cell}
-use Rattle.pz_cells.proofs.ListLemmas.{no_cell}
-use Rattle.pz_cells.specs.Pattern.{pattern_holds}
-use Rattle.pz_cells.proofs.HoldLemmas.{met_all}
-use Rattle.pz_sheet.specs.Grid.{Grid}
-use Rattle.pz_sheet.specs.Searching.{HoldsSomewhere, HoldsInLine}
-use Rattle.pz_planes.specs.declared.line.Axis.{Axis}
-use Rattle.pz_planes.specs.declared.line.Axis.TheVariants.{Horizontal, Vertical}
-use Rattle.pz_planes.specs.Notes.{HeadingSets, headings_of}
-use Rattle.pz_sheet.specs.Line.{line_count}
-use Rattle.pz_sheet.specs.Seen.{HeadsWithin, grid_of, IsStored}
-use Rattle.pz_cells.specs.Lists.{seen}
+use Rattle.pz_sheet.proofs.Common.{Layering, ◌≡◌, ◌+◌, ◌*◌, ◌%◌, ◌<◌, ℕ, List, [], ◌∷◌, Bool, true, false, not, inl, inr, suc, length, get_or, arith, ap, sym, ◌∙◌, subst, IsTrue, ◌↔◌, All, list_any, cases_lt, get_or-map, mul-add-lt, div-mul-add, mod-mul-add, member, IsWithin, AreApart, Dir, Item, flag, heads, asks_toward, AreOf, AreRequired, flag_of, Cell, no_cell, pattern_holds, met_all, Grid, HoldsSomewhere, HoldsInLine, Axis, Horizontal, Vertical, HeadingSets, headings_of, line_count, HeadsWithin, grid_of, IsStored, seen}
 
 -- a number of both sets: they aren't apart
 pub not_apart : (apart : Bool) (asked words : List ℕ) (number : ℕ) → (IsTrue apart ↔ AreApart asked words) → member asked number ≡ true → member words number ≡ true → not apart ≡ true

@@ -1,13 +1,7 @@
 -- The set of some objects, and a cell that holds one of them.
-use Rattle.std.proofs.Common.{◌≡◌, ◌<◌, ◌≤◌, ℕ, List, [], ◌∷◌, Bool, true, false, not, ◌&&◌, ◌||◌, nat_eq, length, get_or, arith, ap, sym, ◌∙◌, refl, eq-eqb}
-use Rattle.std.specs.Prelude.{nat_lt, IsTrue, ◌↔◌}
-use Rattle.std.specs.List.{All, list_any}
-use Rattle.std.proofs.lemmas.Bool.{and_parts, eqb-true, false≢true, lt-ltb, true_from_ne_false}
-use Rattle.std.proofs.lemmas.List.Folds.{list_any_at, list_any_none}
-use Rattle.pz_sets.specs.Sets.{member, AreApart}
+use Rattle.pz_sheet.proofs.Common.{◌≡◌, ◌<◌, ◌≤◌, ℕ, List, [], ◌∷◌, Bool, true, false, not, ◌&&◌, ◌||◌, nat_eq, length, get_or, arith, ap, sym, ◌∙◌, refl, eq-eqb, nat_lt, IsTrue, ◌↔◌, All, list_any, and_parts, eqb-true, false≢true, lt-ltb, true_from_ne_false, list_any_at, list_any_none, member, AreApart, IsSetFor}
 use Rattle.pz_sets.proofs.SetLemmas.{member_past}
 use Rattle.pz_sets.specs.declared.set.TheConstants.{CAPACITY}
-use Rattle.pz_sheet.specs.Holding.{IsSetFor}
 use Rattle.pz_sheet.proofs.SheetLemmas.{only_false}
 
 any_same : (test : ℕ → Bool) (number : ℕ) (xs : List ℕ) → list_any (nat_eq number) xs ≡ true → test number ≡ true → list_any test xs ≡ true

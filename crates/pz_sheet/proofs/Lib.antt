@@ -1,3 +1,4 @@
+mod Common
 pub mod SheetLemmas
 pub mod RunLemmas
 pub mod MapLemmas

@@ -1,17 +1,7 @@
 -- The cells of a level in words are drawn, and changed one by one.
-use Rattle.std.proofs.Common.{◌≡◌, ℕ, ◌*◌, List, Option, map, length, ap, sym, ◌∙◌, subst}
-use Rattle.std.proofs.lemmas.List.{length-map}
-use Rattle.pz_game.specs.Size.{IsSize}
+use Rattle.pz_sheet.proofs.Common.{◌≡◌, ℕ, ◌*◌, List, Option, map, length, ap, sym, ◌∙◌, subst, length-map, IsSize, Cell, Piece, glyph_cell, Layering, IsLayering, seen, AreMapped, AreGlyphs, HeadingSets, AreNoted, IsStored}
 use Rattle.pz_game.specs.Drawing.{Drawing, IsDrawing}
 use Rattle.pz_game.specs.declared.game.GameParts.{GameParts}
-use Rattle.pz_cells.specs.declared.cell.Cell.{Cell}
-use Rattle.pz_cells.specs.declared.piece.Piece.{Piece}
-use Rattle.pz_cells.specs.Drawing.{glyph_cell}
-use Rattle.pz_cells.specs.Layering.{Layering, IsLayering}
-use Rattle.pz_cells.specs.Lists.{seen, AreMapped}
-use Rattle.pz_cells.proofs.DrawLemmas.{AreGlyphs}
-use Rattle.pz_planes.specs.Notes.{HeadingSets}
-use Rattle.pz_sheet.specs.Seen.{AreNoted, IsStored}
 
 -- ---- the level whose cells are changed
 pub stored_mapped : (N width height : ℕ) (layering : Layering) (f : List (Option Piece) → List (Option Piece)) (old new : List (Cell N)) (notes next : HeadingSets) → IsStored N width height layering old notes → AreMapped layering f old new → AreNoted N width height next new → IsStored N width height layering new next

@@ -1,30 +1,6 @@
 -- The objects that are noted in a line are those that stand there.
-use Rattle.std.proofs.Common.{◌≡◌, inl, inr, ℕ, ◌+◌, ◌*◌, ◌<◌, ◌≤◌, List, [], Option, Bool, true, false, length, get_or, arith, ap, sym, ◌∙◌, refl}
-use Rattle.std.specs.Prelude.{◌↔◌}
-use Rattle.std.specs.List.{All, list_any, range_with_len}
-use Rattle.std.proofs.lemmas.Bool.{cases_lt, true_from_ne_false}
-use Rattle.std.proofs.lemmas.List.{get_or-map}
-use Rattle.std.proofs.lemmas.List.Folds.{list_any_none, list_any_at}
-use Rattle.std.proofs.lemmas.List.FromFn.{length-range_with_len, get_or-range_with_len}
-use Rattle.std.proofs.lemmas.Nat.{mul-add-lt}
-use Rattle.pz_sets.specs.Sets.{member}
-use Rattle.pz_cells.specs.declared.cell.Cell.{Cell}
-use Rattle.pz_cells.specs.declared.piece.Piece.{Piece}
-use Rattle.pz_cells.specs.Layering.{Layering}
-use Rattle.pz_cells.proofs.ListLemmas.{no_cell}
-use Rattle.pz_cells.proofs.RewriteLemmas.{member_seen}
-use Rattle.pz_planes.specs.declared.line.Axis.{Axis}
-use Rattle.pz_planes.specs.declared.line.Axis.TheVariants.{Horizontal, Vertical}
-use Rattle.pz_planes.specs.Marks.{AreMarks}
-use Rattle.pz_planes.specs.Notes.{HeadingSets}
-use Rattle.pz_planes.specs.Planes.{PlaneSets, IsMissingIn, stands_in, lines_of}
-use Rattle.pz_sheet.specs.Grid.{Grid, cell_at}
-use Rattle.pz_sheet.specs.Line.{line_length, line_count}
+use Rattle.pz_sheet.proofs.Common.{◌≡◌, inl, inr, ℕ, ◌+◌, ◌*◌, ◌<◌, ◌≤◌, List, [], Option, Bool, true, false, length, get_or, arith, ap, sym, ◌∙◌, refl, ◌↔◌, All, list_any, range_with_len, cases_lt, true_from_ne_false, get_or-map, list_any_none, list_any_at, length-range_with_len, get_or-range_with_len, mul-add-lt, member, Cell, Piece, Layering, no_cell, member_seen, Axis, Horizontal, Vertical, AreMarks, HeadingSets, PlaneSets, IsMissingIn, stands_in, lines_of, Grid, cell_at, line_length, line_count, ArePlaced, AreMissing, is_in, stands_in_line, grid_of, IsStored, seen}
 use Rattle.pz_sheet.specs.Marks.{AreMarksOf}
-use Rattle.pz_sheet.specs.Noting.{ArePlaced}
-use Rattle.pz_sheet.specs.Presence.{AreMissing, is_in, stands_in_line}
-use Rattle.pz_sheet.specs.Seen.{grid_of, IsStored}
-use Rattle.pz_cells.specs.Lists.{seen}
 use Rattle.pz_sheet.proofs.SheetLemmas.{only_false}
 
 -- ---- numbers below one that fail a test

@@ -1,22 +1,9 @@
 -- Objects that get a direction.
-use Rattle.std.proofs.Common.{◌≡◌, ◌≢◌, inl, inr, ℕ, zero, suc, ◌+◌, ◌*◌, ◌<◌, ◌≤◌, List, [], ◌∷◌, ◌++◌, Option, Some, None, Bool, true, false, cond, is_some, map, set, take, drop, length, get_or, nat_eq, arith, ap, sym, ◌∙◌, refl, subst, length-append, length-drop, length-take}
+use Rattle.pz_sheet.proofs.Common.{◌≡◌, ◌≢◌, inl, inr, ℕ, zero, suc, ◌+◌, ◌*◌, ◌<◌, ◌≤◌, List, [], ◌∷◌, ◌++◌, Option, Some, None, Bool, true, false, cond, is_some, map, set, take, drop, length, get_or, nat_eq, arith, ap, sym, ◌∙◌, refl, subst, length-append, length-drop, length-take, IfSome, cases_eq, false≢true, drop_more, drop_all, get_or_default, length-map, set-get_or, member, Dir, heads, heading_in, Piece, place_of, Shows, AreLawful, Changes, standing, Grid, cell_at, is_in, AreMissing, list_any_none, map_fixed, is_one_of, pushed_place, pushed_at, cell_mapped}
 use Rattle.std.proofs.Math.Nat.{mul_comm, suc-mul, mul-le-mul_right}
-use Rattle.std.specs.Prelude.{IfSome}
-use Rattle.std.proofs.lemmas.Bool.{cases_eq, false≢true}
-use Rattle.std.proofs.lemmas.List.{drop_more, drop_all, get_or_default, length-map, set-get_or}
 use Rattle.std.proofs.lemmas.List.Edits.{map_over_more}
-use Rattle.pz_sets.specs.Sets.{member}
-use Rattle.pz_game.specs.declared.direction.Dir.{Dir}
-use Rattle.pz_game.specs.Headings.{heads, heading_in}
-use Rattle.pz_cells.specs.declared.piece.Piece.{Piece}
-use Rattle.pz_cells.specs.Shown.{place_of, cell_of, Shows, AreLawful, Changes}
+use Rattle.pz_cells.specs.Shown.{cell_of}
 use Rattle.pz_cells.proofs.PlaceLemmas.{lawful_changed, shows_changed, place_some, object_there}
-use Rattle.pz_cells.specs.Standing.{standing}
-use Rattle.pz_sheet.specs.Grid.{Grid, cell_at}
-use Rattle.pz_sheet.specs.Presence.{is_in, AreMissing}
-use Rattle.std.proofs.lemmas.List.Folds.{list_any_none, map_fixed}
-use Rattle.pz_sheet.specs.Pushing.{is_one_of, pushed_place, pushed_at}
-use Rattle.pz_cells.proofs.ListLemmas.{cell_mapped}
 
 pub all_pushed_none : (dir : Dir) (cell : List (Option Piece)) → map (pushed_place [] dir) cell ≡ cell
 all_pushed_none dir cell = map_fixed (pushed_place [] dir) cell (λ k d within. pushed_none (get_or cell k d)) where

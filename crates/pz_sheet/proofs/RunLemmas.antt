@@ -1,24 +1,6 @@
 -- Rules' cells one after another in a direction, and along a row or a column.
-use Rattle.std.proofs.Common.{◌≡◌, ◌⊎◌, inl, inr, ℕ, ◌+◌, ◌-◌, ◌<◌, ◌≤◌, List, [], ◌∷◌, Option, Some, None, Bool, true, false, ◌&&◌, cond, length, get_or, take, arith, ap, sym, ◌∙◌, refl}
-use Rattle.std.specs.Prelude.{nat_lt, nat_le}
-use Rattle.std.specs.List.{list_all, enumerate_from}
-use Rattle.std.proofs.lemmas.Bool.{and_right, lt-ltb, le-ltb, le-leb, lt-leb}
-use Rattle.std.proofs.lemmas.List.{take_all, get_or_default}
-use Rattle.std.proofs.lemmas.List.FromFn.{length-enumerate_from, get_or-enumerate_from}
-use Rattle.std.proofs.lemmas.List.Folds.{list_all_more, list_all_at}
-use Rattle.pz_game.specs.declared.direction.Dir.{Dir}
+use Rattle.pz_sheet.proofs.Common.{◌≡◌, ◌⊎◌, inl, inr, ℕ, ◌+◌, ◌-◌, ◌<◌, ◌≤◌, List, [], ◌∷◌, Option, Some, None, Bool, true, false, ◌&&◌, cond, length, get_or, take, arith, ap, sym, ◌∙◌, refl, nat_lt, nat_le, list_all, enumerate_from, and_right, lt-ltb, le-ltb, le-leb, lt-leb, take_all, get_or_default, length-enumerate_from, get_or-enumerate_from, list_all_more, list_all_at, Dir, Item, pattern_holds, Axis, Horizontal, Vertical, Way, Ahead, Back, step_to, room_from, Line, Grid, cell_at, line_length, line_count, x_at, y_at, holds_in, dir_of, runs_in, on_map, holds_at, holds_along, run_holds}
 use Rattle.pz_game.specs.declared.direction.Dir.TheVariants.{Up, Down, Left, Right, Action}
-use Rattle.pz_game.specs.declared.pattern.Item.{Item}
-use Rattle.pz_cells.specs.Pattern.{pattern_holds}
-use Rattle.pz_planes.specs.declared.line.Axis.{Axis}
-use Rattle.pz_planes.specs.declared.line.Axis.TheVariants.{Horizontal, Vertical}
-use Rattle.pz_planes.specs.declared.line.Way.{Way}
-use Rattle.pz_planes.specs.declared.line.Way.TheVariants.{Ahead, Back}
-use Rattle.pz_planes.specs.Line.{step_to, room_from}
-use Rattle.pz_sheet.specs.declared.line.Line.{Line}
-use Rattle.pz_sheet.specs.Grid.{Grid, cell_at}
-use Rattle.pz_sheet.specs.Line.{line_length, line_count, x_at, y_at, holds_in, dir_of, runs_in}
-use Rattle.pz_sheet.specs.Runs.{on_map, holds_at, holds_along, run_holds}
 
 -- ---- tests of a list with its numbers
 pub numbered_at : {X : Type 0} (xs : List X) (i : ℕ) (x : X) → i < length xs → get_or xs i x ≡ x → get_or (enumerate_from 0 xs) i (0, x) ≡ (i, x)

@@ -1,20 +1,6 @@
 -- Cells in words are the same if their words have the same numbers, and levels if none of their cells differ.
-use Rattle.pz_cells.specs.Layering.{Layering}
-use Rattle.std.proofs.Common.{◌≡◌, ℕ, ◌<◌, [], Option, Some, None, Bool, true, false, not, length, ap, sym, refl, arith}
-use Rattle.std.specs.Prelude.{IsTrue, ◌↔◌, is_some}
-use Rattle.std.proofs.lemmas.List.{ext_get_or}
-use Rattle.std.specs.List.{All}
+use Rattle.pz_sheet.proofs.Common.{Layering, ◌≡◌, ℕ, ◌<◌, [], Option, Some, None, Bool, true, false, not, length, ap, sym, refl, arith, IsTrue, ◌↔◌, is_some, ext_get_or, All, flag, each_number, Cell, seen, IsSound, AreAlike, same_cell, cell_alike, objects_alike, heads_alike, same_cell_is, same_cell_self, differ_in, Grid, SameSize, cell_of}
 use Rattle.pz_sets.specs.Next.{IsNext}
-use Rattle.pz_game.specs.Headings.{flag}
-use Rattle.pz_game.proofs.FlagLemmas.{each_number}
-use Rattle.pz_cells.specs.declared.cell.Cell.{Cell}
-use Rattle.pz_cells.specs.Lists.{seen, IsSound, AreAlike}
-use Rattle.pz_cells.specs.Sameness.{same_cell}
-use Rattle.pz_cells.proofs.RewriteLemmas.{cell_alike, objects_alike, heads_alike}
-use Rattle.pz_cells.proofs.SameLemmas.{same_cell_is, same_cell_self}
-use Rattle.pz_sheet.specs.Changes.{differ_in}
-use Rattle.pz_sheet.specs.Grid.{Grid, SameSize}
-use Rattle.pz_sheet.specs.Presence.{cell_of}
 
 pub seen_alike : (N : ℕ) (layering : Layering) (cell other : Cell N) → IsSound layering cell → IsSound layering other → AreAlike cell other → seen layering cell ≡ seen layering other
 seen_alike N layering cell other sound sound_other same =

@@ -1,29 +1,10 @@
 -- A cell of a level in words, and what is seen of it.
-use Rattle.pz_cells.specs.Layering.{Layering}
-use Rattle.std.proofs.Common.{◌≡◌, ℕ, ◌+◌, ◌*◌, ◌/◌, ◌%◌, ◌<◌, ◌≤◌, List, [], Option, Some, None, Bool, true, false, not, ◌&&◌, cond, set, length, get_or, ap, sym, ◌∙◌, refl, subst, arith, inl, inr, get_or-set_same, get_or-set_other}
-use Rattle.std.specs.Prelude.{nat_lt, IfSome, MatchOption}
-use Rattle.std.proofs.lemmas.Bool.{lt-ltb, cases_eq, not-false}
-use Rattle.std.proofs.lemmas.List.{length-map, length-set, get_or-map, get_or_default, set-get_or}
-use Rattle.std.proofs.lemmas.List.FromFn.{length-map-range_with_len}
+use Rattle.pz_sheet.proofs.Common.{Layering, ◌≡◌, ℕ, ◌+◌, ◌*◌, ◌/◌, ◌%◌, ◌<◌, ◌≤◌, List, [], Option, Some, None, Bool, true, false, not, ◌&&◌, cond, set, length, get_or, ap, sym, ◌∙◌, refl, subst, arith, inl, inr, get_or-set_same, get_or-set_other, nat_lt, IfSome, MatchOption, lt-ltb, cases_eq, not-false, length-map, length-set, get_or-map, get_or_default, set-get_or, length-map-range_with_len, Dir, Cell, Piece, same_cell, same_cell_is, Item, IsCell, IsOnLayer, standing, place_of, on_its_layer, standing_by, Grid, BareState, IsLawful, cell_at, place_at, with_place, HeadingSets, IsWider, seen, IsSound, grid_of, IsNoted, IsStored}
 use Rattle.std.proofs.lemmas.List.Elements.{All-map, All-set}
 use Rattle.pz_game.specs.declared.limits.TheConstants.{MAX_OBJECTS}
-use Rattle.pz_game.specs.declared.direction.Dir.{Dir}
-use Rattle.pz_cells.specs.declared.cell.Cell.{Cell}
-use Rattle.pz_cells.specs.declared.piece.Piece.{Piece}
 use Rattle.pz_cells.specs.Rewriting.{rewritten_cell}
-use Rattle.pz_cells.specs.Sameness.{same_cell}
-use Rattle.pz_cells.proofs.SameLemmas.{same_cell_is}
-use Rattle.pz_game.specs.declared.pattern.Item.{Item}
-use Rattle.pz_cells.specs.Cell.{IsCell, IsOnLayer}
-use Rattle.pz_cells.specs.Standing.{standing}
-use Rattle.pz_cells.specs.Shown.{place_of}
-use Rattle.pz_cells.proofs.HoldLemmas.{on_its_layer, standing_by}
-use Rattle.pz_sheet.specs.Grid.{Grid, BareState, IsLawful, cell_at, place_at, with_place}
 use Rattle.pz_sheet.specs.Standing.{standing_at}
 use Rattle.pz_sheet.specs.Rewriting.{with_rewritten}
-use Rattle.pz_planes.specs.Notes.{HeadingSets, IsWider}
-use Rattle.pz_cells.specs.Lists.{seen, IsSound}
-use Rattle.pz_sheet.specs.Seen.{grid_of, IsNoted, IsStored}
 
 -- a test that cannot pass fails
 pub only_false : (b : Bool) → (b ≡ true → false ≡ true) → b ≡ false

@@ -1,34 +1,7 @@
 -- Where rules' cells hold one after another, the objects that they name as present are noted, and those that they name as absent are not.
-use Rattle.pz_cells.specs.Layering.{Layering}
-use Rattle.std.proofs.Common.{◌≡◌, inl, inr, ℕ, ◌+◌, ◌*◌, ◌<◌, ◌≤◌, List, [], Bool, true, false, not, ◌&&◌, nat_eq, eq-eqb, length, get_or, arith, ap, sym, ◌∙◌, refl}
-use Rattle.std.specs.List.{All, list_all, enumerate_from}
-use Rattle.std.proofs.lemmas.Bool.{cases_lt, false≢true, true_from_ne_false}
-use Rattle.std.proofs.lemmas.List.{get_or_default, get_or-map}
-use Rattle.std.proofs.lemmas.List.Folds.{list_any_at}
-use Rattle.std.proofs.lemmas.Nat.{mul-add-lt}
-use Rattle.pz_sets.specs.Sets.{member}
-use Rattle.pz_game.specs.declared.pattern.Item.{Item}
+use Rattle.pz_sheet.proofs.Common.{Layering, ◌≡◌, inl, inr, ℕ, ◌+◌, ◌*◌, ◌<◌, ◌≤◌, List, [], Bool, true, false, not, ◌&&◌, nat_eq, eq-eqb, length, get_or, arith, ap, sym, ◌∙◌, refl, All, list_all, enumerate_from, cases_lt, false≢true, true_from_ne_false, get_or_default, get_or-map, list_any_at, mul-add-lt, member, Item, AreOf, Cell, pattern_holds, AreMet, met_all, Grid, cell_at, LineSets, PlaneSets, AreItemsOf, MayHold, MayRun, lines_of, Axis, Horizontal, Vertical, Way, Ahead, Back, step_to, room_from, Line, line_length, line_count, x_at, y_at, holds_in, dir_of, runs_in, ArePlaced, holds_along, HeadingSets, grid_of, IsStored, seen, no_cell}
 use Rattle.pz_game.specs.Items.{names}
-use Rattle.pz_game.specs.Pattern.{AreOf}
-use Rattle.pz_cells.specs.declared.cell.Cell.{Cell}
-use Rattle.pz_cells.specs.Pattern.{pattern_holds}
-use Rattle.pz_cells.proofs.HoldLemmas.{AreMet, met_all}
-use Rattle.pz_sheet.specs.Grid.{Grid, cell_at}
-use Rattle.pz_planes.specs.Planes.{LineSets, PlaneSets, AreItemsOf, MayHold, MayRun, lines_of}
-use Rattle.pz_planes.specs.declared.line.Axis.{Axis}
-use Rattle.pz_planes.specs.declared.line.Axis.TheVariants.{Horizontal, Vertical}
-use Rattle.pz_planes.specs.declared.line.Way.{Way}
-use Rattle.pz_planes.specs.declared.line.Way.TheVariants.{Ahead, Back}
-use Rattle.pz_planes.specs.Line.{step_to, room_from}
 use Rattle.pz_planes.proofs.BitLemmas.{step_within}
-use Rattle.pz_sheet.specs.declared.line.Line.{Line}
-use Rattle.pz_sheet.specs.Line.{line_length, line_count, x_at, y_at, holds_in, dir_of, runs_in}
-use Rattle.pz_sheet.specs.Noting.{ArePlaced}
-use Rattle.pz_sheet.specs.Runs.{holds_along}
-use Rattle.pz_planes.specs.Notes.{HeadingSets}
-use Rattle.pz_sheet.specs.Seen.{grid_of, IsStored}
-use Rattle.pz_cells.specs.Lists.{seen}
-use Rattle.pz_cells.proofs.ListLemmas.{no_cell}
 use Rattle.pz_sheet.proofs.RunLemmas.{enumerate_fails, along_in, run_past}
 
 -- each passes where all do

@@ -1,14 +1,5 @@
-use Rattle.std.proofs.Common.{◌<◌, ℕ, List, Some, length, arith, ap, sym, ◌∙◌, subst}
-use Rattle.std.specs.List.{All}
-use Rattle.pz_cells.specs.declared.cell.Cell.{Cell}
-use Rattle.pz_cells.specs.Cell.{IsOnLayer}
-use Rattle.pz_sheet.specs.Grid.{Grid, BareState}
-use Rattle.pz_cells.specs.Drawing.{filled_cell}
-use Rattle.pz_planes.specs.Planes.{AreKnown}
-use Rattle.pz_sheet.specs.Noting.{AreAllThere}
-use Rattle.pz_planes.proofs.PlaneLemmas.{covers_all}
+use Rattle.pz_sheet.proofs.Common.{◌<◌, ℕ, List, Some, length, arith, ap, sym, ◌∙◌, subst, All, Cell, IsOnLayer, Grid, BareState, filled_cell, AreKnown, AreAllThere, covers_all, small_cell}
 use Rattle.pz_sheet.proofs.PlacedLemmas.{all_known, placed_all}
-use Rattle.pz_cells.proofs.ListLemmas.{small_cell}
 use Rattle.pz_sheet.proofs.SheetLemmas.{lawful_seen}
 use Rattle.pz_sheet.proofs.MapLemmas.{stored_mapped, noted_read}
 use Rattle.pz_sheet.proofs.Sheet.fill.Goals as goal

@@ -1,15 +1,5 @@
-use Rattle.std.proofs.Common.{◌/◌, ◌%◌, ℕ, List, length, Option, ap, sym, ◌∙◌, subst}
-use Rattle.std.proofs.lemmas.List.{map-set}
-use Rattle.pz_sets.specs.Sets.{member}
-use Rattle.pz_cells.specs.declared.piece.Piece.{Piece}
-use Rattle.pz_planes.specs.Planes.{AreChanged, AreKnown, AreThere}
-use Rattle.pz_cells.specs.Lists.{seen, IsSound}
-use Rattle.pz_sheet.specs.Changes.{with_cell}
-use Rattle.pz_sheet.specs.Grid.{Grid, BareState, layers_in}
-use Rattle.pz_sheet.specs.Seen.{grid_of}
-use Rattle.pz_planes.proofs.PlaneLemmas.{known_of}
+use Rattle.pz_sheet.proofs.Common.{◌/◌, ◌%◌, ℕ, List, length, Option, ap, sym, ◌∙◌, subst, map-set, member, Piece, AreChanged, AreKnown, AreThere, seen, IsSound, with_cell, Grid, BareState, layers_in, grid_of, known_of, sound_at}
 use Rattle.pz_sheet.proofs.PlacedLemmas.{there_at, placed_at}
-use Rattle.pz_cells.proofs.ListLemmas.{sound_at}
 use Rattle.pz_sheet.proofs.SheetLemmas.{seen_within, stored_set}
 use Rattle.pz_sheet.proofs.Sheet.set_cell.Goals as goal
 
