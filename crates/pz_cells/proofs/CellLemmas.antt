@@ -1,10 +1,5 @@
 -- What a cell says of an object is what stands on the layer of the object.
-use Rattle.std.proofs.Common.{◌≡◌, ◌≢◌, ℕ, suc, zero, ◌<◌, ◌≤◌, List, [], ◌∷◌, Option, Some, None, length, get_or, cond, arith, ap, sym, ◌∙◌, refl, subst}
-use Rattle.std.specs.Prelude.{IfSome}
-use Rattle.std.proofs.lemmas.Bool.{ne_eqb}
-use Rattle.pz_cells.specs.declared.piece.Piece.{Piece}
-use Rattle.pz_cells.specs.Standing.{standing}
-use Rattle.pz_cells.specs.Cell.{IsOnLayer}
+use Rattle.pz_cells.proofs.Common.{◌≡◌, ◌≢◌, ℕ, suc, zero, ◌<◌, ◌≤◌, List, [], ◌∷◌, Option, Some, None, length, get_or, cond, arith, ap, sym, ◌∙◌, refl, subst, IfSome, ne_eqb, Piece, standing, IsOnLayer}
 
 -- each object of a cell stands on its layer
 abbrev pub OnItsLayer : List ℕ → List (Option Piece) → Type 0

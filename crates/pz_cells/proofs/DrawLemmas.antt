@@ -1,24 +1,11 @@
 -- Cells that are drawn and filled.
-use Rattle.std.proofs.Common.{arith, ◌≡◌, ℕ, ◌+◌, ◌<◌, List, [], ◌∷◌, ◌++◌, map, take, Option, None, false, length, get_or, ap, sym, ◌∙◌, subst}
-use Rattle.std.specs.Prelude.{replicate}
-use Rattle.std.proofs.lemmas.Grind.{common_steps}
+use Rattle.pz_cells.proofs.Common.{arith, ◌≡◌, ℕ, ◌+◌, ◌<◌, List, [], ◌∷◌, ◌++◌, map, take, Option, None, false, length, get_or, ap, sym, ◌∙◌, subst, replicate, common_steps, option_map_or, glyph_objects, length-replicate, get_or-replicate, map-append, map_more, member, heads, flag, Cell, Piece, empty_cell, cell_of, Shows, AreLawful, Layering, seen, IsSound}
 use Rattle.std.specs.List.{All}
-use Rattle.std.specs.Option.{option_map_or}
 use Rattle.std.proofs.lemmas.Option.{slice_get-get_or}
-use Rattle.pz_game.specs.Game.{glyph_objects}
 use Rattle.pz_game.specs.declared.denotation.Denotation.{Denotation}
 use Rattle.pz_game.specs.declared.game.GameParts.{GameParts}
-use Rattle.std.proofs.lemmas.List.{length-replicate, get_or-replicate, map-append, map_more}
 use Rattle.std.proofs.lemmas.List.Elements.{All-append, All-cons, All-nil}
-use Rattle.pz_sets.specs.Sets.{member}
-use Rattle.pz_game.specs.Headings.{heads, flag}
-use Rattle.pz_cells.specs.declared.cell.Cell.{Cell}
-use Rattle.pz_cells.specs.declared.piece.Piece.{Piece}
-use Rattle.pz_cells.specs.Cell.{empty_cell}
-use Rattle.pz_cells.specs.Shown.{cell_of, Shows, AreLawful}
 use Rattle.pz_cells.proofs.PlaceLemmas.{lawful_from_shows, cell_from_shows}
-use Rattle.pz_cells.specs.Layering.{Layering}
-use Rattle.pz_cells.specs.Lists.{seen, IsSound}
 
 -- words of which no bit is set have no number
 pub no_number : (n number : ℕ) → member (replicate n 0) number ≡ false

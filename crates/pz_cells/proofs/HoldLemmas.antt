@@ -1,32 +1,11 @@
 -- What holds in a cell, by sets.
-use Rattle.std.proofs.Common.{◌≡◌, ◌≢◌, inl, inr, ℕ, suc, ◌<◌, ◌≤◌, List, [], ◌∷◌, Option, Some, None, Bool, true, false, not, cond, length, get_or, arith, ap, sym, ◌∙◌, refl, subst, ◌*◌, ◌/◌, ◌%◌, ◌&&◌, nat_eq}
-use Rattle.std.specs.Prelude.{All, IfSome, IsTrue, ◌↔◌, find}
-use Rattle.std.proofs.lemmas.Bool.{cases_lt, and_parts, or_right, and_from, eqb-true, or_cases}
-use Rattle.std.proofs.lemmas.List.{get_or_past}
-use Rattle.std.proofs.lemmas.List.FromFn.{get_or-map-range_with_len, length-map-range_with_len}
+use Rattle.pz_cells.proofs.Common.{◌≡◌, ◌≢◌, inl, inr, ℕ, suc, ◌<◌, ◌≤◌, List, [], ◌∷◌, Option, Some, None, Bool, true, false, not, cond, length, get_or, arith, ap, sym, ◌∙◌, refl, subst, ◌*◌, ◌/◌, ◌%◌, ◌&&◌, nat_eq, All, IfSome, IsTrue, ◌↔◌, find, cases_lt, and_parts, or_right, and_from, eqb-true, or_cases, get_or_past, get_or-map-range_with_len, length-map-range_with_len, member, IsWithin, AreApart, Piece, Dir, Word, Item, same_dir, IsOnLayer, AreOf, IsOf, standing, names, names_object, forbids_object, places_on, placed_on, is_toward, flag, heads, heading_in, IsProper, place_of, cell_of, Shows, AreLawful, each_number, flag_of, dir_bit-low, Masks, toward, is_still, asks_toward, asks_still, IsLow, AreMasksOf, begins, list_any, Layering, IsLayering}
 use Rattle.pz_game.specs.declared.limits.TheConstants.{MAX_LAYERS, MAX_OBJECTS}
-use Rattle.pz_sets.specs.Sets.{member, IsWithin, AreApart}
-use Rattle.pz_cells.specs.declared.piece.Piece.{Piece}
-use Rattle.pz_game.specs.declared.direction.Dir.{Dir}
-use Rattle.pz_game.specs.declared.pattern.Word.{Word}
 use Rattle.pz_game.specs.declared.pattern.Word.TheVariants.{Present, Still, Toward, Absent}
-use Rattle.pz_game.specs.declared.pattern.Item.{Item}
-use Rattle.pz_game.specs.Direction.{same_dir}
-use Rattle.pz_cells.specs.Cell.{IsOnLayer}
-use Rattle.pz_game.specs.Pattern.{AreOf, IsOf}
-use Rattle.pz_cells.specs.Standing.{standing}
 use Rattle.pz_cells.specs.Pattern.{word_holds, item_holds, pattern_holds}
-use Rattle.pz_game.specs.Items.{names, names_object, forbids_object, places_on, placed_on}
 use Rattle.pz_cells.proofs.SameLemmas.{same_dir_is, same_dir_self}
 use Rattle.pz_cells.proofs.CellLemmas.{OnItsLayer, standing_on_layer, standing_off_layer, standing_past}
-use Rattle.pz_game.specs.Headings.{is_toward, flag, heads, heading_in, IsProper}
-use Rattle.pz_cells.specs.Shown.{place_of, cell_of, Shows, AreLawful}
 use Rattle.pz_cells.proofs.PlaceLemmas.{place_some, object_there, first_toward}
-use Rattle.pz_game.proofs.FlagLemmas.{each_number, flag_of, dir_bit-low}
-use Rattle.pz_game.specs.declared.masks.Masks.{Masks}
-use Rattle.pz_game.specs.Masks.{toward, is_still, asks_toward, asks_still, IsLow, AreMasksOf, begins}
-use Rattle.std.specs.List.{list_any}
-use Rattle.pz_cells.specs.Layering.{Layering, IsLayering}
 
 pub place_seen : (depth : ℕ) (layers objects movement : List ℕ) (layer : ℕ) → layer < depth → get_or (cell_of depth layers objects movement) layer None ≡ place_of layers objects movement layer
 place_seen depth layers objects movement layer low = get_or-map-range_with_len (place_of layers objects movement) 0 depth layer layer None low (omega arith)

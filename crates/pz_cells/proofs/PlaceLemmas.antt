@@ -1,19 +1,6 @@
 -- What words show, and how one layer of a cell changes.
-use Rattle.std.proofs.Common.{◌≡◌, ◌≢◌, inl, inr, ℕ, ◌<◌, List, Option, Some, None, Bool, true, false, not, ◌&&◌, ◌||◌, length, get_or, set, arith, ap, sym, ◌∙◌, refl, subst, nat_eq, eq-eqb, zero, suc, ◌+◌, ◌≤◌, cond}
-use Rattle.std.proofs.lemmas.Bool.{cases_eq, eqb-true, ne_eqb, and_parts, or_cases}
-use Rattle.std.proofs.lemmas.List.{length-set, ext_get_or}
-use Rattle.std.proofs.lemmas.List.FromFn.{get_or-map-range_with_len, length-map-range_with_len}
-use Rattle.std.proofs.lemmas.Grind.{common_steps}
-use Rattle.pz_sets.specs.Sets.{member}
-use Rattle.pz_cells.specs.declared.piece.Piece.{Piece}
-use Rattle.pz_game.specs.declared.direction.Dir.{Dir}
-use Rattle.pz_game.specs.Direction.{same_dir}
-use Rattle.pz_game.specs.Headings.{is_toward, IsProper, heads, heading_in, first_of}
-use Rattle.pz_cells.specs.Cell.{IsOnLayer}
-use Rattle.pz_cells.specs.Shown.{IsSetOf, place_of, cell_of, Shows, AreLawful, Changes, stands_on, piece_with}
-use Rattle.std.specs.Prelude.{find}
-use Rattle.std.specs.Option.{option_map}
-use Rattle.std.specs.List.{range_with_len}
+use Rattle.pz_cells.proofs.Common.{◌≡◌, ◌≢◌, inl, inr, ℕ, ◌<◌, List, Option, Some, None, Bool, true, false, not, ◌&&◌, ◌||◌, length, get_or, set, arith, ap, sym, ◌∙◌, refl, subst, nat_eq, eq-eqb, zero, suc, ◌+◌, ◌≤◌, cond, cases_eq, eqb-true, ne_eqb, and_parts, or_cases, ext_get_or, get_or-map-range_with_len, length-map-range_with_len, common_steps, member, Piece, Dir, same_dir, is_toward, IsProper, heads, heading_in, first_of, IsOnLayer, IsSetOf, place_of, cell_of, Shows, AreLawful, Changes, stands_on, piece_with, find, option_map, range_with_len}
+use Rattle.std.proofs.lemmas.List.{length-set}
 use Rattle.pz_game.specs.declared.direction.Dir.TheVariants.{Up, Down, Left, Right, Action}
 
 -- the first direction that a test picks, of tests that pick one or none

@@ -1,27 +1,7 @@
 -- What a rewriting does to the sets of a cell.
-use Rattle.std.proofs.Common.{◌≡◌, ◌≢◌, ◌⊎◌, nat_lt, inl, inr, ℕ, ◌+◌, ◌<◌, ◌≤◌, List, Option, Some, None, Bool, true, false, cond, not, ◌&&◌, ◌||◌, length, get_or, arith, ap, sym, ◌∙◌, refl, subst, nat_eq}
-use Rattle.std.specs.Prelude.{All, is_some, ◌↔◌}
-use Rattle.std.proofs.lemmas.Bool.{cases_lt, and_parts, or_cases, or_right, or_parts}
-use Rattle.std.proofs.lemmas.List.FromFn.{get_or-map-range_with_len, length-map-range_with_len}
-use Rattle.std.proofs.lemmas.Grind.{common_steps}
-use Rattle.pz_sets.specs.Sets.{member}
-use Rattle.pz_cells.specs.declared.piece.Piece.{Piece}
-use Rattle.pz_game.specs.declared.direction.Dir.{Dir}
-use Rattle.pz_game.specs.declared.pattern.Word.{Word}
-use Rattle.pz_game.specs.declared.pattern.Item.{Item}
-use Rattle.pz_game.specs.Pattern.{AreOf}
-use Rattle.pz_cells.specs.Standing.{standing}
-use Rattle.pz_cells.specs.Sameness.{same_cell}
+use Rattle.pz_cells.proofs.Common.{◌≡◌, ◌≢◌, ◌⊎◌, nat_lt, inl, inr, ℕ, ◌+◌, ◌<◌, ◌≤◌, List, Option, Some, None, Bool, true, false, cond, not, ◌&&◌, ◌||◌, length, get_or, arith, ap, sym, ◌∙◌, refl, subst, nat_eq, All, is_some, ◌↔◌, cases_lt, and_parts, or_cases, or_right, or_parts, get_or-map-range_with_len, length-map-range_with_len, common_steps, member, Piece, Dir, Word, Item, AreOf, standing, same_cell, is_toward, flag, heads, IsProper, place_of, cell_of, Shows, AreLawful, each_number, names, placed_on, tells_of, tells_movement, names_object, forbids_object, heading_of, new_heading, kept, replaced, rewritten_place, rewritten_cell, Masks, toward, begins, settles, AreMasksOf, ends, Leaves, removed_by}
 use Rattle.pz_cells.proofs.SameLemmas.{same_cell_is, same_cell_self}
-use Rattle.pz_game.specs.Headings.{is_toward, flag, heads, IsProper}
-use Rattle.pz_cells.specs.Shown.{place_of, cell_of, Shows, AreLawful}
-use Rattle.pz_game.proofs.FlagLemmas.{each_number}
 use Rattle.pz_cells.proofs.PlaceLemmas.{shows_alike, lawful_from_shows, cell_from_shows}
-use Rattle.pz_game.specs.Items.{names, placed_on, tells_of, tells_movement, names_object, forbids_object}
-use Rattle.pz_cells.specs.Rewriting.{heading_of, new_heading, kept, replaced, rewritten_place, rewritten_cell}
-use Rattle.pz_game.specs.declared.masks.Masks.{Masks}
-use Rattle.pz_game.specs.Masks.{toward, begins, settles, AreMasksOf}
-use Rattle.pz_cells.specs.Rewrites.{ends, Leaves, removed_by}
 use Rattle.pz_cells.proofs.HoldLemmas.{place_seen, standing_seen, placed_is}
 
 -- an object that the left names or the right forbids

@@ -1,11 +1,5 @@
 -- The test of two cells decides whether they are the same.
-use Rattle.std.proofs.Common.{◌≡◌, List, [], ◌∷◌, Option, Some, None, true, ap, refl, arith}
-use Rattle.std.specs.Prelude.{nat_eq}
-use Rattle.std.proofs.lemmas.Bool.{and_parts, eqb-true}
-use Rattle.pz_game.specs.declared.direction.Dir.{Dir}
-use Rattle.pz_cells.specs.declared.piece.Piece.{Piece}
-use Rattle.pz_game.specs.Direction.{same_dir}
-use Rattle.pz_cells.specs.Sameness.{same_heading, same_place, same_cell}
+use Rattle.pz_cells.proofs.Common.{◌≡◌, List, [], ◌∷◌, Option, Some, None, true, ap, refl, arith, nat_eq, and_parts, eqb-true, Dir, Piece, same_dir, same_heading, same_place, same_cell}
 
 pub same_dir_is : (a b : Dir) → same_dir a b ≡ true → a ≡ b
 same_dir_is a b h = grind arith

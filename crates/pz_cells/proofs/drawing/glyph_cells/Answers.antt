@@ -1,5 +1,4 @@
-use Rattle.std.proofs.Common.{arith}
-use Rattle.pz_cells.specs.Drawing.{glyph_cell}
+use Rattle.pz_cells.proofs.Common.{arith, glyph_cell}
 use Rattle.pz_cells.proofs.DrawLemmas.{glyphs_more}
 use Rattle.pz_cells.proofs.ListLemmas.{small_cell}
 use Rattle.pz_cells.proofs.drawing.glyph_cells.Goals as goal
