@@ -1,7 +1,8 @@
 -- What holds in a cell, by sets.
-use Rattle.pz_cells.proofs.Common.{◌≡◌, ◌≢◌, inl, inr, ℕ, suc, ◌<◌, ◌≤◌, List, [], ◌∷◌, Option, Some, None, Bool, true, false, not, cond, length, get_or, arith, ap, sym, ◌∙◌, refl, subst, ◌*◌, ◌/◌, ◌%◌, ◌&&◌, nat_eq, All, IfSome, IsTrue, ◌↔◌, find, cases_lt, and_parts, or_right, and_from, eqb-true, or_cases, get_or_past, get_or-map-range_with_len, length-map-range_with_len, member, IsWithin, AreApart, Piece, Dir, Word, Item, same_dir, IsOnLayer, AreOf, IsOf, standing, names, names_object, forbids_object, places_on, placed_on, is_toward, flag, heads, heading_in, IsProper, place_of, cell_of, Shows, AreLawful, each_number, flag_of, dir_bit-low, Masks, toward, is_still, asks_toward, asks_still, IsLow, AreMasksOf, begins, list_any, Layering, IsLayering}
+use Rattle.pz_cells.proofs.Common.{cases_Bool, ◌≡◌, ◌≢◌, inl, inr, ℕ, suc, ◌<◌, ◌≤◌, List, [], ◌∷◌, Option, Some, None, Bool, true, false, not, cond, length, get_or, arith, ap, sym, ◌∙◌, refl, subst, ◌*◌, ◌/◌, ◌%◌, ◌&&◌, nat_eq, All, IfSome, IsTrue, ◌↔◌, find, cases_lt, and_parts, or_right, and_from, eqb-true, or_cases, get_or_past, get_or-map-range_with_len, length-map-range_with_len, member, IsWithin, AreApart, Piece, Dir, Word, Item, AreOf, IsOf, standing, names, names_object, forbids_object, places_on, placed_on, is_toward, flag, heads, heading_in, IsProper, place_of, cell_of, AreLawful, each_number, flag_of, dir_bit-low, Masks, toward, is_still, asks_toward, asks_still, IsLow, AreMasksOf, begins, list_any, Layering, IsLayering}
 use Rattle.pz_game.specs.declared.limits.TheConstants.{MAX_LAYERS, MAX_OBJECTS}
 use Rattle.pz_game.specs.declared.pattern.Word.TheVariants.{Present, Still, Toward, Absent}
+use Rattle.pz_game.specs.declared.direction.Dir.TheVariants.{Up, Down, Left, Right, Action}
 use Rattle.pz_cells.specs.Pattern.{word_holds, item_holds, pattern_holds}
 use Rattle.pz_cells.proofs.SameLemmas.{same_dir_is, same_dir_self}
 use Rattle.pz_cells.proofs.CellLemmas.{OnItsLayer, standing_on_layer, standing_off_layer, standing_past}
@@ -12,13 +13,7 @@ place_seen depth layers objects movement layer low = get_or-map-range_with_len (
 
 -- each object of the seen cell stands on its layer
 pub on_its_layer : (depth : ℕ) (layers objects movement : List ℕ) → AreLawful layers objects movement → OnItsLayer layers (cell_of depth layers objects movement)
-on_its_layer depth layers objects movement lawful layer = elim (cases_lt layer depth) [
-  | inl low ↦ subst (IsOnLayer layers layer) (sym (place_seen depth layers objects movement layer low)) (by_place (place_of layers objects movement layer) refl)
-  | inr past ↦ subst (IsOnLayer layers layer) (sym (get_or_past (cell_of depth layers objects movement) layer None (omega (arith, length-map-range_with_len (place_of layers objects movement) 0 depth)))) tt
-] where
-  by_place : (place : Option Piece) → place_of layers objects movement layer ≡ place → IsOnLayer layers layer place
-  by_place None e = tt
-  by_place (Some piece) e = (let there = object_there layers objects movement layer piece lawful e in (there.2, there.1))
+on_its_layer depth layers objects movement lawful layer = grind (arith, cases_lt layer depth, get_or_past (cell_of depth layers objects movement) layer None, length-map-range_with_len (place_of layers objects movement) 0 depth, place_seen depth layers objects movement layer, lawful.shows layer, lawful.of_game)
 
 -- what the seen cell says of an object
 abbrev pub standing_by : Bool → Option Dir → Option (Option Dir)
@@ -46,10 +41,7 @@ standing_seen depth layers objects movement object low lawful = by_member (membe
 
 -- the directions of a layer are its heading
 pub heads_toward : (layers objects movement : List ℕ) (layer : ℕ) (dir : Dir) → AreLawful layers objects movement → heads movement layer dir ≡ is_toward (heading_in movement layer) dir
-heads_toward layers objects movement layer dir lawful = by_place (place_of layers objects movement layer) (lawful.shows layer) where
-  by_place : (place : Option Piece) → Shows layers (member objects) (heads movement layer) layer place → heads movement layer dir ≡ is_toward (heading_in movement layer) dir
-  by_place None shown = grind (arith, shown.1 dir, first_toward (heads movement layer) None shown.1)
-  by_place (Some piece) shown = grind (arith, shown.3 dir, first_toward (heads movement layer) piece.heading shown.3)
+heads_toward layers objects movement layer dir lawful = grind (arith, lawful.shows layer, first_toward (heads movement layer))
 
 -- ---- what the items of a cell ask of the words
 pub record AreMet (items : List Item) (objects movement : List ℕ) : Type 0 where
@@ -60,8 +52,7 @@ pub record AreMet (items : List Item) (objects movement : List ℕ) : Type 0 whe
 
 -- a heading without a direction
 none_toward : (heading : Option Dir) → ((dir : Dir) → is_toward heading dir ≡ false) → heading ≡ None
-none_toward None h = refl
-none_toward (Some dir) h = grind (arith, h dir, same_dir_self dir)
+none_toward heading h = grind (arith, h Up, h Down, h Left, h Right, h Action)
 
 -- one item: the word, whether the object is there, and where its layer heads
 met_word : (word : Word) (there : Bool) (heading : Option Dir) → (names word ≡ true → there ≡ true) → (not (names word) ≡ true → there ≡ false) → ((dir : Dir) → is_toward (toward true word) dir ≡ true → is_toward heading dir ≡ true) → (is_still word ≡ true → (dir : Dir) → is_toward heading dir ≡ false) → word_holds word (standing_by there heading) ≡ true
@@ -70,18 +61,9 @@ met_word Present there heading p a r f = grind (arith, p refl)
 met_word Still there heading p a r f = grind (arith, p refl, none_toward heading (f refl))
 met_word (Toward dir) there heading p a r f = grind (arith, p refl, r dir (same_dir_self dir))
 
-word_present : (word : Word) (there : Bool) (heading : Option Dir) → word_holds word (standing_by there heading) ≡ true → names word ≡ true → there ≡ true
-word_present word there heading h n = grind arith
-
-word_absent : (word : Word) (there : Bool) (heading : Option Dir) → word_holds word (standing_by there heading) ≡ true → not (names word) ≡ true → there ≡ false
-word_absent word there heading h n = grind arith
-
-word_required : (word : Word) (there : Bool) (heading : Option Dir) → word_holds word (standing_by there heading) ≡ true → (dir : Dir) → is_toward (toward true word) dir ≡ true → is_toward heading dir ≡ true
-word_required (Toward way) true (Some heading) h dir t = ap (λ (d : Dir). same_dir d dir) (same_dir_is heading way h) ∙ t
-word_required word there heading h dir t = grind arith
-
-word_forbidden : (word : Word) (there : Bool) (heading : Option Dir) → word_holds word (standing_by there heading) ≡ true → is_still word ≡ true → (dir : Dir) → is_toward heading dir ≡ false
-word_forbidden word there heading h s dir = grind arith
+-- what a word that holds says
+met_by : (word : Word) (there : Bool) (heading : Option Dir) → word_holds word (standing_by there heading) ≡ true → (names word ≡ true → there ≡ true) × (not (names word) ≡ true → there ≡ false) × ((dir : Dir) → is_toward (toward true word) dir ≡ true → is_toward heading dir ≡ true) × (is_still word ≡ true → (dir : Dir) → is_toward heading dir ≡ false)
+met_by word there heading h = (λ n. grind arith, λ n. grind arith, λ dir t. grind (arith, same_dir_is), λ s dir. grind arith)
 
 -- an item holds in the seen cell
 abbrev Seen : ℕ → List ℕ → List ℕ → List ℕ → Item → Type 0
@@ -111,14 +93,13 @@ met_all depth layers objects movement [] low lawful are holds = record { present
 met_all depth layers objects movement (x ∷ xs) low lawful are holds =
     let parts = and_parts (item_holds (cell_of depth layers objects movement) x) (pattern_holds (cell_of depth layers objects movement) xs) holds in
     let h = sym (item_seen depth layers objects movement x low lawful (are 0 x (omega arith)).layer) ∙ parts.0 in
-    let there = member objects x.object in
-    let heading = heading_in movement x.layer in
+    let word = met_by x.word (member objects x.object) (heading_in movement x.layer) h in
     let rest = met_all depth layers objects movement xs low lawful (λ k d h. are (suc k) d (omega arith)) parts.1 in
     record {
-      present = λ o e. grind (arith, e, word_present x.word there heading h, rest.present o);
-      absent = λ o e. grind (arith, e, word_absent x.word there heading h, rest.absent o);
-      required = λ l d e. grind (arith, e, heads_toward layers objects movement x.layer d lawful, word_required x.word there heading h d, rest.required l d);
-      forbidden = λ l d e. grind (arith, e, heads_toward layers objects movement x.layer d lawful, λ (s : is_still x.word ≡ true). word_forbidden x.word there heading h s d, rest.forbidden l d);
+      present = λ o e. grind (arith, e, word.0, rest.present o);
+      absent = λ o e. grind (arith, e, word.1, rest.absent o);
+      required = λ l d e. grind (arith, e, heads_toward layers objects movement x.layer d lawful, word.2 d, rest.required l d);
+      forbidden = λ l d e. grind (arith, e, heads_toward layers objects movement x.layer d lawful, λ (s : is_still x.word ≡ true). word.3 s d, rest.forbidden l d);
     }
 
 -- the sets of a cell of a rule are met by those of a cell
@@ -181,10 +162,10 @@ directions_fit set depth count asked proper is low room number here = elim (case
 -- what is found passes the test and is an element
 find_all : {X : Type 0} (P : X → Type 0) (p : X → Bool) (xs : List X) (x : X) → All P xs → find p xs ≡ Some x → P x × (p x ≡ true)
 find_all P p [] x all e = cc
-find_all {X} P p (y ∷ ys) x all e = by_test (λ f. find_all P p ys x (λ k d h. all (suc k) d (omega arith)) f) (p y) refl e where
-  by_test : (find p ys ≡ Some x → P x × (p x ≡ true)) → (b : Bool) → p y ≡ b → cond b (Some y) (find p ys) ≡ Some x → P x × (p x ≡ true)
-  by_test rest true t f = (let same : y ≡ x = cc in (subst P same (all 0 y (omega arith)), ap p (sym same) ∙ t))
-  by_test rest false t f = rest f
+find_all {X} P p (y ∷ ys) x all e = elim (cases_Bool (p y)) [
+  | inl t ↦ (let same : y ≡ x = grind (arith, t, e) in (subst P same (all 0 y (omega arith)), ap p (sym same) ∙ t))
+  | inr f ↦ find_all P p ys x (λ k d h. all (suc k) d (omega arith)) (grind (arith, f, e))
+]
 
 -- the item that is placed on a layer is of that layer and names its object
 pub placed_is : (layers : List ℕ) (layer : ℕ) (right : List Item) (item : Item) → AreOf layers right → placed_on layer right ≡ Some item → (item.object < length layers) × (get_or layers item.object 0 ≡ layer) × (names item.word ≡ true)

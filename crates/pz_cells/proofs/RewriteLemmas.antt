@@ -150,10 +150,7 @@ placed_within layers right r are mr object here = (let p = mr.placed_only object
 -- ---- whether the cell changed
 -- nothing stands past the layers
 place_past : (depth : ℕ) (layers objects movement : List ℕ) (layer : ℕ) → All (λ l. l < depth) layers → AreLawful layers objects movement → depth ≤ layer → place_of layers objects movement layer ≡ None
-place_past depth layers objects movement layer low lawful past = by_place (place_of layers objects movement layer) refl (lawful.shows layer) where
-  by_place : (place : Option Piece) → place_of layers objects movement layer ≡ place → Shows layers (member objects) (heads movement layer) layer place → place_of layers objects movement layer ≡ None
-  by_place None e shown = e
-  by_place (Some piece) e shown = absurd (omega (arith, shown.1, low piece.object 0 (lawful.of_game piece.object shown.0)))
+place_past depth layers objects movement layer low lawful past = grind (arith, lawful.shows layer, lawful.of_game, low)
 
 -- words that answer alike show one cell
 pub cell_alike : (depth : ℕ) (layers objects movement objects_new movement_new : List ℕ) → AreLawful layers objects movement → AreLawful layers objects_new movement_new → ((object : ℕ) → member objects_new object ≡ member objects object) → ((layer : ℕ) (dir : Dir) → heads movement_new layer dir ≡ heads movement layer dir) → cell_of depth layers objects_new movement_new ≡ cell_of depth layers objects movement
