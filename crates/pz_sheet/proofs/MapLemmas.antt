@@ -1,14 +1,17 @@
 -- The cells of a level in words are drawn, and changed one by one.
-use Rattle.pz_sheet.proofs.Common.{◌≡◌, ℕ, ◌*◌, List, Option, map, length, ap, sym, ◌∙◌, subst, length-map, IsSize, Cell, Piece, glyph_cell, Layering, IsLayering, seen, AreMapped, AreGlyphs, HeadingSets, AreNoted, IsStored}
+use Rattle.pz_sheet.proofs.Common.{◌≡◌, ℕ, ◌*◌, List, Option, length, ap, sym, ◌∙◌, subst, length-map, IsSize, Cell, Piece, glyph_cell, Layering, IsLayering, seen, AreMapped, AreGlyphs, HeadingSets, AreNoted, IsStored}
 use Rattle.pz_game.specs.Drawing.{Drawing, IsDrawing}
 use Rattle.pz_game.specs.declared.game.GameParts.{GameParts}
 
 -- ---- the level whose cells are changed
+pub long_mapped : {N : ℕ} (layering : Layering) (f : List (Option Piece) → List (Option Piece)) (old new : List (Cell N)) → AreMapped layering f old new → length new ≡ length old
+long_mapped layering f old new m = simp length-map at (ap length m.cells)
+
 pub stored_mapped : (N width height : ℕ) (layering : Layering) (f : List (Option Piece) → List (Option Piece)) (old new : List (Cell N)) (notes next : HeadingSets) → IsStored N width height layering old notes → AreMapped layering f old new → AreNoted N width height next new → IsStored N width height layering new next
 stored_mapped N width height layering f old new notes next s m noted = record {
   size = s.size;
   law = s.law;
-  covers = (let e : length new ≡ length old = sym (length-map new (seen layering)) ∙ (ap length m.cells ∙ (length-map (map (seen layering) old) f ∙ length-map old (seen layering))) in e ∙ s.covers);
+  covers = long_mapped layering f old new m ∙ s.covers;
   sound = m.sound;
   noted = noted;
 }

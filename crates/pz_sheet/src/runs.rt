@@ -47,7 +47,7 @@ impl<const N: usize> Sheet<N> {
     }
 
     /// Whether rules' cells hold from a position of a line on, when the first does. (Not inlined: few positions of a search come here.)
-    #[tactic(auto, using(crate::proofs::RunLemmas::enumerate_more, crate::proofs::RunLemmas::enumerate_fails, crate::proofs::RunLemmas::enumerate_all, crate::proofs::RunLemmas::along_in, crate::proofs::RunLemmas::run_past))]
+    #[tactic(auto, using(crate::proofs::RunLemmas::enumerate_more, crate::proofs::RunLemmas::along_in))]
     #[inline(never)]
     fn rest_holds(&self, line: Line, way: Way, at: u32, patterns: &[Pattern]) -> bool
         requires on_line { IsOnLine self.now.grid line at }
