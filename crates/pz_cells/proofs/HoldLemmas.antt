@@ -1,12 +1,12 @@
 -- What holds in a cell, by sets.
-use Rattle.pz_cells.proofs.Common.{cases_Bool, ◌≡◌, ◌≢◌, inl, inr, ℕ, suc, ◌<◌, ◌≤◌, List, [], ◌∷◌, Option, Some, None, Bool, true, false, not, cond, length, get_or, arith, ap, sym, ◌∙◌, refl, subst, ◌*◌, ◌/◌, ◌%◌, ◌&&◌, nat_eq, All, IfSome, IsTrue, ◌↔◌, find, cases_lt, and_parts, or_right, and_from, eqb-true, or_cases, get_or_past, get_or-map-range_with_len, length-map-range_with_len, member, IsWithin, AreApart, Piece, Dir, Word, Item, AreOf, IsOf, standing, names, names_object, forbids_object, places_on, placed_on, is_toward, flag, heads, heading_in, IsProper, place_of, cell_of, AreLawful, each_number, flag_of, dir_bit-low, Masks, toward, is_still, asks_toward, asks_still, IsLow, AreMasksOf, begins, list_any, Layering, IsLayering}
+use Rattle.pz_cells.proofs.Common.{cases_Bool, ◌≡◌, inl, inr, ℕ, suc, ◌<◌, ◌≤◌, List, [], ◌∷◌, Option, Some, None, Bool, true, false, not, cond, length, get_or, arith, ap, sym, ◌∙◌, refl, subst, ◌*◌, ◌/◌, ◌%◌, ◌&&◌, ◌||◌, nat_eq, All, IsTrue, ◌↔◌, find, cases_lt, and_parts, or_right, and_from, eqb-true, or_cases, get_or_past, get_or-map-range_with_len, length-map-range_with_len, member, IsWithin, AreApart, Piece, Dir, Word, Item, AreOf, IsOf, standing, names, names_object, forbids_object, places_on, placed_on, is_toward, flag, heads, heading_in, IsProper, place_of, cell_of, AreLawful, each_number, flag_of, dir_bit-low, Masks, toward, is_still, asks_toward, asks_still, IsLow, AreMasksOf, begins, list_any, Layering, IsLayering}
 use Rattle.pz_game.specs.declared.limits.TheConstants.{MAX_LAYERS, MAX_OBJECTS}
 use Rattle.pz_game.specs.declared.pattern.Word.TheVariants.{Present, Still, Toward, Absent}
 use Rattle.pz_game.specs.declared.direction.Dir.TheVariants.{Up, Down, Left, Right, Action}
 use Rattle.pz_cells.specs.Pattern.{word_holds, item_holds, pattern_holds}
 use Rattle.pz_cells.proofs.SameLemmas.{same_dir_is, same_dir_self}
 use Rattle.pz_cells.proofs.CellLemmas.{OnItsLayer, standing_on_layer, standing_off_layer, standing_past}
-use Rattle.pz_cells.proofs.PlaceLemmas.{place_some, object_there, first_toward}
+use Rattle.pz_cells.proofs.PlaceLemmas.{place_some, first_toward}
 
 pub place_seen : (depth : ℕ) (layers objects movement : List ℕ) (layer : ℕ) → layer < depth → get_or (cell_of depth layers objects movement) layer None ≡ place_of layers objects movement layer
 place_seen depth layers objects movement layer low = get_or-map-range_with_len (place_of layers objects movement) 0 depth layer layer None low (omega arith)
@@ -20,24 +20,19 @@ abbrev pub standing_by : Bool → Option Dir → Option (Option Dir)
 standing_by there heading = cond there (Some heading) None
 
 pub standing_seen : (depth : ℕ) (layers objects movement : List ℕ) (object : ℕ) → All (λ layer. layer < depth) layers → AreLawful layers objects movement → standing (cell_of depth layers objects movement) object ≡ standing_by (member objects object) (heading_in movement (get_or layers object 0))
-standing_seen depth layers objects movement object low lawful = by_member (member objects object) refl where
-  all : OnItsLayer layers (cell_of depth layers objects movement)
-  all = on_its_layer depth layers objects movement lawful
-
-  absent : member objects object ≡ false → (place : Option Piece) → place_of layers objects movement (get_or layers object 0) ≡ place → IfSome place (λ p. p.object ≢ object)
-  absent none None e = tt
-  absent none (Some piece) e = λ same. grind (arith, none, same, (object_there layers objects movement (get_or layers object 0) piece lawful e).0)
-
-  by_member : (b : Bool) → member objects object ≡ b → standing (cell_of depth layers objects movement) object ≡ standing_by b (heading_in movement (get_or layers object 0))
-  by_member true there =
-      let within = lawful.of_game object there in
-      let layer = get_or layers object 0 in
-      let here : get_or (cell_of depth layers objects movement) layer None ≡ Some (record { object = object; heading = heading_in movement layer }) = place_seen depth layers objects movement layer (low object 0 within) ∙ sym (place_some layers objects movement layer object lawful there refl) in
-      standing_on_layer layers (cell_of depth layers objects movement) (record { object = object; heading = heading_in movement layer }) all here
-  by_member false none = elim (cases_lt object (length layers)) [
-    | inl within ↦ standing_off_layer layers (cell_of depth layers objects movement) object all (subst (λ (v : Option Piece). IfSome v (λ p. p.object ≢ object)) (sym (place_seen depth layers objects movement (get_or layers object 0) (low object 0 within))) (absent none (place_of layers objects movement (get_or layers object 0)) refl))
-    | inr past ↦ standing_past layers (cell_of depth layers objects movement) object all past
-  ]
+standing_seen depth layers objects movement object low lawful =
+    let cell = cell_of depth layers objects movement in
+    let all = on_its_layer depth layers objects movement lawful in
+    let layer = get_or layers object 0 in
+    let piece : Piece = record { object = object; heading = heading_in movement layer } in
+    let seen = place_seen depth layers objects movement layer in
+    elim (cases_Bool (member objects object)) [
+      | inl there ↦ grind (arith, there, standing_on_layer layers cell piece all (seen (low object 0 (lawful.of_game object there)) ∙ sym (place_some layers objects movement layer object lawful there refl)))
+      | inr none ↦ elim (cases_lt object (length layers)) [
+        | inl within ↦ grind (arith, none, standing_off_layer layers cell object all, seen (low object 0 within), lawful.shows layer)
+        | inr past ↦ grind (arith, none, standing_past layers cell object all past)
+      ]
+    ]
 
 -- the directions of a layer are its heading
 pub heads_toward : (layers objects movement : List ℕ) (layer : ℕ) (dir : Dir) → AreLawful layers objects movement → heads movement layer dir ≡ is_toward (heading_in movement layer) dir
@@ -73,6 +68,13 @@ item_seen : (depth : ℕ) (layers objects movement : List ℕ) (item : Item) →
 item_seen depth layers objects movement item low lawful on =
     ap (word_holds item.word) (standing_seen depth layers objects movement item.object low lawful) ∙ ap (λ (l : ℕ). word_holds item.word (standing_by (member objects item.object) (heading_in movement l))) on
 
+-- what holds of a number that the first item has, or one of the others
+of_one : (here more : Bool) (own number : ℕ) (P : ℕ → Type 0) → ((here && nat_eq own number) || more) ≡ true → (here ≡ true → P own) → (more ≡ true → P number) → P number
+of_one here more own number P e first others = elim (or_cases _ _ e) [
+  | inl is ↦ (let parts = and_parts here (nat_eq own number) is in subst P (eqb-true _ _ parts.1) (first parts.0))
+  | inr rest ↦ others rest
+]
+
 -- all items hold if what they ask is met, and only then
 pub all_met : (depth : ℕ) (layers objects movement : List ℕ) (items : List Item) → All (λ layer. layer < depth) layers → AreLawful layers objects movement → AreOf layers items → AreMet items objects movement → pattern_holds (cell_of depth layers objects movement) items ≡ true
 all_met depth layers objects movement [] low lawful are met = refl
@@ -96,10 +98,10 @@ met_all depth layers objects movement (x ∷ xs) low lawful are holds =
     let word = met_by x.word (member objects x.object) (heading_in movement x.layer) h in
     let rest = met_all depth layers objects movement xs low lawful (λ k d h. are (suc k) d (omega arith)) parts.1 in
     record {
-      present = λ o e. grind (arith, e, word.0, rest.present o);
-      absent = λ o e. grind (arith, e, word.1, rest.absent o);
-      required = λ l d e. grind (arith, e, heads_toward layers objects movement x.layer d lawful, word.2 d, rest.required l d);
-      forbidden = λ l d e. grind (arith, e, heads_toward layers objects movement x.layer d lawful, λ (s : is_still x.word ≡ true). word.3 s d, rest.forbidden l d);
+      present = λ o e. of_one (names x.word) _ x.object o (λ k. member objects k ≡ true) e word.0 (rest.present o);
+      absent = λ o e. of_one (not (names x.word)) _ x.object o (λ k. member objects k ≡ false) e word.1 (rest.absent o);
+      required = λ l d e. of_one (is_toward (toward true x.word) d) _ x.layer l (λ k. heads movement k d ≡ true) e (λ t. heads_toward layers objects movement x.layer d lawful ∙ word.2 d t) (rest.required l d);
+      forbidden = λ l d e. of_one (is_still x.word) _ x.layer l (λ k. heads movement k d ≡ false) e (λ s. heads_toward layers objects movement x.layer d lawful ∙ word.3 s d) (rest.forbidden l d);
     }
 
 -- the sets of a cell of a rule are met by those of a cell
@@ -141,10 +143,7 @@ first_decides x p a h e = grind (arith, a, h)
 -- a number that one of some items has
 asked_by : (P : ℕ → Type 0) (test : Item → Bool) (number_of : Item → ℕ) (items : List Item) (number : ℕ) → All (λ item. P (number_of item)) items → list_any (λ item. test item && nat_eq (number_of item) number) items ≡ true → P number
 asked_by P test number_of [] number all e = cc
-asked_by P test number_of (x ∷ xs) number all e = elim (or_cases _ _ e) [
-  | inl here ↦ subst P (eqb-true _ _ (and_parts (test x) (nat_eq (number_of x) number) here).1) (all 0 x (omega arith))
-  | inr more ↦ asked_by P test number_of xs number (λ k d within. all (suc k) d (omega arith)) more
-]
+asked_by P test number_of (x ∷ xs) number all e = of_one (test x) _ (number_of x) number P e (λ t. all 0 x (omega arith)) (asked_by P test number_of xs number (λ k d within. all (suc k) d (omega arith)))
 
 -- the directions of layers below a depth
 directions_fit : (set : List ℕ) (depth count : ℕ) (asked : ℕ → Dir → Bool) → IsProper set → ((layer : ℕ) (dir : Dir) → heads set layer dir ≡ asked layer dir) → ((layer : ℕ) (dir : Dir) → asked layer dir ≡ true → layer < depth) → depth ≤ 25 * count → (number : ℕ) → member set number ≡ true → number / 128 < count

@@ -8,20 +8,17 @@ use Rattle.pz_cells.proofs.HoldLemmas.{place_seen, standing_seen, placed_is}
 abbrev pub is_removable : List Item → List Item → ℕ → Bool
 is_removable left right object = names_object object left || forbids_object object right
 
--- an object of the cell that goes: it is removable, on a layer where nothing is placed
-pub record Goes (layers : List ℕ) (left right : List Item) (has : ℕ → Bool) (object : ℕ) : Type 0 where
+-- an object of the cell on a layer where nothing is placed: it goes if it is removable, or else stays
+pub record Stands (layers : List ℕ) (left right : List Item) (has : ℕ → Bool) (goes : Bool) (object : ℕ) : Type 0 where
   pub here : has object ≡ true
   pub free : placed_on (get_or layers object 0) right ≡ None
-  pub removed : is_removable left right object ≡ true
+  pub removed : is_removable left right object ≡ goes
 
--- an object of the cell that stays
-pub record Stays (layers : List ℕ) (left right : List Item) (has : ℕ → Bool) (object : ℕ) : Type 0 where
-  pub here : has object ≡ true
-  pub free : placed_on (get_or layers object 0) right ≡ None
-  pub left_alone : is_removable left right object ≡ false
+abbrev pub Goes : List ℕ → List Item → List Item → (ℕ → Bool) → ℕ → Type 0
+Goes layers left right has object = Stands layers left right has true object
 
-pub and_no : (x : Bool) → (x && false) ≡ false
-and_no x = grind arith
+abbrev pub Stays : List ℕ → List Item → List Item → (ℕ → Bool) → ℕ → Type 0
+Stays layers left right has object = Stands layers left right has false object
 
 -- where an object is placed, its direction is the definition's
 new_toward : (word : Word) (told : Bool) (here : Option Piece) (old : Bool) (dir : Dir) → names word ≡ true → old ≡ is_toward (heading_of here) dir → ((old && not (told || tells_movement word)) || is_toward (toward true word) dir) ≡ is_toward (new_heading word told here) dir
@@ -55,12 +52,12 @@ module _ (layers : List ℕ) (left right : List Item) (l r : Masks) (objects mov
 
   gives : (object : ℕ) → member objects_new object ≡ true → Stays layers left right (member objects) object ⊎ ((item : Item) × (placed_on (get_or layers object 0) right ≡ Some item) × (item.object ≡ object))
   gives object new = elim (or_cases (member objects object && not (gone_by layers l r object)) (member r.placed object) (sym (w.is_new object (w.of_game object new)) ∙ new)) [
-    | inl h ↦ inl (record { here = grind (arith, h); free = none_from (placed_on (get_or layers object 0) right) (grind (arith, h, mr.layers (get_or layers object 0))); left_alone = grind (arith, h, removable object) })
+    | inl h ↦ inl (record { here = grind (arith, h); free = none_from (placed_on (get_or layers object 0) right) (grind (arith, h, mr.layers (get_or layers object 0))); removed = grind (arith, h, removable object) })
     | inr h ↦ (let p = mr.placed_only object h in inr (p.1, ap (λ (k : ℕ). placed_on k right) (ap (λ (k : ℕ). get_or layers k 0) (sym p.3) ∙ (placed_is layers p.0 right p.1 are p.2).1) ∙ p.2, p.3))
   ]
 
   keeps : (object : ℕ) → Stays layers left right (member objects) object → member objects_new object ≡ true
-  keeps object stays = grind (arith, w.is_new object (lawful.of_game object stays.here), mr.layers (get_or layers object 0), stays.free, removable object, stays.left_alone, stays.here)
+  keeps object stays = grind (arith, w.is_new object (lawful.of_game object stays.here), mr.layers (get_or layers object 0), stays.free, removable object, stays.removed, stays.here)
 
   puts : (layer : ℕ) (item : Item) → placed_on layer right ≡ Some item → member objects_new item.object ≡ true
   puts layer item e = w.is_new item.object (placed_is layers layer right item are e).0 ∙ or_right _ _ (mr.placed layer item e)
@@ -88,11 +85,11 @@ module _ (layers : List ℕ) (left right : List Item) (l r : Masks) (objects mov
 
     by_test : placed_on layer right ≡ None → (piece : Piece) → Shows layers (member objects) (heads movement layer) layer (Some piece) → (b : Bool) → is_removable left right piece.object ≡ b → Shows layers (member objects_new) (heads movement_new layer) layer (cond b None (Some piece))
     by_test e piece shown true f = (
-      λ object new on. (let stays = stays_only e object new on in grind (arith, shown.2 object stays.here on, stays.left_alone, f)),
+      λ object new on. (let stays = stays_only e object new on in grind (arith, shown.2 object stays.here on, stays.removed, f)),
       λ dir. ap (λ (k : ℕ). heads movement_new k dir) (sym shown.1) ∙ ended piece.object dir (record { here = shown.0; free = at piece.object shown.1 None e; removed = f }),
     )
     by_test e piece shown false f = (
-      keeps piece.object (record { here = shown.0; free = at piece.object shown.1 None e; left_alone = f }),
+      keeps piece.object (record { here = shown.0; free = at piece.object shown.1 None e; removed = f }),
       shown.1,
       λ object new on. shown.2 object (stays_only e object new on).here on,
       λ dir. toward_kept e (λ object goes on. grind (arith, shown.2 object goes.here on, goes.removed, f)) dir ∙ shown.3 dir,
@@ -227,10 +224,7 @@ ended_more layers objects cleared is_removed before now after start found i from
       | inr past ↦ (let same : object ≡ found = omega (arith, below, past) in grind (arith, is (get_or layers found 0) dir, same, g.free))
     ]
   ];
-  others = λ layer dir apart. by_spared layer dir apart (member cleared (get_or layers found 0)) refl ∙ i.others layer dir apart;
+  others = λ layer dir apart. grind (arith, is layer dir, i.others layer dir apart, λ (e : member cleared (get_or layers found 0) ≡ false). apart found (record { here = parts.0; removed = parts.1; free = e }));
 } where
-  by_spared : (layer : ℕ) (dir : Dir) → ((object : ℕ) → Leaves layers objects cleared is_removed object → get_or layers object 0 ≢ layer) → (b : Bool) → member cleared (get_or layers found 0) ≡ b → heads after layer dir ≡ heads now layer dir
-  by_spared layer dir apart true e = grind (arith, is layer dir, e)
-  by_spared layer dir apart false e =
-      let parts = and_parts (member objects found) (is_removed found) here in
-      grind (arith, is layer dir, e, apart found (record { here = parts.0; removed = parts.1; free = e }))
+  parts : (member objects found ≡ true) × (is_removed found ≡ true)
+  parts = and_parts (member objects found) (is_removed found) here
