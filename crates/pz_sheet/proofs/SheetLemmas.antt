@@ -1,5 +1,5 @@
 -- A cell of a level in words, and what is seen of it.
-use Rattle.pz_sheet.proofs.Common.{Layering, ◌≡◌, ℕ, ◌+◌, ◌*◌, ◌/◌, ◌%◌, ◌<◌, ◌≤◌, List, [], Option, Some, None, Bool, true, false, not, ◌&&◌, cond, set, length, get_or, ap, sym, ◌∙◌, refl, subst, arith, inl, inr, get_or-set_same, get_or-set_other, nat_lt, IfSome, MatchOption, lt-ltb, cases_eq, not-false, length-map, length-set, get_or-map, get_or_default, set-get_or, length-map-range_with_len, Dir, Cell, Piece, same_cell, same_cell_is, Item, IsCell, IsOnLayer, standing, place_of, on_its_layer, standing_by, Grid, BareState, IsLawful, cell_at, place_at, with_place, HeadingSets, IsWider, seen, IsSound, grid_of, IsNoted, IsStored}
+use Rattle.pz_sheet.proofs.Common.{Layering, ◌≡◌, ℕ, ◌+◌, ◌*◌, ◌/◌, ◌%◌, ◌<◌, ◌≤◌, List, [], Option, Some, None, Bool, true, false, not, set, length, get_or, ap, sym, ◌∙◌, refl, subst, arith, inl, inr, get_or-set_same, get_or-set_other, IfSome, MatchOption, lt-ltb, cases_eq, not-false, length-map, length-set, get_or-map, get_or_default, set-get_or, length-map-range_with_len, Dir, Cell, Piece, same_cell, same_cell_is, Item, IsCell, IsOnLayer, standing, place_of, on_its_layer, standing_by, Grid, BareState, IsLawful, cell_at, place_at, with_place, HeadingSets, IsWider, seen, IsSound, grid_of, IsNoted, IsStored}
 use Rattle.std.proofs.lemmas.List.Elements.{All-map, All-set}
 use Rattle.pz_game.specs.declared.limits.TheConstants.{MAX_OBJECTS}
 use Rattle.pz_cells.specs.Rewriting.{rewritten_cell}
@@ -56,9 +56,7 @@ low_place layers layer place few on = grind arith
 
 -- a position on the map
 pub standing_on_map : (grid : Grid) (x y object : ℕ) → x < grid.width → y < grid.height → standing_at grid x y object ≡ standing (cell_at grid x y) object
-standing_on_map grid x y object wide high =
-    ap (λ b. cond (b && nat_lt y grid.height) (standing (cell_at grid x y) object) None) (lt-ltb x grid.width wide)
-    ∙ ap (λ b. cond b (standing (cell_at grid x y) object) None) (lt-ltb y grid.height high)
+standing_on_map grid x y object wide high = grind (arith, lt-ltb x grid.width wide, lt-ltb y grid.height high)
 
 -- what a cell's piece says
 pub piece_seen : (there : Bool) (heading : Option Dir) (object : ℕ) (stand : Option (Option Dir)) (piece : Option Piece) → stand ≡ standing_by there heading → MatchOption piece (there ≡ false) (λ p. (there ≡ true) × (p.object ≡ object) × (p.heading ≡ heading)) → MatchOption piece (stand ≡ None) (λ p. stand ≡ Some p.heading)

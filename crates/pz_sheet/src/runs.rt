@@ -163,7 +163,6 @@ impl<const N: usize> Sheet<N> {
 
     /// At how many positions of a line a search tests whether rules' cells hold from there on. In a line of up to 128 positions they are
     /// those that the planes leave, in a longer line all.
-    #[tactic(auto, using(crate::proofs::CountLemmas::count_fewer, crate::proofs::CountLemmas::count_within))]
     pub fn tested_in(&self, line: Line, way: Way, patterns: &[Pattern]) -> u32
         requires line_in { line.number < line_count self.now.grid line.axis }
         requires run { IsRunOf self.now.grid.layers patterns.now }
