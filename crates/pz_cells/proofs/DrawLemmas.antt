@@ -1,24 +1,12 @@
 -- Cells that are drawn and filled.
-use Rattle.std.proofs.Common.{arith, ◌≡◌, ℕ, ◌+◌, ◌<◌, List, [], ◌∷◌, ◌++◌, map, take, Option, None, false, length, get_or, ap, sym, ◌∙◌, subst}
-use Rattle.std.specs.Prelude.{replicate}
-use Rattle.std.proofs.lemmas.Grind.{common_steps}
+use Rattle.pz_cells.proofs.Common.{arith, ◌≡◌, ℕ, ◌+◌, ◌<◌, List, [], ◌∷◌, ◌++◌, map, take, Option, None, false, length, get_or, ap, sym, ◌∙◌, subst, replicate, common_steps, option_map_or, glyph_objects, length-replicate, get_or-replicate, map_more, member, heads, flag, Cell, Piece, empty_cell, cell_of, Shows, AreLawful, Layering, seen, IsSound}
 use Rattle.std.specs.List.{All}
-use Rattle.std.specs.Option.{option_map_or}
 use Rattle.std.proofs.lemmas.Option.{slice_get-get_or}
-use Rattle.pz_game.specs.Game.{glyph_objects}
+use Rattle.std.proofs.lemmas.List.{map_push}
 use Rattle.pz_game.specs.declared.denotation.Denotation.{Denotation}
 use Rattle.pz_game.specs.declared.game.GameParts.{GameParts}
-use Rattle.std.proofs.lemmas.List.{length-replicate, get_or-replicate, map-append, map_more}
-use Rattle.std.proofs.lemmas.List.Elements.{All-append, All-cons, All-nil}
-use Rattle.pz_sets.specs.Sets.{member}
-use Rattle.pz_game.specs.Headings.{heads, flag}
-use Rattle.pz_cells.specs.declared.cell.Cell.{Cell}
-use Rattle.pz_cells.specs.declared.piece.Piece.{Piece}
-use Rattle.pz_cells.specs.Cell.{empty_cell}
-use Rattle.pz_cells.specs.Shown.{cell_of, Shows, AreLawful}
+use Rattle.std.proofs.lemmas.List.Elements.{All-push, All-same}
 use Rattle.pz_cells.proofs.PlaceLemmas.{lawful_from_shows, cell_from_shows}
-use Rattle.pz_cells.specs.Layering.{Layering}
-use Rattle.pz_cells.specs.Lists.{seen, IsSound}
 
 -- words of which no bit is set have no number
 pub no_number : (n number : ℕ) → member (replicate n 0) number ≡ false
@@ -44,10 +32,8 @@ pub record AreGlyphs {N : ℕ} (layering : Layering) (f : ℕ → List (Option P
 
 pub glyphs_more : {N : ℕ} (layering : Layering) (f : ℕ → List (Option Piece)) (numbers : List ℕ) (index d : ℕ) (cells now : List (Cell N)) (cell : Cell N) → index < length numbers → AreGlyphs layering f (take index numbers) cells → IsSound layering cell → seen layering cell ≡ f (get_or numbers index d) → now ≡ cells ++ cell ∷ [] → AreGlyphs layering f (take (index + 1) numbers) now
 glyphs_more layering f numbers index d cells now cell within are sound e is = record {
-  sound = subst (All (IsSound layering)) (sym is) (All-append (IsSound layering) cells (cell ∷ []) are.sound (All-cons (IsSound layering) cell [] sound (All-nil (IsSound layering))));
-  cells_are = ap (map (seen layering)) is ∙ (map-append (seen layering) cells (cell ∷ [])
-      ∙ (ap (λ (ys : List (List (Option Piece))). ys ++ seen layering cell ∷ []) are.cells_are
-      ∙ (ap (λ (y : List (Option Piece)). map f (take index numbers) ++ y ∷ []) e ∙ sym (map_more f numbers index d within))));
+  sound = All-same (IsSound layering) now (cells ++ cell ∷ []) is (All-push (IsSound layering) cells cell are.sound sound);
+  cells_are = grind (arith, is, map_push (seen layering) cells cell, are.cells_are, e, map_more f numbers index d within);
 }
 
 -- a glyph's objects, as they are read

@@ -1,76 +1,42 @@
 -- What holds in a cell, by sets.
-use Rattle.std.proofs.Common.{◌≡◌, ◌≢◌, inl, inr, ℕ, suc, ◌<◌, ◌≤◌, List, [], ◌∷◌, Option, Some, None, Bool, true, false, not, cond, length, get_or, arith, ap, sym, ◌∙◌, refl, subst, ◌*◌, ◌/◌, ◌%◌, ◌&&◌, nat_eq}
-use Rattle.std.specs.Prelude.{All, IfSome, IsTrue, ◌↔◌, find}
-use Rattle.std.proofs.lemmas.Bool.{cases_lt, and_parts, or_right, and_from, eqb-true, or_cases}
-use Rattle.std.proofs.lemmas.List.{get_or_past}
-use Rattle.std.proofs.lemmas.List.FromFn.{get_or-map-range_with_len, length-map-range_with_len}
+use Rattle.pz_cells.proofs.Common.{cases_Bool, ◌≡◌, inl, inr, ℕ, suc, ◌<◌, ◌≤◌, List, [], ◌∷◌, Option, Some, None, Bool, true, false, not, cond, length, get_or, arith, ap, sym, ◌∙◌, refl, subst, ◌*◌, ◌/◌, ◌%◌, ◌&&◌, ◌||◌, nat_eq, All, IsTrue, ◌↔◌, find, cases_lt, and_parts, or_right, and_from, eqb-true, or_cases, get_or_past, get_or-map-range_with_len, length-map-range_with_len, member, IsWithin, AreApart, Piece, Dir, Word, Item, AreOf, IsOf, standing, names, names_object, forbids_object, places_on, placed_on, is_toward, flag, heads, heading_in, IsProper, place_of, cell_of, AreLawful, each_number, flag_of, dir_bit-low, Masks, toward, is_still, asks_toward, asks_still, IsLow, AreMasksOf, begins, list_any, Layering, IsLayering}
 use Rattle.pz_game.specs.declared.limits.TheConstants.{MAX_LAYERS, MAX_OBJECTS}
-use Rattle.pz_sets.specs.Sets.{member, IsWithin, AreApart}
-use Rattle.pz_cells.specs.declared.piece.Piece.{Piece}
-use Rattle.pz_game.specs.declared.direction.Dir.{Dir}
-use Rattle.pz_game.specs.declared.pattern.Word.{Word}
 use Rattle.pz_game.specs.declared.pattern.Word.TheVariants.{Present, Still, Toward, Absent}
-use Rattle.pz_game.specs.declared.pattern.Item.{Item}
-use Rattle.pz_game.specs.Direction.{same_dir}
-use Rattle.pz_cells.specs.Cell.{IsOnLayer}
-use Rattle.pz_game.specs.Pattern.{AreOf, IsOf}
-use Rattle.pz_cells.specs.Standing.{standing}
+use Rattle.pz_game.specs.declared.direction.Dir.TheVariants.{Up, Down, Left, Right, Action}
 use Rattle.pz_cells.specs.Pattern.{word_holds, item_holds, pattern_holds}
-use Rattle.pz_game.specs.Items.{names, names_object, forbids_object, places_on, placed_on}
 use Rattle.pz_cells.proofs.SameLemmas.{same_dir_is, same_dir_self}
 use Rattle.pz_cells.proofs.CellLemmas.{OnItsLayer, standing_on_layer, standing_off_layer, standing_past}
-use Rattle.pz_game.specs.Headings.{is_toward, flag, heads, heading_in, IsProper}
-use Rattle.pz_cells.specs.Shown.{place_of, cell_of, Shows, AreLawful}
-use Rattle.pz_cells.proofs.PlaceLemmas.{place_some, object_there, first_toward}
-use Rattle.pz_game.proofs.FlagLemmas.{each_number, flag_of, dir_bit-low}
-use Rattle.pz_game.specs.declared.masks.Masks.{Masks}
-use Rattle.pz_game.specs.Masks.{toward, is_still, asks_toward, asks_still, IsLow, AreMasksOf, begins}
-use Rattle.std.specs.List.{list_any}
-use Rattle.pz_cells.specs.Layering.{Layering, IsLayering}
+use Rattle.pz_cells.proofs.PlaceLemmas.{place_some, first_toward}
 
 pub place_seen : (depth : ℕ) (layers objects movement : List ℕ) (layer : ℕ) → layer < depth → get_or (cell_of depth layers objects movement) layer None ≡ place_of layers objects movement layer
 place_seen depth layers objects movement layer low = get_or-map-range_with_len (place_of layers objects movement) 0 depth layer layer None low (omega arith)
 
 -- each object of the seen cell stands on its layer
 pub on_its_layer : (depth : ℕ) (layers objects movement : List ℕ) → AreLawful layers objects movement → OnItsLayer layers (cell_of depth layers objects movement)
-on_its_layer depth layers objects movement lawful layer = elim (cases_lt layer depth) [
-  | inl low ↦ subst (IsOnLayer layers layer) (sym (place_seen depth layers objects movement layer low)) (by_place (place_of layers objects movement layer) refl)
-  | inr past ↦ subst (IsOnLayer layers layer) (sym (get_or_past (cell_of depth layers objects movement) layer None (omega (arith, length-map-range_with_len (place_of layers objects movement) 0 depth)))) tt
-] where
-  by_place : (place : Option Piece) → place_of layers objects movement layer ≡ place → IsOnLayer layers layer place
-  by_place None e = tt
-  by_place (Some piece) e = (let there = object_there layers objects movement layer piece lawful e in (there.2, there.1))
+on_its_layer depth layers objects movement lawful layer = grind (arith, cases_lt layer depth, get_or_past (cell_of depth layers objects movement) layer None, length-map-range_with_len (place_of layers objects movement) 0 depth, place_seen depth layers objects movement layer, lawful.shows layer, lawful.of_game)
 
 -- what the seen cell says of an object
 abbrev pub standing_by : Bool → Option Dir → Option (Option Dir)
 standing_by there heading = cond there (Some heading) None
 
 pub standing_seen : (depth : ℕ) (layers objects movement : List ℕ) (object : ℕ) → All (λ layer. layer < depth) layers → AreLawful layers objects movement → standing (cell_of depth layers objects movement) object ≡ standing_by (member objects object) (heading_in movement (get_or layers object 0))
-standing_seen depth layers objects movement object low lawful = by_member (member objects object) refl where
-  all : OnItsLayer layers (cell_of depth layers objects movement)
-  all = on_its_layer depth layers objects movement lawful
-
-  absent : member objects object ≡ false → (place : Option Piece) → place_of layers objects movement (get_or layers object 0) ≡ place → IfSome place (λ p. p.object ≢ object)
-  absent none None e = tt
-  absent none (Some piece) e = λ same. grind (arith, none, same, (object_there layers objects movement (get_or layers object 0) piece lawful e).0)
-
-  by_member : (b : Bool) → member objects object ≡ b → standing (cell_of depth layers objects movement) object ≡ standing_by b (heading_in movement (get_or layers object 0))
-  by_member true there =
-      let within = lawful.of_game object there in
-      let layer = get_or layers object 0 in
-      let here : get_or (cell_of depth layers objects movement) layer None ≡ Some (record { object = object; heading = heading_in movement layer }) = place_seen depth layers objects movement layer (low object 0 within) ∙ sym (place_some layers objects movement layer object lawful there refl) in
-      standing_on_layer layers (cell_of depth layers objects movement) (record { object = object; heading = heading_in movement layer }) all here
-  by_member false none = elim (cases_lt object (length layers)) [
-    | inl within ↦ standing_off_layer layers (cell_of depth layers objects movement) object all (subst (λ (v : Option Piece). IfSome v (λ p. p.object ≢ object)) (sym (place_seen depth layers objects movement (get_or layers object 0) (low object 0 within))) (absent none (place_of layers objects movement (get_or layers object 0)) refl))
-    | inr past ↦ standing_past layers (cell_of depth layers objects movement) object all past
-  ]
+standing_seen depth layers objects movement object low lawful =
+    let cell = cell_of depth layers objects movement in
+    let all = on_its_layer depth layers objects movement lawful in
+    let layer = get_or layers object 0 in
+    let piece : Piece = record { object = object; heading = heading_in movement layer } in
+    let seen = place_seen depth layers objects movement layer in
+    elim (cases_Bool (member objects object)) [
+      | inl there ↦ grind (arith, there, standing_on_layer layers cell piece all (seen (low object 0 (lawful.of_game object there)) ∙ sym (place_some layers objects movement layer object lawful there refl)))
+      | inr none ↦ elim (cases_lt object (length layers)) [
+        | inl within ↦ grind (arith, none, standing_off_layer layers cell object all, seen (low object 0 within), lawful.shows layer)
+        | inr past ↦ grind (arith, none, standing_past layers cell object all past)
+      ]
+    ]
 
 -- the directions of a layer are its heading
 pub heads_toward : (layers objects movement : List ℕ) (layer : ℕ) (dir : Dir) → AreLawful layers objects movement → heads movement layer dir ≡ is_toward (heading_in movement layer) dir
-heads_toward layers objects movement layer dir lawful = by_place (place_of layers objects movement layer) (lawful.shows layer) where
-  by_place : (place : Option Piece) → Shows layers (member objects) (heads movement layer) layer place → heads movement layer dir ≡ is_toward (heading_in movement layer) dir
-  by_place None shown = grind (arith, shown.1 dir, first_toward (heads movement layer) None shown.1)
-  by_place (Some piece) shown = grind (arith, shown.3 dir, first_toward (heads movement layer) piece.heading shown.3)
+heads_toward layers objects movement layer dir lawful = grind (arith, lawful.shows layer, first_toward (heads movement layer))
 
 -- ---- what the items of a cell ask of the words
 pub record AreMet (items : List Item) (objects movement : List ℕ) : Type 0 where
@@ -81,8 +47,7 @@ pub record AreMet (items : List Item) (objects movement : List ℕ) : Type 0 whe
 
 -- a heading without a direction
 none_toward : (heading : Option Dir) → ((dir : Dir) → is_toward heading dir ≡ false) → heading ≡ None
-none_toward None h = refl
-none_toward (Some dir) h = grind (arith, h dir, same_dir_self dir)
+none_toward heading h = grind (arith, h Up, h Down, h Left, h Right, h Action)
 
 -- one item: the word, whether the object is there, and where its layer heads
 met_word : (word : Word) (there : Bool) (heading : Option Dir) → (names word ≡ true → there ≡ true) → (not (names word) ≡ true → there ≡ false) → ((dir : Dir) → is_toward (toward true word) dir ≡ true → is_toward heading dir ≡ true) → (is_still word ≡ true → (dir : Dir) → is_toward heading dir ≡ false) → word_holds word (standing_by there heading) ≡ true
@@ -91,18 +56,9 @@ met_word Present there heading p a r f = grind (arith, p refl)
 met_word Still there heading p a r f = grind (arith, p refl, none_toward heading (f refl))
 met_word (Toward dir) there heading p a r f = grind (arith, p refl, r dir (same_dir_self dir))
 
-word_present : (word : Word) (there : Bool) (heading : Option Dir) → word_holds word (standing_by there heading) ≡ true → names word ≡ true → there ≡ true
-word_present word there heading h n = grind arith
-
-word_absent : (word : Word) (there : Bool) (heading : Option Dir) → word_holds word (standing_by there heading) ≡ true → not (names word) ≡ true → there ≡ false
-word_absent word there heading h n = grind arith
-
-word_required : (word : Word) (there : Bool) (heading : Option Dir) → word_holds word (standing_by there heading) ≡ true → (dir : Dir) → is_toward (toward true word) dir ≡ true → is_toward heading dir ≡ true
-word_required (Toward way) true (Some heading) h dir t = ap (λ (d : Dir). same_dir d dir) (same_dir_is heading way h) ∙ t
-word_required word there heading h dir t = grind arith
-
-word_forbidden : (word : Word) (there : Bool) (heading : Option Dir) → word_holds word (standing_by there heading) ≡ true → is_still word ≡ true → (dir : Dir) → is_toward heading dir ≡ false
-word_forbidden word there heading h s dir = grind arith
+-- what a word that holds says
+met_by : (word : Word) (there : Bool) (heading : Option Dir) → word_holds word (standing_by there heading) ≡ true → (names word ≡ true → there ≡ true) × (not (names word) ≡ true → there ≡ false) × ((dir : Dir) → is_toward (toward true word) dir ≡ true → is_toward heading dir ≡ true) × (is_still word ≡ true → (dir : Dir) → is_toward heading dir ≡ false)
+met_by word there heading h = (λ n. grind arith, λ n. grind arith, λ dir t. grind (arith, same_dir_is), λ s dir. grind arith)
 
 -- an item holds in the seen cell
 abbrev Seen : ℕ → List ℕ → List ℕ → List ℕ → Item → Type 0
@@ -111,6 +67,13 @@ Seen depth layers objects movement item = item_holds (cell_of depth layers objec
 item_seen : (depth : ℕ) (layers objects movement : List ℕ) (item : Item) → All (λ layer. layer < depth) layers → AreLawful layers objects movement → get_or layers item.object 0 ≡ item.layer → Seen depth layers objects movement item
 item_seen depth layers objects movement item low lawful on =
     ap (word_holds item.word) (standing_seen depth layers objects movement item.object low lawful) ∙ ap (λ (l : ℕ). word_holds item.word (standing_by (member objects item.object) (heading_in movement l))) on
+
+-- what holds of a number that the first item has, or one of the others
+of_one : (here more : Bool) (own number : ℕ) (P : ℕ → Type 0) → ((here && nat_eq own number) || more) ≡ true → (here ≡ true → P own) → (more ≡ true → P number) → P number
+of_one here more own number P e first others = elim (or_cases _ _ e) [
+  | inl is ↦ (let parts = and_parts here (nat_eq own number) is in subst P (eqb-true _ _ parts.1) (first parts.0))
+  | inr rest ↦ others rest
+]
 
 -- all items hold if what they ask is met, and only then
 pub all_met : (depth : ℕ) (layers objects movement : List ℕ) (items : List Item) → All (λ layer. layer < depth) layers → AreLawful layers objects movement → AreOf layers items → AreMet items objects movement → pattern_holds (cell_of depth layers objects movement) items ≡ true
@@ -132,14 +95,13 @@ met_all depth layers objects movement [] low lawful are holds = record { present
 met_all depth layers objects movement (x ∷ xs) low lawful are holds =
     let parts = and_parts (item_holds (cell_of depth layers objects movement) x) (pattern_holds (cell_of depth layers objects movement) xs) holds in
     let h = sym (item_seen depth layers objects movement x low lawful (are 0 x (omega arith)).layer) ∙ parts.0 in
-    let there = member objects x.object in
-    let heading = heading_in movement x.layer in
+    let word = met_by x.word (member objects x.object) (heading_in movement x.layer) h in
     let rest = met_all depth layers objects movement xs low lawful (λ k d h. are (suc k) d (omega arith)) parts.1 in
     record {
-      present = λ o e. grind (arith, e, word_present x.word there heading h, rest.present o);
-      absent = λ o e. grind (arith, e, word_absent x.word there heading h, rest.absent o);
-      required = λ l d e. grind (arith, e, heads_toward layers objects movement x.layer d lawful, word_required x.word there heading h d, rest.required l d);
-      forbidden = λ l d e. grind (arith, e, heads_toward layers objects movement x.layer d lawful, λ (s : is_still x.word ≡ true). word_forbidden x.word there heading h s d, rest.forbidden l d);
+      present = λ o e. of_one (names x.word) _ x.object o (λ k. member objects k ≡ true) e word.0 (rest.present o);
+      absent = λ o e. of_one (not (names x.word)) _ x.object o (λ k. member objects k ≡ false) e word.1 (rest.absent o);
+      required = λ l d e. of_one (is_toward (toward true x.word) d) _ x.layer l (λ k. heads movement k d ≡ true) e (λ t. heads_toward layers objects movement x.layer d lawful ∙ word.2 d t) (rest.required l d);
+      forbidden = λ l d e. of_one (is_still x.word) _ x.layer l (λ k. heads movement k d ≡ false) e (λ s. heads_toward layers objects movement x.layer d lawful ∙ word.3 s d) (rest.forbidden l d);
     }
 
 -- the sets of a cell of a rule are met by those of a cell
@@ -181,10 +143,7 @@ first_decides x p a h e = grind (arith, a, h)
 -- a number that one of some items has
 asked_by : (P : ℕ → Type 0) (test : Item → Bool) (number_of : Item → ℕ) (items : List Item) (number : ℕ) → All (λ item. P (number_of item)) items → list_any (λ item. test item && nat_eq (number_of item) number) items ≡ true → P number
 asked_by P test number_of [] number all e = cc
-asked_by P test number_of (x ∷ xs) number all e = elim (or_cases _ _ e) [
-  | inl here ↦ subst P (eqb-true _ _ (and_parts (test x) (nat_eq (number_of x) number) here).1) (all 0 x (omega arith))
-  | inr more ↦ asked_by P test number_of xs number (λ k d within. all (suc k) d (omega arith)) more
-]
+asked_by P test number_of (x ∷ xs) number all e = of_one (test x) _ (number_of x) number P e (λ t. all 0 x (omega arith)) (asked_by P test number_of xs number (λ k d within. all (suc k) d (omega arith)))
 
 -- the directions of layers below a depth
 directions_fit : (set : List ℕ) (depth count : ℕ) (asked : ℕ → Dir → Bool) → IsProper set → ((layer : ℕ) (dir : Dir) → heads set layer dir ≡ asked layer dir) → ((layer : ℕ) (dir : Dir) → asked layer dir ≡ true → layer < depth) → depth ≤ 25 * count → (number : ℕ) → member set number ≡ true → number / 128 < count
@@ -202,10 +161,10 @@ directions_fit set depth count asked proper is low room number here = elim (case
 -- what is found passes the test and is an element
 find_all : {X : Type 0} (P : X → Type 0) (p : X → Bool) (xs : List X) (x : X) → All P xs → find p xs ≡ Some x → P x × (p x ≡ true)
 find_all P p [] x all e = cc
-find_all {X} P p (y ∷ ys) x all e = by_test (λ f. find_all P p ys x (λ k d h. all (suc k) d (omega arith)) f) (p y) refl e where
-  by_test : (find p ys ≡ Some x → P x × (p x ≡ true)) → (b : Bool) → p y ≡ b → cond b (Some y) (find p ys) ≡ Some x → P x × (p x ≡ true)
-  by_test rest true t f = (let same : y ≡ x = cc in (subst P same (all 0 y (omega arith)), ap p (sym same) ∙ t))
-  by_test rest false t f = rest f
+find_all {X} P p (y ∷ ys) x all e = elim (cases_Bool (p y)) [
+  | inl t ↦ (let same : y ≡ x = grind (arith, t, e) in (subst P same (all 0 y (omega arith)), ap p (sym same) ∙ t))
+  | inr f ↦ find_all P p ys x (λ k d h. all (suc k) d (omega arith)) (grind (arith, f, e))
+]
 
 -- the item that is placed on a layer is of that layer and names its object
 pub placed_is : (layers : List ℕ) (layer : ℕ) (right : List Item) (item : Item) → AreOf layers right → placed_on layer right ≡ Some item → (item.object < length layers) × (get_or layers item.object 0 ≡ layer) × (names item.word ≡ true)

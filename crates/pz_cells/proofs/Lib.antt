@@ -1,3 +1,4 @@
+mod Common
 pub mod PlaceLemmas
 pub mod CellLemmas
 pub mod SameLemmas

@@ -1,21 +1,10 @@
 -- Lists of cells in words, changed one by one.
-use Rattle.std.proofs.Common.{inl, inr, zero, suc, ◌^◌, get_or-set_same, get_or-set_other, ◌≡◌, ℕ, ◌+◌, ◌*◌, ◌<◌, ◌≤◌, List, [], Option, Some, None, Bool, true, false, map, set, length, get_or, ap, sym, ◌∙◌, refl, subst, arith}
-use Rattle.std.proofs.lemmas.Bool.{cases_eq}
+use Rattle.pz_cells.proofs.Common.{inl, inr, zero, suc, ◌^◌, get_or-set_same, get_or-set_other, ◌≡◌, ℕ, ◌+◌, ◌*◌, ◌<◌, ◌≤◌, List, [], Option, None, Bool, true, false, map, set, length, get_or, ap, sym, ◌∙◌, refl, subst, arith, cases_eq, get_or_default, length-map, get_or-map, ext_get_or, member, Dir, heads, flag, Cell, Piece, still_place, place_of, cell_of, Shows, AreLawful, length-map-range_with_len, Layering, seen, IsSound, AreMapped}
 use prog.Memory.{up}
-use Rattle.std.proofs.lemmas.List.{get_or_default, length-map, length-set, get_or-map, ext_get_or}
+use Rattle.std.proofs.lemmas.List.{length-set}
 use Rattle.std.specs.List.{All}
-use Rattle.pz_sets.specs.Sets.{member}
-use Rattle.pz_game.specs.declared.direction.Dir.{Dir}
-use Rattle.pz_game.specs.Headings.{heads, flag}
-use Rattle.pz_cells.specs.declared.cell.Cell.{Cell}
-use Rattle.pz_cells.specs.declared.piece.Piece.{Piece}
-use Rattle.pz_cells.specs.Cell.{still_place}
-use Rattle.pz_cells.specs.Shown.{place_of, cell_of, Shows, AreLawful}
 use Rattle.pz_cells.proofs.HoldLemmas.{place_seen}
 use Rattle.pz_cells.proofs.PlaceLemmas.{cell_from_shows, lawful_from_shows}
-use Rattle.std.proofs.lemmas.List.FromFn.{length-map-range_with_len}
-use Rattle.pz_cells.specs.Layering.{Layering}
-use Rattle.pz_cells.specs.Lists.{seen, IsSound, AreMapped}
 
 -- a cell without words
 pub no_cell : (N : ℕ) → Cell N
@@ -44,8 +33,7 @@ cell_mapped depth layers objects movement objects_new movement_new f of_game sho
 
 -- what has no heading is still
 pub still_shows : (layers : List ℕ) (has : ℕ → Bool) (toward toward_new : Dir → Bool) (layer : ℕ) (place : Option Piece) → ((dir : Dir) → toward_new dir ≡ false) → Shows layers has toward layer place → Shows layers has toward_new layer (still_place place)
-still_shows layers has toward toward_new layer None none shown = (shown.0, none)
-still_shows layers has toward toward_new layer (Some piece) none shown = (shown.0, shown.1, shown.2, none)
+still_shows layers has toward toward_new layer place none shown = grind (arith, none)
 
 -- words of which the headings were taken away
 stilled_shows : (layers objects movement movement_new : List ℕ) → AreLawful layers objects movement → ((number : ℕ) → member movement_new number ≡ false) → (layer : ℕ) → Shows layers (member objects) (heads movement_new layer) layer (still_place (place_of layers objects movement layer))

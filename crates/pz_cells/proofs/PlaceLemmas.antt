@@ -1,19 +1,6 @@
 -- What words show, and how one layer of a cell changes.
-use Rattle.std.proofs.Common.{◌≡◌, ◌≢◌, inl, inr, ℕ, ◌<◌, List, Option, Some, None, Bool, true, false, not, ◌&&◌, ◌||◌, length, get_or, set, arith, ap, sym, ◌∙◌, refl, subst, nat_eq, eq-eqb, zero, suc, ◌+◌, ◌≤◌, cond}
-use Rattle.std.proofs.lemmas.Bool.{cases_eq, eqb-true, ne_eqb, and_parts, or_cases}
-use Rattle.std.proofs.lemmas.List.{length-set, ext_get_or}
-use Rattle.std.proofs.lemmas.List.FromFn.{get_or-map-range_with_len, length-map-range_with_len}
-use Rattle.std.proofs.lemmas.Grind.{common_steps}
-use Rattle.pz_sets.specs.Sets.{member}
-use Rattle.pz_cells.specs.declared.piece.Piece.{Piece}
-use Rattle.pz_game.specs.declared.direction.Dir.{Dir}
-use Rattle.pz_game.specs.Direction.{same_dir}
-use Rattle.pz_game.specs.Headings.{is_toward, IsProper, heads, heading_in, first_of}
-use Rattle.pz_cells.specs.Cell.{IsOnLayer}
-use Rattle.pz_cells.specs.Shown.{IsSetOf, place_of, cell_of, Shows, AreLawful, Changes, stands_on, piece_with}
-use Rattle.std.specs.Prelude.{find}
-use Rattle.std.specs.Option.{option_map}
-use Rattle.std.specs.List.{range_with_len}
+use Rattle.pz_cells.proofs.Common.{◌≡◌, ◌≢◌, inl, inr, ℕ, ◌<◌, List, Option, Some, None, Bool, true, false, not, ◌&&◌, ◌||◌, length, get_or, set, arith, ap, sym, ◌∙◌, refl, subst, nat_eq, eq-eqb, zero, suc, ◌+◌, ◌≤◌, cond, cases_eq, eqb-true, and_parts, or_cases, ext_get_or, get_or-map-range_with_len, length-map-range_with_len, common_steps, member, Piece, Dir, same_dir, is_toward, IsProper, heads, heading_in, first_of, IsOnLayer, IsSetOf, place_of, cell_of, Shows, AreLawful, Changes, stands_on, piece_with, find, option_map, range_with_len}
+use Rattle.std.proofs.lemmas.List.{length-set}
 use Rattle.pz_game.specs.declared.direction.Dir.TheVariants.{Up, Down, Left, Right, Action}
 
 -- the first direction that a test picks, of tests that pick one or none
@@ -28,10 +15,7 @@ first_toward test (Some Action) h = simp (h Up, h Down, h Left, h Right, h Actio
 -- the only number that passes is found
 pub find_only : (p : ℕ → Bool) (a n k : ℕ) → a ≤ k → k < a + n → p k ≡ true → ((j : ℕ) → j < a + n → p j ≡ true → j ≡ k) → find p (range_with_len a n) ≡ Some k
 find_only p a zero k low high e only = absurd (omega arith)
-find_only p a (suc n) k low high e only = by_test (λ x. find_only p (a + 1) n k x (omega arith) e (λ j h. only j (omega arith))) (p a) refl where
-  by_test : (a + 1 ≤ k → find p (range_with_len (a + 1) n) ≡ Some k) → (b : Bool) → p a ≡ b → cond b (Some a) (find p (range_with_len (a + 1) n)) ≡ Some k
-  by_test rest true f = ap Some (only a (omega arith) f)
-  by_test rest false f = rest (elim (cases_eq a k) [ inl same ↦ grind arith | inr other ↦ omega (arith, other) ])
+find_only p a (suc n) k low high e only = grind (arith, only a, find_only p (a + 1) n k, λ (j : ℕ) (h : j < a + 1 + n). only j (omega arith), e)
 
 -- a number that doesn't pass isn't found
 pub find_none : (p : ℕ → Bool) (a n : ℕ) → ((j : ℕ) → p j ≡ true → ⊥) → find p (range_with_len a n) ≡ None
@@ -64,21 +48,14 @@ cell_from_shows depth layers objects movement cell long of_game shows =
 
 -- a layer with one
 pub place_some : (layers objects movement : List ℕ) (layer object : ℕ) → AreLawful layers objects movement → member objects object ≡ true → get_or layers object 0 ≡ layer → Some (record { object = object; heading = heading_in movement layer }) ≡ place_of layers objects movement layer
-place_some layers objects movement layer object lawful here on = by_place (place_of layers objects movement layer) refl (lawful.shows layer) where
-  by_place : (place : Option Piece) → place_of layers objects movement layer ≡ place → Shows layers (member objects) (heads movement layer) layer place → Some (record { object = object; heading = heading_in movement layer }) ≡ place_of layers objects movement layer
-  by_place None e shown = absurd (shown.0 object here on)
-  by_place (Some piece) e shown = ap Some (λ i. record { object = shown.2 object here on i; heading = first_toward (heads movement layer) piece.heading shown.3 i }) ∙ sym e
+place_some layers objects movement layer object lawful here on = grind (arith, lawful.shows layer, first_toward (heads movement layer))
 
 -- two objects of one layer are one
 pub one_object : (layers objects movement : List ℕ) (layer a b : ℕ) → AreLawful layers objects movement → member objects a ≡ true → get_or layers a 0 ≡ layer → member objects b ≡ true → get_or layers b 0 ≡ layer → a ≡ b
-one_object layers objects movement layer a b lawful here on there at = by_place (place_of layers objects movement layer) (lawful.shows layer) where
-  by_place : (place : Option Piece) → Shows layers (member objects) (heads movement layer) layer place → a ≡ b
-  by_place None shown = absurd (shown.0 a here on)
-  by_place (Some piece) shown = shown.2 a here on ∙ sym (shown.2 b there at)
+one_object layers objects movement layer a b lawful here on there at = grind (arith, lawful.shows layer)
 
 pub shows_alike : (layers : List ℕ) (has has_new : ℕ → Bool) (toward toward_new : Dir → Bool) (layer : ℕ) (place : Option Piece) → ((object : ℕ) → get_or layers object 0 ≡ layer → has_new object ≡ has object) → ((dir : Dir) → toward_new dir ≡ toward dir) → Shows layers has toward layer place → Shows layers has_new toward_new layer place
-shows_alike layers has has_new toward toward_new layer None objects movement shown = (λ object new on. shown.0 object (sym (objects object on) ∙ new) on, λ dir. movement dir ∙ shown.1 dir)
-shows_alike layers has has_new toward toward_new layer (Some piece) objects movement shown = (objects piece.object shown.1 ∙ shown.0, shown.1, λ object new on. shown.2 object (sym (objects object on) ∙ new) on, λ dir. movement dir ∙ shown.3 dir)
+shows_alike layers has has_new toward toward_new layer place objects movement shown = grind (arith, objects, movement)
 
 pub shows_changed : (layers objects movement objects_new movement_new : List ℕ) (layer : ℕ) (place : Option Piece) → Changes layers objects movement objects_new movement_new layer place → (other : ℕ) → other ≢ layer → (there : Option Piece) → Shows layers (member objects) (heads movement other) other there → Shows layers (member objects_new) (heads movement_new other) other there
 shows_changed layers objects movement objects_new movement_new layer place c other apart there shown =
@@ -87,8 +64,8 @@ shows_changed layers objects movement objects_new movement_new layer place c oth
 -- each layer after one of them changed
 shows_after : (layers objects movement objects_new movement_new : List ℕ) (layer : ℕ) (place : Option Piece) → AreLawful layers objects movement → Changes layers objects movement objects_new movement_new layer place → (other : ℕ) → Shows layers (member objects_new) (heads movement_new other) other (cond (nat_eq other layer) place (place_of layers objects movement other))
 shows_after layers objects movement objects_new movement_new layer place lawful c other = elim (cases_eq other layer) [
-  | inl same ↦ subst (λ b. Shows layers (member objects_new) (heads movement_new other) other (cond b place (place_of layers objects movement other))) (sym (eq-eqb other layer same)) (subst (λ (k : ℕ). Shows layers (member objects_new) (heads movement_new k) k place) (sym same) c.here)
-  | inr apart ↦ subst (λ b. Shows layers (member objects_new) (heads movement_new other) other (cond b place (place_of layers objects movement other))) (sym (ne_eqb other layer apart)) (shows_changed layers objects movement objects_new movement_new layer place c other apart (place_of layers objects movement other) (lawful.shows other))
+  | inl same ↦ grind (arith, same, c.here)
+  | inr apart ↦ grind (arith, apart, shows_changed layers objects movement objects_new movement_new layer place c other apart (place_of layers objects movement other) (lawful.shows other))
 ]
 
 pub lawful_changed : (layers objects movement objects_new movement_new : List ℕ) (layer : ℕ) (place : Option Piece) → AreLawful layers objects movement → Changes layers objects movement objects_new movement_new layer place → AreLawful layers objects_new movement_new
@@ -150,14 +127,11 @@ changes_nothing layers objects movement layer lawful free = record {
 
 -- a number that a set of a layer's objects has in common with a cell is an object that stands there
 pub found_on : (layers objects movement set : List ℕ) (layer first : ℕ) → AreLawful layers objects movement → IsSetOf layers set layer → (member objects first && member set first) ≡ true → (member objects first ≡ true) × (get_or layers first 0 ≡ layer)
-found_on layers objects movement set layer first lawful table both = (let here : member objects first ≡ true = grind (arith, both) in (here, grind (arith, both, table first (lawful.of_game first here))))
+found_on layers objects movement set layer first lawful table both = (grind (arith, both), grind (arith, both, lawful.of_game first, table first))
 
 -- where there is none, nothing stands
 pub found_none : (layers objects movement set : List ℕ) (layer : ℕ) → AreLawful layers objects movement → IsSetOf layers set layer → ((object : ℕ) → (member objects object && member set object) ≡ false) → place_of layers objects movement layer ≡ None
-found_none layers objects movement set layer lawful table none = by_place (place_of layers objects movement layer) refl (lawful.shows layer) where
-  by_place : (place : Option Piece) → place_of layers objects movement layer ≡ place → Shows layers (member objects) (heads movement layer) layer place → place_of layers objects movement layer ≡ None
-  by_place None e shown = e
-  by_place (Some piece) e shown = absurd (grind (arith, shown.0, table piece.object (lawful.of_game piece.object shown.0), shown.1, none piece.object))
+found_none layers objects movement set layer lawful table none = grind (arith, lawful.shows layer, lawful.of_game, table, none)
 
 -- a piece that was put where the layer had been cleared
 pub piece_put : (depth : ℕ) (layers objects movement objects_mid movement_mid objects_new movement_new : List ℕ) (layer : ℕ) (place : Option Piece) (piece : Piece) (heading : Option Dir) → AreLawful layers objects movement → Changes layers objects movement objects_mid movement_mid layer None → IsOnLayer layers layer place → place ≡ Some piece → piece.heading ≡ heading → ((other : ℕ) → member objects_new other ≡ (nat_eq other piece.object || member objects_mid other)) → ((other : ℕ) (dir : Dir) → heads movement_new other dir ≡ ((nat_eq other layer && is_toward heading dir) || heads movement_mid other dir)) → IsProper movement_new → AreLawful layers objects_new movement_new × (cell_of depth layers objects_new movement_new ≡ set (cell_of depth layers objects movement) layer place)
@@ -167,9 +141,7 @@ piece_put depth layers objects movement objects_mid movement_mid objects_new mov
 
 -- an object that stands on a layer is in the cell's set, and of the game
 pub object_there : (layers objects movement : List ℕ) (layer : ℕ) (piece : Piece) → AreLawful layers objects movement → place_of layers objects movement layer ≡ Some piece → (member objects piece.object ≡ true) × (get_or layers piece.object 0 ≡ layer) × (piece.object < length layers)
-object_there layers objects movement layer piece lawful e =
-    let shown = subst (Shows layers (member objects) (heads movement layer) layer) e (lawful.shows layer) in
-    (shown.0, shown.1, lawful.of_game piece.object shown.0)
+object_there layers objects movement layer piece lawful e = grind (arith, lawful.shows layer, lawful.of_game)
 
 -- an object that stands in the cell is given a direction
 pub changes_turned : (layers objects movement movement_new : List ℕ) (object : ℕ) (dir : Dir) → AreLawful layers objects movement → member objects object ≡ true → ((other : ℕ) (way : Dir) → heads movement_new other way ≡ ((nat_eq other (get_or layers object 0) && same_dir dir way) || (not (nat_eq other (get_or layers object 0)) && heads movement other way))) → IsProper movement_new → Changes layers objects movement objects movement_new (get_or layers object 0) (Some (record { object = object; heading = Some dir }))

@@ -1,47 +1,24 @@
 -- What a rewriting does to the sets of a cell.
-use Rattle.std.proofs.Common.{◌≡◌, ◌≢◌, ◌⊎◌, nat_lt, inl, inr, ℕ, ◌+◌, ◌<◌, ◌≤◌, List, Option, Some, None, Bool, true, false, cond, not, ◌&&◌, ◌||◌, length, get_or, arith, ap, sym, ◌∙◌, refl, subst, nat_eq}
-use Rattle.std.specs.Prelude.{All, is_some, ◌↔◌}
-use Rattle.std.proofs.lemmas.Bool.{cases_lt, and_parts, or_cases, or_right, or_parts}
-use Rattle.std.proofs.lemmas.List.FromFn.{get_or-map-range_with_len, length-map-range_with_len}
-use Rattle.std.proofs.lemmas.Grind.{common_steps}
-use Rattle.pz_sets.specs.Sets.{member}
-use Rattle.pz_cells.specs.declared.piece.Piece.{Piece}
-use Rattle.pz_game.specs.declared.direction.Dir.{Dir}
-use Rattle.pz_game.specs.declared.pattern.Word.{Word}
-use Rattle.pz_game.specs.declared.pattern.Item.{Item}
-use Rattle.pz_game.specs.Pattern.{AreOf}
-use Rattle.pz_cells.specs.Standing.{standing}
-use Rattle.pz_cells.specs.Sameness.{same_cell}
+use Rattle.pz_cells.proofs.Common.{◌≡◌, ◌≢◌, ◌⊎◌, nat_lt, inl, inr, ℕ, ◌+◌, ◌<◌, ◌≤◌, List, Option, Some, None, Bool, true, false, cond, not, ◌&&◌, ◌||◌, length, get_or, arith, ap, sym, ◌∙◌, refl, subst, nat_eq, All, is_some, ◌↔◌, cases_lt, and_parts, or_cases, or_right, or_parts, get_or-map-range_with_len, length-map-range_with_len, common_steps, member, Piece, Dir, Word, Item, AreOf, standing, same_cell, is_toward, flag, heads, IsProper, place_of, cell_of, Shows, AreLawful, each_number, names, placed_on, tells_of, tells_movement, names_object, forbids_object, heading_of, new_heading, kept, replaced, rewritten_place, rewritten_cell, Masks, toward, begins, settles, AreMasksOf, ends, Leaves, removed_by}
 use Rattle.pz_cells.proofs.SameLemmas.{same_cell_is, same_cell_self}
-use Rattle.pz_game.specs.Headings.{is_toward, flag, heads, IsProper}
-use Rattle.pz_cells.specs.Shown.{place_of, cell_of, Shows, AreLawful}
-use Rattle.pz_game.proofs.FlagLemmas.{each_number}
 use Rattle.pz_cells.proofs.PlaceLemmas.{shows_alike, lawful_from_shows, cell_from_shows}
-use Rattle.pz_game.specs.Items.{names, placed_on, tells_of, tells_movement, names_object, forbids_object}
-use Rattle.pz_cells.specs.Rewriting.{heading_of, new_heading, kept, replaced, rewritten_place, rewritten_cell}
-use Rattle.pz_game.specs.declared.masks.Masks.{Masks}
-use Rattle.pz_game.specs.Masks.{toward, begins, settles, AreMasksOf}
-use Rattle.pz_cells.specs.Rewrites.{ends, Leaves, removed_by}
 use Rattle.pz_cells.proofs.HoldLemmas.{place_seen, standing_seen, placed_is}
 
 -- an object that the left names or the right forbids
 abbrev pub is_removable : List Item → List Item → ℕ → Bool
 is_removable left right object = names_object object left || forbids_object object right
 
--- an object of the cell that goes: it is removable, on a layer where nothing is placed
-pub record Goes (layers : List ℕ) (left right : List Item) (has : ℕ → Bool) (object : ℕ) : Type 0 where
+-- an object of the cell on a layer where nothing is placed: it goes if it is removable, or else stays
+pub record Stands (layers : List ℕ) (left right : List Item) (has : ℕ → Bool) (goes : Bool) (object : ℕ) : Type 0 where
   pub here : has object ≡ true
   pub free : placed_on (get_or layers object 0) right ≡ None
-  pub removed : is_removable left right object ≡ true
+  pub removed : is_removable left right object ≡ goes
 
--- an object of the cell that stays
-pub record Stays (layers : List ℕ) (left right : List Item) (has : ℕ → Bool) (object : ℕ) : Type 0 where
-  pub here : has object ≡ true
-  pub free : placed_on (get_or layers object 0) right ≡ None
-  pub left_alone : is_removable left right object ≡ false
+abbrev pub Goes : List ℕ → List Item → List Item → (ℕ → Bool) → ℕ → Type 0
+Goes layers left right has object = Stands layers left right has true object
 
-pub and_no : (x : Bool) → (x && false) ≡ false
-and_no x = grind arith
+abbrev pub Stays : List ℕ → List Item → List Item → (ℕ → Bool) → ℕ → Type 0
+Stays layers left right has object = Stands layers left right has false object
 
 -- where an object is placed, its direction is the definition's
 new_toward : (word : Word) (told : Bool) (here : Option Piece) (old : Bool) (dir : Dir) → names word ≡ true → old ≡ is_toward (heading_of here) dir → ((old && not (told || tells_movement word)) || is_toward (toward true word) dir) ≡ is_toward (new_heading word told here) dir
@@ -75,12 +52,12 @@ module _ (layers : List ℕ) (left right : List Item) (l r : Masks) (objects mov
 
   gives : (object : ℕ) → member objects_new object ≡ true → Stays layers left right (member objects) object ⊎ ((item : Item) × (placed_on (get_or layers object 0) right ≡ Some item) × (item.object ≡ object))
   gives object new = elim (or_cases (member objects object && not (gone_by layers l r object)) (member r.placed object) (sym (w.is_new object (w.of_game object new)) ∙ new)) [
-    | inl h ↦ inl (record { here = grind (arith, h); free = none_from (placed_on (get_or layers object 0) right) (grind (arith, h, mr.layers (get_or layers object 0))); left_alone = grind (arith, h, removable object) })
+    | inl h ↦ inl (record { here = grind (arith, h); free = none_from (placed_on (get_or layers object 0) right) (grind (arith, h, mr.layers (get_or layers object 0))); removed = grind (arith, h, removable object) })
     | inr h ↦ (let p = mr.placed_only object h in inr (p.1, ap (λ (k : ℕ). placed_on k right) (ap (λ (k : ℕ). get_or layers k 0) (sym p.3) ∙ (placed_is layers p.0 right p.1 are p.2).1) ∙ p.2, p.3))
   ]
 
   keeps : (object : ℕ) → Stays layers left right (member objects) object → member objects_new object ≡ true
-  keeps object stays = grind (arith, w.is_new object (lawful.of_game object stays.here), mr.layers (get_or layers object 0), stays.free, removable object, stays.left_alone, stays.here)
+  keeps object stays = grind (arith, w.is_new object (lawful.of_game object stays.here), mr.layers (get_or layers object 0), stays.free, removable object, stays.removed, stays.here)
 
   puts : (layer : ℕ) (item : Item) → placed_on layer right ≡ Some item → member objects_new item.object ≡ true
   puts layer item e = w.is_new item.object (placed_is layers layer right item are e).0 ∙ or_right _ _ (mr.placed layer item e)
@@ -108,11 +85,11 @@ module _ (layers : List ℕ) (left right : List Item) (l r : Masks) (objects mov
 
     by_test : placed_on layer right ≡ None → (piece : Piece) → Shows layers (member objects) (heads movement layer) layer (Some piece) → (b : Bool) → is_removable left right piece.object ≡ b → Shows layers (member objects_new) (heads movement_new layer) layer (cond b None (Some piece))
     by_test e piece shown true f = (
-      λ object new on. (let stays = stays_only e object new on in grind (arith, shown.2 object stays.here on, stays.left_alone, f)),
+      λ object new on. (let stays = stays_only e object new on in grind (arith, shown.2 object stays.here on, stays.removed, f)),
       λ dir. ap (λ (k : ℕ). heads movement_new k dir) (sym shown.1) ∙ ended piece.object dir (record { here = shown.0; free = at piece.object shown.1 None e; removed = f }),
     )
     by_test e piece shown false f = (
-      keeps piece.object (record { here = shown.0; free = at piece.object shown.1 None e; left_alone = f }),
+      keeps piece.object (record { here = shown.0; free = at piece.object shown.1 None e; removed = f }),
       shown.1,
       λ object new on. shown.2 object (stays_only e object new on).here on,
       λ dir. toward_kept e (λ object goes on. grind (arith, shown.2 object goes.here on, goes.removed, f)) dir ∙ shown.3 dir,
@@ -170,10 +147,7 @@ placed_within layers right r are mr object here = (let p = mr.placed_only object
 -- ---- whether the cell changed
 -- nothing stands past the layers
 place_past : (depth : ℕ) (layers objects movement : List ℕ) (layer : ℕ) → All (λ l. l < depth) layers → AreLawful layers objects movement → depth ≤ layer → place_of layers objects movement layer ≡ None
-place_past depth layers objects movement layer low lawful past = by_place (place_of layers objects movement layer) refl (lawful.shows layer) where
-  by_place : (place : Option Piece) → place_of layers objects movement layer ≡ place → Shows layers (member objects) (heads movement layer) layer place → place_of layers objects movement layer ≡ None
-  by_place None e shown = e
-  by_place (Some piece) e shown = absurd (omega (arith, shown.1, low piece.object 0 (lawful.of_game piece.object shown.0)))
+place_past depth layers objects movement layer low lawful past = grind (arith, lawful.shows layer, lawful.of_game, low)
 
 -- words that answer alike show one cell
 pub cell_alike : (depth : ℕ) (layers objects movement objects_new movement_new : List ℕ) → AreLawful layers objects movement → AreLawful layers objects_new movement_new → ((object : ℕ) → member objects_new object ≡ member objects object) → ((layer : ℕ) (dir : Dir) → heads movement_new layer dir ≡ heads movement layer dir) → cell_of depth layers objects_new movement_new ≡ cell_of depth layers objects movement
@@ -250,10 +224,7 @@ ended_more layers objects cleared is_removed before now after start found i from
       | inr past ↦ (let same : object ≡ found = omega (arith, below, past) in grind (arith, is (get_or layers found 0) dir, same, g.free))
     ]
   ];
-  others = λ layer dir apart. by_spared layer dir apart (member cleared (get_or layers found 0)) refl ∙ i.others layer dir apart;
+  others = λ layer dir apart. grind (arith, is layer dir, i.others layer dir apart, λ (e : member cleared (get_or layers found 0) ≡ false). apart found (record { here = parts.0; removed = parts.1; free = e }));
 } where
-  by_spared : (layer : ℕ) (dir : Dir) → ((object : ℕ) → Leaves layers objects cleared is_removed object → get_or layers object 0 ≢ layer) → (b : Bool) → member cleared (get_or layers found 0) ≡ b → heads after layer dir ≡ heads now layer dir
-  by_spared layer dir apart true e = grind (arith, is layer dir, e)
-  by_spared layer dir apart false e =
-      let parts = and_parts (member objects found) (is_removed found) here in
-      grind (arith, is layer dir, e, apart found (record { here = parts.0; removed = parts.1; free = e }))
+  parts : (member objects found ≡ true) × (is_removed found ≡ true)
+  parts = and_parts (member objects found) (is_removed found) here

@@ -1,36 +1,10 @@
 -- If all cells of a rule's row hold somewhere, each heading that the row asks for is noted, for the whole level and for the
 -- lines.
-use Rattle.pz_cells.specs.Layering.{Layering}
-use Rattle.std.proofs.Common.{◌≡◌, ◌+◌, ◌*◌, ◌%◌, ◌<◌, ℕ, List, [], ◌∷◌, Bool, true, false, not, inl, inr, suc, length, get_or, arith, ap, sym, ◌∙◌, refl, subst}
-use Rattle.std.specs.Prelude.{IsTrue, ◌↔◌}
-use Rattle.std.specs.List.{All, list_any}
-use Rattle.std.proofs.lemmas.Bool.{cases_lt, or_cases}
-use Rattle.std.proofs.lemmas.List.{get_or_default}
-use Rattle.std.proofs.lemmas.Nat.{mul-add-lt, div-mul-add, mod-mul-add}
-use Rattle.pz_sets.specs.Sets.{member, IsWithin, AreApart}
-use Rattle.pz_game.specs.declared.direction.Dir.{Dir}
-use Rattle.pz_game.specs.declared.pattern.Item.{Item}
-use Rattle.pz_game.specs.Headings.{flag, heads}
-use Rattle.pz_game.specs.Masks.{asks_toward}
-use Rattle.pz_game.specs.Pattern.{AreOf, AreRequired}
-use Rattle.pz_game.proofs.FlagLemmas.{flag_of}
-use Rattle.pz_cells.specs.declared.cell.Cell.{Cell}
-use Rattle.pz_cells.proofs.ListLemmas.{no_cell}
-use Rattle.pz_cells.specs.Pattern.{pattern_holds}
-use Rattle.pz_cells.proofs.HoldLemmas.{met_all}
-use Rattle.pz_sheet.specs.Grid.{Grid}
-use Rattle.pz_sheet.specs.Searching.{HoldsSomewhere, HoldsInLine}
-use Rattle.pz_planes.specs.declared.line.Axis.{Axis}
-use Rattle.pz_planes.specs.declared.line.Axis.TheVariants.{Horizontal, Vertical}
-use Rattle.pz_planes.specs.Notes.{HeadingSets, headings_of}
-use Rattle.pz_sheet.specs.Line.{line_count}
-use Rattle.pz_sheet.specs.Seen.{HeadsWithin, grid_of, IsStored}
-use Rattle.pz_sheet.proofs.SheetLemmas.{seen_at}
+use Rattle.pz_sheet.proofs.Common.{Layering, ◌≡◌, ◌+◌, ◌*◌, ◌%◌, ◌<◌, ℕ, List, [], ◌∷◌, Bool, true, false, not, inl, inr, suc, length, get_or, arith, ap, sym, ◌∙◌, subst, IsTrue, ◌↔◌, All, list_any, cases_lt, get_or-map, mul-add-lt, div-mul-add, mod-mul-add, member, IsWithin, AreApart, Dir, Item, flag, heads, asks_toward, AreOf, AreRequired, flag_of, Cell, no_cell, pattern_holds, met_all, Grid, HoldsSomewhere, HoldsInLine, Axis, Horizontal, Vertical, HeadingSets, headings_of, line_count, HeadsWithin, grid_of, IsStored, seen}
 
 -- a number of both sets: they aren't apart
 pub not_apart : (apart : Bool) (asked words : List ℕ) (number : ℕ) → (IsTrue apart ↔ AreApart asked words) → member asked number ≡ true → member words number ≡ true → not apart ≡ true
-not_apart true asked words number is wanted there = let none : true ≡ false = sym there ∙ is.0 refl number wanted in cc
-not_apart false asked words number is wanted there = refl
+not_apart apart asked words number is wanted there = grind (arith, is, λ (t : apart ≡ true). is.0 t number wanted)
 
 -- a cell of some number holds, and heads within a set
 record IsWhere (N : ℕ) (cells : List (Cell N)) (grid : Grid) (headings : List ℕ) (items : List Item) : Type 0 where
@@ -49,18 +23,15 @@ module _ (N width height : ℕ) (layering : Layering) (cells : List (Cell N)) (n
     heads_here items layer dir are h asks =
         let w = find items h in
         let cell = get_or cells w.at (no_cell N) in
-        let is : cell ≡ get_or cells w.at cell = get_or_default cells w.at (no_cell N) cell w.within in
-        let there = seen_at N width height layering cells grid w.at cell refl w.within is in
+        let there = sym (get_or-map (seen layering) cells w.at (no_cell N) [] w.within) in
         let met = met_all layering.depth layering.layers cell.objects cell.movement items s.law.layered (s.sound w.at (no_cell N) w.within) are (ap (λ it. pattern_holds it items) there ∙ w.holds) in
         w.noted (flag layer dir) (met.required layer dir asks)
 
     -- the same for the cells of a row
     heads_there : (rows : List (List Item)) (layer : ℕ) (dir : Dir) → All (AreOf layering.layers) rows → All Holds rows → list_any (asks_toward layer dir) rows ≡ true → heads headings layer dir ≡ true
     heads_there [] layer dir are hold e = cc
-    heads_there (items ∷ rows) layer dir are hold e = elim (or_cases (asks_toward layer dir items) (list_any (asks_toward layer dir) rows) e) [
-      | inl here ↦ heads_here items layer dir (are 0 items (omega arith)) (hold 0 items (omega arith)) here
-      | inr later ↦ heads_there rows layer dir (λ k d h. are (suc k) d (omega (arith, h))) (λ k d h. hold (suc k) d (omega (arith, h))) later
-    ]
+    heads_there (items ∷ rows) layer dir are hold e =
+        grind (arith, heads_here items layer dir (are 0 items (omega arith)) (hold 0 items (omega arith)), heads_there rows layer dir (λ k d h. are (suc k) d (omega (arith, h))) (λ k d h. hold (suc k) d (omega (arith, h))))
 
     asked_is_noted : (rows : List (List Item)) (required : List ℕ) → AreRequired rows required → All (AreOf layering.layers) rows → All Holds rows → IsWithin required headings
     asked_is_noted rows required r are hold number e = elim (cases_lt (number % 128) 125) [

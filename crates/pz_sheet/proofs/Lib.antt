@@ -1,17 +1,15 @@
+mod Common
 pub mod SheetLemmas
 pub mod RunLemmas
 pub mod MapLemmas
 pub mod PushLemmas
-pub mod LoadLemmas
 pub mod SameLemmas
 pub mod HeadingLemmas
 pub mod ChangeLemmas
-pub mod LineLemmas
 pub mod StillLemmas
 pub mod HoldingLemmas
 pub mod PlacedLemmas
 pub mod StartLemmas
-pub mod AxisLemmas
 pub mod NewerLemmas
 pub mod CountLemmas
 pub mod TellLemmas

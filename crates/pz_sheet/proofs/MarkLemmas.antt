@@ -1,40 +1,14 @@
 -- The objects that are noted in a line are those that stand there.
-use Rattle.std.proofs.Common.{◌≡◌, inl, inr, ℕ, ◌+◌, ◌*◌, ◌<◌, ◌≤◌, List, [], Option, Bool, true, false, length, get_or, arith, ap, sym, ◌∙◌, refl}
-use Rattle.std.specs.Prelude.{◌↔◌}
-use Rattle.std.specs.List.{All, list_any, range_with_len}
-use Rattle.std.proofs.lemmas.Bool.{cases_lt}
-use Rattle.std.proofs.lemmas.List.{get_or_default}
-use Rattle.std.proofs.lemmas.List.Folds.{list_any_none, list_any_at}
-use Rattle.std.proofs.lemmas.List.FromFn.{length-range_with_len, get_or-range_with_len}
-use Rattle.std.proofs.lemmas.Nat.{mul-add-lt}
-use Rattle.pz_sets.specs.Sets.{member}
-use Rattle.pz_cells.specs.declared.cell.Cell.{Cell}
-use Rattle.pz_cells.specs.declared.piece.Piece.{Piece}
-use Rattle.pz_cells.specs.Layering.{Layering}
-use Rattle.pz_cells.proofs.ListLemmas.{no_cell}
-use Rattle.pz_cells.proofs.RewriteLemmas.{member_seen}
-use Rattle.pz_planes.specs.declared.line.Axis.{Axis}
-use Rattle.pz_planes.specs.declared.line.Axis.TheVariants.{Horizontal, Vertical}
-use Rattle.pz_planes.specs.Marks.{AreMarks}
-use Rattle.pz_planes.specs.Notes.{HeadingSets}
-use Rattle.pz_planes.specs.Planes.{PlaneSets, IsMissingIn, stands_in, lines_of}
-use Rattle.pz_sheet.specs.Grid.{Grid, cell_at}
-use Rattle.pz_sheet.specs.Line.{line_length, line_count}
+use Rattle.pz_sheet.proofs.Common.{◌≡◌, inl, inr, ℕ, ◌+◌, ◌*◌, ◌<◌, ◌≤◌, List, [], Option, Bool, true, false, length, get_or, arith, ap, sym, ◌∙◌, refl, ◌↔◌, All, list_any, range_with_len, cases_lt, true_from_ne_false, get_or-map, list_any_none, list_any_at, length-range_with_len, get_or-range_with_len, mul-add-lt, member, Cell, Piece, Layering, no_cell, member_seen, Axis, Horizontal, Vertical, AreMarks, HeadingSets, PlaneSets, IsMissingIn, stands_in, lines_of, Grid, cell_at, line_length, line_count, ArePlaced, AreMissing, is_in, stands_in_line, grid_of, IsStored, seen}
 use Rattle.pz_sheet.specs.Marks.{AreMarksOf}
-use Rattle.pz_sheet.specs.Noting.{ArePlaced}
-use Rattle.pz_sheet.specs.Presence.{AreMissing, is_in, stands_in_line}
-use Rattle.pz_sheet.specs.Seen.{grid_of, IsStored}
-use Rattle.pz_sheet.proofs.SheetLemmas.{only_false, seen_at}
+use Rattle.pz_sheet.proofs.SheetLemmas.{only_false}
 
 -- ---- numbers below one that fail a test
 none_below : (p : ℕ → Bool) (n : ℕ) → ((k : ℕ) → k < n → p k ≡ false) → list_any p (range_with_len 0 n) ≡ false
-none_below p n none = list_any_none p (range_with_len 0 n) (λ k d within.
-    let low : k < n = omega (arith, within, length-range_with_len 0 n) in
-    ap p (get_or-range_with_len 0 n k d low ∙ (let e : 0 + k ≡ k = omega arith in e)) ∙ none k low)
+none_below p n none = list_any_none p (range_with_len 0 n) (λ k d within. grind (arith, length-range_with_len 0 n, get_or-range_with_len 0 n k d, none k))
 
 each_fails : (p : ℕ → Bool) (n k : ℕ) → list_any p (range_with_len 0 n) ≡ false → k < n → p k ≡ false
-each_fails p n k none low = only_false (p k) (λ e.
-    sym none ∙ list_any_at p (range_with_len 0 n) k 0 (omega (arith, low, length-range_with_len 0 n)) (ap p (get_or-range_with_len 0 n k 0 low ∙ (let e : 0 + k ≡ k = omega arith in e)) ∙ e))
+each_fails p n k none low = grind (arith, length-range_with_len 0 n, get_or-range_with_len 0 n k 0, list_any_at p (range_with_len 0 n) k 0)
 
 -- the objects that are noted in the lines of an axis are those that stand there
 abbrev pub Gives : PlaneSets → Axis → List (List ℕ) → Grid → Type 0
@@ -53,8 +27,7 @@ module _ (N width height : ℕ) (layering : Layering) (cells : List (Cell N)) (n
       let at = y * width + x in
       let cell = get_or cells at (no_cell N) in
       let there = cell_in x y x_in y_in in
-      member_seen layering.depth layering.layers cell.objects cell.movement object s.law.layered (s.sound at (no_cell N) there)
-      ∙ ap (λ (here : List (Option Piece)). is_in here object) (seen_at N width height layering cells grid at cell refl there (get_or_default cells at (no_cell N) cell there))
+      member_seen layering.depth layering.layers cell.objects cell.movement object s.law.layered (s.sound at (no_cell N) there) ∙ ap (λ (here : List (Option Piece)). is_in here object) (sym (get_or-map (seen layering) cells at (no_cell N) [] there))
 
   known_in : (x y object : ℕ) → x < width → y < height → is_in (cell_at grid x y) object ≡ true → object < length layering.layers
   known_in x y object x_in y_in e = (s.sound (y * width + x) (no_cell N) (cell_in x y x_in y_in)).of_game object (objects_of x y object x_in y_in ∙ e)
@@ -97,10 +70,9 @@ module _ (N width height : ℕ) (layering : Layering) (cells : List (Cell N)) (n
         let small : at < 128 = omega (arith, at_in, short) in
         sym (missing at (known_at axis number at object line_in at_in e) small) ∙ noted_at axis number at object line_in at_in small ∙ e))
 
-    exact : (marked any : Bool) → list_any stands (range_with_len 0 (line_length grid axis)) ≡ any → (marked ≡ false) ↔ IsMissingIn (lines_of planes axis) number object → marked ≡ any
-    exact false any is h = sym (none_from_missing (h.0 refl)) ∙ is
-    exact true true is h = refl
-    exact true false is h = h.1 (missing_from_none is)
+    exact : (marked : Bool) → (marked ≡ false) ↔ IsMissingIn (lines_of planes axis) number object → marked ≡ list_any stands (range_with_len 0 (line_length grid axis))
+    exact false h = sym (none_from_missing (h.0 refl))
+    exact true h = sym (true_from_ne_false _ (λ none. absurd (let f : true ≡ false = h.1 (missing_from_none none) in cc)))
 
   pub gives : (axis : Axis) (marks : List (List ℕ)) → Gives planes axis marks grid
-  gives axis marks short are number object line_in = exact axis number object line_in short (member (get_or marks number []) object) _ refl (are number object (omega (arith, line_in, as_many axis)))
+  gives axis marks short are number object line_in = exact axis number object line_in short (member (get_or marks number []) object) (are number object (omega (arith, line_in, as_many axis)))

@@ -1,48 +1,22 @@
 -- Objects that get a direction.
-use Rattle.std.proofs.Common.{◌≡◌, ◌≢◌, inl, inr, ℕ, zero, suc, ◌+◌, ◌*◌, ◌<◌, ◌≤◌, List, [], ◌∷◌, ◌++◌, Option, Some, None, Bool, true, false, ◌||◌, cond, is_some, map, set, take, drop, length, get_or, nat_eq, arith, ap, sym, ◌∙◌, refl, subst, eq-eqb, length-append, length-drop, length-take}
+use Rattle.pz_sheet.proofs.Common.{◌≡◌, ◌≢◌, inl, inr, ℕ, zero, suc, ◌+◌, ◌*◌, ◌<◌, ◌≤◌, List, [], ◌∷◌, ◌++◌, Option, Some, None, Bool, true, false, cond, is_some, map, set, take, drop, length, get_or, nat_eq, arith, ap, sym, ◌∙◌, refl, subst, length-append, length-drop, length-take, IfSome, cases_eq, false≢true, drop_more, drop_all, get_or_default, length-map, set-get_or, member, Dir, heads, heading_in, Piece, place_of, Shows, AreLawful, Changes, standing, Grid, cell_at, is_in, AreMissing, list_any_none, map_fixed, is_one_of, pushed_place, pushed_at, cell_mapped}
 use Rattle.std.proofs.Math.Nat.{mul_comm, suc-mul, mul-le-mul_right}
-use Rattle.std.specs.Prelude.{IfSome}
-use Rattle.std.proofs.lemmas.Bool.{cases_eq, false≢true, ne_eqb}
-use Rattle.std.proofs.lemmas.List.{drop_more, drop_all, get_or_default, length-map, set-get_or}
 use Rattle.std.proofs.lemmas.List.Edits.{map_over_more}
-use Rattle.pz_sets.specs.Sets.{member}
-use Rattle.pz_game.specs.declared.direction.Dir.{Dir}
-use Rattle.pz_game.specs.Headings.{heads, heading_in}
-use Rattle.pz_cells.specs.declared.piece.Piece.{Piece}
-use Rattle.pz_cells.specs.Shown.{place_of, cell_of, Shows, AreLawful, Changes}
+use Rattle.pz_cells.specs.Shown.{cell_of}
 use Rattle.pz_cells.proofs.PlaceLemmas.{lawful_changed, shows_changed, place_some, object_there}
-use Rattle.pz_cells.specs.Standing.{standing}
-use Rattle.pz_sheet.specs.Grid.{Grid, cell_at}
-use Rattle.pz_sheet.specs.Presence.{is_in, AreMissing}
-use Rattle.pz_sheet.proofs.HoldingLemmas.{none_of}
-use Rattle.pz_sheet.specs.Pushing.{is_one_of, pushed_place, pushed_at}
-use Rattle.pz_cells.proofs.ListLemmas.{cell_mapped}
 
-pub pushed_none : (dir : Dir) (place : Option Piece) → pushed_place [] dir place ≡ place
-pushed_none dir None = refl
-pushed_none dir (Some piece) = refl
+pub all_pushed_none : (dir : Dir) (cell : List (Option Piece)) → map (pushed_place [] dir) cell ≡ cell
+all_pushed_none dir cell = map_fixed (pushed_place [] dir) cell (λ k d within. pushed_none (get_or cell k d)) where
+  pushed_none : (place : Option Piece) → pushed_place [] dir place ≡ place
+  pushed_none place = grind arith
 
 -- an object and others are pushed one after the other
 pub pushed_more : (object : ℕ) (others : List ℕ) (dir : Dir) (place : Option Piece) → pushed_place others dir (pushed_place (object ∷ []) dir place) ≡ pushed_place (object ∷ others) dir place
-pushed_more object others dir None = refl
-pushed_more object others dir (Some piece) = by_tests (nat_eq object piece.object) (is_one_of others piece.object) refl where
-  turned : Option Piece
-  turned = Some (record { object = piece.object; heading = Some dir })
-
-  by_tests : (b d : Bool) → is_one_of others piece.object ≡ d → pushed_place others dir (cond (b || false) turned (Some piece)) ≡ cond (b || is_one_of others piece.object) turned (Some piece)
-  by_tests false d e = refl
-  by_tests true true e = ap (λ x. cond x turned turned) e
-  by_tests true false e = ap (λ x. cond x turned turned) e
-
-pub all_pushed_none : (dir : Dir) (cell : List (Option Piece)) → map (pushed_place [] dir) cell ≡ cell
-all_pushed_none dir [] = refl
-all_pushed_none dir (place ∷ cell) = ap (λ (p : Option Piece). p ∷ map (pushed_place [] dir) cell) (pushed_none dir place) ∙ ap (λ (c : List (Option Piece)). place ∷ c) (all_pushed_none dir cell)
+pushed_more object others dir place = grind arith
 
 pub all_pushed_more : (object : ℕ) (others : List ℕ) (dir : Dir) (cell : List (Option Piece)) → map (pushed_place others dir) (map (pushed_place (object ∷ []) dir) cell) ≡ map (pushed_place (object ∷ others) dir) cell
 all_pushed_more object others dir [] = refl
-all_pushed_more object others dir (place ∷ cell) =
-    ap (λ (p : Option Piece). p ∷ map (pushed_place others dir) (map (pushed_place (object ∷ []) dir) cell)) (pushed_more object others dir place)
-    ∙ ap (λ (c : List (Option Piece)). pushed_place (object ∷ others) dir place ∷ c) (all_pushed_more object others dir cell)
+all_pushed_more object others dir (place ∷ cell) = grind (arith, pushed_more object others dir place, all_pushed_more object others dir cell)
 
 -- the next of some players is pushed, before the rest
 pub rest_pushed : (players : List ℕ) (index d : ℕ) (dir : Dir) (now next whole : List (Option Piece)) → index < length players → next ≡ map (pushed_place (get_or players index d ∷ []) dir) now → map (pushed_place (drop index players) dir) now ≡ whole → map (pushed_place (drop (index + 1) players) dir) next ≡ whole
@@ -57,11 +31,10 @@ none_pushed players index dir now whole past rest =
     sym (all_pushed_none dir now) ∙ (ap (λ (all : List ℕ). map (pushed_place all dir) now) (sym (drop_all index players past)) ∙ rest)
 
 pushed_other : (object : ℕ) (dir : Dir) (place : Option Piece) → IfSome place (λ p. p.object ≢ object) → pushed_place (object ∷ []) dir place ≡ place
-pushed_other object dir None h = refl
-pushed_other object dir (Some piece) h = ap (λ b. cond (b || false) (Some (record { object = piece.object; heading = Some dir })) (Some piece)) (ne_eqb object piece.object (λ e. h (sym e)))
+pushed_other object dir place h = grind arith
 
 pushed_same : (object : ℕ) (dir : Dir) (heading : Option Dir) → pushed_place (object ∷ []) dir (Some (record { object = object; heading = heading })) ≡ Some (record { object = object; heading = Some dir })
-pushed_same object dir heading = ap (λ b. cond (b || false) (Some (record { object = object; heading = Some dir })) (Some (record { object = object; heading = heading }))) (eq-eqb object object refl)
+pushed_same object dir heading = grind arith
 
 -- words in which one object was turned, if it stands there
 pub record AreTurned (layers objects movement objects_new movement_new : List ℕ) (object : ℕ) (dir : Dir) : Type 0 where
@@ -84,23 +57,19 @@ turned_shows layers objects movement objects_new movement_new object dir t layer
   there : List ℕ → List ℕ → Type 0
   there o m = Shows layers (member o) (heads m layer) layer (place_of layers objects movement layer)
 
-  absent : member objects object ≡ false → (place : Option Piece) → place_of layers objects movement layer ≡ place → IfSome place (λ p. p.object ≢ object)
-  absent none None e = tt
-  absent none (Some piece) e = λ same. (let here = object_there layers objects movement layer piece t.lawful e in let f : false ≡ true = sym none ∙ (ap (member objects) (sym same) ∙ here.0) in cc)
-
-  elsewhere : layer ≢ get_or layers object 0 → (place : Option Piece) → place_of layers objects movement layer ≡ place → IfSome place (λ p. p.object ≢ object)
+  elsewhere : (member objects object ≡ true → layer ≢ get_or layers object 0) → (place : Option Piece) → place_of layers objects movement layer ≡ place → IfSome place (λ p. p.object ≢ object)
   elsewhere apart None e = tt
-  elsewhere apart (Some piece) e = λ same. (let here = object_there layers objects movement layer piece t.lawful e in apart (sym here.1 ∙ ap (λ (o : ℕ). get_or layers o 0) same))
+  elsewhere apart (Some piece) e = λ same. (let here = object_there layers objects movement layer piece t.lawful e in apart (ap (member objects) (sym same) ∙ here.0) (sym here.1 ∙ ap (λ (o : ℕ). get_or layers o 0) same))
 
   by_there : (b : Bool) → member objects object ≡ b → new_shows (pushed_place (object ∷ []) dir (place_of layers objects movement layer))
   by_there false e =
-      subst new_shows (sym (pushed_other object dir (place_of layers objects movement layer) (absent e (place_of layers objects movement layer) refl)))
+      subst new_shows (sym (pushed_other object dir (place_of layers objects movement layer) (elsewhere (λ there. absurd (false≢true (sym e ∙ there))) (place_of layers objects movement layer) refl)))
       (subst (λ (m : List ℕ). there objects_new m) (sym (t.same_movement e)) (subst (λ (o : List ℕ). there o movement) (sym (t.same_objects e)) (t.lawful.shows layer)))
   by_there true e = elim (cases_eq layer (get_or layers object 0)) [
     | inl same ↦ (let piece : place_of layers objects movement layer ≡ Some (record { object = object; heading = heading_in movement layer }) = sym (place_some layers objects movement layer object t.lawful e (sym same)) in
         subst new_shows (sym (ap (pushed_place (object ∷ []) dir) piece ∙ pushed_same object dir (heading_in movement layer)))
         (subst (λ (k : ℕ). Shows layers (member objects_new) (heads movement_new k) k (Some (record { object = object; heading = Some dir }))) (sym same) (t.turned e).here))
-    | inr apart ↦ subst new_shows (sym (pushed_other object dir (place_of layers objects movement layer) (elsewhere apart (place_of layers objects movement layer) refl)))
+    | inr apart ↦ subst new_shows (sym (pushed_other object dir (place_of layers objects movement layer) (elsewhere (λ there. apart) (place_of layers objects movement layer) refl)))
         (shows_changed layers objects movement objects_new movement_new (get_or layers object 0) (Some (record { object = object; heading = Some dir })) (t.turned e) layer apart (place_of layers objects movement layer) (t.lawful.shows layer))
   ]
 
@@ -113,16 +82,13 @@ apart_by : (same : Bool) (heading : Option Dir) (rest : Option (Option Dir)) →
 apart_by true heading rest e = cc
 apart_by false heading rest e = (refl, e)
 
-apart_back : (a b : ℕ) → nat_eq a b ≡ false → nat_eq b a ≡ false
-apart_back a b apart = ne_eqb b a (λ same. false≢true (sym apart ∙ eq-eqb a b (sym same)))
-
 -- nobody of some players stands there
 pub absent_pushed : (players : List ℕ) (dir : Dir) (cell : List (Option Piece)) → AreMissing players cell → map (pushed_place players dir) cell ≡ cell
 absent_pushed players dir [] none = refl
 absent_pushed players dir (None ∷ places) none = ap (λ (rest : List (Option Piece)). None ∷ rest) (absent_pushed players dir places none)
 absent_pushed players dir (Some piece ∷ places) none =
     let apart : (player : ℕ) → is_in (Some piece ∷ places) player ≡ false → (nat_eq piece.object player ≡ false) × (is_in places player ≡ false) = λ player. apart_by (nat_eq piece.object player) piece.heading (standing places player) in
-    let none_first : is_one_of players piece.object ≡ false = none_of (λ other. nat_eq other piece.object) players (λ k d within. apart_back piece.object (get_or players k d) (apart (get_or players k d) (none k d within)).0) in
+    let none_first : is_one_of players piece.object ≡ false = list_any_none (λ other. nat_eq other piece.object) players (λ k d within. grind (arith, (apart (get_or players k d) (none k d within)).0)) in
     ap (λ (b : Bool). cond b (Some (record { object = piece.object; heading = Some dir })) (Some piece) ∷ map (pushed_place players dir) places) none_first
     ∙ ap (λ (rest : List (Option Piece)). Some piece ∷ rest) (absent_pushed players dir places (λ k d within. (apart (get_or players k d) (none k d within)).1))
 

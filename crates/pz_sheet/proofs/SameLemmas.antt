@@ -1,20 +1,6 @@
 -- Cells in words are the same if their words have the same numbers, and levels if none of their cells differ.
-use Rattle.pz_cells.specs.Layering.{Layering}
-use Rattle.std.proofs.Common.{◌≡◌, ℕ, ◌<◌, [], Option, Some, None, Bool, true, false, not, length, ap, sym, ◌∙◌, refl, arith}
-use Rattle.std.specs.Prelude.{IsTrue, ◌↔◌, is_some}
-use Rattle.std.proofs.lemmas.List.{ext_get_or}
-use Rattle.std.specs.List.{All}
+use Rattle.pz_sheet.proofs.Common.{Layering, ◌≡◌, ℕ, ◌<◌, [], Option, Some, None, Bool, true, false, not, length, ap, sym, refl, arith, IsTrue, ◌↔◌, is_some, ext_get_or, All, flag, each_number, Cell, seen, IsSound, AreAlike, same_cell, cell_alike, objects_alike, heads_alike, same_cell_is, same_cell_self, differ_in, Grid, SameSize, cell_of}
 use Rattle.pz_sets.specs.Next.{IsNext}
-use Rattle.pz_game.specs.Headings.{flag}
-use Rattle.pz_game.proofs.FlagLemmas.{each_number}
-use Rattle.pz_cells.specs.declared.cell.Cell.{Cell}
-use Rattle.pz_cells.specs.Lists.{seen, IsSound, AreAlike}
-use Rattle.pz_cells.specs.Sameness.{same_cell}
-use Rattle.pz_cells.proofs.RewriteLemmas.{cell_alike, objects_alike, heads_alike}
-use Rattle.pz_cells.proofs.SameLemmas.{same_cell_is, same_cell_self}
-use Rattle.pz_sheet.specs.Changes.{differ_in}
-use Rattle.pz_sheet.specs.Grid.{Grid, SameSize}
-use Rattle.pz_sheet.specs.Presence.{cell_of}
 
 pub seen_alike : (N : ℕ) (layering : Layering) (cell other : Cell N) → IsSound layering cell → IsSound layering other → AreAlike cell other → seen layering cell ≡ seen layering other
 seen_alike N layering cell other sound sound_other same =
@@ -45,12 +31,5 @@ same_grids grid other size long none =
 
 -- none is found exactly where they are the same
 pub none_differs : (grid other : Grid) (found : Option ℕ) (r : Bool) → SameSize grid other → length grid.cells ≡ length other.cells → is_some found ≡ not r → IsNext (differ_in grid other) 0 (length grid.cells) found → IsTrue r ↔ (grid ≡ other)
-none_differs grid other None true size long e none = (λ t. same_grids grid other size long (λ number within. none number (omega arith) within), λ same. refl)
-none_differs grid other None false size long e none = absurd (let f : false ≡ true = e in cc)
-none_differs grid other (Some found) true size long e next = absurd (let f : true ≡ false = e in cc)
-none_differs grid other (Some found) false size long e next = (
-  λ (f : false ≡ true). cc,
-  λ same.
-      let alike : same_cell (cell_of grid found) (cell_of other found) ≡ true = ap (λ (g : Grid). same_cell (cell_of grid found) (cell_of g found)) (sym same) ∙ same_cell_self (cell_of grid found) in
-      let f : false ≡ true = sym (ap not alike) ∙ next.2 in cc,
-)
+none_differs grid other None r size long e none = (λ t. same_grids grid other size long (λ number within. none number (omega arith) within), λ same. grind arith)
+none_differs grid other (Some found) r size long e next = (λ t. grind arith, λ same. grind (arith, next.2, ap (λ (g : Grid). same_cell (cell_of grid found) (cell_of g found)) same, same_cell_self (cell_of grid found)))

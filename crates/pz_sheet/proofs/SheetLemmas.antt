@@ -1,29 +1,10 @@
 -- A cell of a level in words, and what is seen of it.
-use Rattle.pz_cells.specs.Layering.{Layering}
-use Rattle.std.proofs.Common.{◌≡◌, ℕ, ◌+◌, ◌*◌, ◌/◌, ◌%◌, ◌<◌, ◌≤◌, List, [], Option, Some, None, Bool, true, false, not, ◌&&◌, cond, set, length, get_or, ap, sym, ◌∙◌, refl, subst, arith, inl, inr, get_or-set_same, get_or-set_other}
-use Rattle.std.specs.Prelude.{nat_lt, IfSome, MatchOption}
-use Rattle.std.proofs.lemmas.Bool.{lt-ltb, cases_eq}
-use Rattle.std.proofs.lemmas.List.{length-map, length-set, get_or-map, get_or_default, set-get_or}
-use Rattle.std.proofs.lemmas.List.FromFn.{length-map-range_with_len}
+use Rattle.pz_sheet.proofs.Common.{Layering, ◌≡◌, ℕ, ◌+◌, ◌*◌, ◌/◌, ◌%◌, ◌<◌, ◌≤◌, List, [], Option, Some, None, Bool, true, false, not, set, length, get_or, ap, sym, ◌∙◌, refl, subst, arith, inl, inr, get_or-set_same, get_or-set_other, IfSome, MatchOption, lt-ltb, cases_eq, not-false, length-map, length-set, get_or-map, get_or_default, set-get_or, length-map-range_with_len, Dir, Cell, Piece, same_cell, same_cell_is, Item, IsCell, IsOnLayer, standing, place_of, on_its_layer, standing_by, Grid, BareState, IsLawful, cell_at, place_at, with_place, HeadingSets, IsWider, seen, IsSound, grid_of, IsNoted, IsStored}
 use Rattle.std.proofs.lemmas.List.Elements.{All-map, All-set}
 use Rattle.pz_game.specs.declared.limits.TheConstants.{MAX_OBJECTS}
-use Rattle.pz_game.specs.declared.direction.Dir.{Dir}
-use Rattle.pz_cells.specs.declared.cell.Cell.{Cell}
-use Rattle.pz_cells.specs.declared.piece.Piece.{Piece}
 use Rattle.pz_cells.specs.Rewriting.{rewritten_cell}
-use Rattle.pz_cells.specs.Sameness.{same_cell}
-use Rattle.pz_cells.proofs.SameLemmas.{same_cell_is}
-use Rattle.pz_game.specs.declared.pattern.Item.{Item}
-use Rattle.pz_cells.specs.Cell.{IsCell, IsOnLayer}
-use Rattle.pz_cells.specs.Standing.{standing}
-use Rattle.pz_cells.specs.Shown.{place_of}
-use Rattle.pz_cells.proofs.HoldLemmas.{on_its_layer, standing_by}
-use Rattle.pz_sheet.specs.Grid.{Grid, BareState, IsLawful, cell_at, place_at, with_place}
 use Rattle.pz_sheet.specs.Standing.{standing_at}
 use Rattle.pz_sheet.specs.Rewriting.{with_rewritten}
-use Rattle.pz_planes.specs.Notes.{HeadingSets, IsWider}
-use Rattle.pz_cells.specs.Lists.{seen, IsSound}
-use Rattle.pz_sheet.specs.Seen.{grid_of, IsNoted, IsStored}
 
 -- a test that cannot pass fails
 pub only_false : (b : Bool) → (b ≡ true → false ≡ true) → b ≡ false
@@ -33,6 +14,14 @@ only_false false h = refl
 -- a number of a seen cell is one of a cell in words
 pub seen_within : (N width height : ℕ) (layering : Layering) (cells : List (Cell N)) (grid : Grid) (at : ℕ) → grid_of width height layering cells ≡ grid → at < length grid.cells → at < length cells
 seen_within N width height layering cells grid at e h = omega (arith, h, ap (λ (g : Grid). length g.cells) e, length-map cells (seen layering))
+
+-- and of a cell of the lines
+pub within_lines : (columns rows width height count at : ℕ) → columns ≡ width → rows ≡ height → count ≡ width * height → at < count → at < columns * rows
+within_lines columns rows width height count at wide high covers within = grind arith
+
+-- a number at which a test may pass fails, as do those before it
+pub passed_more : (test may : ℕ → Bool) (from at found end : ℕ) → ((n : ℕ) → from ≤ n → n < at → test n ≡ false) → ((n : ℕ) → n < end → test n ≡ true → may n ≡ true) → (at ≤ found) × (found < end) × (may found ≡ true) × ((n : ℕ) → at ≤ n → n < found → may n ≡ false) → test found ≡ false → (n : ℕ) → from ≤ n → n < found + 1 → test n ≡ false
+passed_more test may from at found end before only next fails n low high = grind (arith, before n low, only n, next.3 n, fails)
 
 -- what is seen of the cell of a number
 pub seen_at : (N width height : ℕ) (layering : Layering) (cells : List (Cell N)) (grid : Grid) (at : ℕ) (cell : Cell N) → grid_of width height layering cells ≡ grid → at < length cells → cell ≡ get_or cells at cell
@@ -63,19 +52,15 @@ pub lawful_here : (N width height : ℕ) (layering : Layering) (cells : List (Ce
 lawful_here N width height layering cells notes level s is = subst IsLawful (ap (λ (l : BareState). l.grid) is) (lawful_seen N width height layering cells notes s)
 
 pub low_place : (layers : List ℕ) (layer : ℕ) (place : Option Piece) → length layers ≤ MAX_OBJECTS → IsOnLayer layers layer place → IfSome place (λ piece. piece.object < MAX_OBJECTS)
-low_place layers layer None few on = tt
-low_place layers layer (Some piece) few on = omega (arith, on.0, few)
+low_place layers layer place few on = grind arith
 
 -- a position on the map
 pub standing_on_map : (grid : Grid) (x y object : ℕ) → x < grid.width → y < grid.height → standing_at grid x y object ≡ standing (cell_at grid x y) object
-standing_on_map grid x y object wide high =
-    ap (λ b. cond (b && nat_lt y grid.height) (standing (cell_at grid x y) object) None) (lt-ltb x grid.width wide)
-    ∙ ap (λ b. cond b (standing (cell_at grid x y) object) None) (lt-ltb y grid.height high)
+standing_on_map grid x y object wide high = grind (arith, lt-ltb x grid.width wide, lt-ltb y grid.height high)
 
 -- what a cell's piece says
 pub piece_seen : (there : Bool) (heading : Option Dir) (object : ℕ) (stand : Option (Option Dir)) (piece : Option Piece) → stand ≡ standing_by there heading → MatchOption piece (there ≡ false) (λ p. (there ≡ true) × (p.object ≡ object) × (p.heading ≡ heading)) → MatchOption piece (stand ≡ None) (λ p. stand ≡ Some p.heading)
-piece_seen there heading object stand None e h = e ∙ ap (λ b. standing_by b heading) h
-piece_seen there heading object stand (Some p) e h = e ∙ (ap (λ b. standing_by b heading) h.0 ∙ ap (λ (way : Option Dir). Some way) (sym h.2))
+piece_seen there heading object stand piece e h = grind arith
 
 -- ---- one cell anew
 pub still_noted : (N width index : ℕ) (old new : HeadingSets) (cell : Cell N) → IsWider old new → IsNoted N width old index cell → IsNoted N width new index cell
@@ -124,8 +109,5 @@ placed_there grid x y layer place within deep =
 pub unrewritten : (grid : Grid) (x y : ℕ) (left right : List Item) (here : List (Option Piece)) → here ≡ cell_at grid x y → not (same_cell (rewritten_cell left right here) here) ≡ false → grid ≡ with_rewritten grid x y left right
 unrewritten grid x y left right here is same =
     let at = y * grid.width + x in
-    let kept : rewritten_cell left right here ≡ here = same_cell_is _ _ (by_test (same_cell (rewritten_cell left right here) here) same) in
-    ap (λ (cells : List (List (Option Piece))). record grid { cells = cells }) (sym (ap (set grid.cells at) (ap (rewritten_cell left right) (sym is) ∙ kept ∙ is) ∙ set-get_or grid.cells at [])) where
-      by_test : (b : Bool) → not b ≡ false → b ≡ true
-      by_test true e = refl
-      by_test false e = sym e
+    let kept : rewritten_cell left right here ≡ here = same_cell_is _ _ (not-false _ same) in
+    ap (λ (cells : List (List (Option Piece))). record grid { cells = cells }) (sym (ap (set grid.cells at) (ap (rewritten_cell left right) (sym is) ∙ kept ∙ is) ∙ set-get_or grid.cells at []))

@@ -1,47 +1,12 @@
 -- Where rules' cells hold one after another, the objects that they name as present are noted, and those that they name as absent are not.
-use Rattle.pz_cells.specs.Layering.{Layering}
-use Rattle.std.proofs.Common.{◌≡◌, inl, inr, ℕ, ◌+◌, ◌*◌, ◌<◌, ◌≤◌, List, Bool, true, false, not, ◌&&◌, nat_eq, eq-eqb, length, get_or, arith, ap, sym, ◌∙◌, refl}
-use Rattle.std.specs.List.{All, list_all, enumerate_from}
-use Rattle.std.proofs.lemmas.Bool.{cases_lt}
-use Rattle.std.proofs.lemmas.List.{get_or_default}
-use Rattle.std.proofs.lemmas.List.Folds.{list_any_at}
-use Rattle.std.proofs.lemmas.Nat.{mul-add-lt}
-use Rattle.pz_sets.specs.Sets.{member}
-use Rattle.pz_game.specs.declared.pattern.Item.{Item}
+use Rattle.pz_sheet.proofs.Common.{cases_Bool, Layering, ◌≡◌, inl, inr, ℕ, ◌+◌, ◌*◌, ◌<◌, ◌≤◌, List, [], Bool, true, not, ◌&&◌, nat_eq, length, get_or, arith, ap, sym, ◌∙◌, All, list_all, enumerate_from, cases_lt, false≢true, true_from_ne_false, get_or_default, get_or-map, list_any_at, mul-add-lt, member, Item, AreOf, Cell, pattern_holds, met_all, Grid, cell_at, LineSets, PlaneSets, AreItemsOf, MayHold, MayRun, lines_of, Axis, Horizontal, Vertical, Way, Ahead, Back, step_to, room_from, Line, line_length, line_count, x_at, y_at, holds_in, dir_of, runs_in, ArePlaced, holds_along, HeadingSets, grid_of, IsStored, seen, no_cell}
 use Rattle.pz_game.specs.Items.{names}
-use Rattle.pz_game.specs.Pattern.{AreOf}
-use Rattle.pz_cells.specs.declared.cell.Cell.{Cell}
-use Rattle.pz_cells.specs.Pattern.{pattern_holds}
-use Rattle.pz_cells.proofs.HoldLemmas.{AreMet, met_all}
-use Rattle.pz_sheet.specs.Grid.{Grid, cell_at}
-use Rattle.pz_planes.specs.Planes.{LineSets, PlaneSets, AreItemsOf, MayHold, MayRun, lines_of}
-use Rattle.pz_planes.specs.declared.line.Axis.{Axis}
-use Rattle.pz_planes.specs.declared.line.Axis.TheVariants.{Horizontal, Vertical}
-use Rattle.pz_planes.specs.declared.line.Way.{Way}
-use Rattle.pz_planes.specs.declared.line.Way.TheVariants.{Ahead, Back}
-use Rattle.pz_planes.specs.Line.{step_to, room_from}
 use Rattle.pz_planes.proofs.BitLemmas.{step_within}
-use Rattle.pz_sheet.specs.declared.line.Line.{Line}
-use Rattle.pz_sheet.specs.Line.{line_length, line_count, x_at, y_at, holds_in, dir_of, runs_in}
-use Rattle.pz_sheet.specs.Noting.{ArePlaced}
-use Rattle.pz_sheet.specs.Runs.{holds_along}
-use Rattle.pz_planes.specs.Notes.{HeadingSets}
-use Rattle.pz_sheet.specs.Seen.{grid_of, IsStored}
-use Rattle.pz_sheet.proofs.SheetLemmas.{seen_at}
-use Rattle.pz_cells.proofs.ListLemmas.{no_cell}
-use Rattle.pz_sheet.proofs.RunLemmas.{enumerate_fails}
-use Rattle.pz_sheet.proofs.AxisLemmas.{along_in, run_past}
+use Rattle.pz_sheet.proofs.RunLemmas.{enumerate_fails, along_in, run_past}
 
 -- each passes where all do
 each_passes : (p : ℕ × List Item → Bool) (patterns : List (List Item)) → list_all p (enumerate_from 0 patterns) ≡ true → (index : ℕ) (other : List Item) → index < length patterns → p (index, get_or patterns index other) ≡ true
-each_passes p patterns all index other within = by_value (p (index, get_or patterns index other)) refl where
-  by_value : (b : Bool) → p (index, get_or patterns index other) ≡ b → p (index, get_or patterns index other) ≡ true
-  by_value true e = e
-  by_value false e = let f : false ≡ true = sym (enumerate_fails p patterns index (get_or patterns index other) within (get_or_default patterns index other (get_or patterns index other) within) e) ∙ all in cc
-
--- a run that isn't false is on the map
-not_past : {X : Type 0} (b : Bool) → b ≡ true → b ≡ false → X
-not_past b holds fails = absurd (let f : false ≡ true = sym fails ∙ holds in cc)
+each_passes p patterns all index other within = true_from_ne_false _ (λ e. absurd (false≢true (sym (enumerate_fails p patterns index (get_or patterns index other) within (get_or_default patterns index other (get_or patterns index other) within) e) ∙ all)))
 
 -- where a rule's cell holds in a line it may hold by what is noted
 abbrev pub Admits : PlaneSets → Line → List Item → Grid → Type 0
@@ -63,27 +28,17 @@ module _ (N width height : ℕ) (layering : Layering) (cells : List (Cell N)) (n
 
   -- an object that a rule's cell names as present stands where it holds, and one that it names as absent doesn't
   stands_here : (x y : ℕ) → x < width → y < height → (pattern : List Item) → AreOf layering.layers pattern → pattern_holds (cell_at grid x y) pattern ≡ true → (k : ℕ) (other : Item) → k < length pattern → member (get_or cells (y * width + x) (no_cell N)).objects (get_or pattern k other).object ≡ names (get_or pattern k other).word
-  stands_here x y x_in y_in pattern are holds k other within = by_word (names item.word) refl where
-    at : ℕ
-    at = y * width + x
-
-    cell : Cell N
-    cell = get_or cells at (no_cell N)
-
-    item : Item
-    item = get_or pattern k other
-
-    met : AreMet pattern cell.objects cell.movement
-    met =
-        let there : at < length cells = omega (arith, mul-add-lt y width x height y_in x_in, s.covers) in
-        let here = seen_at N width height layering cells grid at cell refl there (get_or_default cells at (no_cell N) cell there) in
-        met_all layering.depth layering.layers cell.objects cell.movement pattern s.law.layered (s.sound at (no_cell N) there) are (ap (λ places. pattern_holds places pattern) here ∙ holds)
-
-    by_word : (named : Bool) → names item.word ≡ named → member cell.objects item.object ≡ names item.word
-    by_word true named =
-        met.present item.object (list_any_at (λ (it : Item). names it.word && nat_eq it.object item.object) pattern k other within (ap (λ (b : Bool). b && nat_eq item.object item.object) named ∙ eq-eqb item.object item.object refl)) ∙ sym named
-    by_word false named =
-        met.absent item.object (list_any_at (λ (it : Item). not (names it.word) && nat_eq it.object item.object) pattern k other within (ap (λ (b : Bool). not b && nat_eq item.object item.object) named ∙ eq-eqb item.object item.object refl)) ∙ sym named
+  stands_here x y x_in y_in pattern are holds k other within =
+      let at = y * width + x in
+      let cell = get_or cells at (no_cell N) in
+      let item = get_or pattern k other in
+      let there : at < length cells = omega (arith, mul-add-lt y width x height y_in x_in, s.covers) in
+      let here = sym (get_or-map (seen layering) cells at (no_cell N) [] there) in
+      let met = met_all layering.depth layering.layers cell.objects cell.movement pattern s.law.layered (s.sound at (no_cell N) there) are (ap (λ places. pattern_holds places pattern) here ∙ holds) in
+      elim (cases_Bool (names item.word)) [
+        | inl named ↦ grind (arith, named, met.present item.object, list_any_at (λ (it : Item). names it.word && nat_eq it.object item.object) pattern k other within)
+        | inr named ↦ grind (arith, named, met.absent item.object, list_any_at (λ (it : Item). not (names it.word) && nat_eq it.object item.object) pattern k other within)
+      ]
 
   pub noted_in_line : (axis : Axis) (number at : ℕ) → number < line_count grid axis → at < line_length grid axis → at < 128 → (pattern : List Item) → AreOf layering.layers pattern → holds_in grid (record { axis = axis; number = number }) pattern at ≡ true → MayHold (lines_of planes axis) number at pattern
   noted_in_line Horizontal number at line_in at_in small pattern are holds k other within =
@@ -98,7 +53,7 @@ module _ (N width height : ℕ) (layering : Layering) (cells : List (Cell N)) (n
   admits_run line way patterns line_in short some are at at_in holds =
       let long = line_length grid line.axis in
       let inside : length patterns ≤ room_from long way at = (elim (cases_lt (room_from long way at) (length patterns)) [
-        | inl past ↦ not_past _ holds (run_past grid line way at patterns some at_in past)
+        | inl past ↦ absurd (false≢true (sym (run_past grid line way at patterns some at_in past) ∙ holds))
         | inr fits ↦ fits
       ]) in
       record {

@@ -49,7 +49,7 @@ impl<const N: usize> Sheet<N> {
     }
 
     /// The objects that stand in a line of the map.
-    #[tactic(auto, using(crate::proofs::LineLemmas::any_more))]
+    #[tactic(auto, using(crate::proofs::CountLemmas::any_more))]
     fn line_objects(&self, line: Line) -> NumberSet
         requires { line.number < line_count self.now.grid line.axis }
         ensures { (object : ℕ) → member result object ≡ in_line self.now.grid line object }

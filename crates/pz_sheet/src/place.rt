@@ -50,7 +50,6 @@ impl<const N: usize> Sheet<N> {
     }
 
     /// Rewrites the cell at a position of the map from a left cell of a rule to its right cell, and says whether the cell changed.
-    #[tactic(auto, using(crate::proofs::SheetLemmas::unrewritten))]
     pub fn rewrite(&mut self, x: u32, y: u32, left: &Pattern, right: &Pattern) -> bool
         requires on_map { IsOnMap self.old.grid x y }
         requires left_of { AreOf self.old.grid.layers left.now }

@@ -47,7 +47,7 @@ impl<const N: usize> Sheet<N> {
     }
 
     /// Whether rules' cells hold from a position of a line on, when the first does. (Not inlined: few positions of a search come here.)
-    #[tactic(auto, using(crate::proofs::RunLemmas::enumerate_more, crate::proofs::RunLemmas::enumerate_fails, crate::proofs::RunLemmas::enumerate_all, crate::proofs::AxisLemmas::along_in, crate::proofs::AxisLemmas::run_past))]
+    #[tactic(auto, using(crate::proofs::RunLemmas::enumerate_more, crate::proofs::RunLemmas::along_in))]
     #[inline(never)]
     fn rest_holds(&self, line: Line, way: Way, at: u32, patterns: &[Pattern]) -> bool
         requires on_line { IsOnLine self.now.grid line at }
@@ -163,7 +163,6 @@ impl<const N: usize> Sheet<N> {
 
     /// At how many positions of a line a search tests whether rules' cells hold from there on. In a line of up to 128 positions they are
     /// those that the planes leave, in a longer line all.
-    #[tactic(auto, using(crate::proofs::CountLemmas::count_fewer, crate::proofs::CountLemmas::count_within))]
     pub fn tested_in(&self, line: Line, way: Way, patterns: &[Pattern]) -> u32
         requires line_in { line.number < line_count self.now.grid line.axis }
         requires run { IsRunOf self.now.grid.layers patterns.now }

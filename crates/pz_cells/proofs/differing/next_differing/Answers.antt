@@ -1,11 +1,4 @@
-use Rattle.std.proofs.Common.{◌≡◌, inl, inr, ℕ, ◌+◌, ◌<◌, List, Bool, true, false, length, get_or, sym, ◌∙◌, subst, arith}
-use Rattle.std.specs.Prelude.{IsTrue, ◌↔◌}
-use Rattle.std.proofs.lemmas.List.{get_or_default}
-use Rattle.std.proofs.lemmas.Bool.{cases_eq}
-use Rattle.pz_sets.specs.Sets.{AreSame}
-use Rattle.pz_cells.specs.declared.cell.Cell.{Cell}
-use Rattle.pz_cells.specs.Differing.{AreAlikeBetween, Differ}
-use Rattle.pz_cells.specs.Lists.{AreAlike, HeadNowhere}
+use Rattle.pz_cells.proofs.Common.{◌≡◌, inl, inr, ℕ, ◌+◌, ◌<◌, List, Bool, true, false, length, get_or, sym, ◌∙◌, subst, arith, IsTrue, ◌↔◌, get_or_default, cases_eq, AreSame, Cell, AreAlikeBetween, Differ, AreAlike, HeadNowhere}
 use Rattle.pz_cells.proofs.differing.next_differing.Goals as goal
 
 -- a test decides whether the cells of this number are alike

@@ -1,4 +1,4 @@
-use Rattle.pz_cells.specs.Differing.{AreAlikeBetween}
+use Rattle.pz_cells.proofs.Common.{AreAlikeBetween}
 use Rattle.pz_cells.proofs.differing.next_differing.Given as goal
 
 abbrev pub invariant-loop-index : goal.invariant-loop-index

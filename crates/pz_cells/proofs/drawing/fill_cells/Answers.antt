@@ -1,5 +1,4 @@
-use Rattle.std.proofs.Common.{arith, ◌∙◌}
-use Rattle.pz_cells.specs.Drawing.{filled_cell}
+use Rattle.pz_cells.proofs.Common.{arith, ◌∙◌, filled_cell}
 use Rattle.pz_cells.proofs.ListLemmas.{small_cell, Turns, walked_none, walked_more, walked_sound, walked_all}
 use Rattle.pz_cells.proofs.drawing.fill_cells.Goals as goal
 

@@ -1,4 +1,4 @@
-use Rattle.pz_cells.specs.Drawing.{filled_cell}
+use Rattle.pz_cells.proofs.Common.{filled_cell}
 use Rattle.pz_cells.proofs.ListLemmas.{AreWalked, Turns}
 use Rattle.pz_cells.proofs.drawing.fill_cells.Given as goal
 

@@ -1,9 +1,4 @@
-use Rattle.std.proofs.Common.{◌≡◌, ◌+◌, ℕ, List, Option, Some, drop, set, get_or, ap, sym, ◌∙◌}
-use Rattle.std.specs.Prelude.{fold}
-use Rattle.std.proofs.lemmas.List.{at_drop_more, drop_all}
-use Rattle.pz_cells.specs.declared.piece.Piece.{Piece}
-use Rattle.pz_cells.specs.Drawing.{with_object}
-use Rattle.pz_cells.specs.Lists.{seen}
+use Rattle.pz_cells.proofs.Common.{◌≡◌, ◌+◌, ℕ, List, Option, Some, drop, set, get_or, ap, sym, ◌∙◌, fold, at_drop_more, drop_all, Piece, with_object, seen}
 use Rattle.pz_cells.proofs.DrawLemmas.{glyph_read}
 use Rattle.pz_cells.proofs.drawing.glyph_cell.Goals as goal
 

@@ -1,8 +1,4 @@
-use Rattle.std.proofs.Common.{◌≡◌, drop}
-use Rattle.std.specs.Prelude.{fold}
-use Rattle.pz_cells.specs.Lists.{seen, IsSound}
-use Rattle.pz_cells.specs.Drawing.{with_object, glyph_cell}
-use Rattle.pz_game.specs.Game.{glyph_objects}
+use Rattle.pz_cells.proofs.Common.{◌≡◌, drop, fold, seen, IsSound, with_object, glyph_cell, glyph_objects}
 use Rattle.pz_cells.proofs.drawing.glyph_cell.Given as goal
 
 abbrev pub invariant-loop-object : goal.invariant-loop-object

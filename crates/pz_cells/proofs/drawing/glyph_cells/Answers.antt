@@ -1,5 +1,5 @@
-use Rattle.std.proofs.Common.{arith}
-use Rattle.pz_cells.specs.Drawing.{glyph_cell}
+use Rattle.std.proofs.lemmas.List.{take_all}
+use Rattle.pz_cells.proofs.Common.{List, ℕ, map, ap, ◌∙◌, arith, glyph_cell}
 use Rattle.pz_cells.proofs.DrawLemmas.{glyphs_more}
 use Rattle.pz_cells.proofs.ListLemmas.{small_cell}
 use Rattle.pz_cells.proofs.drawing.glyph_cells.Goals as goal
@@ -10,3 +10,6 @@ loop-number-preserved g c =
 
 pub glyph_cell-requires : goal.glyph_cell-requires
 glyph_cell-requires g c = (omega arith, (small_cell _ c.depth.ensures.law.short, (c.requires.of_game, c.requires.numbers c.loop-number.number-index 0 c.loop-number-test.true)))
+
+pub returns-clause-cells : goal.returns-clause-cells
+returns-clause-cells g c = c.loop-number.invariant.cells_are ∙ ap (λ (all : List ℕ). map (glyph_cell c.args.game.now) all) (take_all c.loop-number.number-index c.args.numbers.now c.loop-number-test.false)

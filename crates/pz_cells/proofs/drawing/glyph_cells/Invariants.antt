@@ -1,5 +1,4 @@
-use Rattle.std.proofs.Common.{take}
-use Rattle.pz_cells.specs.Drawing.{glyph_cell}
+use Rattle.pz_cells.proofs.Common.{take, glyph_cell}
 use Rattle.pz_cells.proofs.DrawLemmas.{AreGlyphs}
 use Rattle.pz_cells.proofs.drawing.glyph_cells.Given as goal
 

@@ -1,5 +1,4 @@
-use Rattle.std.proofs.Common.{◌≡◌, ◌<◌, ◌≤◌, ℕ, false, nat_eq, get_or}
-use Rattle.pz_sets.specs.Sets.{member}
+use Rattle.pz_cells.proofs.Common.{◌≡◌, ◌<◌, ◌≤◌, ℕ, false, nat_eq, get_or, member}
 use Rattle.pz_cells.proofs.layers.layer_set.Given as goal
 
 abbrev pub invariant-loop-object : goal.invariant-loop-object

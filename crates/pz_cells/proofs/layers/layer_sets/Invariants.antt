@@ -1,5 +1,4 @@
-use Rattle.std.proofs.Common.{◌≡◌, ◌<◌, ℕ, List, length, get_or}
-use Rattle.pz_cells.specs.Shown.{IsSetOf}
+use Rattle.pz_cells.proofs.Common.{◌≡◌, ◌<◌, ℕ, List, length, get_or, IsSetOf}
 use Rattle.pz_cells.proofs.layers.layer_sets.Given as goal
 
 abbrev pub invariant-loop-layer : goal.invariant-loop-layer

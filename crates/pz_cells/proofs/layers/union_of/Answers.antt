@@ -1,5 +1,4 @@
-use Rattle.std.proofs.Common.{List, ℕ, arith, get_or, ap, ◌≡◌, ◌∙◌, nat_eq}
-use Rattle.pz_sets.specs.Sets.{member}
+use Rattle.pz_cells.proofs.Common.{List, ℕ, arith, get_or, ap, ◌≡◌, ◌∙◌, nat_eq, member}
 use Rattle.pz_cells.proofs.RewriteLemmas.{chosen_more}
 use Rattle.pz_cells.proofs.layers.union_of.Goals as goal
 

@@ -1,5 +1,4 @@
-use Rattle.std.proofs.Common.{◌≡◌, ℕ, ◌<◌, ◌&&◌, nat_lt, length, get_or}
-use Rattle.pz_sets.specs.Sets.{member}
+use Rattle.pz_cells.proofs.Common.{◌≡◌, ℕ, ◌<◌, ◌&&◌, nat_lt, length, get_or, member}
 use Rattle.pz_cells.proofs.layers.union_of.Given as goal
 
 abbrev pub invariant-loop-layer : goal.invariant-loop-layer

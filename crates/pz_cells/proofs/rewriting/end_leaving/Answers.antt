@@ -1,7 +1,4 @@
-use Rattle.std.proofs.Common.{◌≡◌, not, nat_eq, ◌&&◌, ◌||◌, ℕ, List, arith, ap, sym, ◌∙◌, subst}
-use Rattle.pz_sets.specs.Sets.{member}
-use Rattle.pz_game.specs.declared.direction.Dir.{Dir}
-use Rattle.pz_game.specs.Headings.{heads}
+use Rattle.pz_cells.proofs.Common.{◌≡◌, not, nat_eq, ◌&&◌, ◌||◌, ℕ, List, arith, ap, sym, ◌∙◌, subst, member, Dir, heads}
 use Rattle.pz_cells.proofs.RewriteLemmas.{ended_more}
 use Rattle.pz_cells.proofs.rewriting.end_leaving.Goals as goal
 

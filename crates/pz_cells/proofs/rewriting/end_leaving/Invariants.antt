@@ -1,9 +1,5 @@
-use Rattle.std.proofs.Common.{◌≡◌, ◌≢◌, ℕ, ◌<◌, ◌≤◌, ◌-◌, false, get_or}
-use Rattle.pz_sets.specs.Sets.{member}
+use Rattle.pz_cells.proofs.Common.{◌≡◌, ◌≢◌, ℕ, ◌<◌, ◌≤◌, ◌-◌, false, get_or, member, Dir, heads, IsProper, Leaves}
 use Rattle.pz_sets.specs.declared.set.TheConstants.{CAPACITY}
-use Rattle.pz_game.specs.declared.direction.Dir.{Dir}
-use Rattle.pz_game.specs.Headings.{heads, IsProper}
-use Rattle.pz_cells.specs.Rewrites.{Leaves}
 use Rattle.pz_cells.proofs.rewriting.end_leaving.Given as goal
 
 abbrev pub invariant-leaving : goal.invariant-leaving

@@ -1,8 +1,4 @@
-use Rattle.std.proofs.Common.{◌≡◌, ◌<◌, inl, inr, ℕ, set, length, get_or, arith, sym, ◌∙◌, subst, get_or-set_same, get_or-set_other, length-set}
-use Rattle.std.proofs.lemmas.Bool.{cases_eq}
-use Rattle.std.proofs.lemmas.List.{get_or_default}
-use Rattle.pz_cells.specs.declared.cell.Cell.{Cell}
-use Rattle.pz_cells.specs.Lists.{IsStilled}
+use Rattle.pz_cells.proofs.Common.{◌≡◌, ◌<◌, inl, inr, ℕ, set, length, get_or, arith, sym, ◌∙◌, subst, get_or-set_same, get_or-set_other, length-set, cases_eq, get_or_default, Cell, IsStilled}
 use Rattle.pz_cells.proofs.ListLemmas.{small_cell, sound_at}
 use Rattle.pz_cells.proofs.stilling.still_cells.Goals as goal
 

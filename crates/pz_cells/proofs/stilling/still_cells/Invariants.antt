@@ -1,6 +1,4 @@
-use Rattle.std.proofs.Common.{◌≡◌, ℕ, ◌<◌, ◌≤◌, length, get_or}
-use Rattle.pz_cells.specs.declared.cell.Cell.{Cell}
-use Rattle.pz_cells.specs.Lists.{IsStilled}
+use Rattle.pz_cells.proofs.Common.{◌≡◌, ℕ, ◌<◌, ◌≤◌, length, get_or, Cell, IsStilled}
 use Rattle.pz_cells.proofs.stilling.still_cells.Given as goal
 
 abbrev pub invariant-loop-index : goal.invariant-loop-index

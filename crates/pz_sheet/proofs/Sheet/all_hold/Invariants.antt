@@ -1,6 +1,4 @@
-use Rattle.std.proofs.Common.{◌≡◌, take, true}
-use Rattle.std.specs.List.{list_all}
-use Rattle.pz_sheet.specs.Presence.{holds_if}
+use Rattle.pz_sheet.proofs.Common.{◌≡◌, take, true, list_all, holds_if}
 use Rattle.pz_sheet.proofs.Sheet.all_hold.Given as goal
 
 abbrev pub invariant-loop-index : goal.invariant-loop-index

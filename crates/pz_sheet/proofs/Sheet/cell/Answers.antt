@@ -1,7 +1,4 @@
-use Rattle.std.proofs.Common.{ap, subst}
-use Rattle.pz_cells.specs.Lists.{IsSound}
-use Rattle.pz_cells.proofs.ListLemmas.{sound_at}
-use Rattle.pz_sheet.specs.Grid.{Grid, BareState, layers_in}
+use Rattle.pz_sheet.proofs.Common.{ap, subst, IsSound, sound_at, Grid, BareState, layers_in}
 use Rattle.pz_sheet.proofs.SheetLemmas.{seen_within}
 use Rattle.pz_sheet.proofs.Sheet.cell.Goals as goal
 

@@ -1,14 +1,5 @@
-use Rattle.std.proofs.Common.{ℕ, List, length, ◌∙◌, ap, sym, arith, map, refl, subst}
-use Rattle.std.specs.List.{All}
-use Rattle.pz_game.specs.Size.{IsSize}
-use Rattle.pz_cells.specs.declared.cell.Cell.{Cell}
-use Rattle.pz_cells.specs.Drawing.{glyph_cell}
-use Rattle.pz_cells.specs.Lists.{IsSound}
-use Rattle.pz_cells.proofs.DrawLemmas.{AreGlyphs}
-use Rattle.pz_sheet.specs.Noting.{ArePlaced}
-use Rattle.pz_cells.proofs.ListLemmas.{small_cell}
-use Rattle.pz_sheet.proofs.MapLemmas.{noted_read}
-use Rattle.pz_sheet.proofs.LoadLemmas.{stored_drawn, drawn_covers}
+use Rattle.pz_sheet.proofs.Common.{ℕ, List, length, ◌∙◌, ap, sym, arith, map, refl, subst, All, IsSize, Cell, glyph_cell, IsSound, AreGlyphs, ArePlaced, small_cell}
+use Rattle.pz_sheet.proofs.MapLemmas.{noted_read, stored_drawn, drawn_covers}
 use Rattle.pz_sheet.proofs.Sheet.drawn.Goals as goal
 
 pub noted-requires : goal.noted-requires

@@ -1,16 +1,8 @@
-use Rattle.std.proofs.Common.{◌<◌, ℕ, List, Some, length, arith, ap, sym, ◌∙◌, subst}
-use Rattle.std.specs.List.{All}
-use Rattle.pz_cells.specs.declared.cell.Cell.{Cell}
-use Rattle.pz_cells.specs.Cell.{IsOnLayer}
-use Rattle.pz_sheet.specs.Grid.{Grid, BareState}
-use Rattle.pz_cells.specs.Drawing.{filled_cell}
-use Rattle.pz_planes.specs.Planes.{AreKnown}
-use Rattle.pz_sheet.specs.Noting.{AreAllThere}
-use Rattle.pz_planes.proofs.PlaneLemmas.{covers_all}
+use Rattle.pz_sheet.proofs.Common.{sym, refl, ◌<◌, ℕ, List, Some, length, arith, ap, ◌∙◌, subst, All, Cell, IsOnLayer, Grid, BareState, filled_cell, AreKnown, AreAllThere, covers_all, small_cell}
 use Rattle.pz_sheet.proofs.PlacedLemmas.{all_known, placed_all}
-use Rattle.pz_cells.proofs.ListLemmas.{small_cell}
 use Rattle.pz_sheet.proofs.SheetLemmas.{lawful_seen}
-use Rattle.pz_sheet.proofs.MapLemmas.{stored_mapped, noted_read}
+use Rattle.pz_sheet.proofs.ChangeLemmas.{as_long}
+use Rattle.pz_sheet.proofs.MapLemmas.{long_mapped, stored_mapped, noted_read}
 use Rattle.pz_sheet.proofs.Sheet.fill.Goals as goal
 
 pub fill_cells-requires : goal.fill_cells-requires
@@ -20,6 +12,13 @@ fill_cells-requires g c =
     let on_layer = subst (λ (layers : List ℕ). IsOnLayer layers c.args.layer (Some c.args.piece)) (sym (ap (λ (grid : Grid). grid.layers) e)) c.requires.on_layer in
     let layer_in : c.args.layer < a.layers.depth = omega (arith, c.self.invariant.stored.law.layered c.args.piece.object 0 on_layer.0, on_layer.1) in
     (small_cell _ c.self.invariant.stored.law.short, (omega arith, (layer_in, (on_layer, c.self.invariant.stored.sound))))
+
+pub renew_notes-requires : goal.renew_notes-requires
+renew_notes-requires g c =
+    let a = c.self.inside in
+    let stored = c.self.invariant.stored in
+    let long = ap (λ (all : List (Cell g.row.N)). length all) c.deref.ensures.value ∙ long_mapped a.layers (filled_cell c.args.layer c.args.piece) a.cells.items c.fill_cells.new.cells.items c.fill_cells.ensures in
+    (omega arith, (small_cell _ stored.law.short, as_long a.width a.height _ _ _ _ (sym stored.noted.column_count) (sym stored.noted.row_count) (long ∙ stored.covers) refl))
 
 pub note_all-requires : goal.note_all-requires
 note_all-requires g c =

@@ -1,7 +1,4 @@
-use Rattle.std.proofs.Common.{List, ℕ, ◌∙◌, subst}
-use Rattle.std.specs.Prelude.{IsTrue, ◌↔◌}
-use Rattle.pz_sets.specs.Sets.{member, AreApart}
-use Rattle.pz_sheet.specs.Presence.{is_in, cell_of}
+use Rattle.pz_sheet.proofs.Common.{List, ℕ, ◌∙◌, subst, IsTrue, ◌↔◌, member, AreApart, is_in, cell_of}
 use Rattle.pz_sheet.proofs.HoldingLemmas.{low_number, found_by_set, any_alike}
 use Rattle.pz_sheet.proofs.Sheet.holds_one.Goals as goal
 

@@ -1,7 +1,4 @@
-use Rattle.std.proofs.Common.{◌≡◌, ℕ}
-use Rattle.std.specs.List.{list_any, range_with_len}
-use Rattle.pz_sets.specs.Sets.{member}
-use Rattle.pz_sheet.specs.Presence.{stands_in_line}
+use Rattle.pz_sheet.proofs.Common.{◌≡◌, ℕ, list_any, range_with_len, member, stands_in_line}
 use Rattle.pz_sheet.proofs.Sheet.line_objects.Given as goal
 
 abbrev pub invariant-loop-at : goal.invariant-loop-at

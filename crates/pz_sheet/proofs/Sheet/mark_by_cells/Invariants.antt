@@ -1,6 +1,4 @@
-use Rattle.std.proofs.Common.{◌≡◌, ◌<◌, ℕ, [], length, get_or}
-use Rattle.pz_sets.specs.Sets.{member}
-use Rattle.pz_sheet.specs.Presence.{in_line}
+use Rattle.pz_sheet.proofs.Common.{◌≡◌, ◌<◌, ℕ, [], length, get_or, member, in_line}
 use Rattle.pz_sheet.proofs.Sheet.mark_by_cells.Given as goal
 
 abbrev pub invariant-loop-number : goal.invariant-loop-number

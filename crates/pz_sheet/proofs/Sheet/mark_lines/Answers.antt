@@ -1,7 +1,4 @@
-use Rattle.std.proofs.Common.{arith, ap, subst}
-use Rattle.pz_planes.specs.Marks.{AreMarks}
-use Rattle.pz_planes.specs.Planes.{LineSets}
-use Rattle.pz_sheet.specs.Grid.{BareState}
+use Rattle.pz_sheet.proofs.Common.{arith, ap, subst, AreMarks, LineSets, BareState}
 use Rattle.pz_sheet.proofs.MarkLemmas.{Gives, gives}
 use Rattle.pz_sheet.proofs.Sheet.mark_lines.Goals as goal
 

@@ -1,10 +1,4 @@
-use Rattle.std.proofs.Common.{ap, sym, subst, ◌∙◌}
-use Rattle.std.specs.List.{All}
-use Rattle.pz_sets.specs.Sets.{member}
-use Rattle.pz_game.specs.Headings.{flag}
-use Rattle.pz_game.specs.Pattern.{AreOf}
-use Rattle.pz_sheet.specs.Grid.{Grid, BareState}
-use Rattle.pz_sheet.specs.Searching.{HoldsSomewhere}
+use Rattle.pz_sheet.proofs.Common.{ap, sym, subst, ◌∙◌, All, member, flag, AreOf, Grid, BareState, HoldsSomewhere}
 use Rattle.pz_sheet.proofs.HeadingLemmas.{heads_somewhere, not_apart}
 use Rattle.pz_sheet.proofs.Sheet.may_head_in.Goals as goal
 

@@ -1,11 +1,4 @@
-use Rattle.std.proofs.Common.{get_or, ap, sym, ◌∙◌, subst}
-use Rattle.std.specs.List.{All}
-use Rattle.pz_sets.specs.Sets.{IsWithin}
-use Rattle.pz_game.specs.Masks.{IsLow}
-use Rattle.pz_game.specs.Pattern.{AreOf}
-use Rattle.pz_cells.proofs.HoldLemmas.{low_of_game}
-use Rattle.pz_sheet.specs.Grid.{Grid, BareState}
-use Rattle.pz_sheet.specs.Searching.{HoldsSomewhere}
+use Rattle.pz_sheet.proofs.Common.{get_or, ap, sym, ◌∙◌, subst, All, IsWithin, IsLow, AreOf, low_of_game, Grid, BareState, HoldsSomewhere}
 use Rattle.pz_sheet.proofs.HeadingLemmas.{asked_somewhere}
 use Rattle.pz_sheet.proofs.Sheet.may_hold.Goals as goal
 

@@ -1,8 +1,4 @@
-use Rattle.std.proofs.Common.{◌<◌, arith, ap, subst}
-use Rattle.std.specs.List.{All}
-use Rattle.pz_planes.specs.Planes.{LineSets, IsMissingIn}
-use Rattle.pz_sheet.specs.Grid.{Grid, BareState, cell_at}
-use Rattle.pz_sheet.specs.Presence.{AreMissing}
+use Rattle.pz_sheet.proofs.Common.{◌<◌, arith, ap, subst, All, LineSets, IsMissingIn, Grid, BareState, cell_at, AreMissing}
 use Rattle.pz_sheet.proofs.MarkLemmas.{missing_in_row}
 use Rattle.pz_sheet.proofs.Sheet.may_stand_in_row.Goals as goal
 

@@ -1,5 +1,4 @@
-use Rattle.std.proofs.Common.{ℕ, ◌≡◌, ◌≤◌, ◌<◌, ◌-◌, false}
-use Rattle.pz_sheet.specs.Line.{line_length, holds_in}
+use Rattle.pz_sheet.proofs.Common.{ℕ, ◌≡◌, ◌≤◌, ◌<◌, ◌-◌, false, line_length, holds_in}
 use Rattle.pz_sheet.proofs.Sheet.next_in_line.Given as goal
 
 abbrev pub invariant-places : goal.invariant-places

@@ -1,5 +1,4 @@
-use Rattle.std.proofs.Common.{ℕ, ◌≡◌, ◌≤◌, ◌<◌, false}
-use Rattle.pz_sheet.specs.Line.{holds_in}
+use Rattle.pz_sheet.proofs.Common.{ℕ, ◌≡◌, ◌≤◌, ◌<◌, false, holds_in}
 use Rattle.pz_sheet.proofs.Sheet.next_in_long_line.Given as goal
 
 abbrev pub invariant-loop-at : goal.invariant-loop-at

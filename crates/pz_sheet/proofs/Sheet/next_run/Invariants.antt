@@ -1,5 +1,4 @@
-use Rattle.std.proofs.Common.{ℕ, ◌≡◌, ◌≤◌, ◌<◌, ◌-◌, false}
-use Rattle.pz_sheet.specs.Line.{line_length, runs_in}
+use Rattle.pz_sheet.proofs.Common.{ℕ, ◌≡◌, ◌≤◌, ◌<◌, ◌-◌, false, line_length, runs_in}
 use Rattle.pz_sheet.proofs.Sheet.next_run.Given as goal
 
 abbrev pub invariant-starts : goal.invariant-starts

@@ -1,5 +1,4 @@
-use Rattle.std.proofs.Common.{ℕ, ◌≡◌, ◌≤◌, ◌<◌, false}
-use Rattle.pz_sheet.specs.Line.{runs_in}
+use Rattle.pz_sheet.proofs.Common.{ℕ, ◌≡◌, ◌≤◌, ◌<◌, false, runs_in}
 use Rattle.pz_sheet.proofs.Sheet.next_run_in_long_line.Given as goal
 
 abbrev pub invariant-loop-at : goal.invariant-loop-at

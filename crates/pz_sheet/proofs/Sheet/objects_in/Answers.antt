@@ -1,10 +1,4 @@
-use Rattle.std.proofs.Common.{ℕ, List, Option, is_some, ap, ◌∙◌}
-use Rattle.pz_sets.specs.Sets.{member}
-use Rattle.pz_cells.specs.declared.piece.Piece.{Piece}
-use Rattle.pz_cells.specs.Standing.{standing}
-use Rattle.pz_cells.proofs.ListLemmas.{sound_at}
-use Rattle.pz_cells.proofs.RewriteLemmas.{member_seen}
-use Rattle.pz_sheet.specs.Grid.{BareState}
+use Rattle.pz_sheet.proofs.Common.{ℕ, List, Option, is_some, ap, ◌∙◌, member, Piece, standing, sound_at, member_seen, BareState}
 use Rattle.pz_sheet.proofs.SheetLemmas.{seen_within, seen_at}
 use Rattle.pz_sheet.proofs.Sheet.objects_in.Goals as goal
 

@@ -1,10 +1,4 @@
-use Rattle.std.proofs.Common.{◌<◌, ℕ, List, [], Option, get_or, arith, ap, sym, ◌∙◌}
-use Rattle.pz_sets.specs.Sets.{member}
-use Rattle.pz_game.specs.Headings.{heading_in}
-use Rattle.pz_cells.specs.declared.piece.Piece.{Piece}
-use Rattle.pz_cells.specs.Layering.{Layering}
-use Rattle.pz_cells.specs.Standing.{standing}
-use Rattle.pz_cells.proofs.HoldLemmas.{standing_seen, standing_by}
+use Rattle.pz_sheet.proofs.Common.{◌<◌, ℕ, List, [], Option, get_or, arith, ap, sym, ◌∙◌, member, heading_in, Piece, Layering, standing, standing_seen, standing_by}
 use Rattle.pz_sheet.proofs.SheetLemmas.{standing_on_map, piece_seen}
 use Rattle.pz_sheet.proofs.Sheet.piece.Goals as goal
 

@@ -1,8 +1,4 @@
-use Rattle.std.proofs.Common.{None, get_or, ap, sym, ◌∙◌, subst}
-use Rattle.pz_cells.specs.Cell.{IsOnLayer}
-use Rattle.pz_cells.specs.Layering.{Layering}
-use Rattle.pz_cells.specs.Lists.{seen}
-use Rattle.pz_sheet.specs.Grid.{layers_in}
+use Rattle.pz_sheet.proofs.Common.{None, get_or, ap, sym, ◌∙◌, subst, IsOnLayer, Layering, seen, layers_in}
 use Rattle.pz_sheet.proofs.SheetLemmas.{cell_seen, low_place}
 use Rattle.pz_sheet.proofs.Sheet.place.Goals as goal
 

@@ -1,6 +1,4 @@
-use Rattle.std.proofs.Common.{arith, ap, sym, subst}
-use Rattle.pz_planes.specs.Planes.{LineSets, MayHold}
-use Rattle.pz_sheet.specs.Grid.{BareState}
+use Rattle.pz_sheet.proofs.Common.{arith, ap, sym, subst, LineSets, MayHold, BareState}
 use Rattle.pz_sheet.proofs.StartLemmas.{Admits, admits}
 use Rattle.pz_sheet.proofs.Sheet.places_in.Goals as goal
 

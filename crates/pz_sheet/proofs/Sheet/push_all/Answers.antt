@@ -1,6 +1,4 @@
-use Rattle.std.proofs.Common.{◌≡◌, ℕ, ◌+◌, ◌*◌, arith, ap, sym, ◌∙◌, subst}
-use Rattle.pz_sheet.specs.Grid.{Grid, BareState}
-use Rattle.pz_sheet.specs.Pushing.{pushed_at}
+use Rattle.pz_sheet.proofs.Common.{◌≡◌, ℕ, ◌+◌, ◌*◌, arith, ap, sym, ◌∙◌, subst, Grid, BareState, pushed_at}
 use Rattle.pz_sheet.proofs.PushLemmas.{ArePushedTo, pushed_on, pushed_as, pushed_row, passed_row}
 use Rattle.pz_sheet.proofs.Sheet.push_all.Goals as goal
 use Rattle.pz_sheet.proofs.Sheet.push_all.Goals.{then-may_stand_in_row+else-loop-x-test, else-may_stand_in_row}

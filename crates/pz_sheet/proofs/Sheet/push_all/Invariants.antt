@@ -1,5 +1,4 @@
-use Rattle.std.proofs.Common.{◌+◌, ◌*◌}
-use Rattle.pz_sheet.specs.Grid.{Grid}
+use Rattle.pz_sheet.proofs.Common.{◌+◌, ◌*◌, Grid}
 use Rattle.pz_sheet.proofs.PushLemmas.{ArePushedTo}
 use Rattle.pz_sheet.proofs.Sheet.push_all.Given as goal
 

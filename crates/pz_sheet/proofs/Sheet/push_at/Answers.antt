@@ -1,6 +1,4 @@
-use Rattle.std.proofs.Common.{ℕ, List, get_or, sym, ◌∙◌, subst}
-use Rattle.pz_sets.specs.Sets.{AreApart}
-use Rattle.pz_sheet.specs.Presence.{cell_of}
+use Rattle.pz_sheet.proofs.Common.{ℕ, List, get_or, sym, ◌∙◌, subst, AreApart, cell_of}
 use Rattle.pz_sheet.proofs.HoldingLemmas.{low_number, each_missing}
 use Rattle.pz_sheet.proofs.PushLemmas.{absent_pushed, unpushed_at}
 use Rattle.pz_sheet.proofs.Sheet.push_at.Goals as goal

@@ -1,5 +1,4 @@
-use Rattle.std.proofs.Common.{◌+◌, ◌*◌, ◌<◌, ℕ, [], length, get_or, arith, rules, ap, ◌∙◌}
-use Rattle.pz_sheet.specs.Grid.{Grid, layers_in, place_at, cell_at}
+use Rattle.pz_sheet.proofs.Common.{◌+◌, ◌*◌, ◌<◌, ℕ, [], length, get_or, arith, rules, ap, ◌∙◌, Grid, layers_in, place_at, cell_at}
 use Rattle.pz_sheet.proofs.SheetLemmas.{cell_seen, placed_there}
 use Rattle.pz_sheet.proofs.Sheet.put.Goals as goal
 

@@ -1,7 +1,4 @@
-use Rattle.std.proofs.Common.{◌≡◌, take, true}
-use Rattle.std.specs.List.{list_all, enumerate_from}
-use Rattle.pz_sheet.specs.Line.{x_at, y_at, dir_of}
-use Rattle.pz_sheet.specs.Runs.{holds_along}
+use Rattle.pz_sheet.proofs.Common.{◌≡◌, take, true, list_all, enumerate_from, x_at, y_at, dir_of, holds_along}
 use Rattle.pz_sheet.proofs.Sheet.rest_holds.Given as goal
 
 abbrev pub invariant-loop-index : goal.invariant-loop-index

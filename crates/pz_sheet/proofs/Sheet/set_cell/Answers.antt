@@ -1,17 +1,19 @@
-use Rattle.std.proofs.Common.{◌/◌, ◌%◌, ℕ, List, length, Option, ap, sym, ◌∙◌, subst}
-use Rattle.std.proofs.lemmas.List.{map-set}
-use Rattle.pz_sets.specs.Sets.{member}
-use Rattle.pz_cells.specs.declared.piece.Piece.{Piece}
-use Rattle.pz_planes.specs.Planes.{AreChanged, AreKnown, AreThere}
-use Rattle.pz_cells.specs.Lists.{seen, IsSound}
-use Rattle.pz_sheet.specs.Changes.{with_cell}
-use Rattle.pz_sheet.specs.Grid.{Grid, BareState, layers_in}
-use Rattle.pz_sheet.specs.Seen.{grid_of}
-use Rattle.pz_planes.proofs.PlaneLemmas.{known_of}
+use Rattle.pz_sheet.proofs.Common.{arith, small_cell, ◌/◌, ◌%◌, ℕ, List, length, Option, ap, sym, ◌∙◌, subst, map-set, member, Piece, AreChanged, AreKnown, AreThere, seen, IsSound, with_cell, Grid, BareState, layers_in, grid_of, known_of, sound_at}
 use Rattle.pz_sheet.proofs.PlacedLemmas.{there_at, placed_at}
-use Rattle.pz_cells.proofs.ListLemmas.{sound_at}
-use Rattle.pz_sheet.proofs.SheetLemmas.{seen_within, stored_set}
+use Rattle.pz_sheet.proofs.SheetLemmas.{seen_within, within_lines, stored_set}
 use Rattle.pz_sheet.proofs.Sheet.set_cell.Goals as goal
+
+pub index-requires : goal.index-requires
+index-requires g c = omega (arith, c.self.inside.cells.ok.0, seen_within _ _ _ c.self.inside.layers c.self.inside.cells.items _ c.args.index (ap (λ (s : BareState). s.grid) c.self.view_is) c.requires.within)
+
+pub index_mut-requires : goal.index_mut-requires
+index_mut-requires g c = omega (arith, c.self.inside.cells.ok.0, seen_within _ _ _ c.self.inside.layers c.self.inside.cells.items _ c.args.index (ap (λ (s : BareState). s.grid) c.self.view_is) c.requires.within)
+
+pub note_heading-requires : goal.note_heading-requires
+note_heading-requires g c = (let s = c.self.invariant.stored in (omega arith, (small_cell _ s.law.short, within_lines _ _ c.self.inside.width c.self.inside.height _ _ s.noted.column_count s.noted.row_count s.covers (seen_within _ _ _ c.self.inside.layers c.self.inside.cells.items _ c.args.index (ap (λ (s : BareState). s.grid) c.self.view_is) c.requires.within))))
+
+pub note_at-requires-clause-within : goal.note_at-requires-clause-within
+note_at-requires-clause-within g c = (let fits = c.self.invariant.placed.fits in within_lines _ _ c.self.inside.width c.self.inside.height _ _ fits.column_count fits.row_count c.self.invariant.stored.covers (seen_within _ _ _ c.self.inside.layers c.self.inside.cells.items _ c.args.index (ap (λ (s : BareState). s.grid) c.self.view_is) c.requires.within))
 
 pub note_at-requires-clause-known_before : goal.note_at-requires-clause-known_before
 note_at-requires-clause-known_before g c =

@@ -1,6 +1,4 @@
-use Rattle.std.proofs.Common.{◌≡◌, take, false}
-use Rattle.std.specs.List.{list_any}
-use Rattle.pz_sheet.specs.Presence.{holds_both}
+use Rattle.pz_sheet.proofs.Common.{◌≡◌, take, false, list_any, holds_both}
 use Rattle.pz_sheet.proofs.Sheet.some_holds.Given as goal
 
 abbrev pub invariant-loop-index : goal.invariant-loop-index

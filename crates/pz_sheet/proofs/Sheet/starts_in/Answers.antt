@@ -1,6 +1,4 @@
-use Rattle.std.proofs.Common.{arith, ap, sym, subst}
-use Rattle.pz_planes.specs.Planes.{LineSets, MayRun}
-use Rattle.pz_sheet.specs.Grid.{BareState}
+use Rattle.pz_sheet.proofs.Common.{arith, ap, sym, subst, LineSets, MayRun, BareState}
 use Rattle.pz_sheet.proofs.StartLemmas.{AdmitsRun, admits_run}
 use Rattle.pz_sheet.proofs.Sheet.starts_in.Goals as goal
 

@@ -1,5 +1,4 @@
-use Rattle.std.proofs.Common.{take}
-use Rattle.pz_sheet.specs.Holding.{IsSetFor}
+use Rattle.pz_sheet.proofs.Common.{take, IsSetFor}
 use Rattle.pz_sheet.proofs.holding.set_of.Given as goal
 
 abbrev pub invariant-loop-object : goal.invariant-loop-object

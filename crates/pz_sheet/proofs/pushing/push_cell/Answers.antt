@@ -1,7 +1,4 @@
-use Rattle.std.proofs.Common.{map, get_or, ap}
-use Rattle.pz_cells.specs.declared.cell.Cell.{Cell}
-use Rattle.pz_cells.specs.Lists.{seen}
-use Rattle.pz_sheet.specs.Pushing.{pushed_place}
+use Rattle.pz_sheet.proofs.Common.{map, get_or, ap, Cell, seen, pushed_place}
 use Rattle.pz_sheet.proofs.PushLemmas.{AreTurned, lawful_turned, cell_turned, rest_pushed, none_pushed}
 use Rattle.pz_sheet.proofs.pushing.push_cell.Goals as goal
 

@@ -1,6 +1,4 @@
-use Rattle.std.proofs.Common.{◌≡◌, map, drop}
-use Rattle.pz_cells.specs.Lists.{seen, IsSound}
-use Rattle.pz_sheet.specs.Pushing.{pushed_place}
+use Rattle.pz_sheet.proofs.Common.{◌≡◌, map, drop, seen, IsSound, pushed_place}
 use Rattle.pz_sheet.proofs.pushing.push_cell.Given as goal
 
 abbrev pub invariant-loop-player : goal.invariant-loop-player

@@ -1,6 +1,4 @@
-use Rattle.std.proofs.Common.{◌≡◌, ◌≤◌}
-use Rattle.std.specs.List.{count_by, range_with_len}
-use Rattle.pz_sets.specs.Sets.{in_word}
+use Rattle.pz_sheet.proofs.Common.{◌≡◌, ◌≤◌, count_by, range_with_len, in_word}
 use Rattle.pz_sheet.proofs.runs.count_below.Given as goal
 
 abbrev pub invariant-loop-at : goal.invariant-loop-at

@@ -1,6 +1,4 @@
-use Rattle.std.proofs.Common.{List, ℕ, arith, subst}
-use Rattle.std.specs.Prelude.{IsTrue, ◌↔◌}
-use Rattle.pz_sets.specs.Sets.{IsWithin, AreApart}
+use Rattle.pz_cells.proofs.Common.{List, ℕ, arith, subst, IsTrue, ◌↔◌, IsWithin, AreApart}
 use Rattle.pz_cells.proofs.HoldLemmas.{holds_by_sets, both_decide, first_decides, masks_of_game, masks_fit}
 use Rattle.pz_cells.proofs.cell.Cell.holds.Goals as goal
 

@@ -1,7 +1,4 @@
-use Rattle.std.proofs.Common.{◌+◌, List, ℕ, None, arith, ap, sym, ◌∙◌}
-use Rattle.std.proofs.lemmas.Bool.{leb-true}
-use Rattle.pz_game.specs.Headings.{flag, heads}
-use Rattle.pz_game.proofs.FlagLemmas.{dir_bit-low}
+use Rattle.pz_cells.proofs.Common.{◌+◌, List, ℕ, None, arith, ap, sym, ◌∙◌, leb-true, flag, heads, dir_bit-low}
 use Rattle.pz_cells.proofs.PlaceLemmas.{first_toward}
 use Rattle.pz_cells.proofs.cell.Cell.is_layer_still.Goals as goal
 

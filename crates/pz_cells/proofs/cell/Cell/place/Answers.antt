@@ -1,5 +1,4 @@
-use Rattle.std.proofs.Common.{Option, Some, ap, sym, ◌∙◌}
-use Rattle.pz_game.specs.declared.direction.Dir.{Dir}
+use Rattle.pz_cells.proofs.Common.{Option, Some, ap, sym, ◌∙◌, Dir}
 use Rattle.pz_cells.proofs.HoldLemmas.{place_seen}
 use Rattle.pz_cells.proofs.PlaceLemmas.{place_some, found_on, found_none}
 use Rattle.pz_cells.proofs.cell.Cell.place.Goals as goal

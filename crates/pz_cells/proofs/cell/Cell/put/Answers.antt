@@ -1,6 +1,5 @@
-use Rattle.std.proofs.Common.{Some, None, ◌||◌, nat_eq, ap, sym}
+use Rattle.pz_cells.proofs.Common.{Some, None, ◌||◌, nat_eq, ap, sym, heads}
 use Rattle.std.proofs.Math.Bool.{and-false}
-use Rattle.pz_game.specs.Headings.{heads}
 use Rattle.pz_cells.proofs.PlaceLemmas.{piece_put, put_seen}
 use Rattle.pz_cells.proofs.cell.Cell.put.Goals as goal
 

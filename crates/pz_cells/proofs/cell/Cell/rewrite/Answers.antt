@@ -1,9 +1,4 @@
-use Rattle.std.proofs.Common.{ℕ, List, ap, sym, ◌∙◌, arith}
-use Rattle.pz_sets.specs.Sets.{member}
-use Rattle.pz_game.specs.Headings.{IsProper}
-use Rattle.pz_game.specs.Masks.{AreMasksOf}
-use Rattle.pz_cells.specs.Rewriting.{rewritten_cell}
-use Rattle.pz_cells.specs.Shown.{cell_of}
+use Rattle.pz_cells.proofs.Common.{ℕ, List, ap, sym, ◌∙◌, arith, member, IsProper, AreMasksOf, rewritten_cell, cell_of}
 use Rattle.pz_cells.proofs.HoldLemmas.{masks_of_game, masks_fit}
 use Rattle.pz_cells.proofs.RewriteLemmas.{AreRewritten, lawful_rewritten, cell_rewritten, placed_within, mid_proper, changed_by}
 use Rattle.pz_cells.proofs.cell.Cell.rewrite.Given.{Over}

@@ -1,7 +1,4 @@
-use Rattle.std.proofs.Common.{ℕ, ◌≡◌, ◌&&◌, ◌||◌, Bool, not, nat_eq, ap, ◌∙◌, subst}
-use Rattle.pz_game.specs.Direction.{same_dir}
-use Rattle.pz_game.specs.declared.direction.Dir.{Dir}
-use Rattle.pz_game.specs.Headings.{heads}
+use Rattle.pz_cells.proofs.Common.{ℕ, ◌≡◌, ◌&&◌, ◌||◌, Bool, not, nat_eq, ap, ◌∙◌, subst, same_dir, Dir, heads}
 use Rattle.pz_cells.proofs.PlaceLemmas.{changes_turned}
 use Rattle.pz_cells.proofs.cell.Cell.turn.Goals as goal
 
