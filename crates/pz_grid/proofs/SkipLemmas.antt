@@ -1,5 +1,5 @@
 -- No place starts in a line that is not searched, and no more start cells are tested than admitted lines have.
-use Rattle.std.proofs.Common.{◌≡◌, ℕ, zero, suc, ◌+◌, ◌-◌, ◌*◌, ◌≤◌, List, [], ◌∷◌, ◌++◌, filter, get_or, Bool, true, false, cond, not, ◌||◌, nat_eq, Option, None, Some, arith, ap, sym, ◌∙◌, refl, subst, mul-le-mul_right}
+use Rattle.std.proofs.Common.{◌≡◌, ℕ, zero, suc, ◌+◌, ◌*◌, ◌≤◌, List, [], ◌∷◌, ◌++◌, filter, get_or, Bool, true, false, cond, not, ◌||◌, nat_eq, Option, None, Some, arith, ap, sym, ◌∙◌, refl, subst, mul-le-mul_right}
 use Rattle.std.specs.Prelude.{is_some}
 use Rattle.std.specs.List.{list_all, list_any, flat_map, range_with_len, count_by, sum_by}
 use Rattle.std.proofs.lemmas.Bool.{and_from, and_parts, eqb-true, false_from_ne_true}
