@@ -1,6 +1,5 @@
 pub mod Leaving
 pub mod Advancing
-pub mod Running
 pub mod Bounds
 pub mod Starting
 pub mod BoardLemmas

@@ -231,10 +231,10 @@ impl<'a> Board<'a> {
     fn set_target(&mut self, commands: Commands) -> Result<(), AllocError>
         ensures { OnOk result (self.new ≡ record self.old { target = if has commands checkpoint then self.old.level else self.old.target }) }
     {
-        if commands.contains(Commands::CHECKPOINT) {
-            put_copy(&mut self.target, &self.level)?;
+        if !commands.contains(Commands::CHECKPOINT) {
+            return Ok(());
         }
-        Ok(())
+        put_copy(&mut self.target, &self.level)
     }
 
     /// Shows the level after a step that doesn't win. A checkpoint makes it the target. `again` asks for one more tick if the step changed
@@ -252,23 +252,8 @@ impl<'a> Board<'a> {
         self.show(kind, goes_on)
     }
 
-    /// The effect of a step that gives neither `cancel` nor `restart`: it wins, by `win` or by the win lines, or play goes on.
-    fn reach(
-        &mut self,
-        kind: FrameKind,
-        commands: Commands,
-        changed: bool,
-    ) -> Result<Shown, PlayFault>
-        ensures { GivesLink (Ok (reached_link kind commands changed self.old)) self.new result }
-    {
-        if commands.contains(Commands::WIN) || won(self.game, &self.level) {
-            let frame = self.frame(kind)?;
-            return self.win(frame);
-        }
-        self.keep(kind, commands, changed)
-    }
-
-    /// The effect of a step that has led to the level. Cancel, restart and win, in this order, each exclude all after it.
+    /// The effect of a step that has led to the level. Cancel, restart and win, in this order, each exclude all after it. A step wins by
+    /// `win` or by the win lines.
     fn take(
         &mut self,
         kind: FrameKind,
@@ -283,7 +268,11 @@ impl<'a> Board<'a> {
         if commands.contains(Commands::RESTART) {
             return self.restart();
         }
-        self.reach(kind, commands, changed)
+        if commands.contains(Commands::WIN) || won(self.game, &self.level) {
+            let frame = self.frame(kind)?;
+            return self.win(frame);
+        }
+        self.keep(kind, commands, changed)
     }
 
     /// Plays a step from the level, which stays as it is. A cancelled step ends with an equal level.
