@@ -10,7 +10,6 @@ use Rattle.pz_cells.specs.Sameness.{same_cell}
 use Rattle.pz_cells.specs.Standing.{standing}
 use Rattle.pz_cells.proofs.SameLemmas.{same_cell_is}
 use Rattle.pz_game.specs.declared.game.GameParts.{GameParts}
-use Rattle.pz_sets.specs.Sets.{member}
 use Rattle.pz_sheet.specs.Changes.{with_cell, cell_there, differ_in}
 use Rattle.pz_sheet.specs.Grid.{Grid, IsLawful, SameSize, cell_at}
 use Rattle.pz_sheet.specs.Presence.{cell_of}
@@ -20,15 +19,11 @@ use Rattle.pz_record.specs.declared.order.Order.TheVariants.{Rows, Columns}
 use Rattle.pz_record.specs.CellNames.{set_of}
 use Rattle.pz_level_text.specs.LevelNames.{standing_names}
 use Rattle.pz_record.specs.CellTexts.{joined}
-use Rattle.pz_level_text.specs.Labels.{set_text, texts_in}
+use Rattle.pz_level_text.specs.Labels.{texts_in}
 use Rattle.pz_level_text.specs.CellOrder.{column_of, row_of, number_of}
-use Rattle.pz_level_text.proofs.Labelling.{chosen_same, named_at}
+use Rattle.pz_level_text.proofs.Labelling.{chosen_same}
 use Rattle.pz_level_text.proofs.Ordered.{text_at_number, length-texts_in}
 use Rattle.pz_level_text.proofs.Walking.{on_map}
-
--- the text of the objects that stand at a position
-pub set_standing : (names : List (List ℕ)) (grid : Grid) (x y : ℕ) (objects : List ℕ) → ((object : ℕ) → member objects object ≡ stands grid x y object) → set_text names objects ≡ joined (set_of (standing_names names grid (x, y)))
-set_standing names grid x y objects same = ap (λ (l : List (List ℕ)). joined (set_of l)) (named_at names objects grid x y same)
 
 -- ---- numbers and positions
 pub number_back : (order : Order) (grid : Grid) (k : ℕ) → number_of order grid (column_of order grid k) (row_of order grid k) ≡ k

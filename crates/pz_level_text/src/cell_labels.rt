@@ -91,8 +91,7 @@ impl<'a> CellLabels<'a> {
         ensures game { self.new.table.game ≡ self.old.table.game }
         ensures order { self.new.order ≡ self.old.order }
     {
-        let objects = level.objects_at(x, y);
-        let label = self.table.label_at(self.alloc, level, x, y, objects)?;
+        let label = self.table.label_at(self.alloc, level, x, y)?;
         Ok(label)
     }
 
