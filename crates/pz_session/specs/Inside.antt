@@ -1,5 +1,7 @@
 -- What contracts see of a board.
-use Rattle.std.specs.Prelude.{◌≡◌, option_map}
+use Rattle.std.specs.Prelude.{◌≡◌, Bool, not, Option, option_map, IfSome}
+use Rattle.pz_sheet.specs.Grid.{Grid}
+use Rattle.pz_sheet.specs.Sameness.{same_grid}
 use Rattle.pz_session.specs.declared.board.Board.TheInside.{Inside}
 use Rattle.pz_session.specs.Board.{State, IsOneGame}
 
@@ -18,6 +20,10 @@ state_in b = record {
   is_over = b.is_over;
 }
 
+-- whether the level differs from the one before its input is as it is noted, where it is noted
+abbrev pub KnowsChange : Grid → Option Grid → Option Bool → Type 0
+KnowsChange level before differs = IfSome differs (λ differs. IfSome before (λ before. same_grid before level ≡ not differs))
+
 -- a board belongs to one game, and the writer of its texts has the same game and order
 abbrev pub IsKept : Inside → Type 0
-IsKept b = IsOneGame (state_in b) × ((b.texts.table.game ≡ b.game.now) × (b.texts.order ≡ b.order))
+IsKept b = IsOneGame (state_in b) × ((b.texts.table.game ≡ b.game.now) × (b.texts.order ≡ b.order)) × KnowsChange b.level.grid (state_in b).before b.differs

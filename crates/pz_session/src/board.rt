@@ -1,11 +1,12 @@
 //! The levels of a session between two links, and the links that lead on from them.
 #![tactic(auto, unfolding(crate::specs::Board::frame_of, crate::specs::Board::start_link, crate::specs::Board::restarted, crate::specs::Board::won_link, crate::specs::Board::kept_link, crate::specs::Board::reached_link, crate::specs::Board::effect, crate::specs::Board::press_link, crate::specs::Board::tick_link, crate::specs::Board::undo_link, crate::specs::Board::begun, crate::specs::Board::settled))]
 
-ghost use Rattle.std.specs.Prelude.{◌≡◌, ◌≢◌, ◌<◌, ◌+◌, true, if◌then◌else◌, length, IfOk, IfErr, OnOk, Ok, Err};
+ghost use Rattle.std.specs.Prelude.{◌≡◌, ◌≢◌, ◌<◌, ◌+◌, true, not, if◌then◌else◌, length, IfOk, IfErr, IfSome, OnOk, Ok, Err};
 ghost use Rattle.pz_program.specs.Commands.{has, cancel, checkpoint};
 ghost use Rattle.pz_game.specs.Level.{is_playable, entry_at};
 ghost use Rattle.pz_program.specs.Instance.{IsProgramOf};
 ghost use Rattle.pz_sheet.specs.Grid.{IsOfGame};
+ghost use Rattle.pz_sheet.specs.Sameness.{same_grid};
 ghost use Rattle.pz_bare.specs.Loading.{loaded};
 ghost use Rattle.pz_turn.specs.Step.{step_of};
 ghost use Rattle.pz_turn.specs.declared.outcome.StepFault.TheVariants.{Memory};
@@ -37,8 +38,8 @@ use std::alloc::{AllocError, Global};
 use std::marker::Model;
 
 /// A session between two links: the entry of LEVELS that is played, its level, the target of a restart, the past, and whether play is over.
-/// `before` has the level before an input until that input's chain is over. `spare` is memory for the next step; what stands there doesn't
-/// count.
+/// `before` has the level before an input until that input's chain is over, and `differs` says whether the level differs from it, where that
+/// is known. `spare` is memory for the next step; what stands there doesn't count.
 pub struct Board<'a> {
     alloc: Global,
     game: &'a Game,
@@ -50,6 +51,7 @@ pub struct Board<'a> {
     target: Level,
     past: Past,
     before: Option<Level>,
+    differs: Option<bool>,
     spare: Option<Level>,
     is_over: bool,
     texts: TextWriter<'a>,
@@ -81,6 +83,7 @@ impl Drop for Board<'_> {
             target: _target,
             past: _past,
             before,
+            differs: _,
             spare,
             is_over: _,
             texts: _texts,
@@ -101,6 +104,17 @@ fn opened(alloc: Global, game: &Game, entry: usize) -> Result<(Level, Level), Al
     match level.copied() {
         Ok(target) => Ok((level, target)),
         Err(fault) => Err(fault),
+    }
+}
+
+/// Whether a level differs from the one before, where that may be known already.
+fn differs(known: Option<bool>, before: &Level, level: &Level) -> bool
+    requires { IfSome known (λ differs. same_grid before.now.grid level.now.grid ≡ not differs) }
+    ensures { result ≡ not (same_grid before.now.grid level.now.grid) }
+{
+    match known {
+        Some(differs) => differs,
+        None => !before.same(level),
     }
 }
 
@@ -133,6 +147,7 @@ impl<'a> Board<'a> {
                 target,
                 past: Past::new(alloc),
                 before: None,
+                differs: None,
                 spare: None,
                 is_over: false,
                 texts: TextWriter::new(alloc, game, order),
@@ -181,6 +196,7 @@ impl<'a> Board<'a> {
     fn restart(&mut self) -> Result<Shown, PlayFault>
         ensures { GivesLink (Ok (restarted self.old)) self.new result }
     {
+        self.differs = None;
         put_copy(&mut self.level, &self.target)?;
         let goes_on = self.ticks_at_start();
         self.show(FrameKind::Restart, goes_on)
@@ -316,6 +332,7 @@ impl<'a> Board<'a> {
             changed,
         } = end;
         put_before(&mut self.level, level, &mut self.before);
+        self.differs = Some(changed);
         self.take(FrameKind::Move, commands, changed)
     }
 
@@ -338,6 +355,7 @@ impl<'a> Board<'a> {
             changed,
         } = end;
         put_before(&mut self.level, level, &mut self.spare);
+        self.differs = None;
         self.take(FrameKind::Tick, commands, changed)
     }
 
@@ -347,6 +365,7 @@ impl<'a> Board<'a> {
     {
         if let Some(newest) = self.past.newest() {
             self.level = Level::marked(self.alloc, newest.copy()?)?;
+            self.differs = None;
             self.past.forget();
         }
         Ok(())
@@ -365,6 +384,7 @@ impl<'a> Board<'a> {
     {
         let target = self.target.copied()?;
         put_before(&mut self.level, target, &mut self.before);
+        self.differs = None;
         let goes_on = self.ticks_at_start();
         self.show(FrameKind::Restart, goes_on)
     }
@@ -395,7 +415,7 @@ impl<'a> Board<'a> {
         ensures { OnOk result (self.new ≡ settled self.old) }
     {
         if let Some(before) = self.before.take() {
-            if !before.same(&self.level) {
+            if differs(self.differs, &before, &self.level) {
                 self.past.push(before.bare())?;
             }
             put_aside(&mut self.spare, before);

@@ -16,4 +16,5 @@ invariant_of-self c =
         before = old.before;
       },
       c.self.invariant.1,
+      tt,
     )
