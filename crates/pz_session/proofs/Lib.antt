@@ -4,6 +4,7 @@ pub mod Running
 pub mod Bounds
 pub mod Starting
 pub mod BoardLemmas
+pub mod LabelledLemmas
 pub mod Closing
 pub mod Rows
 pub mod WorkedSessions

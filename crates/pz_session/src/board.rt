@@ -14,6 +14,7 @@ ghost use Rattle.pz_case.specs.FirstLevel.{level_from};
 ghost use Rattle.pz_session.specs.Chain.{GivesLink};
 
 use crate::chain::{PlayFault, Shown};
+use crate::labelled::Labelled;
 use crate::place::{put_aside, put_before, put_copy};
 use crate::turn::is_idle;
 use bitflags::Flags;
@@ -39,7 +40,7 @@ use std::marker::Model;
 
 /// A session between two links: the entry of LEVELS that is played, its level, the target of a restart, the past, and whether play is over.
 /// `before` has the level before an input until that input's chain is over, and `differs` says whether the level differs from it, where that
-/// is known. `spare` is memory for the next step; what stands there doesn't count.
+/// is known. `spare` is memory for the next step. `labelled` says which of these levels has the labels that `texts` keeps.
 pub struct Board<'a> {
     alloc: Global,
     game: &'a Game,
@@ -55,6 +56,7 @@ pub struct Board<'a> {
     spare: Option<Level>,
     is_over: bool,
     texts: TextWriter<'a>,
+    labelled: Labelled,
 }
 
 impl<'a> Model for Board<'a> {
@@ -87,6 +89,7 @@ impl Drop for Board<'_> {
             spare,
             is_over: _,
             texts: _texts,
+            labelled: _,
         } = self;
         drop(before);
         drop(spare);
@@ -151,6 +154,7 @@ impl<'a> Board<'a> {
                 spare: None,
                 is_over: false,
                 texts: TextWriter::new(alloc, game, order),
+                labelled: Labelled::Nothing,
             }),
             Err(fault) => Err(fault),
         }
@@ -168,7 +172,13 @@ impl<'a> Board<'a> {
         ensures frame { IfOk result (λ frame. frame ≡ frame_of self.old kind) }
         ensures same { self.new ≡ self.old }
     {
-        let level_text = self.texts.write(&self.level)?;
+        let seen = self.labelled.level(&self.level, &self.before, &self.spare);
+        self.labelled = Labelled::Nothing;
+        let level_text = match seen {
+            Some(seen) => self.texts.write_after(seen, &self.level)?,
+            None => self.texts.write(&self.level)?,
+        };
+        self.labelled = Labelled::Level;
         Ok(Frame { kind, level_text })
     }
 
@@ -197,6 +207,7 @@ impl<'a> Board<'a> {
         ensures { GivesLink (Ok (restarted self.old)) self.new result }
     {
         self.differs = None;
+        self.labelled = self.labelled.behind();
         put_copy(&mut self.level, &self.target)?;
         let goes_on = self.ticks_at_start();
         self.show(FrameKind::Restart, goes_on)
@@ -214,6 +225,7 @@ impl<'a> Board<'a> {
         self.target = target;
         self.past.clear();
         self.before = None;
+        self.labelled = Labelled::Nothing;
         self.is_over = false;
         Ok(())
     }
@@ -310,6 +322,7 @@ impl<'a> Board<'a> {
         ensures fault { IfErr result (λ fault. fault ≢ Memory → step_of self.old.game self.old.program self.old.level input ≡ Err fault) }
         ensures same { self.new ≡ self.old }
     {
+        self.labelled = self.labelled.at_level_only();
         let spare = self.spare.take();
         step_in(
             self.alloc,
@@ -333,6 +346,7 @@ impl<'a> Board<'a> {
         } = end;
         put_before(&mut self.level, level, &mut self.before);
         self.differs = Some(changed);
+        self.labelled = self.labelled.moved_to(Labelled::Before);
         self.take(FrameKind::Move, commands, changed)
     }
 
@@ -342,6 +356,7 @@ impl<'a> Board<'a> {
     {
         let end = self.turn(None)?;
         if is_idle(&end) {
+            self.labelled = self.labelled.at_level_only();
             put_aside(&mut self.spare, end.level);
             return Ok(Shown {
                 first: None,
@@ -356,6 +371,7 @@ impl<'a> Board<'a> {
         } = end;
         put_before(&mut self.level, level, &mut self.spare);
         self.differs = None;
+        self.labelled = self.labelled.moved_to(Labelled::Spare);
         self.take(FrameKind::Tick, commands, changed)
     }
 
@@ -364,8 +380,10 @@ impl<'a> Board<'a> {
         ensures { OnOk result (self.new ≡ undone self.old self.old.past) }
     {
         if let Some(newest) = self.past.newest() {
-            self.level = Level::marked(self.alloc, newest.copy()?)?;
+            let level = Level::marked(self.alloc, newest.copy()?)?;
+            put_before(&mut self.level, level, &mut self.spare);
             self.differs = None;
+            self.labelled = self.labelled.moved_to(Labelled::Spare);
             self.past.forget();
         }
         Ok(())
@@ -385,6 +403,7 @@ impl<'a> Board<'a> {
         let target = self.target.copied()?;
         put_before(&mut self.level, target, &mut self.before);
         self.differs = None;
+        self.labelled = self.labelled.moved_to(Labelled::Before);
         let goes_on = self.ticks_at_start();
         self.show(FrameKind::Restart, goes_on)
     }
@@ -414,6 +433,7 @@ impl<'a> Board<'a> {
     pub fn settle(&mut self) -> Result<(), AllocError>
         ensures { OnOk result (self.new ≡ settled self.old) }
     {
+        self.labelled = self.labelled.at_level_only();
         if let Some(before) = self.before.take() {
             if differs(self.differs, &before, &self.level) {
                 self.past.push(before.bare())?;

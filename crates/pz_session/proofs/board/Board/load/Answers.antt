@@ -17,4 +17,5 @@ invariant_of-result c = (
   },
   (ap (λ (t : WriterView). t.table.game) c.new-in-Ok.ensures, ap (λ (t : WriterView). t.order) c.new-in-Ok.ensures),
   tt,
+  tt,
 )

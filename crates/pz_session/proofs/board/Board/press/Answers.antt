@@ -5,6 +5,7 @@ use Rattle.pz_sheet.specs.Sameness.{same_grid}
 use Rattle.pz_session.specs.Board.{State, at_level, keeping}
 use Rattle.pz_session.specs.Inside.{state_in}
 use Rattle.pz_session.proofs.BoardLemmas.{pressed, tells}
+use Rattle.pz_session.proofs.LabelledLemmas.{kept_before}
 use Rattle.pz_session.proofs.board.Board.press.Goals as goal
 
 pub invariant_of-self : goal.invariant_of-self
@@ -18,6 +19,7 @@ invariant_of-self c =
       search rules,
       c.self.invariant.1,
       subst (λ (o : Option LevelState). IfSome (option_map (λ (l : LevelState). l.grid) o) (λ before. same_grid before place.grid ≡ not end.changed)) (sym c.put_before.ensures.aside) known,
+      kept_before c.self.inside.texts c.self.inside.labelled c.moved_to-self-inside.result c.self.inside.level.grid place.grid (option_map (λ (l : LevelState). l.grid) c.self.inside.before) (option_map (λ (l : LevelState). l.grid) c.self.inside.spare) (option_map (λ (l : LevelState). l.grid) c.put_before.new.aside) (option_map (λ (l : LevelState). l.grid) c.self.inside.spare) c.moved_to-self-inside.ensures (ap (option_map (λ (l : LevelState). l.grid)) c.put_before.ensures.aside) c.self.invariant.3,
     )
 
 pub returns : goal.returns
