@@ -1,10 +1,10 @@
 -- The bits of a word that is shifted.
-use Rattle.std.proofs.Common.{◌≡◌, ℕ, ◌+◌, ◌-◌, ◌*◌, ◌/◌, ◌%◌, ◌^◌, ◌<◌, ◌≤◌, ◌∷◌, [], true, arith, ap, sym, ◌∙◌, refl, nat_eq}
+use Rattle.std.proofs.Common.{◌≡◌, ℕ, ◌+◌, ◌-◌, ◌*◌, ◌/◌, ◌%◌, ◌^◌, ◌<◌, ◌≤◌, true, arith, ap, sym, ◌∙◌, nat_eq}
 use Rattle.std.specs.Int.{bit_at}
 use Rattle.std.proofs.lemmas.Nat.{shr-shr}
 use Rattle.std.proofs.lemmas.Nat.Bits.{bit_at_cat_low, bit_at_cat_high, bit_at_ones}
 use Rattle.std.proofs.Math.Pow.{pow-sub-lt}
-use Rattle.pz_sets.specs.Sets.{in_word, member}
+use Rattle.pz_sets.specs.Sets.{in_word}
 use Rattle.pz_sets.proofs.WordLemmas.{in_word-from, in_word-and, in_word-or}
 use Rattle.pz_planes.specs.declared.line.Way.{Way}
 use Rattle.pz_planes.specs.declared.line.Way.TheVariants.{Ahead, Back}
