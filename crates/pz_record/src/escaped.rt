@@ -1,6 +1,6 @@
 //! The text of cells as it stands in a JSON string, escaped. It is written into memory that is reused from text to text.
 
-ghost use Rattle.std.specs.Prelude.{◌≡◌, ℕ, ◌+◌, ◌-◌, ◌*◌, ◌%◌, ◌^◌, ◌<◌, ◌≤◌, ◌++◌, ◌∷◌, [], length, map, take, All, IfOk, OnOk, decimal};
+ghost use Rattle.std.specs.Prelude.{◌≡◌, ℕ, ◌+◌, ◌-◌, ◌*◌, ◌%◌, ◌^◌, ◌<◌, ◌≤◌, ◌++◌, ◌∷◌, [], length, map, take, All, IfOk, IfSome, OnOk, None, decimal};
 ghost use Rattle.json.specs.Print.{escape};
 ghost use Rattle.pz_record.specs.Labels.{text_at};
 ghost use Rattle.pz_record.specs.CellTexts.{line_end, known_of};
@@ -49,21 +49,24 @@ fn put_marked(json: &mut [u8], end: usize, bytes: &[u8], mark: u8) -> usize
     next + 1
 }
 
-/// Writes a number of one or two digits, and a comma.
+/// Writes a number of one or two digits, and a comma. `None`: the number has more digits, and nothing is written.
 #[inline(always)]
-fn put_number(json: &mut [u8], end: usize, number: usize) -> usize
-    requires number { number < 100 }
+fn put_number(json: &mut [u8], end: usize, number: usize) -> Option<usize>
     requires room { end + 3 ≤ length json.old }
-    ensures end { result ≤ end + 3 }
-    ensures written { take result json.new ≡ take end json.old ++ escape (decimal number ++ 44 ∷ []) }
+    ensures end { IfSome result (λ next. next ≤ end + 3) }
+    ensures written { IfSome result (λ next. take next json.new ≡ take end json.old ++ escape (decimal number ++ 44 ∷ [])) }
     ensures room { length json.new ≡ length json.old }
+    ensures none { result ≡ None → json.new ≡ json.old }
 {
     if number < 10 {
-        return put(json, end, &[b'0' + number as u8, b',']);
+        return Some(put(json, end, &[b'0' + number as u8, b',']));
     }
-    let tens = b'0' + (number / 10) as u8;
-    let ones = b'0' + (number % 10) as u8;
-    put(json, end, &[tens, ones, b','])
+    if number < 100 {
+        let tens = b'0' + (number / 10) as u8;
+        let ones = b'0' + (number % 10) as u8;
+        return Some(put(json, end, &[tens, ones, b',']));
+    }
+    None
 }
 
 /// Counts one more cell in the last line, and ends the line if it then has as many cells as the level is wide. Gives the new end of the
@@ -109,12 +112,14 @@ pub(crate) fn write_known(
 {
     let mut at = from;
     'cells: while at.cells < stop {
-        let given = numbers[labels[at.cells]];
-        let number = match given {
-            Some(number) if number < 100 => number,
-            _ => return at,
+        let number = match numbers[labels[at.cells]] {
+            Some(number) => number,
+            None => return at,
         };
-        let next = put_number(json, at.end, number);
+        let next = match put_number(json, at.end, number) {
+            Some(next) => next,
+            None => return at,
+        };
         let (end, column) = end_line(json, next, width, at.column);
         at = Written {
             end,

@@ -12,13 +12,13 @@ returns-then-number-lt10-clause-written c =
     escape-number n (omega (arith, c.ranges.number.fits)) ∙ ap (λ (l : List ℕ). l ++ 44 ∷ []) (decimal_digit n c.if-number-lt10.true) in
     c.put.ensures.written ∙ ap (λ (l : List ℕ). old ++ l) (sym text)
 
-pub returns-clause-written : goal.returns-clause-written
-returns-clause-written c =
+pub returns-then-number-lt100-clause-written : goal.returns-then-number-lt100-clause-written
+returns-then-number-lt100-clause-written c =
     let n = c.args.number in
     let old = take c.args.end c.args.json.now in
-    let tens : n / 10 < 10 = omega (arith, c.requires.number) in
+    let tens : n / 10 < 10 = omega (arith, c.if-number-lt100.true) in
     let digits : decimal n ≡ (48 + n / 10) ∷ (48 + n % 10) ∷ [] =
     decimal_step n (omega arith) (omega (arith, c.ranges.number.fits)) ∙ ap (λ (l : List ℕ). l ++ (48 + n % 10) ∷ []) (decimal_digit (n / 10) tens) in
     let text : escape (decimal n ++ 44 ∷ []) ≡ (48 + n / 10) ∷ (48 + n % 10) ∷ 44 ∷ [] =
     escape-number n (omega (arith, c.ranges.number.fits)) ∙ ap (λ (l : List ℕ). l ++ 44 ∷ []) digits in
-    c.put-2.ensures.written ∙ ap (λ (l : List ℕ). old ++ l) (sym text)
+    c.put-then-number-lt100.ensures.written ∙ ap (λ (l : List ℕ). old ++ l) (sym text)

@@ -24,14 +24,14 @@ cells-preserved c =
     let found : number_in known cell ≡ Some n = sym (numbered_at texts known c.args.numbers.now label None before.numbers is.1) ∙ c.in-Some.is in
     let parts = known_piece known cell n found in
     record {
-      room = omega (arith, c.put_number-next.ensures.end, c.end_line-end.ensures.end);
+      room = omega (arith, c.in-Some-put_number.ensures.end, c.end_line-end.ensures.end);
       onward = omega arith;
       stop = omega (arith, c.cells-test.true);
       same = known_more all k is.0 ∙ ap (with_cell known) is.2 ∙ parts.1 ∙ c.cells.invariant.same;
       written = cell_more c.args.width all texts c.cells.at c.cells.json c.args.numbers.now before cell is.0 is.2 _ c.end_line-end.new.json c.args.numbers.now refl
           (c.end_line-end.ensures.written k before.column
-          ∙ ap (λ l. l ++ escape (line_end c.args.width (k + 1))) (c.put_number-next.ensures.written ∙ ap (λ l. take c.cells.at.end c.cells.json ++ escape l) (sym parts.0)))
-          (omega arith)
+          ∙ ap (λ l. l ++ escape (line_end c.args.width (k + 1))) (c.in-Some-put_number.ensures.written ∙ ap (λ l. take c.cells.at.end c.cells.json ++ escape l) (sym parts.0)))
+          (omega (arith, c.in-Some-put_number.ensures.end, c.end_line-end.ensures.end))
           (rw parts.1 before.numbers)
           (rw parts.1 before.known)
           (omega arith)
