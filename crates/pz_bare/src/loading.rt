@@ -6,6 +6,7 @@ ghost use Rattle.pz_game.specs.Game.{background_of};
 ghost use Rattle.pz_cells.specs.Cell.{IsOnLayer};
 ghost use Rattle.pz_sheet.specs.Grid.{IsLawful};
 ghost use Rattle.pz_sheet.specs.Loading.{IsRoomFor, drawn};
+ghost use Rattle.pz_bare.specs.AnySheet.{state_in, IsFitting};
 ghost use Rattle.pz_bare.specs.Loading.{first_in_column, first_on, with_background, loaded_from, loaded};
 
 use crate::{AnySheet, BareLevel};
@@ -24,34 +25,32 @@ impl BareLevel {
     {
         match &game.levels()[index] {
             LevelEntry::Message => unreachable!(),
-            LevelEntry::Level(drawing) => BareLevel::load_from(alloc, game, drawing),
+            LevelEntry::Level(drawing) => {
+                let sheet = any_sheet_from(alloc, game, drawing)?;
+                Ok(BareLevel {
+                    sheet: Box::new(alloc, sheet)?,
+                })
+            }
         }
     }
+}
 
-    fn load_from(alloc: Global, game: &Game, drawing: &DrawnLevel) -> Result<BareLevel, AllocError>
-        requires { All (λ number. number < length game.now.values) drawing.now.cells }
-        ensures loaded { IfOk result (λ bare. bare.grid ≡ loaded_from game.now drawing.now) }
-        ensures lawful { IfOk result (λ bare. IsLawful bare.grid) }
-    {
-        let objects = game.layers().len();
-        let depth = game.depth();
-        if objects <= 128 && depth <= 25 {
-            let sheet = AnySheet::Small(sheet_from(alloc, game, drawing)?);
-            return Ok(BareLevel {
-                sheet: Box::new(alloc, sheet)?,
-            });
-        }
-        if objects <= 256 && depth <= 50 {
-            let sheet = AnySheet::Middle(sheet_from(alloc, game, drawing)?);
-            return Ok(BareLevel {
-                sheet: Box::new(alloc, sheet)?,
-            });
-        }
-        let sheet = AnySheet::Large(sheet_from(alloc, game, drawing)?);
-        Ok(BareLevel {
-            sheet: Box::new(alloc, sheet)?,
-        })
+/// The level of a drawing, with as many words a cell as the game needs.
+fn any_sheet_from(alloc: Global, game: &Game, drawing: &DrawnLevel) -> Result<AnySheet, AllocError>
+    requires { All (λ number. number < length game.now.values) drawing.now.cells }
+    ensures loaded { IfOk result (λ any. (state_in any).grid ≡ loaded_from game.now drawing.now) }
+    ensures lawful { IfOk result (λ any. IsLawful (state_in any).grid) }
+    ensures fitting { IfOk result IsFitting }
+{
+    let objects = game.layers().len();
+    let depth = game.depth();
+    if objects <= 128 && depth <= 25 {
+        return sheet_from(alloc, game, drawing).map(AnySheet::Small);
     }
+    if objects <= 256 && depth <= 50 {
+        return sheet_from(alloc, game, drawing).map(AnySheet::Middle);
+    }
+    sheet_from(alloc, game, drawing).map(AnySheet::Large)
 }
 
 /// The level of a drawing, with N words a cell.

@@ -1,6 +1,6 @@
 //! Sets of names, in the order of first mention.
 
-ghost use Rattle.std.specs.Prelude.{◌≡◌, ◌<◌, ◌^◌, ◌++◌, ◌∷◌, [], length, OnOk, OnErr, false};
+ghost use Rattle.std.specs.Prelude.{◌≡◌, ◌<◌, ◌^◌, ◌++◌, ◌∷◌, [], length, OnOk, OnErr, true, false};
 ghost use Rattle.pz_base.specs.NameSet.{is_name_of, number_in};
 
 use indexmap::IndexSet;
@@ -51,6 +51,23 @@ impl NameSet {
         ensures { result ≡ is_name_of self.now name.now }
     {
         self.texts.contains(name)
+    }
+
+    /// Whether another set has the same names in the same order.
+    pub fn same(&self, other: &NameSet) -> bool
+        ensures { result ≡ true → self.now ≡ other.now }
+    {
+        let texts = self.texts.as_slice();
+        let others = other.texts.as_slice();
+        if texts.len() != others.len() {
+            return false;
+        }
+        for number in 0..texts.len() {
+            if texts[number].as_str() != others[number].as_str() {
+                return false;
+            }
+        }
+        true
     }
 
     /// Adds a new name after the others. Err: memory was refused, and the set is unchanged.

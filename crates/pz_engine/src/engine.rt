@@ -118,9 +118,10 @@ fn play_case(
     })
 }
 
-/// Plays every session of a job, and answers the lines of the items from an input on.
+/// Plays every session of a job, and answers the lines of the items from an input on: the frames that are shown after so many inputs
+/// or more, and each close.
 #[tactic(auto, unfolding(pz_lines::specs::Lines::text_from))]
-fn play(alloc: Global, job: &Job, from: u64) -> Result<Played, AllocError>
+pub fn play(alloc: Global, job: &Job, from: u64) -> Result<Played, AllocError>
     ensures lines { IfOk result (λ played. played.lines.items ≡ text_from from (recording job.now)) }
     ensures passed { IfOk result (λ played. played.passed ≡ all_passed (recording job.now)) }
 {
@@ -143,8 +144,7 @@ pub fn lines(alloc: Global, bytes: &[u8], order: Order) -> Result<Played, FileFa
     lines_from(alloc, bytes, order, 0)
 }
 
-/// The same, with only the lines of the items from an input on: the frames that are shown after so many inputs or more, and each
-/// close.
+/// The same, with only the lines of the items from an input on.
 pub fn lines_from(alloc: Global, bytes: &[u8], order: Order, from: u64) -> Result<Played, FileFault>
     ensures played { IfOk result (IsPlayed (text_from from) order bytes.now) }
     ensures refused { IfErr result (λ cause. cause ≢ fault.Memory → sessions_in bytes.now ≡ Err cause) }

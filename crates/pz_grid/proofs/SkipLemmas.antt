@@ -1,10 +1,11 @@
 -- No place starts in a line that is not searched, and no more start cells are tested than admitted lines have.
-use Rattle.std.proofs.Common.{◌≡◌, ℕ, zero, suc, ◌+◌, ◌-◌, ◌*◌, ◌≤◌, List, [], ◌∷◌, ◌++◌, filter, get_or, Bool, true, false, cond, not, ◌||◌, nat_eq, Option, None, Some, arith, ap, sym, ◌∙◌, refl, subst, mul-le-mul_right}
+use Rattle.std.proofs.Common.{◌≡◌, ℕ, ◌+◌, ◌*◌, ◌≤◌, List, [], ◌∷◌, get_or, Bool, true, false, cond, not, ◌||◌, nat_eq, Option, None, Some, arith, ap, sym, ◌∙◌, refl, subst, mul-le-mul_right}
 use Rattle.std.specs.Prelude.{is_some}
-use Rattle.std.specs.List.{list_all, list_any, flat_map, range_with_len, count_by, sum_by}
+use Rattle.std.specs.List.{list_all, list_any, range_with_len, count_by, sum_by}
 use Rattle.std.proofs.lemmas.Bool.{and_from, and_parts, eqb-true, false_from_ne_true}
 use Rattle.std.proofs.lemmas.List.Sums.{list_all-from_AllPass, count_by-le-length, sum_by-append}
 use Rattle.std.proofs.lemmas.List.FromFn.{length-range_with_len}
+use Rattle.std.proofs.lemmas.Map.Views.{any-filter_same}
 use Rattle.pz_sets.specs.Sets.{member}
 use Rattle.pz_game.specs.declared.direction.Dir.{Dir}
 use Rattle.pz_game.specs.declared.direction.Dir.TheVariants.{Up, Down, Left, Right, Action}
@@ -29,6 +30,7 @@ use Rattle.pz_sheet.specs.Searching.{HoldsSomewhere}
 use Rattle.pz_grid.proofs.SomewhereLemmas.{HoldsThere, line_nowhere, nowhere_none}
 use Rattle.pz_grid.proofs.GatherLemmas.{gather}
 use Rattle.pz_grid.proofs.HeadLemmas.{head_from_row}
+use Rattle.pz_grid.proofs.StartLemmas.{gather_skip}
 use Rattle.pz_grid.proofs.FoundLemmas.{found_with, found_at, found_in, found_at_all, found_in_all}
 
 -- what a cell that holds names is in each set that has all that stands there
@@ -98,24 +100,13 @@ line_of_place Right line start gap = refl
 line_of_place Action line start gap = refl
 
 gather_none : {X : Type 0} (h : ℕ → List X) → ((k : ℕ) → h k ≡ []) → (n : ℕ) → gather h n ≡ []
-gather_none {X} h none n = from 0 n where
-  from : (a n : ℕ) → flat_map h (range_with_len a n) ≡ []
-  from a zero = refl
-  from a (suc n) = ap (λ (xs : List X). xs ++ flat_map h (range_with_len (a + 1) n)) (none a) ∙ from (a + 1) n
+gather_none h none n = gather_skip h 0 n (omega arith) (λ k _ _. none k)
 
 pub found_nowhere : (grid : Grid) (row : RuleRow) (dir : Dir) (line : ℕ) → StartsNowhere grid row dir line → found_in grid row dir line ≡ []
 found_nowhere grid row dir line none =
     sym (found_in_all grid row dir line) ∙ gather_none (found_at grid row dir line) (λ start. sym (found_at_all grid row dir line start) ∙ gather_none (found_with grid row dir line start) (λ n. ap (λ (b : Bool). cond b (place_in dir line start n ∷ []) []) (none (place_in dir line start n) (line_of_place dir line start n))) (gap_count grid row dir)) (line_length grid dir)
 
 -- ---- the count
-any_none : {X : Type 0} (p q : X → Bool) (xs : List X) → ((x : X) → p x ≡ true → q x ≡ false) → list_any p (filter q xs) ≡ false
-any_none p q [] h = refl
-any_none {X} p q (x ∷ xs) h = by_test (any_none p q xs h) (q x) refl (p x) refl where
-  by_test : list_any p (filter q xs) ≡ false → (b : Bool) → q x ≡ b → (d : Bool) → p x ≡ d → list_any p (cond b (x ∷ filter q xs) (filter q xs)) ≡ false
-  by_test rest false e d f = rest
-  by_test rest true e true f = (let g : true ≡ false = sym e ∙ h x f in cc)
-  by_test rest true e false f = ap (λ b. b || list_any p (filter q xs)) f ∙ rest
-
 sum_cons : {X : Type 0} (f : X → ℕ) (x : X) (xs : List X) → sum_by f (x ∷ xs) ≡ f x + sum_by f xs
 sum_cons f x xs = sum_by-append f (x ∷ []) xs ∙ ap (λ (n : ℕ). n + sum_by f xs) (let e : 0 + f x ≡ f x = omega arith in e)
 
@@ -127,45 +118,32 @@ count_none p [] h = refl
 count_none p (x ∷ xs) h = count_cons p x xs ∙ ap (λ (b : Bool). cond b 1 0 + count_by p xs) (h x) ∙ (let e : 0 + count_by p xs ≡ 0 = omega (arith, count_none p xs h) in e)
 
 -- a stricter test passes no more often
+le_cond : (a b : Bool) → (a ≡ true → b ≡ true) → cond a 1 0 ≤ cond b 1 0
+le_cond true true h = omega arith
+le_cond true false h = let f : false ≡ true = h refl in cc
+le_cond false true h = omega arith
+le_cond false false h = omega arith
+
 count_fewer : {X : Type 0} (p q : X → Bool) (xs : List X) → ((x : X) → p x ≡ true → q x ≡ true) → count_by p xs ≤ count_by q xs
 count_fewer p q [] h = omega arith
-count_fewer {X} p q (x ∷ xs) h = by_tests (count_fewer p q xs h) (p x) refl (q x) refl where
-  step : (a b : Bool) → p x ≡ a → q x ≡ b → cond a 1 0 + count_by p xs ≤ cond b 1 0 + count_by q xs → count_by p (x ∷ xs) ≤ count_by q (x ∷ xs)
-  step a b e f k = omega (arith, k, count_cons p x xs ∙ ap (λ (d : Bool). cond d 1 0 + count_by p xs) e, count_cons q x xs ∙ ap (λ (d : Bool). cond d 1 0 + count_by q xs) f)
+count_fewer p q (x ∷ xs) h = omega (arith, count_cons p x xs, count_cons q x xs, le_cond (p x) (q x) (h x), count_fewer p q xs h)
 
-  by_tests : count_by p xs ≤ count_by q xs → (a : Bool) → p x ≡ a → (b : Bool) → q x ≡ b → count_by p (x ∷ xs) ≤ count_by q (x ∷ xs)
-  by_tests rest false e b f = by_other b f where
-    by_other : (b : Bool) → q x ≡ b → count_by p (x ∷ xs) ≤ count_by q (x ∷ xs)
-    by_other true f = step false true e f (let k : 0 + count_by p xs ≤ 1 + count_by q xs = omega (arith, rest) in k)
-    by_other false f = step false false e f (let k : 0 + count_by p xs ≤ 0 + count_by q xs = omega (arith, rest) in k)
-  by_tests rest true e true f = step true true e f (let k : 1 + count_by p xs ≤ 1 + count_by q xs = omega (arith, rest) in k)
-  by_tests rest true e false f = (let g : true ≡ false = sym (h x e) ∙ f in cc)
-
-product_step : (r size s f : ℕ) → s ≤ r * size → f ≤ size → f + s ≤ (1 + r) * size
-product_step r size s f h k = omega arith
-
-plain_step : (r size s f : ℕ) → s ≤ r * size → f ≡ 0 → f + s ≤ (0 + r) * size
-plain_step r size s f h e = omega arith
+product_step : (b : Bool) (r size s f : ℕ) → s ≤ r * size → f ≤ size → (b ≡ false → f ≡ 0) → f + s ≤ (cond b 1 0 + r) * size
+product_step true r size s f h low none = omega arith
+product_step false r size s f h low none = let e : f ≡ 0 = none refl in omega arith
 
 -- a sum whose terms are at most a number where a test passes, and else nothing
 bounded : {X : Type 0} (f : X → ℕ) (p : X → Bool) (size : ℕ) (xs : List X) → ((x : X) → f x ≤ size) → ((x : X) → p x ≡ false → f x ≡ 0) → sum_by f xs ≤ count_by p xs * size
 bounded f p size [] h none = omega arith
-bounded {X} f p size (x ∷ xs) h none = by_test (bounded f p size xs h none) (p x) refl where
-  step : (b : Bool) → p x ≡ b → f x + sum_by f xs ≤ (cond b 1 0 + count_by p xs) * size → sum_by f (x ∷ xs) ≤ count_by p (x ∷ xs) * size
-  step b e h =
-      let total : count_by p (x ∷ xs) ≡ cond b 1 0 + count_by p xs = count_cons p x xs ∙ ap (λ (d : Bool). cond d 1 0 + count_by p xs) e in
-      subst (λ (n : ℕ). n ≤ count_by p (x ∷ xs) * size) (sym (sum_cons f x xs)) (subst (λ (n : ℕ). f x + sum_by f xs ≤ n * size) (sym total) h)
-
-  by_test : sum_by f xs ≤ count_by p xs * size → (b : Bool) → p x ≡ b → sum_by f (x ∷ xs) ≤ count_by p (x ∷ xs) * size
-  by_test rest true e = step true e (product_step (count_by p xs) size (sum_by f xs) (f x) rest (h x))
-  by_test rest false e = step false e (plain_step (count_by p xs) size (sum_by f xs) (f x) rest (none x e))
+bounded f p size (x ∷ xs) h none =
+    omega (arith, sum_cons f x xs, ap (λ (n : ℕ). n * size) (count_cons p x xs), product_step (p x) (count_by p xs) size (sum_by f xs) (f x) (bounded f p size xs h none) (h x) (none x))
 
 -- no cell of a line is a start where no place starts in it, and no more are than the line has
 pub starts_nowhere : (grid : Grid) (row : RuleRow) (dir : Dir) (size line : ℕ) → StartsNowhere grid row dir line → starts_in dir (places grid row dir) size line ≡ 0
 starts_nowhere grid row dir size line none =
-    count_none (λ (start : ℕ). list_any (starts_at dir line start) (places grid row dir)) (range_with_len 0 size) (λ start. any_none (starts_at dir line start) (row_holds grid row dir) (pairs grid row dir) (λ place at.
+    count_none (λ (start : ℕ). list_any (starts_at dir line start) (places grid row dir)) (range_with_len 0 size) (λ start. any-filter_same (starts_at dir line start) (row_holds grid row dir) false (λ place at.
     (let parts = and_parts (nat_eq (line_of dir place) line) (nat_eq (start_of dir place) start) at in
-    none place (eqb-true _ _ parts.0))))
+    none place (eqb-true _ _ parts.0))) (pairs grid row dir))
 
 pub starts_in_line : (dir : Dir) (found : List Place) (size line : ℕ) → starts_in dir found size line ≤ size
 starts_in_line dir found size line = omega (arith, count_by-le-length (λ (start : ℕ). list_any (starts_at dir line start) found) (range_with_len 0 size), length-range_with_len 0 size)
@@ -192,7 +170,7 @@ starts_fewer grid row dir size line =
       by_start start any true e = e
       by_start start any false e =
           let fails = λ (place : Place) (at : starts_at dir line start place ≡ true). false_from_ne_true (row_holds grid row dir place) (λ holds. absurd (let f : false ≡ true = sym e ∙ place_starts grid row dir line start place at holds in cc)) in
-          absurd (let g : false ≡ true = sym (any_none (starts_at dir line start) (row_holds grid row dir) (pairs grid row dir) fails) ∙ any in cc)
+          absurd (let g : false ≡ true = sym (any-filter_same (starts_at dir line start) (row_holds grid row dir) false fails (pairs grid row dir)) ∙ any in cc)
 
 -- how many lines are searched
 abbrev pub searched_lines : LevelState → RuleRow → Dir → ℕ → ℕ
@@ -221,14 +199,12 @@ tested_bounded state row dir tested e = omega (arith, e, product_le (searched_li
 
 -- ---- one more line
 -- the counts of cells go on
-pub tested_more : (p : ℕ → Bool) (n size tested more : ℕ) → tested ≤ count_by p (range_with_len 0 n) * size → more ≤ tested + cond (p n) size 0 → more ≤ count_by p (range_with_len 0 (n + 1)) * size
-tested_more p n size tested more e f = by_test (p n) refl where
-  total : (b : Bool) (now next : ℕ) → tested ≤ now * size → more ≤ tested + cond b size 0 → next ≡ now + cond b 1 0 → more ≤ next * size
-  total true now next q r t = omega (arith, q, r, ap (λ (k : ℕ). k * size) t)
-  total false now next q r t = omega (arith, q, r, ap (λ (k : ℕ). k * size) t)
+count_step : (b : Bool) (now size tested more : ℕ) → tested ≤ now * size → more ≤ tested + cond b size 0 → more ≤ (now + cond b 1 0) * size
+count_step true now size tested more e f = omega arith
+count_step false now size tested more e f = omega arith
 
-  by_test : (b : Bool) → p n ≡ b → more ≤ count_by p (range_with_len 0 (n + 1)) * size
-  by_test b g = total b (count_by p (range_with_len 0 n)) (count_by p (range_with_len 0 (n + 1))) e (subst (λ (d : Bool). more ≤ tested + cond d size 0) g f) (count_more p n ∙ ap (λ (d : Bool). count_by p (range_with_len 0 n) + cond d 1 0) g)
+pub tested_more : (p : ℕ → Bool) (n size tested more : ℕ) → tested ≤ count_by p (range_with_len 0 n) * size → more ≤ tested + cond (p n) size 0 → more ≤ count_by p (range_with_len 0 (n + 1)) * size
+tested_more p n size tested more e f = omega (arith, ap (λ (k : ℕ). k * size) (count_more p n), count_step (p n) (count_by p (range_with_len 0 n)) size tested more e f)
 
 pub starts_more : (f : ℕ → ℕ) (n tested more : ℕ) → sum_by f (range_with_len 0 n) ≤ tested → tested + f n ≤ more → sum_by f (range_with_len 0 (n + 1)) ≤ more
 starts_more f n tested more e h = omega (arith, e, h, sum_more f n)

@@ -95,7 +95,7 @@ impl Level {
     pub fn has(&self, x: u32, y: u32, object: usize) -> bool
         ensures { result ≡ stands self.now.grid x y object }
     {
-        match self.piece(x, y, object) {
+        match self.bare.piece(x, y, object) {
             Some(_) => true,
             None => false,
         }
@@ -112,15 +112,9 @@ impl Level {
     pub fn dir_of(&self, x: u32, y: u32, object: usize) -> Option<Dir>
         ensures { result ≡ heading_at self.now.grid x y object }
     {
-        match self.piece(x, y, object) {
+        match self.bare.piece(x, y, object) {
             Some(piece) => piece.heading,
             None => None,
         }
-    }
-
-    fn piece(&self, x: u32, y: u32, object: usize) -> Option<Piece>
-        ensures { MatchOption result (standing_at self.now.grid x y object ≡ None) (λ piece. standing_at self.now.grid x y object ≡ Some piece.heading) }
-    {
-        self.bare.piece(x, y, object)
     }
 }

@@ -72,9 +72,7 @@ impl Level {
             return Ok(());
         }
         self.bare.copy_from(&other.bare)?;
-        mark_rows(&self.bare, &mut self.row_marks);
-        mark_columns(&self.bare, &mut self.column_marks);
-        self.level_marks = all_of(&self.row_marks);
+        self.level_marks = mark_lines(&self.bare, &mut self.row_marks, &mut self.column_marks);
         Ok(())
     }
 
@@ -86,9 +84,7 @@ impl Level {
     {
         let mut row_marks = vec![in alloc; NumberSet::empty(); bare.height() as usize]?;
         let mut column_marks = vec![in alloc; NumberSet::empty(); bare.width() as usize]?;
-        mark_rows(&bare, &mut row_marks);
-        mark_columns(&bare, &mut column_marks);
-        let level_marks = all_of(&row_marks);
+        let level_marks = mark_lines(&bare, &mut row_marks, &mut column_marks);
         Ok(Level {
             bare,
             row_marks,
@@ -147,22 +143,23 @@ fn mark_in(marks: &mut Vec<NumberSet>, line: u32, object: usize)
     marks[line as usize].insert(object);
 }
 
-/// Sets the marks of each row to the objects that stand there.
-fn mark_rows(bare: &BareLevel, marks: &mut Vec<NumberSet>)
-    requires { length marks.old.items ≡ bare.now.grid.height }
-    ensures count { length marks.new.items ≡ length marks.old.items }
-    ensures exact { (line object : ℕ) → line < bare.now.grid.height → is_marked marks.new.items line object ≡ in_row bare.now.grid line object }
+/// Sets the marks of each row and of each column to the objects that stand there, and gives those of the whole level.
+fn mark_lines(
+    bare: &BareLevel,
+    row_marks: &mut Vec<NumberSet>,
+    column_marks: &mut Vec<NumberSet>,
+) -> NumberSet
+    requires row_count { length row_marks.old.items ≡ bare.now.grid.height }
+    requires column_count { length column_marks.old.items ≡ bare.now.grid.width }
+    ensures row_count { length row_marks.new.items ≡ bare.now.grid.height }
+    ensures column_count { length column_marks.new.items ≡ bare.now.grid.width }
+    ensures rows { (line object : ℕ) → line < bare.now.grid.height → is_marked row_marks.new.items line object ≡ in_row bare.now.grid line object }
+    ensures columns { (line object : ℕ) → line < bare.now.grid.width → is_marked column_marks.new.items line object ≡ in_column bare.now.grid line object }
+    ensures all { (line object : ℕ) → line < bare.now.grid.height → is_marked row_marks.new.items line object ≡ true → member result object ≡ true }
 {
-    bare.mark_lines(Axis::Horizontal, marks.as_mut_slice());
-}
-
-/// Sets the marks of each column to the objects that stand there.
-fn mark_columns(bare: &BareLevel, marks: &mut Vec<NumberSet>)
-    requires { length marks.old.items ≡ bare.now.grid.width }
-    ensures count { length marks.new.items ≡ length marks.old.items }
-    ensures exact { (line object : ℕ) → line < bare.now.grid.width → is_marked marks.new.items line object ≡ in_column bare.now.grid line object }
-{
-    bare.mark_lines(Axis::Vertical, marks.as_mut_slice());
+    bare.mark_lines(Axis::Horizontal, row_marks.as_mut_slice());
+    bare.mark_lines(Axis::Vertical, column_marks.as_mut_slice());
+    all_of(row_marks)
 }
 
 /// A set with at least the objects of these sets.

@@ -10,7 +10,7 @@ ghost use Rattle.pz_sets.specs.Next.{IsNext};
 ghost use Rattle.pz_sheet.specs.Grid.{IsOnMap, IsLawful};
 
 use crate::Level;
-use pz_bare::{AnySheet, BareLevel};
+use pz_bare::AnySheet;
 use pz_game::direction::Dir;
 use pz_game::pattern::{Pattern, Row};
 use pz_program::instance::Instance;
@@ -157,18 +157,6 @@ fn holds_in<const N: usize>(sheet: &Sheet<N>, row: &Row, dir: Dir, place: Place)
     match row.gap_at() {
         None => sheet.run_holds(dir, place.x, place.y, row.cells()),
         Some(_) => spread_holds(sheet, row, dir, place, 0),
-    }
-}
-
-/// Whether a row holds at a place.
-fn row_holds(bare: &BareLevel, row: &Row, dir: Dir, place: Place) -> bool
-    requires of_game { IsRowOf bare.now.grid.layers row.now }
-    ensures { result ≡ row_holds bare.now.grid row.now dir place }
-{
-    match bare.sheet() {
-        AnySheet::Small(sheet) => holds_in(sheet, row, dir, place),
-        AnySheet::Middle(sheet) => holds_in(sheet, row, dir, place),
-        AnySheet::Large(sheet) => holds_in(sheet, row, dir, place),
     }
 }
 
@@ -347,51 +335,55 @@ fn next_gap<const N: usize>(
         return None;
     }
     match dir {
-        Dir::Right => {
-            let x = sheet.next_in_line(
-                line::Line {
-                    axis: Axis::Horizontal,
-                    number: from.y,
-                },
-                from.x + steps as u32,
-                behind,
-            )?;
-            Some(x - from.x - at)
-        }
+        Dir::Right => match sheet.next_in_line(
+            line::Line {
+                axis: Axis::Horizontal,
+                number: from.y,
+            },
+            from.x + steps as u32,
+            behind,
+        ) {
+            Some(x) => Some(x - from.x - at),
+            None => None,
+        },
         Dir::Left => {
             let end = (from.x + 1).saturating_sub(steps as u32);
-            let x = sheet.last_in_line(
+            match sheet.last_in_line(
                 line::Line {
                     axis: Axis::Horizontal,
                     number: from.y,
                 },
                 end,
                 behind,
-            )?;
-            Some(from.x - at - x)
+            ) {
+                Some(x) => Some(from.x - at - x),
+                None => None,
+            }
         }
-        Dir::Down => {
-            let y = sheet.next_in_line(
-                line::Line {
-                    axis: Axis::Vertical,
-                    number: from.x,
-                },
-                from.y + steps as u32,
-                behind,
-            )?;
-            Some(y - from.y - at)
-        }
+        Dir::Down => match sheet.next_in_line(
+            line::Line {
+                axis: Axis::Vertical,
+                number: from.x,
+            },
+            from.y + steps as u32,
+            behind,
+        ) {
+            Some(y) => Some(y - from.y - at),
+            None => None,
+        },
         Dir::Up => {
             let end = (from.y + 1).saturating_sub(steps as u32);
-            let y = sheet.last_in_line(
+            match sheet.last_in_line(
                 line::Line {
                     axis: Axis::Vertical,
                     number: from.x,
                 },
                 end,
                 behind,
-            )?;
-            Some(from.y - at - y)
+            ) {
+                Some(y) => Some(from.y - at - y),
+                None => None,
+            }
         }
         Dir::Action => None,
     }
@@ -613,7 +605,14 @@ fn still_holds(level: &Level, dir: Dir, row: &Row, place: Place) -> bool
     requires of_game { IsRowOf level.now.grid.layers row.now }
     ensures { result ≡ still_holds level.now.grid dir (row.now, place) }
 {
-    (row.gap_at().is_some() || place.gap == 0) && row_holds(&level.bare, row, dir, place)
+    if row.gap_at().is_none() && place.gap != 0 {
+        return false;
+    }
+    match level.bare().sheet() {
+        AnySheet::Small(sheet) => holds_in(sheet, row, dir, place),
+        AnySheet::Middle(sheet) => holds_in(sheet, row, dir, place),
+        AnySheet::Large(sheet) => holds_in(sheet, row, dir, place),
+    }
 }
 
 /// Whether the rows of an instance's left all hold, each at its place. False if the number of places differs, if a cell is off the map, or

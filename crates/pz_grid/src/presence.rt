@@ -2,7 +2,7 @@
 
 ghost use Rattle.std.specs.Prelude.{◌≡◌, ◌<◌, length};
 ghost use Rattle.std.specs.List.{list_any, list_all};
-ghost use Rattle.pz_sheet.specs.Presence.{is_in, holds_one, holds_each, holds_both, holds_if, cell_of};
+ghost use Rattle.pz_sheet.specs.Presence.{holds_one, holds_each, holds_both, holds_if, cell_of};
 
 use crate::Level;
 
@@ -14,20 +14,13 @@ impl Level {
         self.bare.cell_count()
     }
 
-    fn is_in(&self, index: usize, object: usize) -> bool
-        requires { index < length self.now.grid.cells }
-        ensures { result ≡ is_in (cell_of self.now.grid index) object }
-    {
-        self.bare.is_in(index, object)
-    }
-
     /// Whether one of the objects is in the cell of this number. Objects are numbered in the game's order, cells row by row, both from 0.
     pub fn holds_one(&self, index: usize, objects: &[usize]) -> bool
         requires { index < length self.now.grid.cells }
         ensures { result ≡ holds_one objects.now (cell_of self.now.grid index) }
     {
         for object in objects {
-            if self.is_in(index, *object) {
+            if self.bare.is_in(index, *object) {
                 return true;
             }
         }
@@ -40,7 +33,7 @@ impl Level {
         ensures { result ≡ holds_each objects.now (cell_of self.now.grid index) }
     {
         for object in objects {
-            if !self.is_in(index, *object) {
+            if !self.bare.is_in(index, *object) {
                 return false;
             }
         }

@@ -46,31 +46,8 @@ impl Level {
         self.rewrite_marked(x, y, left, right)
     }
 
-    /// Rewrites the cell at a position, if it is on the map. True: this or an earlier rewriting changed a cell.
-    fn rewrite_at(
-        &mut self,
-        left: &Pattern,
-        right: &Pattern,
-        position: Option<(u32, u32)>,
-        changed: bool,
-    ) -> bool
-        requires on_map { IfSome position (λ at. IsOnMap self.old.grid at.0 at.1) }
-        requires left_of { AreOf self.old.grid.layers left.now }
-        requires right_of { AreOf self.old.grid.layers right.now }
-        ensures rewritten { in_rewrite self.new.grid result ≡ rewritten_at (in_rewrite self.old.grid changed) left.now right.now position }
-        ensures size { SameSize self.old.grid self.new.grid }
-        ensures marks { IsWidenedBy self.old self.new (λ object. names_object object right.now) }
-    {
-        match position {
-            None => changed,
-            Some((x, y)) => {
-                let changes = self.rewrite_position(x, y, left, right);
-                changed || changes
-            }
-        }
-    }
-
-    /// Rewrites the row's cell of this number, for a row at this place.
+    /// Rewrites the row's cell of this number, for a row at this place, if it is on the map. True: this or an earlier rewriting changed a
+    /// cell.
     fn rewrite_along(
         &mut self,
         dir: Dir,
@@ -88,8 +65,13 @@ impl Level {
         ensures size { SameSize self.old.grid self.new.grid }
         ensures marks { IsWidenedBy self.old self.new (λ object. names_object object right.now) }
     {
-        let position = self.position_of(dir, gap_at, place, index);
-        self.rewrite_at(left, right, position, changed)
+        match self.position_of(dir, gap_at, place, index) {
+            None => changed,
+            Some((x, y)) => {
+                let changes = self.rewrite_position(x, y, left, right);
+                changed || changes
+            }
+        }
     }
 
     /// Rewrites a row at its place, cell by cell, each as the cells before have left it.

@@ -80,11 +80,19 @@ fn same_numbers(game: &Game, other: &Game, words: &[Name]) -> bool
     true
 }
 
-/// Whether a rule line of each of two games says the same.
-fn same_line(game: &Game, other: &Game, line: &RuleLine, others: &RuleLine) -> bool
+/// Whether a rule line of each of two games says the same. If the games are known to have the same names, no word is looked up.
+fn same_line(
+    game: &Game,
+    other: &Game,
+    have_same_names: bool,
+    line: &RuleLine,
+    others: &RuleLine,
+) -> bool
+    requires { have_same_names ≡ true → game.now.names ≡ other.now.names }
     ensures { result ≡ true → IsSameLine game.now.names other.now.names line.now others.now }
 {
-    line.words.same(&others.words) && same_numbers(game, other, line.words.items())
+    line.words.same(&others.words)
+        && (have_same_names || same_numbers(game, other, line.words.items()))
 }
 
 /// Whether the rule lines of two games say the same, one by one.
@@ -96,8 +104,15 @@ fn same_lines(game: &Game, other: &Game) -> bool
     if lines.len() != others.len() {
         return false;
     }
+    let have_same_names = game.has_names_of(other);
     for number in 0..lines.len() {
-        if !same_line(game, other, &lines[number], &others[number]) {
+        if !same_line(
+            game,
+            other,
+            have_same_names,
+            &lines[number],
+            &others[number],
+        ) {
             return false;
         }
     }

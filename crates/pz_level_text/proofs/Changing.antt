@@ -10,7 +10,6 @@ use Rattle.pz_cells.specs.Sameness.{same_cell}
 use Rattle.pz_cells.specs.Standing.{standing}
 use Rattle.pz_cells.proofs.SameLemmas.{same_cell_is}
 use Rattle.pz_game.specs.declared.game.GameParts.{GameParts}
-use Rattle.pz_sets.specs.Sets.{member}
 use Rattle.pz_sheet.specs.Changes.{with_cell, cell_there, differ_in}
 use Rattle.pz_sheet.specs.Grid.{Grid, IsLawful, SameSize, cell_at}
 use Rattle.pz_sheet.specs.Presence.{cell_of}
@@ -20,15 +19,11 @@ use Rattle.pz_record.specs.declared.order.Order.TheVariants.{Rows, Columns}
 use Rattle.pz_record.specs.CellNames.{set_of}
 use Rattle.pz_level_text.specs.LevelNames.{standing_names}
 use Rattle.pz_record.specs.CellTexts.{joined}
-use Rattle.pz_level_text.specs.Labels.{set_text, texts_in}
+use Rattle.pz_level_text.specs.Labels.{texts_in}
 use Rattle.pz_level_text.specs.CellOrder.{column_of, row_of, number_of}
-use Rattle.pz_level_text.proofs.Labelling.{chosen_same, named_at}
+use Rattle.pz_level_text.proofs.Labelling.{chosen_same}
 use Rattle.pz_level_text.proofs.Ordered.{text_at_number, length-texts_in}
 use Rattle.pz_level_text.proofs.Walking.{on_map}
-
--- the text of the objects that stand at a position
-pub set_standing : (names : List (List ℕ)) (grid : Grid) (x y : ℕ) (objects : List ℕ) → ((object : ℕ) → member objects object ≡ stands grid x y object) → set_text names objects ≡ joined (set_of (standing_names names grid (x, y)))
-set_standing names grid x y objects same = ap (λ (l : List (List ℕ)). joined (set_of l)) (named_at names objects grid x y same)
 
 -- ---- numbers and positions
 pub number_back : (order : Order) (grid : Grid) (k : ℕ) → number_of order grid (column_of order grid k) (row_of order grid k) ≡ k
@@ -150,11 +145,6 @@ same_number : (order : Order) (grid level : Grid) (x y : ℕ) → SameSize grid 
 same_number Rows grid level x y size = ap (λ (w : ℕ). y * w + x) size.width
 same_number Columns grid level x y size = ap (λ (h : ℕ). x * h + y) size.height
 
-pub look_within : (game : GameParts) (order : Order) (grid level : Grid) (index x y : ℕ) → SameSize grid level → IsRead level index x y → number_of order level x y < length (texts_in game order grid)
-look_within game order grid level index x y size read =
-    let there = read_seen grid level index x y size read in
-    omega (arith, same_number order grid level x y size, number_within order grid x y there.wide there.high, length-texts_in game order grid)
-
 pub looked : (game : GameParts) (order : Order) (grid level : Grid) (index x y : ℕ) → SameSize grid level → index < length grid.cells → IsRead level index x y
     → set (texts_in game order grid) (number_of order level x y) (joined (set_of (standing_names game.objects level (x, y)))) ≡ texts_in game order (with_cell grid (cell_there level index))
 looked game order grid level index x y size within read =
@@ -170,14 +160,30 @@ not_false false e = cc
 pub as_many : (grid level : Grid) → SameSize grid level → IsLawful grid → IsLawful level → length grid.cells ≡ length level.cells
 as_many grid level size lawful lawful_level = lawful.covers ∙ (ap₂ (λ (w h : ℕ). w * h) (sym size.width) (sym size.height) ∙ sym lawful_level.covers)
 
-pub all_seen : (grid level : Grid) (from : ℕ) → SameSize grid level → IsLawful grid → IsLawful level → ((k : ℕ) → k < from → cell_of grid k ≡ cell_of level k) → ((k : ℕ) → from ≤ k → k < length grid.cells → differ_in grid level k ≡ false) → grid ≡ level
-all_seen grid level from size lawful lawful_level front rest =
-    let long = as_many grid level size lawful lawful_level in
-    let cells : grid.cells ≡ level.cells = ext_get_or [] grid.cells level.cells long (λ k h. elim (cases_lt k from) [
-      | inl before ↦ front k before
-      | inr past ↦ same_cell_is (cell_of grid k) (cell_of level k) (not_false (same_cell (cell_of grid k) (cell_of level k)) (rest k past h))
+-- the cells before one number are looked at: they have the texts of a level whose cells before that number are as in the level that
+-- is looked at, and whose other cells are as in the one that was seen
+pub record IsSeenTo (game : GameParts) (order : Order) (seen level : Grid) (from : ℕ) (cells : List (List ℕ)) : Type 0 where
+  pub now : Grid
+  pub size : SameSize now level
+  pub many : length now.cells ≡ length seen.cells
+  pub known : cells ≡ texts_in game order now
+  pub front : (k : ℕ) → k < from → cell_of now k ≡ cell_of level k
+  pub rest : (k : ℕ) → from ≤ k → cell_of now k ≡ cell_of seen k
+
+differs_as : (a b level : Grid) (k : ℕ) → cell_of a k ≡ cell_of b k → differ_in b level k ≡ false → differ_in a level k ≡ false
+differs_as a b level k same e = ap (λ (cell : List (Option Piece)). not (same_cell cell (cell_of level k))) same ∙ e
+
+pub all_seen : (game : GameParts) (order : Order) (seen level : Grid) (from : ℕ) (cells : List (List ℕ)) → SameSize seen level → IsLawful seen → IsLawful level → ((k : ℕ) → from ≤ k → k < length seen.cells → differ_in seen level k ≡ false)
+    → IsSeenTo game order seen level from cells → cells ≡ texts_in game order level
+all_seen game order seen level from cells size lawful lawful_level none is =
+    let now = is.now in
+    let long : length now.cells ≡ length level.cells = is.many ∙ as_many seen level size lawful lawful_level in
+    let same : now.cells ≡ level.cells = ext_get_or [] now.cells level.cells long (λ k h. elim (cases_lt k from) [
+      | inl before ↦ is.front k before
+      | inr past ↦ same_cell_is (cell_of now k) (cell_of level k) (not_false (same_cell (cell_of now k) (cell_of level k)) (differs_as now seen level k (is.rest k past) (none k past (omega (arith, h, is.many)))))
     ]) in
-    λ i. record { width = sym size.width i; height = sym size.height i; depth = sym size.depth i; layers = sym size.layers i; cells = cells i }
+    let whole : now ≡ level = λ i. record { width = sym is.size.width i; height = sym is.size.height i; depth = sym is.size.depth i; layers = sym is.size.layers i; cells = same i } in
+    is.known ∙ ap (texts_in game order) whole
 
 -- one more cell is as it was seen
 pub front_more : (grid level : Grid) (from index : ℕ) → length grid.cells ≡ length level.cells → index < length grid.cells → ((k : ℕ) → k < from → cell_of grid k ≡ cell_of level k) → ((k : ℕ) → from ≤ k → k < index → differ_in grid level k ≡ false)
@@ -189,3 +195,25 @@ front_more grid level from index long within front rest k h = elim (cases_eq k i
     | inr past ↦ same_cell_is (cell_of grid k) (cell_of level k) (not_false (same_cell (cell_of grid k) (cell_of level k)) (rest k past (omega (arith, h, apart))))
   ]
 ]
+
+pub seen_count : (game : GameParts) (order : Order) (seen level : Grid) (from : ℕ) (cells : List (List ℕ)) → IsSeenTo game order seen level from cells → length cells ≡ level.width * level.height
+seen_count game order seen level from cells is = ap length is.known ∙ (length-texts_in game order is.now ∙ ap₂ (λ (w h : ℕ). w * h) (sym is.size.width) (sym is.size.height))
+
+pub seen_more : (game game_now : GameParts) (order order_now : Order) (seen level : Grid) (from index : ℕ) (cells new : List (List ℕ)) → game_now ≡ game → order_now ≡ order → SameSize seen level → IsLawful seen → IsLawful level → from ≤ index → index < length seen.cells
+    → ((k : ℕ) → from ≤ k → k < index → differ_in seen level k ≡ false) → IsSeenTo game order seen level from cells
+    → ((there : Grid) → SameSize there level → index < length there.cells → cells ≡ texts_in game_now order_now there → new ≡ texts_in game_now order_now (with_cell there (cell_there level index)))
+    → IsSeenTo game order seen level (index + 1) new
+seen_more game game_now order order_now seen level from index cells new same_game same_order size lawful lawful_level past within none is look =
+    let now = is.now in
+    let inside : index < length now.cells = omega (arith, within, is.many) in
+    let after : Grid = with_cell now (cell_there level index) in
+    let here : cells ≡ texts_in game_now order_now now = is.known ∙ (λ i. texts_in (sym same_game i) (sym same_order i) now) in
+    let long : length now.cells ≡ length level.cells = is.many ∙ as_many seen level size lawful lawful_level in
+    record {
+      now = after;
+      size = record { width = is.size.width; height = is.size.height; depth = is.size.depth; layers = is.size.layers };
+      many = length-set now.cells index (cell_of level index) ∙ is.many;
+      known = look now is.size inside here ∙ (λ i. texts_in (same_game i) (same_order i) after);
+      front = front_more now level from index long inside is.front (λ k low high. differs_as now seen level k (is.rest k low) (none k low high));
+      rest = λ k h. get_or-set_other now.cells index k (cell_of level index) [] (λ same. omega (arith, h, same)) ∙ is.rest k (omega (arith, h, past));
+    }

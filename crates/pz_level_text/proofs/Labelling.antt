@@ -1,24 +1,56 @@
 -- The labels of sets of objects.
-use Rattle.std.proofs.Common.{◌≡◌, ℕ, suc, Bool, List, [], ◌∷◌, length, take, get_or, refl, ap, sym, ◌∙◌, arith}
-use Rattle.std.specs.Prelude.{All}
+use Rattle.std.proofs.Common.{◌≡◌, ℕ, suc, ◌+◌, ◌/◌, ◌%◌, ◌<◌, ◌≤◌, Bool, List, [], ◌∷◌, length, take, get_or, Option, Some, None, Result, Ok, Err, refl, ap, sym, ◌∙◌, arith}
+use Rattle.std.specs.Prelude.{All, IfOk, IfSome, slice_index}
+use Rattle.std.specs.declared.alloc.AllocError.{AllocError}
 use Rattle.std.proofs.lemmas.List.{get_or-take, length-take}
-use Rattle.pz_sets.specs.Sets.{member}
+use Rattle.pz_game.specs.declared.game.GameParts.{GameParts}
+use Rattle.pz_sets.specs.Sets.{in_word, member}
 use Rattle.pz_sheet.specs.Grid.{Grid}
 use Rattle.pz_sheet.specs.Standing.{stands}
 use Rattle.pz_level_text.specs.LevelNames.{chosen_from, standing_names}
 use Rattle.pz_level_text.specs.declared.labelled_set.LabelledSet.{LabelledSet}
-use Rattle.pz_level_text.specs.Labels.{IsLabelOf}
+use Rattle.pz_record.specs.CellNames.{set_of}
+use Rattle.pz_record.specs.CellTexts.{joined}
+use Rattle.pz_record.specs.Labels.{text_at}
+use Rattle.pz_level_text.specs.Labels.{TableView, set_text, IsLabelOf, IsLabelOfWord}
 
 -- tests that agree choose the same names
 pub chosen_same : (f g : ℕ → Bool) → ((n : ℕ) → f n ≡ g n) → (k : ℕ) (names : List (List ℕ)) → chosen_from f k names ≡ chosen_from g k names
 chosen_same f g e k [] = refl
 chosen_same f g e k (name ∷ names) = rw (e k, chosen_same f g e (suc k) names) refl
 
+-- tests that agree on the numbers of the names choose the same names
+chosen_alike : (f g : ℕ → Bool) (end : ℕ) → ((n : ℕ) → n < end → f n ≡ g n) → (k : ℕ) (names : List (List ℕ)) → k + length names ≤ end → chosen_from f k names ≡ chosen_from g k names
+chosen_alike f g end e k [] h = refl
+chosen_alike f g end e k (name ∷ names) h = rw (e k (omega (arith, h)), chosen_alike f g end e (suc k) names (omega (arith, h))) refl
+
+-- sets with the same first word have the same text, where all objects are in that word
+pub label_of_word : (names texts : List (List ℕ)) (known : List ℕ) (word label : ℕ) → length names ≤ 128 → slice_index known 0 ≡ word → IsLabelOf names texts known label → IsLabelOfWord names texts word label
+label_of_word names texts known word label few first is objects same =
+    let alike : (n : ℕ) → n < 128 → member known n ≡ member objects n = λ n h.
+    let none : n / 128 ≡ 0 = omega (arith, h) in
+    ap (λ (i : ℕ). in_word (slice_index known i) (n % 128)) none ∙ (ap (λ (w : ℕ). in_word w (n % 128)) (first ∙ sym same) ∙ ap (λ (i : ℕ). in_word (slice_index objects i) (n % 128)) (sym none)) in
+    (is.0, is.1 ∙ ap (λ (l : List (List ℕ)). joined (set_of l)) (chosen_alike (member known) (member objects) 128 alike 0 names (omega (arith, few))))
+
 -- the names of a set of objects are those of the position where they stand
 pub named_at : (names : List (List ℕ)) (objects : List ℕ) (grid : Grid) (x y : ℕ) → ((object : ℕ) → member objects object ≡ stands grid x y object)
     → chosen_from (member objects) 0 names ≡ standing_names names grid (x, y)
 unfolding standing_names
 named_at names objects grid x y same = chosen_same (member objects) (stands grid x y) same 0 names
+
+-- the text of the objects that stand at a position
+pub set_standing : (names : List (List ℕ)) (grid : Grid) (x y : ℕ) (objects : List ℕ) → ((object : ℕ) → member objects object ≡ stands grid x y object) → set_text names objects ≡ joined (set_of (standing_names names grid (x, y)))
+set_standing names grid x y objects same = ap (λ (l : List (List ℕ)). joined (set_of l)) (named_at names objects grid x y same)
+
+pub label_standing : (game : GameParts) (table : TableView) (grid : Grid) (x y : ℕ) (objects : List ℕ) → ((object : ℕ) → member objects object ≡ stands grid x y object) → table.game ≡ game → (result : Result ℕ AllocError)
+    → IfOk result (λ label. IsLabelOf table.game.objects table.texts objects label) → IfOk result (λ label. text_at table.texts label ≡ joined (set_of (standing_names game.objects grid (x, y))))
+label_standing game table grid x y objects same e (Ok label) is = is.1 ∙ (ap (λ (g : GameParts). set_text g.objects objects) e ∙ set_standing game.objects grid x y objects same)
+label_standing game table grid x y objects same e (Err fault) is = tt
+
+pub word_standing : (names texts : List (List ℕ)) (grid : Grid) (x y : ℕ) (objects : List ℕ) → ((object : ℕ) → member objects object ≡ stands grid x y object) → (word : ℕ) → slice_index objects 0 ≡ word → (label : Option ℕ)
+    → IfSome label (λ label. IsLabelOfWord names texts word label) → IfSome label (λ label. text_at texts label ≡ joined (set_of (standing_names names grid (x, y))))
+word_standing names texts grid x y objects same word first (Some label) is = (is objects first).1 ∙ set_standing names grid x y objects same
+word_standing names texts grid x y objects same word first None is = tt
 
 -- a label stays a label among more texts
 pub label_kept : (names texts more : List (List ℕ)) (objects : List ℕ) (label : ℕ) → take (length texts) more ≡ texts → IsLabelOf names texts objects label → IsLabelOf names more objects label

@@ -1,5 +1,5 @@
 -- The cells of a level by the labels of their texts.
-use Rattle.std.specs.Prelude.{◌≡◌, ℕ, ◌<◌, List, length, map}
+use Rattle.std.specs.Prelude.{◌≡◌, ℕ, ◌<◌, List, length, map, slice_index}
 use Rattle.pz_game.specs.declared.game.GameParts.{GameParts}
 use Rattle.pz_sheet.specs.Grid.{Grid}
 use Rattle.pz_sets.specs.Sets.{member}
@@ -20,6 +20,10 @@ texts_in game order grid = map joined (sets_in game order grid)
 -- a set of objects has the text of this label
 abbrev pub IsLabelOf : List (List ℕ) → List (List ℕ) → List ℕ → ℕ → Type 0
 IsLabelOf names texts objects label = (label < length texts) × (text_at texts label ≡ set_text names objects)
+
+-- each set of objects with this first word has the text of this label
+abbrev pub IsLabelOfWord : List (List ℕ) → List (List ℕ) → ℕ → ℕ → Type 0
+IsLabelOfWord names texts word label = (objects : List ℕ) → slice_index objects 0 ≡ word → IsLabelOf names texts objects label
 
 -- the texts that are known of a game
 pub record TableView : Type 0 where

@@ -2,7 +2,7 @@
 
 ghost use Rattle.std.specs.Prelude.{◌≡◌, ◌*◌, ◌<◌, ◌++◌, ◌∷◌, ◌+◌, [], length, map, take, slice_set, All, IfOk, OnOk};
 ghost use Rattle.pz_sheet.specs.Changes.{with_cell, cell_there};
-ghost use Rattle.pz_sheet.specs.Grid.{SameSize};
+ghost use Rattle.pz_sheet.specs.Grid.{Grid, SameSize};
 ghost use Rattle.pz_record.specs.CellNames.{set_of};
 ghost use Rattle.pz_record.specs.Labels.{text_at};
 ghost use Rattle.pz_level_text.specs.Labels.{texts_in};
@@ -91,8 +91,7 @@ impl<'a> CellLabels<'a> {
         ensures game { self.new.table.game ≡ self.old.table.game }
         ensures order { self.new.order ≡ self.old.order }
     {
-        let objects = level.objects_at(x, y);
-        let label = self.table.label_at(self.alloc, level, x, y, objects)?;
+        let label = self.table.label_at(self.alloc, level, x, y)?;
         Ok(label)
     }
 
@@ -144,20 +143,12 @@ impl<'a> CellLabels<'a> {
         Ok(())
     }
 
-    /// Labels the cell of this number again, because it may have changed since the level was seen. Here cells are numbered row by row. The
-    /// answer has the cell's number in the order of the text. Err: memory was refused.
-    fn look(
-        &mut self,
-        seen: &mut BareLevel,
-        level: &Level,
-        index: usize,
-    ) -> Result<Changed, AllocError>
-        requires size { SameSize seen.old.grid level.now.grid }
-        requires within { index < length seen.old.grid.cells }
+    /// Labels the cell of this number again, because it may differ from what was seen there. Here cells are numbered row by row. The answer
+    /// has the cell's number in the order of the text. Err: memory was refused.
+    fn look(&mut self, level: &Level, index: usize) -> Result<Changed, AllocError>
         requires on_map { index < level.now.grid.width * level.now.grid.height }
-        requires known { self.old.cells ≡ texts_in self.old.table.game self.old.order seen.old.grid }
-        ensures known { OnOk result (self.new.cells ≡ texts_in self.old.table.game self.old.order seen.new.grid) }
-        ensures seen { OnOk result (seen.new.grid ≡ with_cell seen.old.grid (cell_there level.now.grid index)) }
+        requires count { length self.old.cells ≡ level.now.grid.width * level.now.grid.height }
+        ensures known { OnOk result ((seen : Grid) → SameSize seen level.now.grid → index < length seen.cells → self.old.cells ≡ texts_in self.old.table.game self.old.order seen → self.new.cells ≡ texts_in self.old.table.game self.old.order (with_cell seen (cell_there level.now.grid index))) }
         ensures changed { IfOk result (λ changed. IsSameBut changed.first changed.end self.old.cells self.new.cells) }
         ensures kept { take (length self.old.table.texts) self.new.table.texts ≡ self.old.table.texts }
         ensures game { self.new.table.game ≡ self.old.table.game }
@@ -169,24 +160,22 @@ impl<'a> CellLabels<'a> {
         let label = self.label_at(level, x, y)?;
         let number = number_at(self.order, level, x, y);
         self.put(number, label);
-        seen.take_cell(level.bare(), index);
         Ok(Changed {
             first: number,
             end: number + 1,
         })
     }
 
-    /// Labels each cell that has changed since the level was seen. The answer is a range with these cells, in the order of the text. Err:
-    /// memory was refused.
+    /// Labels each cell of a level that differs from one that was seen. The answer is a range with these cells, in the order of the text.
+    /// Err: memory was refused.
     pub fn look_at_changes(
         &mut self,
-        seen: &mut BareLevel,
+        seen: &BareLevel,
         level: &Level,
     ) -> Result<Changed, AllocError>
-        requires size { SameSize seen.old.grid level.now.grid }
-        requires known { self.old.cells ≡ texts_in self.old.table.game self.old.order seen.old.grid }
+        requires size { SameSize seen.now.grid level.now.grid }
+        requires known { self.old.cells ≡ texts_in self.old.table.game self.old.order seen.now.grid }
         ensures cells { OnOk result (self.new.cells ≡ texts_in self.old.table.game self.old.order level.now.grid) }
-        ensures seen { OnOk result (seen.new.grid ≡ level.now.grid) }
         ensures changed { IfOk result (λ changed. IsSameBut changed.first changed.end self.old.cells self.new.cells) }
         ensures kept { take (length self.old.table.texts) self.new.table.texts ≡ self.old.table.texts }
         ensures game { self.new.table.game ≡ self.old.table.game }
@@ -197,7 +186,7 @@ impl<'a> CellLabels<'a> {
         let mut changed = Changed::none();
         let mut from = 0;
         'changes: while let Some(index) = seen.next_change(level.bare(), from) {
-            let next = self.look(seen, level, index)?;
+            let next = self.look(level, index)?;
             changed = changed.and(next);
             from = index + 1;
         }

@@ -1,9 +1,13 @@
 //! The sets of a game's objects that were seen so far, and the labels of their texts.
 
-ghost use Rattle.std.specs.Prelude.{◌≡◌, ℕ, [], length, take, IfOk, IfSome};
+ghost use Rattle.std.specs.Prelude.{◌≡◌, ℕ, ◌<◌, ◌≤◌, [], length, take, IfOk, IfSome};
 ghost use Rattle.pz_sets.specs.Sets.{member};
 ghost use Rattle.pz_sheet.specs.Standing.{stands};
-ghost use Rattle.pz_level_text.specs.Labels.{IsLabelOf};
+ghost use Rattle.pz_record.specs.CellNames.{set_of};
+ghost use Rattle.pz_record.specs.CellTexts.{joined};
+ghost use Rattle.pz_record.specs.Labels.{text_at};
+ghost use Rattle.pz_level_text.specs.Labels.{IsLabelOf, IsLabelOfWord};
+ghost use Rattle.pz_level_text.specs.LevelNames.{standing_names};
 
 use crate::labelled_set::LabelledSet;
 use crate::level_names::text_at;
@@ -18,6 +22,9 @@ use std::marker::Model;
 /// How many sets are compared one after another before the hash map is asked. So few are cheaper to compare than to hash, and most levels
 /// have no more.
 const FEW: usize = 8;
+
+/// Numbers below this one are in the first word of a set.
+const WORD: usize = 128;
 
 /// The texts of the sets of a game's objects that were seen so far. `places` only gives hints: the set at a place is compared before its
 /// label is used.
@@ -149,6 +156,59 @@ impl<'a> LabelTable<'a> {
         Ok(label)
     }
 
+    /// The label of the set at this place among the known ones, if the set has this first word. All objects are in that word.
+    fn labelled_at(&self, place: usize, word: u128) -> Option<usize>
+        requires { length self.now.game.objects ≤ WORD }
+        ensures { IfSome result (λ label. IsLabelOfWord self.now.game.objects self.now.texts word label) }
+    {
+        let known = self.known.get(place)?;
+        if known.objects.words()[0] == word {
+            Some(known.label)
+        } else {
+            None
+        }
+    }
+
+    /// The label of the sets with this first word, if one is among the few that are compared. All objects are in that word.
+    fn labelled(&self, word: u128) -> Option<usize>
+        requires { length self.now.game.objects ≤ WORD }
+        ensures { IfSome result (λ label. IsLabelOfWord self.now.game.objects self.now.texts word label) }
+    {
+        for place in 0..self.known.len().min(FEW) {
+            if let Some(label) = self.labelled_at(place, word) {
+                return Some(label);
+            }
+        }
+        None
+    }
+
+    /// The label of the set that stands at a position, if it is found by its first word.
+    fn met_at(&self, level: &Level, x: u32, y: u32) -> Option<usize>
+        ensures known { IfSome result (λ label. label < length self.now.texts) }
+        ensures text { IfSome result (λ label. text_at self.now.texts label ≡ joined (set_of (standing_names self.now.game.objects level.now.grid (x, y)))) }
+    {
+        if self.game.objects().len() > WORD {
+            return None;
+        }
+        let objects = level.objects_at(x, y);
+        self.labelled(objects.words()[0])
+    }
+
+    /// The label of the set that stands at a position, however it is found. Err: memory was refused. (Not inlined: few cells come here.)
+    #[inline(never)]
+    fn look_up(&mut self, alloc: Global, level: &Level, x: u32, y: u32) -> Result<usize, AllocError>
+        ensures known { IfOk result (λ label. label < length self.new.texts) }
+        ensures text { IfOk result (λ label. text_at self.new.texts label ≡ joined (set_of (standing_names self.old.game.objects level.now.grid (x, y)))) }
+        ensures kept { take (length self.old.texts) self.new.texts ≡ self.old.texts }
+        ensures game { self.new.game ≡ self.old.game }
+    {
+        let objects = level.objects_at(x, y);
+        match self.known(&objects) {
+            Some(label) => Ok(label),
+            None => self.learn(alloc, level, x, y, objects),
+        }
+    }
+
     /// The label of the set that stands at a position. Err: memory was refused.
     pub fn label_at(
         &mut self,
@@ -156,16 +216,15 @@ impl<'a> LabelTable<'a> {
         level: &Level,
         x: u32,
         y: u32,
-        objects: NumberSet,
     ) -> Result<usize, AllocError>
-        requires { (object : ℕ) → member objects object ≡ stands level.now.grid x y object }
-        ensures label { IfOk result (λ label. IsLabelOf self.new.game.objects self.new.texts objects label) }
+        ensures known { IfOk result (λ label. label < length self.new.texts) }
+        ensures text { IfOk result (λ label. text_at self.new.texts label ≡ joined (set_of (standing_names self.old.game.objects level.now.grid (x, y)))) }
         ensures kept { take (length self.old.texts) self.new.texts ≡ self.old.texts }
         ensures game { self.new.game ≡ self.old.game }
     {
-        match self.known(&objects) {
+        match self.met_at(level, x, y) {
             Some(label) => Ok(label),
-            None => self.learn(alloc, level, x, y, objects),
+            None => self.look_up(alloc, level, x, y),
         }
     }
 }

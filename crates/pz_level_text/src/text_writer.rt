@@ -21,12 +21,12 @@ use pz_record::text_room::TextRoom;
 use std::alloc::{AllocError, Global};
 use std::marker::Model;
 
-/// Writes the texts of a game's levels, with the cells in an order. It remembers the sets of objects seen so far, the last level, and its
-/// text. So only changed cells are looked at, and parts of the last text are copied. `room` has a text if `last` says which.
+/// Writes the texts of a game's levels, with the cells in an order. It remembers the sets of objects seen so far, the labels of the last
+/// level's cells, and its text. So only changed cells are looked at, and parts of the last text are copied. `room` has a text if `last` says
+/// which.
 pub struct TextWriter<'a> {
     alloc: Global,
     cells: CellLabels<'a>,
-    seen: Option<BareLevel>,
     room: TextRoom,
     last: Option<LastText>,
 }
@@ -44,12 +44,10 @@ impl Drop for TextWriter<'_> {
         let TextWriter {
             alloc: _,
             cells,
-            seen,
             room,
             last: _,
         } = self;
         drop(cells);
-        drop(seen);
         drop(room);
     }
 }
@@ -57,13 +55,13 @@ impl Drop for TextWriter<'_> {
 impl<'a> Model for TextWriter<'a> {
     ghost use Rattle.std.specs.Prelude.{◌≡◌, IfSome};
     ghost use Rattle.pz_record.specs.Written.{HasTextBut};
-    ghost use Rattle.pz_level_text.specs.Labels.{WriterView, texts_in};
+    ghost use Rattle.pz_level_text.specs.Labels.{WriterView};
 
     ghost Value = { WriterView };
 
     ghost view = { λ t. t.cells };
 
-    ghost invariant = { λ t. IfSome t.seen (λ seen. t.cells.cells ≡ texts_in t.cells.table.game t.cells.order seen.grid) × IfSome t.last (λ last. HasTextBut last.width last.changed.first last.changed.end t.cells.cells t.cells.table.texts t.room) };
+    ghost invariant = { λ t. IfSome t.last (λ last. HasTextBut last.width last.changed.first last.changed.end t.cells.cells t.cells.table.texts t.room) };
 }
 
 /// Writes the text of cells into the room. After a text of the same width, parts of that one are copied. The text stays in the room:
@@ -108,7 +106,6 @@ impl<'a> TextWriter<'a> {
         TextWriter {
             alloc,
             cells: CellLabels::new(alloc, game, order),
-            seen: None,
             room: TextRoom::new(alloc),
             last: None,
         }
@@ -121,26 +118,20 @@ impl<'a> TextWriter<'a> {
         ensures order { self.new.order ≡ self.old.order }
     {
         self.last = None;
-        self.seen = None;
         self.cells.look_at_all(level)?;
-        let seen = level.bare().copy()?;
-        self.seen = Some(seen);
         Ok(())
     }
 
-    /// Labels each cell that has changed since the level was seen. Err: memory was refused.
-    fn look_at_changes(&mut self, seen: BareLevel, level: &Level) -> Result<(), AllocError>
-        requires size { SameSize seen.grid level.now.grid }
-        requires known { self.old.cells ≡ texts_in self.old.table.game self.old.order seen.grid }
+    /// Labels each cell of a level that differs from the one that was seen. Err: memory was refused.
+    fn look_at_changes(&mut self, seen: &BareLevel, level: &Level) -> Result<(), AllocError>
+        requires size { SameSize seen.now.grid level.now.grid }
+        requires known { self.old.cells ≡ texts_in self.old.table.game self.old.order seen.now.grid }
         ensures cells { OnOk result (self.new.cells ≡ texts_in self.old.table.game self.old.order level.now.grid) }
         ensures game { self.new.table.game ≡ self.old.table.game }
         ensures order { self.new.order ≡ self.old.order }
     {
-        let mut now = seen;
         let last = self.last.take();
-        self.seen = None;
-        let changed = self.cells.look_at_changes(&mut now, level)?;
-        self.seen = Some(now);
+        let changed = self.cells.look_at_changes(seen, level)?;
         self.last = match last {
             Some(last) => Some(LastText {
                 width: last.width,
@@ -152,15 +143,28 @@ impl<'a> TextWriter<'a> {
     }
 
     /// Labels the cells of a level, after another of its size only those that differ. Err: memory was refused.
-    fn look_over(&mut self, level: &Level) -> Result<(), AllocError>
+    fn look_over(&mut self, seen: &Level, level: &Level) -> Result<(), AllocError>
+        requires { self.old.cells ≡ texts_in self.old.table.game self.old.order seen.now.grid }
         ensures cells { OnOk result (self.new.cells ≡ texts_in self.old.table.game self.old.order level.now.grid) }
         ensures game { self.new.table.game ≡ self.old.table.game }
         ensures order { self.new.order ≡ self.old.order }
     {
-        match self.seen.take() {
-            Some(seen) if seen.same_size(level.bare()) => self.look_at_changes(seen, level),
-            _ => self.look_at_all(level),
+        if seen.bare().same_size(level.bare()) {
+            self.look_at_changes(seen.bare(), level)
+        } else {
+            self.look_at_all(level)
         }
+    }
+
+    /// The text of the level whose cells are labelled.
+    fn text(&mut self, level: &Level) -> Result<QuotedText, AllocError>
+        requires { self.old.cells ≡ texts_in self.old.table.game self.old.order level.now.grid }
+        ensures text { IfOk result (λ text. text ≡ text_of_level self.old.table.game self.old.order level.now.grid) }
+        ensures same { self.new ≡ self.old }
+    {
+        fill(&mut self.room, &mut self.last, &self.cells, level.width())?;
+        let text = self.room.text(self.alloc)?;
+        Ok(text)
     }
 
     /// The text of a level, as a JSON string. The cells come in the writer's order, each with a comma after it. The first cell with a set
@@ -169,12 +173,25 @@ impl<'a> TextWriter<'a> {
     /// refused.
     pub fn write(&mut self, level: &Level) -> Result<QuotedText, AllocError>
         ensures text { IfOk result (λ text. text ≡ text_of_level self.old.table.game self.old.order level.now.grid) }
+        ensures cells { OnOk result (self.new.cells ≡ texts_in self.old.table.game self.old.order level.now.grid) }
         ensures game { self.new.table.game ≡ self.old.table.game }
         ensures order { self.new.order ≡ self.old.order }
     {
-        self.look_over(level)?;
-        fill(&mut self.room, &mut self.last, &self.cells, level.width())?;
-        let text = self.room.text(self.alloc)?;
+        self.look_at_all(level)?;
+        let text = self.text(level)?;
+        Ok(text)
+    }
+
+    /// The same, after a level that was written: only cells that differ from that one are looked at.
+    pub fn write_after(&mut self, seen: &Level, level: &Level) -> Result<QuotedText, AllocError>
+        requires { self.old.cells ≡ texts_in self.old.table.game self.old.order seen.now.grid }
+        ensures text { IfOk result (λ text. text ≡ text_of_level self.old.table.game self.old.order level.now.grid) }
+        ensures cells { OnOk result (self.new.cells ≡ texts_in self.old.table.game self.old.order level.now.grid) }
+        ensures game { self.new.table.game ≡ self.old.table.game }
+        ensures order { self.new.order ≡ self.old.order }
+    {
+        self.look_over(seen, level)?;
+        let text = self.text(level)?;
         Ok(text)
     }
 
@@ -184,7 +201,7 @@ impl<'a> TextWriter<'a> {
         ensures game { self.new.table.game ≡ self.old.table.game }
         ensures order { self.new.order ≡ self.old.order }
     {
-        self.look_over(level)?;
+        self.look_at_all(level)?;
         let text = plain(self.alloc, &self.cells, level.width())?;
         Ok(text)
     }

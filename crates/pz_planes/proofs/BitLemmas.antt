@@ -1,10 +1,10 @@
 -- The bits of a word that is shifted.
-use Rattle.std.proofs.Common.{◌≡◌, ℕ, ◌+◌, ◌-◌, ◌*◌, ◌/◌, ◌%◌, ◌^◌, ◌<◌, ◌≤◌, ◌∷◌, [], true, arith, ap, sym, ◌∙◌, refl, nat_eq}
+use Rattle.std.proofs.Common.{◌≡◌, ℕ, ◌+◌, ◌-◌, ◌*◌, ◌/◌, ◌%◌, ◌^◌, ◌<◌, ◌≤◌, true, arith, ap, sym, ◌∙◌, nat_eq}
 use Rattle.std.specs.Int.{bit_at}
 use Rattle.std.proofs.lemmas.Nat.{shr-shr}
 use Rattle.std.proofs.lemmas.Nat.Bits.{bit_at_cat_low, bit_at_cat_high, bit_at_ones}
 use Rattle.std.proofs.Math.Pow.{pow-sub-lt}
-use Rattle.pz_sets.specs.Sets.{in_word, member}
+use Rattle.pz_sets.specs.Sets.{in_word}
 use Rattle.pz_sets.proofs.WordLemmas.{in_word-from, in_word-and, in_word-or}
 use Rattle.pz_planes.specs.declared.line.Way.{Way}
 use Rattle.pz_planes.specs.declared.line.Way.TheVariants.{Ahead, Back}
@@ -17,6 +17,13 @@ pub bit_ahead : (word k at : ℕ) → in_word (word / 2 ^ k) at ≡ in_word word
 bit_ahead word k at =
     let e : k + at ≡ at + k = omega arith in
     ap (λ (m : ℕ). nat_eq (m % 2) 1) (shr-shr word k at ∙ ap (λ (j : ℕ). word / 2 ^ j) e)
+
+-- the bits that are left of a word from one on
+pub bit_left_at : (word from at : ℕ) → in_word word (from + at) ≡ in_word (word / 2 ^ from) at
+bit_left_at word from at = (let e : at + from ≡ from + at = omega arith in sym (bit_ahead word from at ∙ ap (in_word word) e))
+
+pub bit_left : (word from number : ℕ) → from ≤ number → in_word word number ≡ in_word (word / 2 ^ from) (number - from)
+bit_left word from number h = (let e : number ≡ from + (number - from) = omega (arith, h) in ap (in_word word) e ∙ bit_left_at word from (number - from))
 
 -- a word that lost its high bits has the low ones
 wrapped : (x n : ℕ) → n < 128 → bit_at (x % 340282366920938463463374607431768211456) n ≡ bit_at x n
@@ -32,13 +39,6 @@ bit_back word k at low from =
 
       pow_positive : (k : ℕ) → 0 < 2 ^ k
       pow_positive k = (let h : 2 ^ k - 1 < 2 ^ k = pow-sub-lt k {a = 1} (omega arith) in omega (arith, h))
-
--- a set of one word
-pub one_word : (word at : ℕ) → at < 128 → member (word ∷ []) at ≡ in_word word at
-one_word word at low =
-    let a : at / 128 ≡ 0 = omega arith in
-    let b : at % 128 ≡ at = omega arith in
-    rw (a, b) refl
 
 -- a position some steps on is of the line, where there is room
 pub step_within : (long : ℕ) (way : Way) (at k : ℕ) → at < long → k < room_from long way at → step_to way at k < long

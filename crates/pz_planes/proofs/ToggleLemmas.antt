@@ -1,10 +1,11 @@
 -- Notes of objects that are toggled one after another.
 use Rattle.std.proofs.Common.{◌≡◌, ◌≢◌, inl, inr, ℕ, ◌+◌, ◌*◌, ◌/◌, ◌%◌, ◌<◌, ◌≤◌, List, Bool, true, false, not, ◌&&◌, nat_eq, eq-eqb, length, set, get_or, arith, ap, sym, ◌∙◌, refl, subst}
 use Rattle.std.specs.Prelude.{nat_lt, ◌↔◌}
+use Rattle.std.proofs.Math.Bool.{and-true}
 use Rattle.std.proofs.lemmas.Bool.{cases_eq, cases_lt, ne_eqb, lt-ltb, le-ltb}
 use Rattle.pz_sets.specs.Sets.{in_word, member}
 use Rattle.pz_sets.proofs.SetLemmas.{member_set_same, member_set_other}
-use Rattle.pz_sets.proofs.WordLemmas.{in_word-zero, and_true}
+use Rattle.pz_sets.proofs.WordLemmas.{in_word-zero}
 use Rattle.pz_sets.proofs.WordsLemmas.{member_missing}
 use Rattle.pz_game.specs.declared.pattern.Item.{Item}
 use Rattle.pz_game.specs.Items.{names}
@@ -23,7 +24,7 @@ abbrev pub done : ℕ → ℕ → ℕ → ℕ → Bool
 done index word rest object = nat_eq (object / 128) index && (in_word word (object % 128) && not (in_word rest (object % 128)))
 
 pub done_all : (index word object : ℕ) (was : Bool) → toggled (done index word 0 object) was ≡ toggled (nat_eq (object / 128) index && in_word word (object % 128)) was
-done_all index word object was = ap (λ (b : Bool). toggled (nat_eq (object / 128) index && (in_word word (object % 128) && not b)) was) (in_word-zero (object % 128)) ∙ ap (λ (b : Bool). toggled (nat_eq (object / 128) index && b) was) (and_true (in_word word (object % 128)))
+done_all index word object was = ap (λ (b : Bool). toggled (nat_eq (object / 128) index && (in_word word (object % 128) && not b)) was) (in_word-zero (object % 128)) ∙ ap (λ (b : Bool). toggled (nat_eq (object / 128) index && b) was) (and-true (in_word word (object % 128)))
 
 pub has_rest : (is_it was now : Bool) → now ≡ (not is_it && was) → now ≡ true → was ≡ true
 has_rest true was now is e = absurd (let f : false ≡ true = sym is ∙ e in cc)

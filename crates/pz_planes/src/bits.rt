@@ -7,7 +7,6 @@ ghost use Rattle.pz_planes.specs.Line.{step_to, room_from};
 ghost use Rattle.pz_planes.specs.Planes.{toggled};
 
 use crate::line::Way;
-use pz_sets::words;
 
 /// How many positions a word has room for: those below 128.
 pub const ROOM: u32 = 128;
@@ -22,7 +21,8 @@ pub fn all() -> u128
 
 /// Whether a set has no position.
 pub fn is_empty(set: u128) -> bool
-    ensures { result ≡ true → (at : ℕ) → at < 128 → in_word set at ≡ false }
+    ensures none { result ≡ true → (at : ℕ) → at < 128 → in_word set at ≡ false }
+    ensures some { result ≡ false → 0 < set }
 {
     set == 0
 }
@@ -109,15 +109,13 @@ pub fn next(set: u128, from: u32, end: u32) -> Option<u32>
     requires { end ≤ 128 }
     ensures { IsNext (in_word set) from end result }
 {
-    if is_empty(set) || from >= end {
+    if from >= end {
         return None;
     }
-    match words::next(&[set], from as usize) {
-        None => None,
-        Some(found) => if found < end as usize {
-            Some(found as u32)
-        } else {
-            None
-        },
+    let left = set >> from;
+    if is_empty(left) {
+        return None;
     }
+    let found = from + first(left) as u32;
+    if found < end { Some(found) } else { None }
 }

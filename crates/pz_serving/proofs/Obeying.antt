@@ -1,5 +1,5 @@
 -- What a run over the chosen sessions leaves is what a run over the words leaves.
-use Rattle.std.proofs.Common.{◌≡◌, ◌⊎◌, inl, inr, ℕ, Bool, List, Option, Some, None, IfSome, IsSome, IsNone, Result, Ok, Err, IfOk, refl, sym, ◌∙◌, subst}
+use Rattle.std.proofs.Common.{◌≡◌, inl, inr, ℕ, Bool, List, Option, Some, None, IfSome, IsSome, IsNone, Result, Ok, Err, IfOk, refl, sym, ◌∙◌, subst}
 use Rattle.std.proofs.lemmas.Bool.{cases_Bool}
 use Rattle.clap.specs.Words.{Text}
 use Rattle.std.specs.declared.io.Error.{Error}

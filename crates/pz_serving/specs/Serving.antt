@@ -8,6 +8,9 @@ use Rattle.pz_entries.specs.declared.entry.Entry.{Entry}
 use Rattle.pz_entries.specs.declared.fault.FileFault.TheVariants as fault
 use Rattle.pz_entries.specs.declared.file.TheConstants.{MOST_BYTES}
 use Rattle.pz_record.specs.declared.order.Order.{Order}
+use Rattle.pz_case.specs.declared.case.Case.{Case}
+use Rattle.pz_case.specs.declared.recording.Record.{Record}
+use Rattle.pz_job.specs.Job.{job_of}
 use Rattle.pz_lines.specs.declared.fault.WriteFault.{WriteFault}
 use Rattle.pz_lines.specs.Lines.{text_of}
 use Rattle.pz_lines.specs.Writing.{Writes, EndsFor, HasWritten}
@@ -30,9 +33,27 @@ pub record WritesPart (order : Order) (bytes : List ℕ) (cut : WriteFault) (old
   pub read : sessions_in bytes ≡ Ok entries
   pub ended : EndsFor cut (text_of (shown_of order entries)) old new
 
+-- what playing sessions leaves in its output, if it ends so: all lines of what they show, as many first bytes as a fault of writing
+-- tells, or nothing
+abbrev pub Plays : List Record → Writes → Writes → Result Bool Failure → Type 0
+Plays shown old new (Ok passed) = (passed ≡ all_passed shown) × HasWritten (text_of shown) old new
+Plays shown old new (Err (failure.WriteFault cut)) = EndsFor cut (text_of shown) old new
+Plays shown old new (Err failure.Memory) = new ≡ old
+Plays shown old new (Err failure.LaneLost) = new ≡ old
+Plays shown old new (Err other) = ⊥
+
 -- these are the bytes of the input, if its bytes are known
 abbrev pub AreOf : Option (List ℕ) → List ℕ → Type 0
 AreOf input bytes = IfSome input (λ all. bytes ≡ all)
+
+-- these are the cases of the sessions that the input's bytes hold, which were read without a fault
+pub record IsJobOf (order : Order) (input : Option (List ℕ)) (reads : Reads) (job : List Case) : Type 0 where
+  pub sound : reads.has_failed ≡ false
+  pub bytes : List ℕ
+  pub of_input : AreOf input bytes
+  pub entries : List Entry
+  pub read : sessions_in bytes ≡ Ok entries
+  pub made : job ≡ job_of order entries
 
 -- what a run over this input leaves in its output, if it ends so: nothing, unless sessions were read and replayed. The file's
 -- fault, the lines and whether all passed are those of one list of bytes, even if nobody knows the input's bytes before. The

@@ -5,7 +5,7 @@ ghost use Rattle.pz_serving.specs.CommandLine.{IsFresh, NamesFile, Obeys};
 ghost use Rattle.pz_serving.specs.Serving.{Reports, status_of};
 ghost use Rattle.pz_console.specs.declared.failure.Failure.{Failure};
 
-use crate::serving::{serve, serve_opened};
+use crate::serving::{serve_keeping, serve_opened_keeping};
 use pz_console::counted::Counted;
 use pz_console::failure::{Failure, fail_with};
 use pz_console::options::{Chosen, OptionsFault, read_options};
@@ -14,6 +14,7 @@ use pz_lines::output::Output;
 use std::fs;
 use std::fs::Files;
 use std::io::{self, Read, Write};
+use std::mem::forget;
 use std::sync::Wait;
 use std::thread::Threads;
 
@@ -29,7 +30,8 @@ fn open<R: Files>(rt: &R, name: &str) -> io::Result<Counted<R::File>>
 
 /// Serves what the words of a command line choose, the program's name before them: the sessions of FILE if they name one, and
 /// else those of the input. The input is not read if FILE is named. Answers the exit status; at 2 one line says why there is no
-/// whole recording. The input's reader, or FILE's, is called at most 16,777,217 times.
+/// whole recording. The input's reader, or FILE's, is called at most 16,777,217 times. A process serves one command line, so the memory of
+/// what was played is left to its end: with a thousand games, giving it back would take as long as writing their lines.
 pub fn serve_words<T: Files + Threads + Wait + Sync + AllocGlobal, R: Read, W: Write, E: Write>(
     rt: &T,
     words: &[String],
@@ -51,8 +53,12 @@ pub fn serve_words<T: Files + Threads + Wait + Sync + AllocGlobal, R: Read, W: W
         Err(OptionsFault::BadLine) => return fail_with(Failure::BadLine, errors),
     };
     let Some(name) = file else {
-        return serve(rt, rt.alloc(), input, output, errors, options);
+        let (status, job) = serve_keeping(rt, rt.alloc(), input, output, errors, options);
+        forget(job);
+        return status;
     };
     let mut opened = open(rt, name.as_str());
-    serve_opened(rt, rt.alloc(), &mut opened, output, errors, options)
+    let (status, job) = serve_opened_keeping(rt, rt.alloc(), &mut opened, output, errors, options);
+    forget(job);
+    status
 }

@@ -1,24 +1,25 @@
 //! The serving of a file of sessions.
 
-ghost use Rattle.std.specs.Prelude.{◌≡◌, ◌≢◌, ◌≤◌, ◌⊎◌, Bool, false, None, Result, IfOk, IfErr, length};
+ghost use Rattle.std.specs.Prelude.{◌≡◌, ◌≢◌, ◌≤◌, ◌+◌, ◌⊎◌, Bool, Err, false, None, Result, IfOk, IfErr, length};
 ghost use Rattle.std.specs.IoError.{error_kind};
+ghost use Rattle.pz_entries.specs.declared.file.TheConstants.{MOST_BYTES};
 ghost use Rattle.pz_console.specs.declared.options.TheConstants.{MOST_WORKERS};
 ghost use Rattle.pz_console.specs.declared.failure.Failure.{Failure};
-ghost use Rattle.pz_engine.specs.Sessions.{shown_of};
-ghost use Rattle.pz_serving.specs.Serving.{ReadsFor, Reports, Serves, ServesOpened, failure_at, status_of};
+ghost use Rattle.pz_lines.specs.Writing.{Writes};
+ghost use Rattle.pz_session.specs.Recording.{recording};
+ghost use Rattle.pz_serving.specs.Serving.{IsJobOf, Plays, ReadsFor, Reports, Serves, ServesOpened, failure_at, status_of};
 
-use pz_case::recording::Recording;
+use pz_case::job::Job;
 use pz_console::counted::Counted;
 use pz_console::failure::{Failure, fail_with};
 use pz_console::input::{InputFault, read_input};
 use pz_console::options::Options;
+use pz_engine::engine::play;
 use pz_engine::sessions::{all_passed, decode};
-use pz_entries::entry::Entry;
 use pz_entries::fault::FileFault;
 use pz_job::job::prepare_with;
 use pz_lines::output::Output;
 use pz_lines::writing::write_recording;
-use pz_record::limits::MOST_ENTRIES;
 use pz_replay::{Always, ReplayFault, replay_with};
 use std::alloc::Global;
 use std::io::{self, ErrorKind, Read, Write};
@@ -42,40 +43,74 @@ fn failure_of(fault: ReplayFault) -> Failure
     }
 }
 
-/// What the sessions of the entries show when the workers play them.
-fn record<T: Threads + Wait + Sync>(
-    rt: &T,
-    alloc: Global,
-    entries: Vec<Entry>,
-    options: Options,
-) -> Result<Recording, Failure>
-    requires entries { length entries.items ≤ MOST_ENTRIES }
-    requires some { 1 ≤ options.workers }
-    requires few { options.workers ≤ MOST_WORKERS }
-    ensures shown { IfOk result (λ shown. shown ≡ shown_of options.order entries.items) }
-    ensures refused { IfErr result (λ failure. (failure ≡ Failure.Memory) ⊎ (failure ≡ Failure.LaneLost)) }
+/// Plays a job in the calling thread, and writes its lines; tells whether every session passed. Each item becomes a line before the next is
+/// played.
+fn play_alone<W: Write>(alloc: Global, job: &Job, output: &mut Output<W>) -> Result<bool, Failure>
+    requires sound { output.old.failure ≡ None }
+    ensures played { Plays (recording job.now) output.old output.new result }
 {
-    let job = prepare_with(rt, alloc, entries, options.order, options.workers)?;
-    match replay_with(rt, alloc, &job, options.workers, LANE, &Always) {
-        Ok(recording) => Ok(recording),
-        Err(fault) => Err(failure_of(fault)),
+    let played = play(alloc, job, 0)?;
+    match output.write_whole(&played.lines) {
+        Ok(()) => Ok(played.passed),
+        Err(fault) => Err(Failure::WriteFault(fault)),
     }
 }
 
-/// Reads the sessions, replays them and writes their lines; tells whether every session passed.
-fn run<T: Threads + Wait + Sync, R: Read, W: Write>(
+/// Plays a job by several workers, and writes the lines of its recording; tells whether every session passed.
+fn play_by_crew<T: Threads + Wait + Sync, W: Write>(
+    rt: &T,
+    alloc: Global,
+    job: &Job,
+    workers: usize,
+    output: &mut Output<W>,
+) -> Result<bool, Failure>
+    requires sound { output.old.failure ≡ None }
+    requires some { 1 ≤ workers }
+    requires few { workers ≤ MOST_WORKERS }
+    ensures played { Plays (recording job.now) output.old output.new result }
+{
+    let recording = match replay_with(rt, alloc, job, workers, LANE, &Always) {
+        Ok(recording) => recording,
+        Err(fault) => return Err(failure_of(fault)),
+    };
+    match write_recording(alloc, &recording, output) {
+        Ok(()) => Ok(all_passed(&recording)),
+        Err(fault) => Err(Failure::WriteFault(fault)),
+    }
+}
+
+/// Plays a job and writes its lines; tells whether every session passed. A worker that is alone has no thread of its own.
+fn play_job<T: Threads + Wait + Sync, W: Write>(
+    rt: &T,
+    alloc: Global,
+    job: &Job,
+    workers: usize,
+    output: &mut Output<W>,
+) -> Result<bool, Failure>
+    requires sound { output.old.failure ≡ None }
+    requires some { 1 ≤ workers }
+    requires few { workers ≤ MOST_WORKERS }
+    ensures played { Plays (recording job.now) output.old output.new result }
+{
+    if workers == 1 || job.len() <= 1 {
+        play_alone(alloc, job, output)
+    } else {
+        play_by_crew(rt, alloc, job, workers, output)
+    }
+}
+
+/// Reads a file of sessions, and makes the job of its entries.
+fn ready<T: Threads + Sync, R: Read>(
     rt: &T,
     alloc: Global,
     input: &mut Counted<R>,
-    output: &mut Output<W>,
     options: Options,
-) -> Result<bool, Failure>
+) -> Result<Job, Failure>
     requires fresh { (input.old.calls ≡ 0) × (input.old.has_failed ≡ false) }
-    requires sound { output.old.failure ≡ None }
-    requires some { 1 ≤ options.workers }
-    requires few { options.workers ≤ MOST_WORKERS }
-    ensures reads { ReadsFor result input.new }
-    ensures served { Serves options.order input.old.remaining output.old output.new result }
+    ensures called { input.new.calls ≤ MOST_BYTES + 1 }
+    ensures job { IfOk result (IsJobOf options.order input.old.remaining input.new) }
+    ensures reads { IfErr result (λ failure. ReadsFor (Err failure) input.new) }
+    ensures refused { IfErr result (λ failure. (output : Writes) → Serves options.order input.old.remaining output output (Err failure)) }
 {
     let bytes = match read_input(alloc, input) {
         Ok(bytes) => bytes,
@@ -87,10 +122,45 @@ fn run<T: Threads + Wait + Sync, R: Read, W: Write>(
         Ok(entries) => entries,
         Err(fault) => return Err(Failure::File(fault)),
     };
-    let recording = record(rt, alloc, entries, options)?;
-    match write_recording(alloc, &recording, output) {
-        Ok(()) => Ok(all_passed(&recording)),
-        Err(fault) => Err(Failure::WriteFault(fault)),
+    Ok(prepare_with(rt, alloc, entries, options.order, options.workers)?)
+}
+
+/// The exit status of a run that ended so. A failure's line is written.
+fn status_of<E: Write>(end: Result<bool, Failure>, errors: &mut Output<E>) -> u8
+    requires sound { errors.old.failure ≡ None }
+    ensures status { result ≡ status_of end }
+    ensures line { Reports errors.old errors.new end }
+{
+    match end {
+        Ok(true) => 0,
+        Ok(false) => 1,
+        Err(failure) => fail_with(failure, errors),
+    }
+}
+
+/// Serves a file of sessions as `serve` does, and hands the job back that was played, if there is one.
+pub(crate) fn serve_keeping<T: Threads + Wait + Sync, R: Read, W: Write, E: Write>(
+    rt: &T,
+    alloc: Global,
+    input: &mut Counted<R>,
+    output: &mut Output<W>,
+    errors: &mut Output<E>,
+    options: Options,
+) -> (u8, Option<Job>)
+    requires fresh { (input.old.calls ≡ 0) × (input.old.has_failed ≡ false) }
+    requires sound { (output.old.failure ≡ None) × (errors.old.failure ≡ None) }
+    requires some { 1 ≤ options.workers }
+    requires few { options.workers ≤ MOST_WORKERS }
+    ensures served { (end : Result Bool Failure) × (result.0 ≡ status_of end) × ReadsFor end input.new
+        × Serves options.order input.old.remaining output.old output.new end
+        × Reports errors.old errors.new end }
+{
+    match ready(rt, alloc, input, options) {
+        Ok(job) => {
+            let end = play_job(rt, alloc, &job, options.workers, output);
+            (status_of(end, errors), Some(job))
+        }
+        Err(failure) => (fail_with(failure, errors), None),
     }
 }
 
@@ -115,11 +185,7 @@ pub fn serve<T: Threads + Wait + Sync, R: Read, W: Write, E: Write>(
         × Serves options.order input.old.remaining output.old output.new end
         × Reports errors.old errors.new end }
 {
-    match run(rt, alloc, input, output, options) {
-        Ok(true) => 0,
-        Ok(false) => 1,
-        Err(failure) => fail_with(failure, errors),
-    }
+    serve_keeping(rt, alloc, input, output, errors, options).0
 }
 
 /// Why a file was not opened.
@@ -129,6 +195,29 @@ fn failure_at(error: &io::Error) -> Failure
     match error.kind() {
         ErrorKind::OutOfMemory => Failure::Memory,
         _ => Failure::OpenFault,
+    }
+}
+
+/// Serves a file of sessions as `serve_opened` does, and hands the job back that was played, if there is one.
+pub(crate) fn serve_opened_keeping<T: Threads + Wait + Sync, R: Read, W: Write, E: Write>(
+    rt: &T,
+    alloc: Global,
+    opened: &mut io::Result<Counted<R>>,
+    output: &mut Output<W>,
+    errors: &mut Output<E>,
+    options: Options,
+) -> (u8, Option<Job>)
+    requires fresh { IfOk opened.old (λ file. (file.calls ≡ 0) × (file.has_failed ≡ false)) }
+    requires sound { (output.old.failure ≡ None) × (errors.old.failure ≡ None) }
+    requires some { 1 ≤ options.workers }
+    requires few { options.workers ≤ MOST_WORKERS }
+    ensures served { (end : Result Bool Failure) × (result.0 ≡ status_of end)
+        × ServesOpened options.order opened.old opened.new output.old output.new end
+        × Reports errors.old errors.new end }
+{
+    match opened {
+        Ok(file) => serve_keeping(rt, alloc, file, output, errors, options),
+        Err(error) => (fail_with(failure_at(error), errors), None),
     }
 }
 
@@ -150,8 +239,5 @@ pub fn serve_opened<T: Threads + Wait + Sync, R: Read, W: Write, E: Write>(
         × ServesOpened options.order opened.old opened.new output.old output.new end
         × Reports errors.old errors.new end }
 {
-    match opened {
-        Ok(file) => serve(rt, alloc, file, output, errors, options),
-        Err(error) => fail_with(failure_at(error), errors),
-    }
+    serve_opened_keeping(rt, alloc, opened, output, errors, options).0
 }

@@ -11,6 +11,7 @@ use Rattle.pz_game.specs.Game.{players_of}
 use Rattle.pz_sheet.specs.Grid.{Grid, IsOfGame}
 use Rattle.pz_sheet.specs.Sameness.{same_grid}
 use Rattle.pz_bare.specs.Loading.{loaded}
+use Rattle.pz_grid.proofs.SameLemmas.{same_grid_is, same_grid_self}
 use Rattle.pz_turn.specs.declared.outcome.StepFault.{StepFault}
 use Rattle.pz_turn.specs.declared.stepping.StepEnd.{StepEnd}
 use Rattle.pz_turn.specs.Outcome.{Outcome}
@@ -63,6 +64,33 @@ pub stays_cancelled : (game : GameParts) (program : Program) (grid : Grid) (inpu
     → IfOk result (λ end. has end.commands cancel ≡ true → end.level.grid ≡ grid)
 stays_cancelled game program grid input (Ok end) e = stays game program grid input (record { level = end.level.grid; commands = end.commands; changed = end.changed }) e
 stays_cancelled game program grid input (Err fault) e = tt
+
+-- ---- whether a step changed the level
+ended_changed : (before after : Grid) (commands : Commands) → same_grid before (ended before after commands).level ≡ not (ended before after commands).changed
+ended_changed before after commands = by_test (has commands cancel) where
+  other_way : (there back : Bool) → same_grid before after ≡ there → same_grid after before ≡ back → there ≡ not (not back)
+  other_way true true e f = refl
+  other_way false false e f = refl
+  other_way true false e f =
+      let same : same_grid after before ≡ true = ap (λ (g : Grid). same_grid g before) (sym (same_grid_is before after e)) ∙ same_grid_self before in
+      sym (sym f ∙ same)
+  other_way false true e f =
+      let same : same_grid before after ≡ true = ap (λ (g : Grid). same_grid g after) (sym (same_grid_is after before f)) ∙ same_grid_self after in
+      sym e ∙ same
+
+  by_test : (b : Bool) → same_grid before (end_by b before after commands).level ≡ not (end_by b before after commands).changed
+  by_test true = same_grid_self before
+  by_test false = other_way (same_grid before after) (same_grid after before) refl refl
+
+pub tells : (game : GameParts) (program : Program) (grid : Grid) (input : Option Dir) (end : Outcome Grid) → step_of game program grid input ≡ Ok end → same_grid grid end.level ≡ not end.changed
+unfolding step_of
+tells game program grid input end = by_run (rules_run program (given_input (players_of game) input grid)) where
+  by_run : (run : Result (Outcome Grid) StepFault) → step_ended game input grid run ≡ Ok end → same_grid grid end.level ≡ not end.changed
+  by_run (Err fault) e = cc
+  by_run (Ok gone) e =
+      let commands = with_cancel (must_cancel game input grid gone.level) gone.commands in
+      let same : ended grid gone.level commands ≡ end = cc in
+      subst (λ (x : Outcome Grid). same_grid grid x.level ≡ not x.changed) same (ended_changed grid gone.level commands)
 
 -- the effect of a step on the level that it began with is that on the one where it ends
 pub effect_moved : (kind : FrameKind) (state : State) (end : Outcome Grid) → (has end.commands cancel ≡ true → end.level ≡ state.level) → effect kind (at_level end.level state) end ≡ effect kind state end

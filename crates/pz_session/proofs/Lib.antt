@@ -1,9 +1,9 @@
 pub mod Leaving
 pub mod Advancing
-pub mod Running
 pub mod Bounds
 pub mod Starting
 pub mod BoardLemmas
+pub mod LabelledLemmas
 pub mod Closing
 pub mod Rows
 pub mod WorkedSessions

@@ -3,6 +3,7 @@ pub mod Session
 pub mod Player
 pub mod Turn
 pub mod Board
+pub mod Labelled
 pub mod Inside
 pub mod Case
 pub mod Recording

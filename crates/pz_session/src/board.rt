@@ -1,11 +1,12 @@
 //! The levels of a session between two links, and the links that lead on from them.
 #![tactic(auto, unfolding(crate::specs::Board::frame_of, crate::specs::Board::start_link, crate::specs::Board::restarted, crate::specs::Board::won_link, crate::specs::Board::kept_link, crate::specs::Board::reached_link, crate::specs::Board::effect, crate::specs::Board::press_link, crate::specs::Board::tick_link, crate::specs::Board::undo_link, crate::specs::Board::begun, crate::specs::Board::settled))]
 
-ghost use Rattle.std.specs.Prelude.{◌≡◌, ◌≢◌, ◌<◌, ◌+◌, true, if◌then◌else◌, length, IfOk, IfErr, OnOk, Ok, Err};
+ghost use Rattle.std.specs.Prelude.{◌≡◌, ◌≢◌, ◌<◌, ◌+◌, true, not, if◌then◌else◌, length, IfOk, IfErr, IfSome, OnOk, Ok, Err};
 ghost use Rattle.pz_program.specs.Commands.{has, cancel, checkpoint};
 ghost use Rattle.pz_game.specs.Level.{is_playable, entry_at};
 ghost use Rattle.pz_program.specs.Instance.{IsProgramOf};
 ghost use Rattle.pz_sheet.specs.Grid.{IsOfGame};
+ghost use Rattle.pz_sheet.specs.Sameness.{same_grid};
 ghost use Rattle.pz_bare.specs.Loading.{loaded};
 ghost use Rattle.pz_turn.specs.Step.{step_of};
 ghost use Rattle.pz_turn.specs.declared.outcome.StepFault.TheVariants.{Memory};
@@ -13,6 +14,7 @@ ghost use Rattle.pz_case.specs.FirstLevel.{level_from};
 ghost use Rattle.pz_session.specs.Chain.{GivesLink};
 
 use crate::chain::{PlayFault, Shown};
+use crate::labelled::Labelled;
 use crate::place::{put_aside, put_before, put_copy};
 use crate::turn::is_idle;
 use bitflags::Flags;
@@ -37,8 +39,8 @@ use std::alloc::{AllocError, Global};
 use std::marker::Model;
 
 /// A session between two links: the entry of LEVELS that is played, its level, the target of a restart, the past, and whether play is over.
-/// `before` has the level before an input until that input's chain is over. `spare` is memory for the next step; what stands there doesn't
-/// count.
+/// `before` has the level before an input until that input's chain is over, and `differs` says whether the level differs from it, where that
+/// is known. `spare` is memory for the next step. `labelled` says which of these levels has the labels that `texts` keeps.
 pub struct Board<'a> {
     alloc: Global,
     game: &'a Game,
@@ -50,9 +52,11 @@ pub struct Board<'a> {
     target: Level,
     past: Past,
     before: Option<Level>,
+    differs: Option<bool>,
     spare: Option<Level>,
     is_over: bool,
     texts: TextWriter<'a>,
+    labelled: Labelled,
 }
 
 impl<'a> Model for Board<'a> {
@@ -81,9 +85,11 @@ impl Drop for Board<'_> {
             target: _target,
             past: _past,
             before,
+            differs: _,
             spare,
             is_over: _,
             texts: _texts,
+            labelled: _,
         } = self;
         drop(before);
         drop(spare);
@@ -101,6 +107,17 @@ fn opened(alloc: Global, game: &Game, entry: usize) -> Result<(Level, Level), Al
     match level.copied() {
         Ok(target) => Ok((level, target)),
         Err(fault) => Err(fault),
+    }
+}
+
+/// Whether a level differs from the one before, where that may be known already.
+fn differs(known: Option<bool>, before: &Level, level: &Level) -> bool
+    requires { IfSome known (λ differs. same_grid before.now.grid level.now.grid ≡ not differs) }
+    ensures { result ≡ not (same_grid before.now.grid level.now.grid) }
+{
+    match known {
+        Some(differs) => differs,
+        None => !before.same(level),
     }
 }
 
@@ -133,9 +150,11 @@ impl<'a> Board<'a> {
                 target,
                 past: Past::new(alloc),
                 before: None,
+                differs: None,
                 spare: None,
                 is_over: false,
                 texts: TextWriter::new(alloc, game, order),
+                labelled: Labelled::Nothing,
             }),
             Err(fault) => Err(fault),
         }
@@ -153,7 +172,13 @@ impl<'a> Board<'a> {
         ensures frame { IfOk result (λ frame. frame ≡ frame_of self.old kind) }
         ensures same { self.new ≡ self.old }
     {
-        let level_text = self.texts.write(&self.level)?;
+        let seen = self.labelled.level(&self.level, &self.before, &self.spare);
+        self.labelled = Labelled::Nothing;
+        let level_text = match seen {
+            Some(seen) => self.texts.write_after(seen, &self.level)?,
+            None => self.texts.write(&self.level)?,
+        };
+        self.labelled = Labelled::Level;
         Ok(Frame { kind, level_text })
     }
 
@@ -181,6 +206,8 @@ impl<'a> Board<'a> {
     fn restart(&mut self) -> Result<Shown, PlayFault>
         ensures { GivesLink (Ok (restarted self.old)) self.new result }
     {
+        self.differs = None;
+        self.labelled = self.labelled.behind();
         put_copy(&mut self.level, &self.target)?;
         let goes_on = self.ticks_at_start();
         self.show(FrameKind::Restart, goes_on)
@@ -198,6 +225,7 @@ impl<'a> Board<'a> {
         self.target = target;
         self.past.clear();
         self.before = None;
+        self.labelled = Labelled::Nothing;
         self.is_over = false;
         Ok(())
     }
@@ -231,10 +259,10 @@ impl<'a> Board<'a> {
     fn set_target(&mut self, commands: Commands) -> Result<(), AllocError>
         ensures { OnOk result (self.new ≡ record self.old { target = if has commands checkpoint then self.old.level else self.old.target }) }
     {
-        if commands.contains(Commands::CHECKPOINT) {
-            put_copy(&mut self.target, &self.level)?;
+        if !commands.contains(Commands::CHECKPOINT) {
+            return Ok(());
         }
-        Ok(())
+        put_copy(&mut self.target, &self.level)
     }
 
     /// Shows the level after a step that doesn't win. A checkpoint makes it the target. `again` asks for one more tick if the step changed
@@ -252,23 +280,8 @@ impl<'a> Board<'a> {
         self.show(kind, goes_on)
     }
 
-    /// The effect of a step that gives neither `cancel` nor `restart`: it wins, by `win` or by the win lines, or play goes on.
-    fn reach(
-        &mut self,
-        kind: FrameKind,
-        commands: Commands,
-        changed: bool,
-    ) -> Result<Shown, PlayFault>
-        ensures { GivesLink (Ok (reached_link kind commands changed self.old)) self.new result }
-    {
-        if commands.contains(Commands::WIN) || won(self.game, &self.level) {
-            let frame = self.frame(kind)?;
-            return self.win(frame);
-        }
-        self.keep(kind, commands, changed)
-    }
-
-    /// The effect of a step that has led to the level. Cancel, restart and win, in this order, each exclude all after it.
+    /// The effect of a step that has led to the level. Cancel, restart and win, in this order, each exclude all after it. A step wins by
+    /// `win` or by the win lines.
     fn take(
         &mut self,
         kind: FrameKind,
@@ -283,7 +296,11 @@ impl<'a> Board<'a> {
         if commands.contains(Commands::RESTART) {
             return self.restart();
         }
-        self.reach(kind, commands, changed)
+        if commands.contains(Commands::WIN) || won(self.game, &self.level) {
+            let frame = self.frame(kind)?;
+            return self.win(frame);
+        }
+        self.keep(kind, commands, changed)
     }
 
     /// Plays a step from the level, which stays as it is. A cancelled step ends with an equal level.
@@ -294,6 +311,7 @@ impl<'a> Board<'a> {
         ensures fault { IfErr result (λ fault. fault ≢ Memory → step_of self.old.game self.old.program self.old.level input ≡ Err fault) }
         ensures same { self.new ≡ self.old }
     {
+        self.labelled = self.labelled.at_level_only();
         let spare = self.spare.take();
         step_in(
             self.alloc,
@@ -316,6 +334,8 @@ impl<'a> Board<'a> {
             changed,
         } = end;
         put_before(&mut self.level, level, &mut self.before);
+        self.differs = Some(changed);
+        self.labelled = self.labelled.moved_to(Labelled::Before);
         self.take(FrameKind::Move, commands, changed)
     }
 
@@ -325,6 +345,7 @@ impl<'a> Board<'a> {
     {
         let end = self.turn(None)?;
         if is_idle(&end) {
+            self.labelled = self.labelled.at_level_only();
             put_aside(&mut self.spare, end.level);
             return Ok(Shown {
                 first: None,
@@ -338,6 +359,8 @@ impl<'a> Board<'a> {
             changed,
         } = end;
         put_before(&mut self.level, level, &mut self.spare);
+        self.differs = None;
+        self.labelled = self.labelled.moved_to(Labelled::Spare);
         self.take(FrameKind::Tick, commands, changed)
     }
 
@@ -346,7 +369,10 @@ impl<'a> Board<'a> {
         ensures { OnOk result (self.new ≡ undone self.old self.old.past) }
     {
         if let Some(newest) = self.past.newest() {
-            self.level = Level::marked(self.alloc, newest.copy()?)?;
+            let level = Level::marked(self.alloc, newest.copy()?)?;
+            put_before(&mut self.level, level, &mut self.spare);
+            self.differs = None;
+            self.labelled = self.labelled.moved_to(Labelled::Spare);
             self.past.forget();
         }
         Ok(())
@@ -365,6 +391,8 @@ impl<'a> Board<'a> {
     {
         let target = self.target.copied()?;
         put_before(&mut self.level, target, &mut self.before);
+        self.differs = None;
+        self.labelled = self.labelled.moved_to(Labelled::Before);
         let goes_on = self.ticks_at_start();
         self.show(FrameKind::Restart, goes_on)
     }
@@ -394,8 +422,9 @@ impl<'a> Board<'a> {
     pub fn settle(&mut self) -> Result<(), AllocError>
         ensures { OnOk result (self.new ≡ settled self.old) }
     {
+        self.labelled = self.labelled.at_level_only();
         if let Some(before) = self.before.take() {
-            if !before.same(&self.level) {
+            if differs(self.differs, &before, &self.level) {
                 self.past.push(before.bare())?;
             }
             put_aside(&mut self.spare, before);

@@ -4,6 +4,7 @@
 mod board;
 pub mod by_rules;
 mod chain;
+mod labelled;
 pub mod laws;
 mod place;
 mod player;

@@ -1,5 +1,5 @@
 -- Sets of four words, word by word.
-use Rattle.std.proofs.Common.{◌≡◌, ◌≢◌, inl, inr, ℕ, zero, suc, ◌/◌, ◌%◌, ◌<◌, ◌≤◌, List, Bool, false, ◌||◌, length, get_or, set, arith, ap, sym, ◌∙◌, nat_eq, eq-eqb, get_or-set_same, get_or-set_other}
+use Rattle.std.proofs.Common.{◌≡◌, ◌≢◌, inl, inr, ℕ, zero, suc, ◌/◌, ◌%◌, ◌<◌, ◌≤◌, List, Bool, false, ◌||◌, length, get_or, set, arith, ap, sym, ◌∙◌, nat_eq, get_or-set_same, get_or-set_other}
 use Rattle.std.proofs.lemmas.Bool.{cases_lt, cases_eq, ne_eqb}
 use Rattle.std.proofs.lemmas.List.{get_or_past}
 use Rattle.pz_sets.specs.Sets.{in_word, member}
@@ -32,10 +32,7 @@ pub member_set_other : (words : List ℕ) (k word number : ℕ) → number / 128
 member_set_other words k word number e = ap (λ (w : ℕ). in_word w (number % 128)) (get_or-set_other words k (number / 128) word 0 e)
 
 same_remainder : (other number : ℕ) → other / 128 ≡ number / 128 → nat_eq (other % 128) (number % 128) ≡ nat_eq other number
-same_remainder other number e = elim (cases_eq other number) [
-  | inl same ↦ eq-eqb (other % 128) (number % 128) (ap (λ (n : ℕ). n % 128) same) ∙ sym (eq-eqb other number same)
-  | inr apart ↦ ne_eqb (other % 128) (number % 128) (λ h. apart (omega (arith, e, h))) ∙ sym (ne_eqb other number apart)
-]
+same_remainder other number e = elim (cases_eq other number) [ inl same ↦ grind (arith, same) | inr apart ↦ grind (arith, e, apart) ]
 
 -- a bit more in one word
 pub member_inserted : (words : List ℕ) (number word : ℕ) → number / 128 < length words → ((bit : ℕ) → in_word word bit ≡ (nat_eq bit (number % 128) || in_word (get_or words (number / 128) 0) bit)) → (other : ℕ) → member (set words (number / 128) word) other ≡ (nat_eq other number || member words other)

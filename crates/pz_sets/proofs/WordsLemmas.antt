@@ -1,8 +1,8 @@
 -- What holds word by word.
-use Rattle.std.proofs.Common.{◌≡◌, inl, inr, ℕ, refl, ◌+◌, ◌*◌, ◌/◌, ◌%◌, ◌<◌, ◌≤◌, List, Bool, true, false, not, set, get_or-set_same, length, get_or, arith, ap, sym, ◌∙◌, subst}
+use Rattle.std.proofs.Common.{◌≡◌, inl, inr, ℕ, ◌+◌, ◌*◌, ◌/◌, ◌%◌, ◌<◌, ◌≤◌, List, Bool, false, not, set, get_or-set_same, length, get_or, arith, ap, sym, ◌∙◌, subst}
 use Rattle.std.specs.Prelude.{IsTrue, ◌↔◌}
 use Rattle.pz_sets.proofs.SetLemmas.{member_set_same, member_set_other}
-use Rattle.std.proofs.lemmas.Bool.{cases_lt, cases_eq}
+use Rattle.std.proofs.lemmas.Bool.{cases_lt, cases_eq, not-false}
 use Rattle.std.proofs.lemmas.List.{get_or_past}
 use Rattle.pz_sets.specs.Sets.{in_word, member}
 use Rattle.pz_sets.proofs.WordLemmas.{in_word-zero}
@@ -41,13 +41,9 @@ word_of_test P words others h index bit low =
 -- one word anew gives the same set if it has the same bits
 pub changed_word : (words : List ℕ) (index new : ℕ) (same : Bool) → index < length words → (IsTrue same ↔ ((bit : ℕ) → bit < 128 → in_word new bit ≡ in_word (get_or words index 0) bit)) → ((not same ≡ false) ↔ ((number : ℕ) → member (set words index new) number ≡ member words number))
 changed_word words index new same within alike = (forth, back) where
-  yes : (b : Bool) → not b ≡ false → b ≡ true
-  yes true e = refl
-  yes false e = cc
-
   forth : not same ≡ false → (number : ℕ) → member (set words index new) number ≡ member words number
   forth e number = elim (cases_eq (number / 128) index) [
-    | inl here ↦ member_set_same words index new number within here ∙ alike.0 (yes same e) (number % 128) (omega arith) ∙ ap (λ (k : ℕ). in_word (get_or words k 0) (number % 128)) (sym here)
+    | inl here ↦ member_set_same words index new number within here ∙ alike.0 (not-false same e) (number % 128) (omega arith) ∙ ap (λ (k : ℕ). in_word (get_or words k 0) (number % 128)) (sym here)
     | inr other ↦ member_set_other words index new number other
   ]
 

@@ -153,24 +153,6 @@ pub fn next_common(words: &[u128], others: &[u128], start: usize) -> Option<usiz
     None
 }
 
-/// The least number from one on that the first set has and the second hasn't.
-pub fn next_only(words: &[u128], others: &[u128], start: usize) -> Option<usize>
-    requires short { length words.now ≤ 4 }
-    requires low { start ≤ CAPACITY }
-    ensures { MatchOption result ((number : ℕ) → start ≤ number → (member words.now number && not (member others.now number)) ≡ false) (λ found. (start ≤ found) × (found / 128 < length words.now) × ((member words.now found && not (member others.now found)) ≡ true) × ((number : ℕ) → start ≤ number → number < found → (member words.now number && not (member others.now number)) ≡ false)) }
-{
-    let mut number = start;
-    while number / 128 < words.len() {
-        let index = number / 128;
-        let only = word::minus(words[index], word_at(others, index));
-        match word::lowest_from(only, number % 128) {
-            Some(bit) => return Some(index * 128 + bit),
-            None => number = (index + 1) * 128,
-        }
-    }
-    None
-}
-
 /// A number of both sets, if they have one in common.
 pub fn first_common(words: &[u128], others: &[u128]) -> Option<usize>
     requires short { length words.now ≤ 4 }

@@ -11,7 +11,6 @@ use Rattle.pz_grid.specs.Places.{places, searched, still_matches}
 use Rattle.pz_grid.specs.Rewriting.{Rewriting, in_rewrite, rewritten, rewritten_row}
 use Rattle.pz_grid.proofs.CountLemmas.{searched-gapless, searched-small}
 use Rattle.pz_turn.proofs.SingleRow.{row_nowhere, row_ends}
-use Rattle.pz_turn.specs.declared.outcome.StepFault.TheVariants as stop
 use Rattle.pz_turn.specs.declared.instance.TheConstants.{FEW_CELLS}
 use Rattle.pz_turn.specs.Outcome.{untouched}
 use Rattle.pz_turn.specs.Instance.{found_or_stop, applied_at, outcome_of, applied, HasNoEffect}

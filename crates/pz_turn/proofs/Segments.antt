@@ -18,7 +18,7 @@ use Rattle.pz_grid.specs.Places.{places}
 use Rattle.pz_turn.specs.declared.outcome.StepFault.{StepFault}
 use Rattle.pz_turn.specs.Instance.{applied}
 use Rattle.pz_turn.specs.Outcome.{Outcome, untouched, followed_by, joined}
-use Rattle.pz_turn.specs.Rest.{Runs, pass_of, passes, rest_of}
+use Rattle.pz_turn.specs.Rest.{Runs, pass_of, rest_of}
 use Rattle.pz_turn.proofs.Calm.{either_assoc, either_comm}
 use Rattle.pz_turn.proofs.Effectless.{applied_without_effect}
 use Rattle.pz_turn.proofs.Passes.{fold_stopped}

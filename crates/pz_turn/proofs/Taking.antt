@@ -34,6 +34,10 @@ pub following_more : (grid : Grid) (dir : Dir) (lists : List (List Place)) (rows
 following_more grid dir lists rows i row found within at is some =
     following_one lists found (taken grid dir (drop (i + 1) rows)) some ∙ ap (following lists) (sym (taken_from grid dir rows i row (Ok found) within at is))
 
+-- a row that stops
+pub following_stop : (grid : Grid) (dir : Dir) (lists : List (List Place)) (rows : List RuleRow) (i : ℕ) (row : RuleRow) (fault : StepFault) → i < length rows → row ≡ get_or rows i row → found_or_stop (searched grid row dir) ≡ Err fault → following lists (taken grid dir (drop i rows)) ≡ Err fault
+following_stop grid dir lists rows i row fault within at is = ap (following lists) (taken_from grid dir rows i row (Err fault) within at is)
+
 -- behind rows with places comes one without
 pub applied_until : (instance : Instance) (grid : Grid) (lists : List (List Place)) (rows : List RuleRow) (i : ℕ) (row : RuleRow) → i < length rows → row ≡ get_or rows i row → found_or_stop (searched grid row instance.scan) ≡ Ok [] → following lists (taken grid instance.scan (drop i rows)) ≡ taken grid instance.scan instance.left → applied instance grid ≡ Ok (untouched grid)
 applied_until instance grid lists rows i row within at none before =

@@ -190,14 +190,10 @@ fn room_for(alloc: Global, rows: usize) -> Result<Vec<Place>, StepFault>
     ensures length { IfOk result (λ places. length places.items ≡ rows) }
     ensures fault { IfErr result (λ fault. fault ≡ Memory) }
 {
-    let mut places = Vec::new(alloc);
-    for _ in 0..rows {
-        let place = Place { x: 0, y: 0, gap: 0 };
-        if places.push(place).is_err() {
-            return Err(StepFault::Memory);
-        }
+    match vec![in alloc; Place { x: 0, y: 0, gap: 0 }; rows] {
+        Ok(places) => Ok(places),
+        Err(_) => Err(StepFault::Memory),
     }
-    Ok(places)
 }
 
 /// The commands of an instance, if it has a combination.

@@ -1,5 +1,4 @@
 //! A step: the press, the early blocks, the movement, the late blocks.
-#![tactic(auto, unfolding(crate::specs::Step::block_runs, crate::specs::Step::blocks_run, crate::specs::Step::rules_run))]
 
 ghost use Rattle.std.specs.Prelude.{◌≡◌, ◌≢◌, ◌<◌, IfOk, IfErr, Ok, Err, length};
 ghost use Rattle.std.specs.List.{list_any, list_all, zip};
@@ -36,6 +35,7 @@ impl Runnable for Block {
     ghost runs = { block_runs };
 
     /// Runs a group or a loop of groups to rest.
+    #[tactic(auto, unfolding(crate::specs::Step::block_runs))]
     fn run(&self, alloc: Global, level: &mut Level) -> Result<Given, StepFault> {
         match self {
             Block::One(group) => rest_group(alloc, level, group),
@@ -44,16 +44,8 @@ impl Runnable for Block {
     }
 }
 
-/// Runs blocks in order.
-fn run_blocks(alloc: Global, level: &mut Level, blocks: &[Block]) -> Result<Given, StepFault>
-    requires of_game { AreBlocksOf level.old.grid.layers blocks.now }
-    ensures outcome { GivesOutcome (blocks_run blocks.now level.old.grid) level.new.grid result }
-    ensures size { SameSize level.old.grid level.new.grid }
-{
-    pass(alloc, level, blocks)
-}
-
 /// Runs the early blocks, the movement and the late blocks.
+#[tactic(auto, unfolding(crate::specs::Step::blocks_run, crate::specs::Step::rules_run))]
 fn run_rules(
     alloc: Global,
     game: &Game,
@@ -65,20 +57,10 @@ fn run_rules(
     ensures outcome { GivesOutcome (rules_run program.now level.old.grid) level.new.grid result }
     ensures size { SameSize level.old.grid level.new.grid }
 {
-    let early = run_blocks(alloc, level, program.early())?;
+    let early = pass(alloc, level, program.early())?;
     resolve(game, level);
-    let late = run_blocks(alloc, level, program.late())?;
+    let late = pass(alloc, level, program.late())?;
     Ok(early.and(late))
-}
-
-fn copy_of(level: &Level) -> Result<Level, StepFault>
-    ensures copied { IfOk result (λ copy. copy.grid ≡ level.now.grid) }
-    ensures fault { IfErr result (λ fault. fault ≡ Memory) }
-{
-    match level.copy() {
-        Ok(copy) => Ok(copy),
-        Err(_) => Err(StepFault::Memory),
-    }
 }
 
 /// A copy of the level, in the memory of a spare one.
@@ -100,7 +82,10 @@ fn copy_in(level: &Level, spare: Option<Level>) -> Result<Level, StepFault>
 {
     match spare {
         Some(spare) => renewed(level, spare),
-        None => copy_of(level),
+        None => match level.copy() {
+            Ok(copy) => Ok(copy),
+            Err(_) => Err(StepFault::Memory),
+        },
     }
 }
 

@@ -148,7 +148,12 @@ fn line_holds(game: &Game, level: &Level, line: WinLine) -> bool
 fn all_hold(game: &Game, level: &Level, lines: &[WinLine]) -> bool
     ensures { result ≡ list_all (line_holds game.now level.now.grid) lines.now }
 {
-    lines.iter().all(|line| line_holds(game, level, *line))
+    for line in lines {
+        if !line_holds(game, level, *line) {
+            return false;
+        }
+    }
+    true
 }
 
 /// Whether the level is won: the game has win lines, and all of them hold.

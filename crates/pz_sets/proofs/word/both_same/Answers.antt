@@ -1,28 +1,13 @@
-use Rattle.std.proofs.Common.{◌≡◌, ℕ, Bool, true, false, not, cond, ◌||◌, refl, ap₂, sym, ◌∙◌}
+use Rattle.std.proofs.Common.{◌≡◌, ℕ, Bool, false, not, cond, ◌||◌, arith, ap₂, sym, ◌∙◌}
 use Rattle.pz_sets.specs.Sets.{in_word}
 use Rattle.pz_sets.proofs.word.both_same.Goals as goal
 
 -- neither pair of bits differs
 alike : (a b c d : Bool) → (cond a (not b) b || cond c (not d) d) ≡ false → (a ≡ b) × (c ≡ d)
-alike true true true true e = (refl, refl)
-alike true true false false e = (refl, refl)
-alike false false true true e = (refl, refl)
-alike false false false false e = (refl, refl)
-alike true false c d e = cc
-alike false true c d e = cc
-alike true true true false e = cc
-alike true true false true e = cc
-alike false false true false e = cc
-alike false false false true e = cc
+alike a b c d e = (grind arith, grind arith)
 
 nothing : (a b c d : Bool) → a ≡ b → c ≡ d → (cond a (not b) b || cond c (not d) d) ≡ false
-nothing a b c d e f = rw (e, f) (none b d)
-  where
-    none : (b d : Bool) → (cond b (not b) b || cond d (not d) d) ≡ false
-    none true true = refl
-    none true false = refl
-    none false true = refl
-    none false false = refl
+nothing a b c d e f = grind arith
 
 pub returns : goal.returns
 returns c =

@@ -1,9 +1,10 @@
 use Rattle.std.proofs.Common.{◌≡◌, ◌∙◌, ◌∷◌, ◌++◌, List, [], Ok, length, drop, nat_eq, ◌+◌, ap, rules, sym}
+use Rattle.std.proofs.lemmas.Result.{err_from_is_err_and}
 use Rattle.std.proofs.lemmas.Bool.{eqb-true}
 use Rattle.std.proofs.lemmas.List.{nil_from_length}
 use Rattle.pz_grid.specs.declared.placing.Place.{Place}
 use Rattle.pz_turn.specs.Instance.{taken}
-use Rattle.pz_turn.proofs.Taking.{following, following_more, applied_until}
+use Rattle.pz_turn.proofs.Taking.{following, following_more, following_stop, applied_until}
 use Rattle.pz_turn.proofs.instance.take_places.Goals as goal
 
 pub returns-then-is_empty-clause-taken : goal.returns-then-is_empty-clause-taken
@@ -24,3 +25,9 @@ loop-row-preserved c =
     ap (λ (ls : List (List Place)). following ls (taken grid instance.scan (drop (n + 1) rows))) pushed
     ∙ following_more grid instance.scan lists rows n c.row-item.result found c.loop-row-test.true c.row-item.is c.in_ok-found.ensures.found some
     ∙ c.loop-row.invariant
+
+pub returns-in_err-found-clause-fault : goal.returns-in_err-found-clause-fault
+returns-in_err-found-clause-fault c =
+    let p = err_from_is_err_and c.from_residual.result c.from_residual.ensures.1 in
+    rw (p.1, p.2)
+    (λ not_memory. sym c.loop-row.invariant ∙ following_stop c.args.level.now.grid c.args.instance.now.scan c.loop-row.lists.items c.items-row-items.result.now c.loop-row.row-index c.row-item.result _ c.loop-row-test.true c.row-item.is (c.in_err-found.ensures.fault not_memory))

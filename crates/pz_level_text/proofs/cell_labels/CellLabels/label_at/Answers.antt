@@ -1,8 +1,9 @@
 use Rattle.std.proofs.Common.{ap, ◌∙◌}
-use Rattle.pz_game.specs.declared.game.GameParts.{GameParts}
-use Rattle.pz_level_text.specs.Labels.{WriterView, set_text}
+use Rattle.pz_record.specs.CellNames.{set_of}
+use Rattle.pz_record.specs.CellTexts.{joined}
+use Rattle.pz_level_text.specs.Labels.{WriterView}
+use Rattle.pz_level_text.specs.LevelNames.{standing_names}
 use Rattle.pz_record.proofs.Changes.{known_still, labels_still}
-use Rattle.pz_level_text.proofs.Changing.{set_standing}
 use Rattle.pz_level_text.proofs.cell_labels.CellLabels.label_at.Goals as goal
 
 pub invariant_of-self : goal.invariant_of-self
@@ -21,8 +22,5 @@ returns-clause-cells c =
 
 pub returns-clause-text : goal.returns-clause-text
 returns-clause-text c =
-    let objects = c.objects_at-objects.result in
-    let names = c.args.self.now.table.game.objects in
-    let game = c.label_at.ensures.game ∙ ap (λ (s : WriterView). s.table.game) c.self.view_is in
-    c.in_ok-label.ensures.label.1
-    ∙ (ap (λ (g : GameParts). set_text g.objects objects) game ∙ set_standing names c.args.level.now.grid c.args.x c.args.y objects c.objects_at-objects.ensures)
+    c.in_ok-label.ensures.text
+    ∙ ap (λ (s : WriterView). joined (set_of (standing_names s.table.game.objects c.args.level.now.grid (c.args.x, c.args.y)))) c.self.view_is

@@ -3,11 +3,9 @@ use Rattle.pz_record.specs.declared.order.Order.{Order}
 use Rattle.pz_record.specs.Labels.{text_at}
 use Rattle.pz_record.specs.Written.{IsSameBut}
 use Rattle.pz_record.proofs.Changes.{one_changed}
-use Rattle.pz_sheet.specs.Changes.{with_cell, cell_there}
-use Rattle.pz_sheet.specs.Grid.{Grid}
 use Rattle.pz_level_text.specs.Labels.{WriterView, texts_in}
 use Rattle.pz_level_text.specs.CellOrder.{number_of}
-use Rattle.pz_level_text.proofs.Changing.{read_at, look_within, looked}
+use Rattle.pz_level_text.proofs.Changing.{read_at, number_within, looked}
 use Rattle.pz_level_text.proofs.cell_labels.CellLabels.look.Goals as goal
 
 pub number_at-number-requires-clause-x_in : goal.number_at-number-requires-clause-x_in
@@ -18,40 +16,32 @@ number_at-number-requires-clause-y_in c = (read_at c.args.level.now.grid c.args.
 
 pub put-requires-clause-within : goal.put-requires-clause-within
 put-requires-clause-within c =
-    let game = c.args.self.now.table.game in
     let order = c.args.self.now.order in
     let level = c.args.level.now.grid in
-    let seen = c.args.seen.now.grid in
     let x = c.position-x.result.0 in
     let y = c.position-x.result.1 in
     let read = read_at c.args.level.now.grid c.args.index c.position-x.result.0 c.position-x.result.1 c.width.ensures.lawful c.requires.on_map c.position-x.ensures.column c.position-x.ensures.row in
     let kept : c.self.inside.order ≡ order = ap (λ (s : WriterView). s.order) c.self.view_is ∙ c.label_at.ensures.order in
     let number : c.number_at-number.result ≡ number_of order level x y = c.number_at-number.ensures ∙ ap (λ (o : Order). number_of o level x y) kept in
-    let before : c.label_at.new.self.cells ≡ texts_in game order seen = c.label_at.ensures.cells ∙ c.requires.known in
-    omega (arith, number, look_within game order seen level c.args.index x y c.requires.size read, ap length before)
+    omega (arith, number, number_within order level x y read.wide read.high, ap length c.label_at.ensures.cells, c.requires.count)
 
 pub returns-clause-known : goal.returns-clause-known
-returns-clause-known c =
+returns-clause-known c seen size within known =
     let game = c.args.self.now.table.game in
     let order = c.args.self.now.order in
     let level = c.args.level.now.grid in
-    let seen = c.args.seen.now.grid in
     let x = c.position-x.result.0 in
     let y = c.position-x.result.1 in
     let read = read_at c.args.level.now.grid c.args.index c.position-x.result.0 c.position-x.result.1 c.width.ensures.lawful c.requires.on_map c.position-x.ensures.column c.position-x.ensures.row in
     let kept : c.self.inside.order ≡ order = ap (λ (s : WriterView). s.order) c.self.view_is ∙ c.label_at.ensures.order in
     let number : c.number_at-number.result ≡ number_of order level x y = c.number_at-number.ensures ∙ ap (λ (o : Order). number_of o level x y) kept in
-    let before : c.label_at.new.self.cells ≡ texts_in game order seen = c.label_at.ensures.cells ∙ c.requires.known in
-    c.put.ensures.cells
-    ∙ ((λ i. slice_set (before i) (number i) (c.in_ok-label.ensures.text i))
-    ∙ (looked game order seen level c.args.index x y c.requires.size c.requires.within read ∙ ap (texts_in game order) (sym (c.take_cell.ensures ∙ ap (λ (g : Grid). with_cell seen (cell_there g c.args.index)) c.bare.ensures))))
+    let before : c.label_at.new.self.cells ≡ texts_in game order seen = c.label_at.ensures.cells ∙ known in
+    c.put.ensures.cells ∙ ((λ i. slice_set (before i) (number i) (c.in_ok-label.ensures.text i)) ∙ looked game order seen level c.args.index x y size within read)
 
 pub returns-clause-changed : goal.returns-clause-changed
 returns-clause-changed c =
-    let game = c.args.self.now.table.game in
     let order = c.args.self.now.order in
     let level = c.args.level.now.grid in
-    let seen = c.args.seen.now.grid in
     let x = c.position-x.result.0 in
     let y = c.position-x.result.1 in
     let cells = c.args.self.now.cells in
@@ -60,6 +50,6 @@ returns-clause-changed c =
     let kept : c.self.inside.order ≡ order = ap (λ (s : WriterView). s.order) c.self.view_is ∙ c.label_at.ensures.order in
     let n = c.number_at-number.result in
     let number : n ≡ number_of order level x y = c.number_at-number.ensures ∙ ap (λ (o : Order). number_of o level x y) kept in
-    let within : n < length cells = omega (arith, number, look_within game order seen level c.args.index x y c.requires.size read, ap length c.requires.known) in
+    let within : n < length cells = omega (arith, number, number_within order level x y read.wide read.high, c.requires.count) in
     let put : c.put.new.self.cells ≡ slice_set cells n text = c.put.ensures.cells ∙ ap (λ (l : List (List ℕ)). slice_set l n text) c.label_at.ensures.cells in
     subst (IsSameBut n (n + 1) cells) (sym put) (one_changed cells n text within)

@@ -1,15 +1,11 @@
-use Rattle.std.proofs.Common.{◌≡◌, ◌<◌, ◌*◌, ◌-◌, ℕ, length, take}
-use Rattle.pz_sheet.specs.Grid.{SameSize}
-use Rattle.pz_sheet.specs.Presence.{cell_of}
+use Rattle.std.proofs.Common.{◌≡◌, ◌*◌, ◌-◌, length, take}
 use Rattle.pz_record.specs.Written.{IsSameBut}
-use Rattle.pz_level_text.specs.Labels.{texts_in}
+use Rattle.pz_level_text.proofs.Changing.{IsSeenTo}
 use Rattle.pz_level_text.proofs.cell_labels.CellLabels.look_at_changes.Given as goal
 
 abbrev pub invariant-changes : goal.invariant-changes
 invariant-changes l = record {
-  size : SameSize l.seen.grid l.level.grid;
-  known : l.self.cells ≡ texts_in l.fn.self.table.game l.fn.self.order l.seen.grid;
-  front : (k : ℕ) → k < l.from → cell_of l.seen.grid k ≡ cell_of l.level.grid k;
+  seen : IsSeenTo l.fn.self.table.game l.fn.self.order l.seen.grid l.level.grid l.from l.self.cells;
   changed : IsSameBut l.changed.first l.changed.end l.fn.self.cells l.self.cells;
   kept : take (length l.fn.self.table.texts) l.self.table.texts ≡ l.fn.self.table.texts;
   game : l.self.table.game ≡ l.fn.self.table.game;

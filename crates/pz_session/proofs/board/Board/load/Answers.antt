@@ -16,4 +16,6 @@ invariant_of-result c = (
     before = tt;
   },
   (ap (λ (t : WriterView). t.table.game) c.new-in-Ok.ensures, ap (λ (t : WriterView). t.order) c.new-in-Ok.ensures),
+  tt,
+  tt,
 )

@@ -1,9 +1,26 @@
-use Rattle.std.proofs.Common.{Option, option_map, ap, ◌∙◌}
-use Rattle.pz_sheet.specs.Grid.{LevelState}
+use Rattle.std.proofs.Common.{◌≡◌, Option, Some, option_map, not, rules, ap, ap₂, sym, subst, ◌∙◌}
+use Rattle.std.specs.Prelude.{IfSome}
+use Rattle.pz_sheet.specs.Grid.{Grid, LevelState}
+use Rattle.pz_sheet.specs.Sameness.{same_grid}
 use Rattle.pz_session.specs.Board.{State, at_level, keeping}
 use Rattle.pz_session.specs.Inside.{state_in}
-use Rattle.pz_session.proofs.BoardLemmas.{pressed}
+use Rattle.pz_session.proofs.BoardLemmas.{pressed, tells}
+use Rattle.pz_session.proofs.LabelledLemmas.{kept_before}
 use Rattle.pz_session.proofs.board.Board.press.Goals as goal
+
+pub invariant_of-self : goal.invariant_of-self
+invariant_of-self c =
+    let end = c.in_ok-end.end in
+    let place = c.put_before.new.place in
+    let from : c.args.self.now.level ≡ c.self.inside.level.grid = ap (λ (s : State). s.level) (sym (c.self.view_is ∙ c.turn.ensures.same)) in
+    let step = tells _ _ c.args.self.now.level (Some c.args.dir) (record { level = end.level.grid; commands = end.commands; changed = end.changed }) c.in_ok-end.ensures.end in
+    let known : same_grid c.self.inside.level.grid place.grid ≡ not end.changed =
+    ap₂ (λ (a : Grid) (l : LevelState). same_grid a l.grid) (sym from) c.put_before.ensures.place ∙ step in (
+      search rules,
+      c.self.invariant.1,
+      subst (λ (o : Option LevelState). IfSome (option_map (λ (l : LevelState). l.grid) o) (λ before. same_grid before place.grid ≡ not end.changed)) (sym c.put_before.ensures.aside) known,
+      kept_before c.self.inside.texts c.self.inside.labelled c.moved_to-self-inside.result c.self.inside.level.grid place.grid (option_map (λ (l : LevelState). l.grid) c.self.inside.before) (option_map (λ (l : LevelState). l.grid) c.self.inside.spare) (option_map (λ (l : LevelState). l.grid) c.put_before.new.aside) (option_map (λ (l : LevelState). l.grid) c.self.inside.spare) c.moved_to-self-inside.ensures (ap (option_map (λ (l : LevelState). l.grid)) c.put_before.ensures.aside) c.self.invariant.3,
+    )
 
 pub returns : goal.returns
 returns c =

@@ -1,12 +1,13 @@
-use Rattle.std.proofs.Common.{◌∙◌}
-use Rattle.pz_sheet.specs.Grid.{IsOfGame}
+use Rattle.std.proofs.Common.{option_map, ap, ◌∙◌}
+use Rattle.pz_sheet.specs.Grid.{LevelState, IsOfGame}
 use Rattle.pz_session.proofs.BoardLemmas.{taken}
+use Rattle.pz_session.proofs.LabelledLemmas.{kept_spare}
 use Rattle.pz_session.proofs.board.Board.step_back.Goals as goal
 
 pub invariant_of-self : goal.invariant_of-self
 invariant_of-self c =
     let old = c.self.invariant.0 in
-    let past = taken (IsOfGame c.self.inside.game.now) c.self.inside.past c.forget.new.self c.in-Some.newest.now.grid c.in_ok-self-inside.field-0.grid old.past c.in-Some.ensures (c.in_ok-self-inside.ensures.grid ∙ c.in_ok-copy.ensures.copied) c.forget.ensures in (
+    let past = taken (IsOfGame c.self.inside.game.now) c.self.inside.past c.forget.new.self c.in-Some.newest.now.grid c.put_before.new.place.grid old.past c.in-Some.ensures (ap (λ (l : LevelState). l.grid) c.put_before.ensures.place ∙ (c.in_ok-level.ensures.grid ∙ c.in_ok-copy.ensures.copied)) c.forget.ensures in (
       record {
         program = old.program;
         entry = old.entry;
@@ -16,4 +17,6 @@ invariant_of-self c =
         before = old.before;
       },
       c.self.invariant.1,
+      tt,
+      kept_spare c.self.inside.texts c.self.inside.labelled c.moved_to-self-inside.result c.self.inside.level.grid c.put_before.new.place.grid (option_map (λ (l : LevelState). l.grid) c.self.inside.before) (option_map (λ (l : LevelState). l.grid) c.self.inside.spare) (option_map (λ (l : LevelState). l.grid) c.self.inside.before) (option_map (λ (l : LevelState). l.grid) c.put_before.new.aside) c.moved_to-self-inside.ensures (ap (option_map (λ (l : LevelState). l.grid)) c.put_before.ensures.aside) c.self.invariant.3,
     )
