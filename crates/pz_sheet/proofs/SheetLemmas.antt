@@ -19,10 +19,6 @@ seen_within N width height layering cells grid at e h = omega (arith, h, ap (λ 
 pub within_lines : (columns rows width height count at : ℕ) → columns ≡ width → rows ≡ height → count ≡ width * height → at < count → at < columns * rows
 within_lines columns rows width height count at wide high covers within = grind arith
 
--- a number at which a test may pass fails, as do those before it
-pub passed_more : (test may : ℕ → Bool) (from at found end : ℕ) → ((n : ℕ) → from ≤ n → n < at → test n ≡ false) → ((n : ℕ) → n < end → test n ≡ true → may n ≡ true) → (at ≤ found) × (found < end) × (may found ≡ true) × ((n : ℕ) → at ≤ n → n < found → may n ≡ false) → test found ≡ false → (n : ℕ) → from ≤ n → n < found + 1 → test n ≡ false
-passed_more test may from at found end before only next fails n low high = grind (arith, before n low, only n, next.3 n, fails)
-
 -- what is seen of the cell of a number
 pub seen_at : (N width height : ℕ) (layering : Layering) (cells : List (Cell N)) (grid : Grid) (at : ℕ) (cell : Cell N) → grid_of width height layering cells ≡ grid → at < length cells → cell ≡ get_or cells at cell
     → seen layering cell ≡ get_or grid.cells at []
