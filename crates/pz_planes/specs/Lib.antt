@@ -1,4 +1,5 @@
 pub mod Line
+pub mod Noted
 pub mod Notes
 pub mod Planes
 pub mod Marks

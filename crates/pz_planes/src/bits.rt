@@ -58,6 +58,14 @@ pub fn toggled(set: u128, at: usize) -> u128
     set ^ 1u128 << at
 }
 
+/// The set with one position more.
+pub fn with(set: u128, at: usize) -> u128
+    requires { at < 128 }
+    ensures { (other : ℕ) → in_word result other ≡ (nat_eq other at || in_word set other) }
+{
+    set | 1u128 << at
+}
+
 /// The set without a position that it has.
 pub fn without(set: u128, at: usize) -> u128
     requires low { at < 128 }

@@ -3,19 +3,24 @@
 
 ghost use Rattle.std.specs.Prelude.{◌≡◌, ◌≤◌, ◌<◌, ◌*◌, ◌/◌, ◌%◌, ◌||◌, ℕ, [], true, false, length, slice_index_or, IfOk, OnOk, OnErr, MatchOption};
 ghost use Rattle.pz_sets.specs.Sets.{member};
+ghost use Rattle.pz_planes.specs.Noted.{AreAmong};
 ghost use Rattle.pz_planes.specs.Notes.{HaveNone, HaveNoneBetween, IsMoreIn, headings_of};
 
+use crate::bits;
 use crate::copying::{make_room, refill};
 use crate::line::Axis;
 use pz_sets::set::NumberSet;
 use std::alloc::{AllocError, Global};
 use std::marker::Model;
 
-/// Sets of at least the headings in the whole level, in each row and in each column.
+/// Sets of at least the headings in the whole level, in each row and in each column. The rows and columns below 128 whose sets aren't empty
+/// are known as bits of a word, so nobody looks at the others to find them.
 pub struct Notes {
     whole: NumberSet,
     rows: Vec<NumberSet>,
     columns: Vec<NumberSet>,
+    noted_rows: u128,
+    noted_columns: u128,
 }
 
 /// Written out, as for planes.
@@ -25,6 +30,8 @@ impl Drop for Notes {
             whole: _,
             rows,
             columns,
+            noted_rows: _,
+            noted_columns: _,
         } = self;
         drop(rows);
         drop(columns);
@@ -37,6 +44,10 @@ impl Model for Notes {
     ghost Value = { HeadingSets };
 
     ghost view = { λ n. record { whole = n.whole; rows = n.rows.items; columns = n.columns.items } };
+
+    ghost use Rattle.pz_planes.specs.Noted.{AreAmong};
+
+    ghost invariant = { λ n. AreAmong n.noted_rows n.rows.items × AreAmong n.noted_columns n.columns.items };
 }
 
 impl Notes {
@@ -52,6 +63,8 @@ impl Notes {
             whole: NumberSet::empty(),
             rows,
             columns,
+            noted_rows: 0,
+            noted_columns: 0,
         })
     }
 
@@ -73,17 +86,18 @@ impl Notes {
         }
     }
 
-    /// The first column, from number `from` on, for which a heading is noted. The contract promises only that none is noted for those before
-    /// it: an earlier answer would cost time alone.
+    /// The first row, from number `from` on, for which a heading may be noted. None is noted for those before it.
+    pub fn next_row(&self, from: usize) -> Option<usize>
+        ensures { MatchOption result (HaveNoneBetween self.now.rows from (length self.now.rows)) (λ row. (from ≤ row) × (row < length self.now.rows) × HaveNoneBetween self.now.rows from row) }
+    {
+        next_noted(&self.rows, self.noted_rows, from)
+    }
+
+    /// The same of columns.
     pub fn next_column(&self, from: usize) -> Option<usize>
         ensures { MatchOption result (HaveNoneBetween self.now.columns from (length self.now.columns)) (λ column. (from ≤ column) × (column < length self.now.columns) × HaveNoneBetween self.now.columns from column) }
     {
-        for column in from..self.columns.len() {
-            if !is_empty(&self.columns[column]) {
-                return Some(column);
-            }
-        }
-        None
+        next_noted(&self.columns, self.noted_columns, from)
     }
 
     /// Notes headings for the cell of this number: adds them to those of the level, of its row and of its column. Cells are numbered row by
@@ -96,8 +110,18 @@ impl Notes {
     {
         let width = self.columns.len();
         self.whole = self.whole.union(headings);
-        widen(&mut self.rows, index / width, headings);
-        widen(&mut self.columns, index % width, headings);
+        widen(
+            &mut self.rows,
+            &mut self.noted_rows,
+            index / width,
+            headings,
+        );
+        widen(
+            &mut self.columns,
+            &mut self.noted_columns,
+            index % width,
+            headings,
+        );
     }
 
     /// Forgets all headings.
@@ -107,8 +131,10 @@ impl Notes {
         ensures none { HaveNone self.new }
     {
         self.whole = NumberSet::empty();
-        clear(&mut self.rows);
-        clear(&mut self.columns);
+        clear_noted(&mut self.rows, self.noted_rows);
+        clear_noted(&mut self.columns, self.noted_columns);
+        self.noted_rows = 0;
+        self.noted_columns = 0;
     }
 
     /// A copy of the notes. Err: memory was refused.
@@ -122,6 +148,8 @@ impl Notes {
             whole: self.whole,
             rows,
             columns,
+            noted_rows: self.noted_rows,
+            noted_columns: self.noted_columns,
         })
     }
 
@@ -135,6 +163,8 @@ impl Notes {
         self.whole = other.whole;
         refill(&mut self.rows, &other.rows);
         refill(&mut self.columns, &other.columns);
+        self.noted_rows = other.noted_rows;
+        self.noted_columns = other.noted_columns;
         Ok(())
     }
 }
@@ -154,18 +184,68 @@ pub fn are_empty(notes: &Notes, others: &Notes) -> bool
     is_empty(notes.whole()) && is_empty(others.whole())
 }
 
+/// The first line, from number `from` on, for which a heading may be noted. None is noted for those before it.
+fn next_noted(sets: &[NumberSet], noted: u128, from: usize) -> Option<usize>
+    requires { AreAmong noted sets.now }
+    ensures { MatchOption result (HaveNoneBetween sets.now from (length sets.now)) (λ line. (from ≤ line) × (line < length sets.now) × HaveNoneBetween sets.now from line) }
+{
+    let end = sets.len();
+    if end > bits::ROOM as usize || from >= end {
+        return next_of_many(sets, from);
+    }
+    match bits::next(noted, from as u32, end as u32) {
+        None => None,
+        Some(line) => Some(line as usize),
+    }
+}
+
+/// The same, set by set.
+fn next_of_many(sets: &[NumberSet], from: usize) -> Option<usize>
+    ensures { MatchOption result (HaveNoneBetween sets.now from (length sets.now)) (λ line. (from ≤ line) × (line < length sets.now) × HaveNoneBetween sets.now from line) }
+{
+    for line in from..sets.len() {
+        if !is_empty(&sets[line]) {
+            return Some(line);
+        }
+    }
+    None
+}
+
 /// Adds headings to the set of a line.
-fn widen(sets: &mut Vec<NumberSet>, line: usize, headings: &NumberSet)
-    requires { line < length sets.old.items }
-    ensures { IsMoreIn sets.old.items sets.new.items line headings.now }
+fn widen(sets: &mut Vec<NumberSet>, noted: &mut u128, line: usize, headings: &NumberSet)
+    requires within { line < length sets.old.items }
+    requires among { AreAmong noted.old sets.old.items }
+    ensures more { IsMoreIn sets.old.items sets.new.items line headings.now }
+    ensures among { AreAmong noted.new sets.new.items }
 {
     sets[line] = sets[line].union(headings);
+    if line < bits::ROOM as usize {
+        *noted = bits::with(*noted, line);
+    }
+}
+
+/// Empties each set. Those of the first 128 lines that aren't noted are empty.
+fn clear_noted(sets: &mut [NumberSet], noted: u128)
+    requires { AreAmong noted sets.old }
+    ensures count { length sets.new ≡ length sets.old }
+    ensures none { (line number : ℕ) → member (slice_index_or sets.new line []) number ≡ false }
+{
+    let end = sets.len();
+    if end > bits::ROOM as usize {
+        clear(sets);
+        return;
+    }
+    let mut from = 0;
+    'lines: while let Some(line) = bits::next(noted, from, end as u32) {
+        sets[line as usize] = NumberSet::empty();
+        from = line + 1;
+    }
 }
 
 /// Empties each set.
 pub(crate) fn clear(sets: &mut [NumberSet])
     ensures count { length sets.new ≡ length sets.old }
-    ensures none { (line number : ℕ) → line < length sets.old → member (slice_index_or sets.new line []) number ≡ false }
+    ensures none { (line number : ℕ) → member (slice_index_or sets.new line []) number ≡ false }
 {
     for line in 0..sets.len() {
         sets[line] = NumberSet::empty();

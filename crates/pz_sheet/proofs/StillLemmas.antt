@@ -1,6 +1,6 @@
 -- A cell that heads nowhere is still. So is each cell of a line or of a level for which no heading is noted.
 use Rattle.pz_cells.specs.Layering.{Layering}
-use Rattle.std.proofs.Common.{inl, inr, ◌≡◌, ◌+◌, ◌-◌, ◌*◌, ◌/◌, ◌<◌, ◌≤◌, ℕ, suc, List, [], ◌∷◌, Option, Some, None, Bool, true, false, map, length, get_or, arith, ap, sym, ◌∙◌, refl, subst}
+use Rattle.std.proofs.Common.{inl, inr, ◌≡◌, ◌+◌, ◌-◌, ◌*◌, ◌/◌, ◌%◌, ◌<◌, ◌≤◌, ℕ, suc, List, [], ◌∷◌, Option, Some, None, Bool, true, false, map, length, get_or, arith, ap, sym, ◌∙◌, refl, subst}
 use Rattle.std.specs.Prelude.{find}
 use Rattle.std.specs.List.{All, range_with_len}
 use Rattle.std.specs.Option.{option_map}
@@ -19,6 +19,7 @@ use Rattle.pz_cells.specs.Shown.{place_of, stands_on, piece_with}
 use Rattle.pz_sheet.specs.Grid.{Grid, cell_at}
 use Rattle.pz_sheet.specs.Movement.{IsStillAt, AreColumnsStill}
 use Rattle.pz_planes.specs.Notes.{HeadingSets, HaveNoneBetween}
+use Rattle.pz_planes.proofs.PlaneLemmas.{column_in, number_of, row_in}
 use Rattle.pz_cells.specs.Lists.{seen, IsSound, IsStilled, HeadNowhere}
 use Rattle.pz_sheet.specs.Seen.{grid_of, HeadsWithin, AreNoted, IsStored}
 use Rattle.pz_sheet.proofs.SheetLemmas.{only_false, seen_at}
@@ -59,6 +60,20 @@ row_stays N width height layering cells notes sound covers noted y k cell y_in n
     let heads : HeadsWithin N (get_or notes.rows y []) here = subst (λ (line : ℕ). HeadsWithin N (get_or notes.rows line []) here) row (noted.each k cell within).row in
     let nowhere = none_within here.movement (get_or notes.rows y []) heads none in
     record { sound = sound k cell within; seen_still = still_seen N layering here (sound k cell within) nowhere; nowhere = nowhere; objects = refl }
+
+-- and so is each of several rows
+pub rows_stay : (N width height : ℕ) (layering : Layering) (cells : List (Cell N)) (notes : HeadingSets) → All (IsSound layering) cells → length cells ≡ width * height → AreNoted N width height notes cells
+    → (from end k : ℕ) (cell : Cell N) → end ≤ height → HaveNoneBetween notes.rows from end → from * width ≤ k → k < end * width → IsStilled layering (get_or cells k cell) (get_or cells k cell)
+rows_stay N width height layering cells notes sound covers noted from end k cell high none late below =
+    let y = k / width in
+    let column : k % width < width = column_in k width end (omega (arith, below)) in
+    let row : y < end = row_in k width end (omega (arith, below)) in
+    let number : k ≡ y * width + k % width = number_of k width in
+    let first : from ≤ y = elim (cases_lt y from) [
+      | inl early ↦ (let h : (y + 1) * width ≤ from * width = mul-le-mul_right {m = y + 1} width (omega (arith, early)) in absurd (omega (arith, h, late, number, column)))
+      | inr late ↦ late
+    ] in
+    row_stays N width height layering cells notes sound covers noted y k cell (omega (arith, row, high)) (λ n. none y n first row) (omega (arith, number)) (omega (arith, number, column))
 
 -- the cells of a row are cells of the map
 pub row_within : (y width height : ℕ) → y < height → y * width + width ≤ width * height

@@ -1,6 +1,7 @@
 //! The end of all movement.
 
 ghost use Rattle.std.specs.Prelude.{◌≡◌, ◌<◌, ◌≤◌, ◌*◌, All, length, map, true, MatchOption};
+ghost use Rattle.pz_game.specs.Size.{IsSize};
 ghost use Rattle.pz_cells.specs.Cell.{still_place};
 ghost use Rattle.pz_cells.specs.Lists.{IsSound, AreMapped, HeadNowhere, HaveSameObjects};
 ghost use Rattle.pz_sheet.specs.Seen.{AreNoted};
@@ -8,7 +9,6 @@ ghost use Rattle.pz_sheet.specs.Grid.{IsLawful, place_at};
 ghost use Rattle.pz_sheet.specs.Movement.{stilled, IsStillAt, AreStill, AreColumnsStill};
 
 use crate::Sheet;
-use crate::line::Axis;
 use pz_cells::cell::Cell;
 use pz_cells::layers::Layers;
 use pz_cells::stilling::still_cells;
@@ -70,13 +70,7 @@ impl<const N: usize> Sheet<N> {
         if is_empty(self.notes.whole()) {
             return;
         }
-        still_rows(
-            &mut self.cells,
-            &self.layers,
-            &self.notes,
-            self.width,
-            self.height,
-        );
+        still_rows(&mut self.cells, &self.layers, &self.notes, self.width);
         self.notes.clear();
     }
 }
@@ -87,19 +81,19 @@ fn still_rows<const N: usize>(
     layers: &Layers<N>,
     notes: &Notes,
     width: u32,
-    height: u32,
 )
     requires sound { All (IsSound layers.now) cells.old.items }
-    requires covers { length cells.old.items ≡ width * height }
-    requires noted { AreNoted N width height notes.now cells.old.items }
+    requires size { IsSize width (length notes.now.rows) }
+    requires covers { length cells.old.items ≡ width * length notes.now.rows }
+    requires noted { AreNoted N width (length notes.now.rows) notes.now cells.old.items }
     ensures mapped { AreMapped layers.now (map still_place) cells.old.items cells.new.items }
     ensures nowhere { HeadNowhere cells.new.items }
     ensures objects { HaveSameObjects cells.old.items cells.new.items }
 {
-    for y in 0..height {
-        if !is_empty(notes.line(Axis::Horizontal, y)) {
-            let from = y as usize * width as usize;
-            still_cells(cells, layers, from, from + width as usize);
-        }
+    let width = width as usize;
+    let mut from = 0;
+    'rows: while let Some(y) = notes.next_row(from) {
+        still_cells(cells, layers, y * width, y * width + width);
+        from = y + 1;
     }
 }

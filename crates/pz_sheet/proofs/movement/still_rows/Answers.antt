@@ -1,14 +1,15 @@
-use Rattle.std.proofs.Common.{◌≡◌, ◌≤◌, ◌<◌, inl, inr, ℕ, ◌+◌, ◌*◌, List, map, length, get_or, arith, ap, sym, ◌∙◌, refl, subst}
+use Rattle.std.proofs.Common.{◌≡◌, ◌≤◌, ◌<◌, inl, inr, ℕ, ◌+◌, ◌*◌, List, map, length, get_or, arith, sym, refl, subst}
 use Rattle.std.specs.List.{All}
+use Rattle.std.proofs.Math.Nat.{mul-le-mul_right}
 use Rattle.std.proofs.lemmas.Bool.{cases_lt}
-use Rattle.pz_sets.specs.Sets.{member}
 use Rattle.pz_cells.specs.declared.cell.Cell.{Cell}
 use Rattle.pz_cells.specs.Cell.{still_place}
 use Rattle.pz_cells.specs.Layering.{Layering}
 use Rattle.pz_cells.specs.Lists.{IsSound, IsStilled}
 use Rattle.pz_cells.proofs.ListLemmas.{AreWalked, walked_all}
-use Rattle.pz_sheet.proofs.StillLemmas.{row_stays, row_within, walked_on}
-use Rattle.pz_sheet.proofs.movement.still_rows.Goals.{then-not-is_empty, else-not-is_empty}
+use Rattle.pz_planes.specs.Notes.{HeadingSets, HaveNoneBetween}
+use Rattle.pz_sheet.specs.Seen.{AreNoted}
+use Rattle.pz_sheet.proofs.StillLemmas.{row_within, rows_stay, walked_on}
 use Rattle.pz_sheet.proofs.movement.still_rows.Goals as goal
 
 -- what is stilled so far is sound, and so is the rest
@@ -18,39 +19,51 @@ sound_so_far layering old now end sound w k cell within = elim (cases_lt k end) 
   | inr past ↦ subst (IsSound layering) (sym (w.rest k cell past)) (sound k cell (omega (arith, within, w.long)))
 ]
 
+-- rows for which nothing is noted are passed by
+passed_by : {N : ℕ} (width height : ℕ) (layering : Layering) (old now : List (Cell N)) (notes : HeadingSets) → All (IsSound layering) old → length old ≡ width * height → AreNoted N width height notes old
+    → (from end : ℕ) → from ≤ end → end ≤ height → HaveNoneBetween notes.rows from end → AreWalked (IsStilled layering) old now (from * width) → AreWalked (IsStilled layering) old now (end * width)
+passed_by {N = N} width height layering old now notes sound covers noted from end order high none w =
+    walked_on (IsStilled layering) old now now (from * width) (end * width) (mul-le-mul_right {m = from} width order) w refl
+    (λ k cell late below. subst (IsStilled layering (get_or old k cell)) (sym (w.rest k cell late)) (rows_stay N width height layering old notes sound covers noted from end k cell high none late below))
+    (λ k cell early. refl) (λ k cell past. refl)
+
 pub still_cells-requires : goal.still_cells-requires
 still_cells-requires g c =
-    let i = c.loop-y.invariant in
-    let within : c.loop-y.y * c.args.width + c.args.width ≤ length c.loop-y.cells.items = omega (arith, row_within c.loop-y.y c.args.width c.args.height c.loop-y-test.true, c.requires.covers, i.long) in
-    (search, (search, (sound_so_far c.args.layers.now c.args.cells.now.items c.loop-y.cells.items (c.loop-y.y * c.args.width) c.requires.sound i, (omega arith, within))))
+    let i = c.rows.invariant in
+    let y_in : c.in-Some.y < length c.args.notes.now.rows = c.in-Some.ensures.1 in
+    let within : c.in-Some.y * c.args.width + c.args.width ≤ length c.rows.cells.items = omega (arith, row_within c.in-Some.y c.args.width (length c.args.notes.now.rows) y_in, c.requires.covers, i.walked.long) in
+    (search, (search, (sound_so_far c.args.layers.now c.args.cells.now.items c.rows.cells.items (c.rows.from * c.args.width) c.requires.sound i.walked, (omega arith, within))))
 
-pub loop-y-preserved : goal.loop-y-preserved
-loop-y-preserved g c =
+pub rows-preserved : goal.rows-preserved
+rows-preserved g c =
     let old = c.args.cells.now.items in
-    let now = c.loop-y.cells.items in
+    let now = c.rows.cells.items in
+    let next = c.still_cells.new.cells.items in
     let width = c.args.width in
-    let y = c.loop-y.y in
-    let i = c.loop-y.invariant in
-    let R = IsStilled c.args.layers.now in
-    let next : y * width + width ≡ (y + 1) * width = omega arith in
-    elim c.if-not-is_empty.branch [
-      | then-not-is_empty w ↦ subst (AreWalked R old c.if-not-is_empty.cells.items) next
-          (subst (λ cells. AreWalked R old cells (y * width + width)) (sym (ap (λ v. v.items) w.cells-is))
-          (walked_on R old now w.still_cells.new.cells.items (y * width) (y * width + width) (omega arith) i w.still_cells.ensures.long
-          (λ k cell late below. subst (λ it. R it (get_or w.still_cells.new.cells.items k cell)) (i.rest k cell late) (w.still_cells.ensures.stilled k cell late below)) w.still_cells.ensures.before w.still_cells.ensures.behind))
-      | else-not-is_empty w ↦ subst (AreWalked R old c.if-not-is_empty.cells.items) next
-          (subst (λ cells. AreWalked R old cells (y * width + width)) (sym (ap (λ v. v.items) w.cells-is))
-          (walked_on R old now now (y * width) (y * width + width) (omega arith) i refl
-          (λ k cell late below. subst (R (get_or old k cell)) (sym (i.rest k cell late))
-          (row_stays g.row.N width c.args.height c.args.layers.now old c.args.notes.now c.requires.sound c.requires.covers c.requires.noted y k cell c.loop-y-test.true
-          (λ number. ap (λ words. member words number) (sym c.line.ensures) ∙ c.is_empty.ensures w.if-not-is_empty.false number) late below)) (λ k cell early. refl) (λ k cell past. refl)))
-    ]
+    let y = c.in-Some.y in
+    let done = c.still_cells.ensures in
+    let y_in : y < length c.args.notes.now.rows = c.in-Some.ensures.1 in
+    let w = passed_by width (length c.args.notes.now.rows) c.args.layers.now old now c.args.notes.now c.requires.sound c.requires.covers c.requires.noted c.rows.from y c.in-Some.ensures.0 (omega (arith, y_in)) c.in-Some.ensures.2 c.rows.invariant.walked in
+    let end : y * width + width ≡ (y + 1) * width = omega arith in
+    record {
+      within = omega (arith, y_in);
+      walked = subst (AreWalked (IsStilled c.args.layers.now) old next) end (walked_on (IsStilled c.args.layers.now) old now next (y * width) (y * width + width) (omega arith) w done.long
+          (λ k cell late below. subst (λ it. IsStilled c.args.layers.now it (get_or next k cell)) (w.rest k cell late) (done.stilled k cell late below)) done.before done.behind);
+    }
 
 pub returns-clause-mapped : goal.returns-clause-mapped
 returns-clause-mapped g c =
-    let i = c.loop-y.invariant in
-    walked_all c.args.layers.now (map still_place) c.args.cells.now.items c.loop-y.cells.items (λ k cell within.
-    let top : c.loop-y.y ≡ c.args.height = omega (arith, c.loop-y-test.false, c.loop-y.auto.y-end) in
-    let below : k < c.loop-y.y * c.args.width = omega (arith, within, c.requires.covers, ap (λ (n : ℕ). n * c.args.width) top) in
-    let stilled = i.turned k cell below in
-    (stilled.sound, stilled.seen_still)) i.long
+    let i = c.rows.invariant in
+    let rows = length c.args.notes.now.rows in
+    let w = passed_by c.args.width rows c.args.layers.now c.args.cells.now.items c.rows.cells.items c.args.notes.now c.requires.sound c.requires.covers c.requires.noted c.rows.from rows i.within (omega arith) c.in_default.ensures i.walked in
+    walked_all c.args.layers.now (map still_place) c.args.cells.now.items c.rows.cells.items (λ k cell within.
+    let below : k < rows * c.args.width = omega (arith, within, c.requires.covers) in
+    let stilled = w.turned k cell below in
+    (stilled.sound, stilled.seen_still)) w.long
+
+pub returns-clause-nowhere : goal.returns-clause-nowhere
+returns-clause-nowhere g c index cell number within =
+    let i = c.rows.invariant in
+    let rows = length c.args.notes.now.rows in
+    let w = passed_by c.args.width rows c.args.layers.now c.args.cells.now.items c.rows.cells.items c.args.notes.now c.requires.sound c.requires.covers c.requires.noted c.rows.from rows i.within (omega arith) c.in_default.ensures i.walked in
+    (w.turned index cell (omega (arith, within, c.requires.covers, w.long))).nowhere number
