@@ -1,7 +1,7 @@
 //! The cells in which another level of the same size differs.
 
-ghost use Rattle.std.specs.Prelude.{◌≡◌, ◌<◌, ◌↔◌, IsTrue, length};
-ghost use Rattle.pz_sheet.specs.Changes.{with_cell, differ_in, cell_there};
+ghost use Rattle.std.specs.Prelude.{◌↔◌, IsTrue, length};
+ghost use Rattle.pz_sheet.specs.Changes.{differ_in};
 ghost use Rattle.pz_sheet.specs.Grid.{IsLawful, SameSize};
 ghost use Rattle.pz_sets.specs.Next.{IsNext};
 
@@ -30,20 +30,6 @@ impl BareLevel {
             (AnySheet::Small(sheet), AnySheet::Small(other)) => sheet.next_change(other, from),
             (AnySheet::Middle(sheet), AnySheet::Middle(other)) => sheet.next_change(other, from),
             (AnySheet::Large(sheet), AnySheet::Large(other)) => sheet.next_change(other, from),
-            _ => unreachable!(),
-        }
-    }
-
-    /// Copies the cell of this number from a level of the same size.
-    pub fn take_cell(&mut self, other: &BareLevel, index: usize)
-        requires size { SameSize self.old.grid other.now.grid }
-        requires within { index < length self.old.grid.cells }
-        ensures { self.new.grid ≡ with_cell self.old.grid (cell_there other.now.grid index) }
-    {
-        match (&mut *self.sheet, &*other.sheet) {
-            (AnySheet::Small(sheet), AnySheet::Small(other)) => sheet.take_cell(other, index),
-            (AnySheet::Middle(sheet), AnySheet::Middle(other)) => sheet.take_cell(other, index),
-            (AnySheet::Large(sheet), AnySheet::Large(other)) => sheet.take_cell(other, index),
             _ => unreachable!(),
         }
     }

@@ -107,7 +107,7 @@ impl<const N: usize> Sheet<N> {
     }
 
     /// Copies the cell of this number from another level of the same size.
-    pub fn take_cell(&mut self, other: &Sheet<N>, index: usize)
+    fn take_cell(&mut self, other: &Sheet<N>, index: usize)
         requires size { SameSize self.old.grid other.now.grid }
         requires within { index < length self.old.grid.cells }
         ensures { self.new.grid ≡ with_cell self.old.grid (cell_there other.now.grid index) }
