@@ -1,6 +1,6 @@
 -- A cell that heads nowhere is still. So is each cell of a line or of a level for which no heading is noted.
 use Rattle.pz_cells.specs.Layering.{Layering}
-use Rattle.std.proofs.Common.{inl, inr, ◌≡◌, ◌+◌, ◌-◌, ◌*◌, ◌/◌, ◌%◌, ◌<◌, ◌≤◌, ℕ, suc, List, [], ◌∷◌, Option, Some, None, Bool, true, false, map, length, get_or, arith, ap, sym, ◌∙◌, refl, subst}
+use Rattle.std.proofs.Common.{inl, inr, ◌≡◌, ◌+◌, ◌*◌, ◌/◌, ◌%◌, ◌<◌, ◌≤◌, ℕ, suc, List, [], ◌∷◌, Option, Some, None, Bool, true, false, map, length, get_or, arith, ap, sym, ◌∙◌, refl, subst}
 use Rattle.std.specs.Prelude.{find}
 use Rattle.std.specs.List.{All, range_with_len}
 use Rattle.std.specs.Option.{option_map}
@@ -8,7 +8,7 @@ use Rattle.std.proofs.Math.Nat.{mul-le-mul_right}
 use Rattle.std.proofs.lemmas.Bool.{cases_lt}
 use Rattle.std.proofs.lemmas.List.{get_or_default}
 use Rattle.std.proofs.lemmas.List.Elements.{All-map}
-use Rattle.std.proofs.lemmas.Nat.{mul-add-lt, mod-mul-add, div-mul-add}
+use Rattle.std.proofs.lemmas.Nat.{mul-add-lt, mod-mul-add}
 use Rattle.pz_sets.specs.Sets.{member, IsWithin}
 use Rattle.pz_game.specs.declared.direction.Dir.{Dir}
 use Rattle.pz_game.specs.Headings.{heads, heading_in, flag}
@@ -47,33 +47,21 @@ same_all f (cell ∷ cells) same =
     ap (λ (first : List (Option Piece)). first ∷ cells) (same 0 cell (omega arith))
     ∙ ap (λ (rest : List (List (Option Piece))). f cell ∷ rest) (same_all f cells (λ k d within. same (suc k) d (omega (arith, within))))
 
--- a row for which no heading is noted is stilled as it stands
-pub row_stays : (N width height : ℕ) (layering : Layering) (cells : List (Cell N)) (notes : HeadingSets) → All (IsSound layering) cells → length cells ≡ width * height → AreNoted N width height notes cells
-    → (y k : ℕ) (cell : Cell N) → y < height → ((number : ℕ) → member (get_or notes.rows y []) number ≡ false) → y * width ≤ k → k < y * width + width → IsStilled layering (get_or cells k cell) (get_or cells k cell)
-row_stays N width height layering cells notes sound covers noted y k cell y_in none late below =
-    let at = k - y * width in
-    let at_in : at < width = omega (arith, late, below) in
-    let number : k ≡ y * width + at = omega (arith, late) in
-    let within : k < length cells = omega (arith, mul-add-lt y width at height y_in at_in, covers, number) in
-    let row : k / width ≡ y = ap (λ (n : ℕ). n / width) number ∙ div-mul-add y width at at_in in
-    let here = get_or cells k cell in
-    let heads : HeadsWithin N (get_or notes.rows y []) here = subst (λ (line : ℕ). HeadsWithin N (get_or notes.rows line []) here) row (noted.each k cell within).row in
-    let nowhere = none_within here.movement (get_or notes.rows y []) heads none in
-    record { sound = sound k cell within; seen_still = still_seen N layering here (sound k cell within) nowhere; nowhere = nowhere; objects = refl }
-
--- and so is each of several rows
+-- rows for which no heading is noted are stilled as they stand
 pub rows_stay : (N width height : ℕ) (layering : Layering) (cells : List (Cell N)) (notes : HeadingSets) → All (IsSound layering) cells → length cells ≡ width * height → AreNoted N width height notes cells
     → (from end k : ℕ) (cell : Cell N) → end ≤ height → HaveNoneBetween notes.rows from end → from * width ≤ k → k < end * width → IsStilled layering (get_or cells k cell) (get_or cells k cell)
 rows_stay N width height layering cells notes sound covers noted from end k cell high none late below =
     let y = k / width in
     let column : k % width < width = column_in k width end (omega (arith, below)) in
     let row : y < end = row_in k width end (omega (arith, below)) in
-    let number : k ≡ y * width + k % width = number_of k width in
     let first : from ≤ y = elim (cases_lt y from) [
-      | inl early ↦ (let h : (y + 1) * width ≤ from * width = mul-le-mul_right {m = y + 1} width (omega (arith, early)) in absurd (omega (arith, h, late, number, column)))
+      | inl early ↦ (let h : (y + 1) * width ≤ from * width = mul-le-mul_right {m = y + 1} width (omega (arith, early)) in absurd (omega (arith, h, late, number_of k width, column)))
       | inr late ↦ late
     ] in
-    row_stays N width height layering cells notes sound covers noted y k cell (omega (arith, row, high)) (λ n. none y n first row) (omega (arith, number)) (omega (arith, number, column))
+    let within : k < length cells = omega (arith, below, covers, mul-le-mul_right {m = end} width high) in
+    let here = get_or cells k cell in
+    let nowhere = none_within here.movement (get_or notes.rows y []) (noted.each k cell within).row (λ number. none y number first row) in
+    record { sound = sound k cell within; seen_still = still_seen N layering here (sound k cell within) nowhere; nowhere = nowhere; objects = refl }
 
 -- the cells of a row are cells of the map
 pub row_within : (y width height : ℕ) → y < height → y * width + width ≤ width * height
