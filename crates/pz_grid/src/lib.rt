@@ -1,14 +1,13 @@
 //! Levels of a game: loaded, read, compared, matched, rewritten, pushed and moved. Marks let the search skip lines where a row can't start.
 #![tactic(auto)]
 
-ghost use Rattle.std.specs.Prelude.{◌≡◌, ◌<◌, ℕ, Some, None, MatchOption};
+ghost use Rattle.std.specs.Prelude.{◌≡◌, ◌<◌, ℕ, Some, None};
 ghost use Rattle.pz_sets.specs.Sets.{member};
 ghost use Rattle.pz_sheet.specs.Grid.{IsLawful};
 ghost use Rattle.pz_grid.specs.Marks.{IsMarked};
-ghost use Rattle.pz_sheet.specs.Standing.{standing_at, stands, heading_at};
+ghost use Rattle.pz_sheet.specs.Standing.{stands, heading_at};
 
 use pz_bare::BareLevel;
-use pz_cells::piece::Piece;
 use pz_game::direction::Dir;
 use std::marker::Model;
 

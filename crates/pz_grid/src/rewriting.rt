@@ -1,13 +1,13 @@
 //! The rewriting of cells by the instances of rules.
 
-ghost use Rattle.std.specs.Prelude.{false, ◌≡◌, ◌<◌, ◌^◌, IfSome};
+ghost use Rattle.std.specs.Prelude.{false, ◌≡◌, ◌<◌, ◌^◌};
 ghost use Rattle.pz_program.specs.Instance.{IsInstanceOf};
 ghost use Rattle.pz_game.specs.Pattern.{AreOf, IsRowOf, AreRowsOf};
 ghost use Rattle.pz_sheet.specs.Grid.{IsOnMap, IsLawful, IsOfGame, SameSize};
 ghost use Rattle.pz_grid.specs.Marks.{IsMarked, IsMarkedAt, IsWidenedBy, row_places, places_object};
 ghost use Rattle.pz_game.specs.Items.{names_object};
 ghost use Rattle.pz_sheet.specs.Rewriting.{with_rewritten, changes};
-ghost use Rattle.pz_grid.specs.Rewriting.{in_rewrite, rewritten_at, rewritten_along, rewritten_row, rewritten};
+ghost use Rattle.pz_grid.specs.Rewriting.{in_rewrite, rewritten_along, rewritten_row, rewritten};
 
 use crate::Level;
 use crate::placing::Place;

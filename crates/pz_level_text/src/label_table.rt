@@ -194,7 +194,8 @@ impl<'a> LabelTable<'a> {
         self.labelled(objects.words()[0])
     }
 
-    /// The label of the set that stands at a position, however it is found. Err: memory was refused. (Not inlined: few cells come here.)
+    /// The label of the set that stands at a position, however it is found. Err: memory was refused. (Not inlined: in a game of at most 128
+    /// objects few cells come here.)
     #[inline(never)]
     fn look_up(&mut self, alloc: Global, level: &Level, x: u32, y: u32) -> Result<usize, AllocError>
         ensures known { IfOk result (λ label. label < length self.new.texts) }

@@ -5,7 +5,7 @@ ghost use Rattle.pz_serving.specs.CommandLine.{IsFresh, NamesFile, Obeys};
 ghost use Rattle.pz_serving.specs.Serving.{Reports, status_of};
 ghost use Rattle.pz_console.specs.declared.failure.Failure.{Failure};
 
-use crate::serving::{serve_keeping, serve_opened_keeping};
+use crate::serving::{serve_and_keep, serve_opened_and_keep};
 use pz_console::counted::Counted;
 use pz_console::failure::{Failure, fail_with};
 use pz_console::options::{Chosen, OptionsFault, read_options};
@@ -53,12 +53,12 @@ pub fn serve_words<T: Files + Threads + Wait + Sync + AllocGlobal, R: Read, W: W
         Err(OptionsFault::BadLine) => return fail_with(Failure::BadLine, errors),
     };
     let Some(name) = file else {
-        let (status, job) = serve_keeping(rt, rt.alloc(), input, output, errors, options);
+        let (status, job) = serve_and_keep(rt, rt.alloc(), input, output, errors, options);
         forget(job);
         return status;
     };
     let mut opened = open(rt, name.as_str());
-    let (status, job) = serve_opened_keeping(rt, rt.alloc(), &mut opened, output, errors, options);
+    let (status, job) = serve_opened_and_keep(rt, rt.alloc(), &mut opened, output, errors, options);
     forget(job);
     status
 }

@@ -1,6 +1,6 @@
 //! The serving of a file of sessions.
 
-ghost use Rattle.std.specs.Prelude.{◌≡◌, ◌≢◌, ◌≤◌, ◌+◌, ◌⊎◌, Bool, Err, false, None, Result, IfOk, IfErr, length};
+ghost use Rattle.std.specs.Prelude.{◌≡◌, ◌≢◌, ◌≤◌, ◌+◌, Bool, Err, false, None, Result, IfOk, IfErr};
 ghost use Rattle.std.specs.IoError.{error_kind};
 ghost use Rattle.pz_entries.specs.declared.file.TheConstants.{MOST_BYTES};
 ghost use Rattle.pz_console.specs.declared.options.TheConstants.{MOST_WORKERS};
@@ -79,7 +79,7 @@ fn play_by_crew<T: Threads + Wait + Sync, W: Write>(
     }
 }
 
-/// Plays a job and writes its lines; tells whether every session passed. A worker that is alone has no thread of its own.
+/// Plays a job and writes its lines; tells whether every session passed. One worker, or at most one session, needs no thread.
 fn play_job<T: Threads + Wait + Sync, W: Write>(
     rt: &T,
     alloc: Global,
@@ -100,7 +100,7 @@ fn play_job<T: Threads + Wait + Sync, W: Write>(
 }
 
 /// Reads a file of sessions, and makes the job of its entries.
-fn ready<T: Threads + Sync, R: Read>(
+fn read_job<T: Threads + Sync, R: Read>(
     rt: &T,
     alloc: Global,
     input: &mut Counted<R>,
@@ -138,8 +138,8 @@ fn status_of<E: Write>(end: Result<bool, Failure>, errors: &mut Output<E>) -> u8
     }
 }
 
-/// Serves a file of sessions as `serve` does, and hands the job back that was played, if there is one.
-pub(crate) fn serve_keeping<T: Threads + Wait + Sync, R: Read, W: Write, E: Write>(
+/// Serves a file of sessions as `serve` does, and hands back the job that was played, if there is one.
+pub(crate) fn serve_and_keep<T: Threads + Wait + Sync, R: Read, W: Write, E: Write>(
     rt: &T,
     alloc: Global,
     input: &mut Counted<R>,
@@ -155,7 +155,7 @@ pub(crate) fn serve_keeping<T: Threads + Wait + Sync, R: Read, W: Write, E: Writ
         × Serves options.order input.old.remaining output.old output.new end
         × Reports errors.old errors.new end }
 {
-    match ready(rt, alloc, input, options) {
+    match read_job(rt, alloc, input, options) {
         Ok(job) => {
             let end = play_job(rt, alloc, &job, options.workers, output);
             (status_of(end, errors), Some(job))
@@ -164,8 +164,8 @@ pub(crate) fn serve_keeping<T: Threads + Wait + Sync, R: Read, W: Write, E: Writ
     }
 }
 
-/// Reads a file of sessions to its end, replays them on as many threads as there are workers, writes the lines of their
-/// recording, and answers the exit status: 0 if every session passed, 1 if some didn't, 2 if there is no whole recording. At 2
+/// Reads a file of sessions to its end, replays them by so many workers (in the calling thread if there is one worker or at most one
+/// session), writes the lines of their recording, and answers the exit status: 0 if every session passed, 1 if some didn't, 2 if there is no whole recording. At 2
 /// one line says why, and nothing is written to the output. Only if the writing itself failed does the output have the first
 /// bytes of the recording. The reader was not called yet, and is called at most 16,777,217 times. The run ends with a failed read
 /// exactly if a call of the reader answered an error.
@@ -185,7 +185,7 @@ pub fn serve<T: Threads + Wait + Sync, R: Read, W: Write, E: Write>(
         × Serves options.order input.old.remaining output.old output.new end
         × Reports errors.old errors.new end }
 {
-    serve_keeping(rt, alloc, input, output, errors, options).0
+    serve_and_keep(rt, alloc, input, output, errors, options).0
 }
 
 /// Why a file was not opened.
@@ -198,8 +198,8 @@ fn failure_at(error: &io::Error) -> Failure
     }
 }
 
-/// Serves a file of sessions as `serve_opened` does, and hands the job back that was played, if there is one.
-pub(crate) fn serve_opened_keeping<T: Threads + Wait + Sync, R: Read, W: Write, E: Write>(
+/// Serves a file of sessions as `serve_opened` does, and hands back the job that was played, if there is one.
+pub(crate) fn serve_opened_and_keep<T: Threads + Wait + Sync, R: Read, W: Write, E: Write>(
     rt: &T,
     alloc: Global,
     opened: &mut io::Result<Counted<R>>,
@@ -216,7 +216,7 @@ pub(crate) fn serve_opened_keeping<T: Threads + Wait + Sync, R: Read, W: Write, 
         × Reports errors.old errors.new end }
 {
     match opened {
-        Ok(file) => serve_keeping(rt, alloc, file, output, errors, options),
+        Ok(file) => serve_and_keep(rt, alloc, file, output, errors, options),
         Err(error) => (fail_with(failure_at(error), errors), None),
     }
 }
@@ -239,5 +239,5 @@ pub fn serve_opened<T: Threads + Wait + Sync, R: Read, W: Write, E: Write>(
         × ServesOpened options.order opened.old opened.new output.old output.new end
         × Reports errors.old errors.new end }
 {
-    serve_opened_keeping(rt, alloc, opened, output, errors, options).0
+    serve_opened_and_keep(rt, alloc, opened, output, errors, options).0
 }

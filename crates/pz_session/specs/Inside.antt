@@ -30,6 +30,6 @@ KnowsChange level before differs = IfSome differs (λ differs. IfSome before (λ
 abbrev pub HasLabels : WriterView → Option Grid → Type 0
 HasLabels texts labelled = IfSome labelled (λ grid. texts.cells ≡ texts_in texts.table.game texts.order grid)
 
--- a board belongs to one game, and the writer of its texts has the same game and order
+-- a board belongs to one game, and the writer of its texts has the same game and order; what is noted of its levels is so
 abbrev pub IsKept : Inside → Type 0
 IsKept b = IsOneGame (state_in b) × ((b.texts.table.game ≡ b.game.now) × (b.texts.order ≡ b.order)) × KnowsChange b.level.grid (state_in b).before b.differs × HasLabels b.texts (labelled_of b.labelled b.level.grid (state_in b).before (option_map (λ level. level.grid) b.spare))

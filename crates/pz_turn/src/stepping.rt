@@ -3,7 +3,7 @@
 ghost use Rattle.std.specs.Prelude.{◌≡◌, ◌≢◌, ◌<◌, IfOk, IfErr, Ok, Err, length};
 ghost use Rattle.std.specs.List.{list_any, list_all, zip};
 ghost use Rattle.pz_game.specs.Game.{players_of};
-ghost use Rattle.pz_program.specs.Instance.{IsBlockOf, AreBlocksOf, IsProgramOf};
+ghost use Rattle.pz_program.specs.Instance.{IsBlockOf, IsProgramOf};
 ghost use Rattle.pz_sheet.specs.Grid.{IsLawful, IsOfGame, SameSize};
 ghost use Rattle.pz_sheet.specs.Presence.{holds_one, cell_of};
 ghost use Rattle.pz_turn.specs.Outcome.{GivesOutcome};

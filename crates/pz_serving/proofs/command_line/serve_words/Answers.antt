@@ -12,15 +12,15 @@ returns-in-Err-BadLine-clause-served g c =
     (Err BadLine, c.fail_with-in-Err-BadLine.ensures.status, (refl, refused (search rules)), c.fail_with-in-Err-BadLine.ensures.line)
 
 pub returns-in_default-clause-called : goal.returns-in_default-clause-called
-returns-in_default-clause-called g c = c.serve_keeping-status.ensures.served.2.called
+returns-in_default-clause-called g c = c.serve_and_keep-status.ensures.served.2.called
 
 pub returns-in_default-clause-unread : goal.returns-in_default-clause-unread
 returns-in_default-clause-unread g c = names_none _ c.in-Ok.chosen c.in-Ok.ensures.chosen (rw c.in_default.is refl)
 
 pub returns-in_default-clause-served : goal.returns-in_default-clause-served
 returns-in_default-clause-served g c =
-    ends_served g.T.File.Read.remaining _ c.in-Ok.chosen _ _ _ _ _ _ _ c.in-Ok.ensures.chosen (rw c.in_default.is refl) c.serve_keeping-status.ensures.served
+    ends_served g.T.File.Read.remaining _ c.in-Ok.chosen _ _ _ _ _ _ _ c.in-Ok.ensures.chosen (rw c.in_default.is refl) c.serve_and_keep-status.ensures.served
 
 pub returns-clause-served : goal.returns-clause-served
 returns-clause-served g c =
-    ends_opened g.T.File.Read.remaining _ c.in-Ok.chosen _ _ _ _ _ _ _ _ c.in-Ok.ensures.chosen (rw c.in-Some.is refl) c.open-opened.ensures c.serve_opened_keeping-status.ensures.served
+    ends_opened g.T.File.Read.remaining _ c.in-Ok.chosen _ _ _ _ _ _ _ _ c.in-Ok.ensures.chosen (rw c.in-Some.is refl) c.open-opened.ensures c.serve_opened_and_keep-status.ensures.served

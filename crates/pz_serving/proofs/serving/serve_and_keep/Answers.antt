@@ -1,5 +1,5 @@
 use Rattle.std.proofs.Common.{Err}
-use Rattle.pz_serving.proofs.serving.serve_keeping.Goals as goal
+use Rattle.pz_serving.proofs.serving.serve_and_keep.Goals as goal
 
 pub returns-in-Err : goal.returns-in-Err
 returns-in-Err g c =

@@ -1,6 +1,6 @@
 use Rattle.std.proofs.Common.{refl}
 use Rattle.pz_serving.proofs.Deciding.{too_long_if}
-use Rattle.pz_serving.proofs.serving.ready.Goals as goal
+use Rattle.pz_serving.proofs.serving.read_job.Goals as goal
 
 pub returns-in-Err-TooLong-clause-refused : goal.returns-in-Err-TooLong-clause-refused
 returns-in-Err-TooLong-clause-refused g c =
