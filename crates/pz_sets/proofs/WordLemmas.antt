@@ -1,22 +1,13 @@
 -- The bits of a word, as tests.
-use Rattle.std.proofs.Common.{◌≡◌, ◌⊎◌, inl, inr, ℕ, ◌+◌, ◌%◌, ◌-◌, ◌^◌, ◌<◌, ◌≤◌, Bool, true, false, not, ◌&&◌, ◌||◌, min, max, bit_and, bit_or, bit_xor, cond, arith, ap, nat_eq}
+use Rattle.std.proofs.Common.{◌≡◌, inl, inr, ℕ, ◌+◌, ◌%◌, ◌-◌, ◌^◌, ◌<◌, ◌≤◌, Bool, true, false, not, ◌&&◌, ◌||◌, min, max, bit_and, bit_or, bit_xor, cond, arith, ap, nat_eq}
 use Rattle.std.specs.Int.{bit_at}
-use Rattle.std.proofs.lemmas.Bool.{cases_lt, eqb-true}
+use Rattle.std.proofs.lemmas.Bool.{cases_lt}
 use Rattle.std.proofs.lemmas.Nat.Bits.{bit_at_and, bit_at_or, bit_at_xor, bit_at-lt, same_from_bits, same_from_bits_below, bit_at_above, bit_at-zero, bit_at_mask_inside, bit_at_mask_below}
 use Rattle.pz_sets.specs.Sets.{in_word}
-
-pub bit_cases : (n : ℕ) → n < 2 → (n ≡ 0) ⊎ (n ≡ 1)
-bit_cases n h = grind arith
 
 -- a bit that is a given number answers the test alike
 pub in_word-from : (a i n : ℕ) → bit_at a i ≡ n → in_word a i ≡ nat_eq n 1
 in_word-from a i n e = ap (λ (k : ℕ). nat_eq k 1) e
-
-pub bit_of_in_word : (a i : ℕ) → in_word a i ≡ true → bit_at a i ≡ 1
-bit_of_in_word a i e = eqb-true _ _ e
-
-pub bit_of_not_in_word : (a i : ℕ) → in_word a i ≡ false → bit_at a i ≡ 0
-bit_of_not_in_word a i e = grind (arith, bit_at-lt a i, e)
 
 max_bits : (x y z : ℕ) → z ≡ max x y → x < 2 → y < 2 → nat_eq z 1 ≡ (nat_eq x 1 || nat_eq y 1)
 max_bits x y z e p q = grind arith
