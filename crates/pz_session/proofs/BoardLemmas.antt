@@ -1,5 +1,5 @@
 -- All levels of a session are its game's, and a step that is cancelled leaves the level.
-use Rattle.pz_session.proofs.Common.{◌≡◌, ℕ, List, ◌∷◌, Option, Some, None, Bool, true, false, not, cond, Result, Ok, Err, All, drop, refl, ap, sym, ◌∙◌, subst, IfOk, GameParts, Commands, Program, has, cancel, restart, Grid, IsOfGame, Outcome, given_input, must_cancel, with_cancel, ended, step_ended, rules_run, FrameKind, Stop, Link, GivesLink, is_idle, State, at_level, showing_end, reached_link, keeping, idle, pressed_to, ticked_to}
+use Rattle.pz_session.proofs.Common.{◌≡◌, ℕ, List, ◌∷◌, Option, Some, None, Bool, true, false, not, cond, Result, Ok, Err, All, drop, refl, ap, sym, ◌∙◌, subst, IfOk, GameParts, Commands, Program, has, cancel, restart, Grid, IsOfGame, Outcome, given_input, must_cancel, with_cancel, ended, step_ended, step_of, rules_run, FrameKind, Stop, Link, GivesLink, is_idle, State, at_level, showing_end, restarted, reached_link, effect, keeping, idle, pressed_to, press_link, ticked_to, tick_link}
 use Rattle.std.proofs.lemmas.List.Elements.{All-head, All-tail}
 use Rattle.pz_game.specs.declared.direction.Dir.{Dir}
 use Rattle.pz_game.specs.Game.{players_of}
@@ -8,11 +8,9 @@ use Rattle.pz_bare.specs.Loading.{loaded}
 use Rattle.pz_grid.proofs.SameLemmas.{same_grid_is, same_grid_self}
 use Rattle.pz_turn.specs.declared.outcome.StepFault.{StepFault}
 use Rattle.pz_turn.specs.declared.stepping.StepEnd.{StepEnd}
-use Rattle.pz_turn.specs.Step.{step_of}
 use Rattle.pz_case.specs.declared.item.FrameKind.TheVariants.{Move, Tick}
 use Rattle.pz_session.specs.declared.chain.Shown.{Shown}
 use Rattle.pz_session.specs.declared.chain.PlayFault.{PlayFault}
-use Rattle.pz_session.specs.Board.{restarted, effect, press_link, tick_link}
 
 -- a level that is loaded
 pub loaded_of_game : (game : GameParts) (index : ℕ) (grid : Grid) → grid ≡ loaded game index → IsOfGame game grid

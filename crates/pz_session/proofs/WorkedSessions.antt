@@ -1,5 +1,5 @@
 -- Worked cases of sessions: undo and restart, what commands make of a step, the order of the items, and the close.
-use Rattle.pz_session.proofs.Common.{◌≡◌, ℕ, suc, List, [], ◌∷◌, length, Option, Some, None, Bool, true, false, Ok, Err, refl, codes, map, nat_lt, ◌==◌, if◌then◌else◌, GameParts, Commands, either, Program, Grid, Outcome, FrameKind, Frame, PlanState, State, Links, closing, is_idle}
+use Rattle.pz_session.proofs.Common.{◌≡◌, ℕ, suc, List, [], ◌∷◌, length, Option, Some, None, Bool, true, false, Ok, Err, refl, codes, map, nat_lt, ◌==◌, if◌then◌else◌, GameParts, Commands, either, Program, Grid, Outcome, blocks_run, rules_run, step_of, has_won, FrameKind, Frame, level_from, PlanState, State, frame_of, start_link, restarted, won_link, kept_link, reached_link, effect, press_link, undo_link, begun, settled, played_items, items_of_plan, Links, closing, played, numbered, items_from, is_idle}
 use Rattle.std.specs.Fmt.{digits}
 use Rattle.pz_game.specs.declared.denotation.Denotation.{Denotation}
 use Rattle.pz_game.specs.declared.denotation.Kind.TheVariants.{Object}
@@ -8,8 +8,6 @@ use Rattle.pz_game.specs.declared.level.LevelEntry.{LevelEntry}
 use Rattle.pz_game.specs.declared.level.LevelEntry.TheVariants.{Message, Level}
 use Rattle.pz_program.specs.Commands as command
 use Rattle.pz_cells.specs.declared.piece.Piece.{Piece}
-use Rattle.pz_turn.specs.Step.{blocks_run, rules_run, step_of}
-use Rattle.pz_turn.specs.Win.{has_won}
 use Rattle.pz_record.specs.declared.input.Input.TheVariants.{Press, Undo, Restart, Tick}
 use Rattle.pz_record.specs.declared.order.Order.TheVariants.{Rows}
 use Rattle.pz_record.specs.CellNames.{with_name, same_set}
@@ -22,11 +20,6 @@ use Rattle.pz_case.specs.declared.item.Item.TheVariants as item
 use Rattle.pz_case.specs.declared.item.Refusal.TheVariants.{NoLevel}
 use Rattle.pz_case.specs.declared.item.Stop.TheVariants as stop
 use Rattle.pz_case.specs.declared.item.Verdict.TheVariants.{Passed, Differs, Stopped, Refused}
-use Rattle.pz_case.specs.FirstLevel.{level_from}
-use Rattle.pz_session.specs.Board.{frame_of, start_link, restarted, won_link, kept_link, reached_link, effect}
-use Rattle.pz_session.specs.Board.{press_link, undo_link, begun, settled}
-use Rattle.pz_session.specs.Case.{played_items, items_of_plan}
-use Rattle.pz_session.specs.Session.{played, numbered, items_from}
 
 -- the objects 0 background, alone on its layer, and 1 player and 2 crate on another
 abbrev object : ℕ → Denotation
