@@ -1,4 +1,3 @@
-mod Common
 pub mod Changing
 pub mod Joining
 pub mod Labelling

@@ -1,7 +1,6 @@
 -- An instance applied at all its combinations.
-use Rattle.pz_turn.proofs.Common.{◌≡◌, ◌<◌, ◌≤◌, List, [], ◌∷◌, ◌++◌, map, fold, length, refl, ap, sym, ◌∙◌, Result, Ok, Err, Bool, false, if◌then◌else◌, append-nil, Commands, Instance, Place, Grid, Rewriting, in_rewrite, StepFault, combinations, Outcome, taken, applied_at, given, outcome_of, applied_with}
+use Rattle.pz_turn.proofs.Common.{◌≡◌, ◌<◌, ◌≤◌, List, [], ◌∷◌, ◌++◌, map, fold, length, refl, ap, sym, ◌∙◌, Result, Ok, Err, Bool, false, if◌then◌else◌, append-nil, Commands, Instance, Place, Grid, Rewriting, in_rewrite, StepFault, combinations, Outcome, taken, applied_at, given, outcome_of, applied_with, applied}
 use Rattle.pz_turn.specs.declared.outcome.StepFault.TheVariants.{MatchLimit}
-use Rattle.pz_turn.specs.Instance.{applied}
 use Rattle.pz_turn.proofs.Limits.{within_limit, over_limit}
 
 pub map-nothing_behind : (all : List (List Place)) (behind : List Place) → behind ≡ [] → map (λ places. places ++ behind) all ≡ all

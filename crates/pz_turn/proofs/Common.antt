@@ -9,7 +9,8 @@ pub use Rattle.pz_game.specs.Pattern.{AreRowsOf, AsksAmong, IsRowOf, RuleRow}
 pub use Rattle.pz_game.specs.declared.direction.Dir.{Dir}
 pub use Rattle.pz_game.specs.declared.game.GameParts.{GameParts}
 pub use Rattle.pz_grid.proofs.MovementLemmas.{same_size_on}
-pub use Rattle.pz_grid.specs.Places.{places, position_of, searched, still_matches}
+pub use Rattle.pz_grid.specs.Places.{places, position_of, still_matches}
+unfoldable pub use Rattle.pz_grid.specs.Places.{searched}
 pub use Rattle.pz_grid.specs.Rewriting.{Rewriting, in_rewrite, rewritten, rewritten_along, rewritten_at, rewritten_row}
 pub use Rattle.pz_grid.specs.declared.placing.Place.{Place}
 pub use Rattle.pz_program.specs.Commands.{cancel, either, no_commands}
@@ -20,10 +21,14 @@ pub use Rattle.pz_program.specs.declared.instance.Program.{Program}
 pub use Rattle.pz_sheet.specs.Grid.{Grid, IsLawful, SameSize, cell_at}
 pub use Rattle.pz_turn.specs.Calm.{AreCalmFrom, IsCalm}
 pub use Rattle.pz_turn.specs.Combinations.{combinations}
-pub use Rattle.pz_turn.specs.Instance.{HasNoEffect, after_row, applied, applied_at, applied_to, applied_with, found_or_stop, given, outcome_of, taken}
+pub use Rattle.pz_turn.specs.Instance.{HasNoEffect, after_row, applied_at, applied_to, applied_with, found_or_stop, given, outcome_of, taken}
+unfoldable pub use Rattle.pz_turn.specs.Instance.{applied}
 pub use Rattle.pz_turn.specs.Outcome.{GivesOutcome, Outcome, followed_by, joined, untouched}
-pub use Rattle.pz_turn.specs.Rest.{Runs, ends, ends_after, group_runs, is_last, pass_of, passes, rest_of, rests, up_to}
-pub use Rattle.pz_turn.specs.Step.{ended, given_input, keeps_player, must_cancel, rules_run, step_ended, then_moved, with_cancel}
+pub use Rattle.pz_turn.specs.Rest.{Runs, ends, ends_after, group_runs, is_last, pass_of, passes, rests, up_to}
+unfoldable pub use Rattle.pz_turn.specs.Rest.{rest_of}
+pub use Rattle.pz_turn.specs.Step.{ended, given_input, keeps_player, must_cancel, step_ended, then_moved, with_cancel}
+unfoldable pub use Rattle.pz_turn.specs.Step.{block_runs, blocks_run, rules_run, step_of}
 pub use Rattle.pz_turn.specs.Win.{fits_both, fits_if, line_holds}
+unfoldable pub use Rattle.pz_turn.specs.Win.{has_won}
 pub use Rattle.pz_turn.specs.declared.outcome.Given.{Given}
 pub use Rattle.pz_turn.specs.declared.outcome.StepFault.{StepFault}

@@ -1,8 +1,7 @@
 -- Rows that are left out at once: one has no place, and those before it are within the limit.
-use Rattle.pz_turn.proofs.Common.{◌≡◌, ℕ, ◌+◌, ◌<◌, List, [], ◌∷◌, map, length, get_or, drop, refl, ap, sym, subst, ◌∙◌, arith, Option, None, Some, is_some, false, Ok, flat_map, at_drop_more, Dir, Instance, RuleRow, Place, Grid, IsLawful, places, combinations, untouched, found_or_stop, after_row, taken, applied_to, applied_with}
+use Rattle.pz_turn.proofs.Common.{◌≡◌, ℕ, ◌+◌, ◌<◌, List, [], ◌∷◌, map, length, get_or, drop, refl, ap, sym, subst, ◌∙◌, arith, Option, None, Some, is_some, false, Ok, flat_map, at_drop_more, Dir, Instance, RuleRow, Place, Grid, IsLawful, places, combinations, untouched, found_or_stop, after_row, taken, applied_to, applied_with, applied}
 use Rattle.pz_grid.proofs.FoundLemmas.{searched-within}
 use Rattle.pz_grid.proofs.CountLemmas.{searched-gapless}
-use Rattle.pz_turn.specs.Instance.{applied}
 
 -- the places of some rows are taken without a stop, and have no combination
 pub record IsNoneTaken (grid : Grid) (dir : Dir) (rows : List RuleRow) : Type 0 where

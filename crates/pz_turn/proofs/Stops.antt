@@ -1,17 +1,13 @@
 -- The stops of a step are its limits: want of memory is none of them.
-use Rattle.pz_turn.proofs.Common.{◌≢◌, ℕ, zero, suc, List, [], ◌∷◌, Option, Some, None, Bool, true, false, Result, Ok, Err, fold, length, cond, refl, subst, nat_lt, IfErr, find, range_with_len, Dir, GameParts, Instance, Program, RuleRow, Place, Grid, places, StepFault, combinations, Outcome, untouched, joined, followed_by, found_or_stop, after_row, taken, applied_with, Runs, pass_of, passes, is_last, up_to, group_runs, then_moved, given_input, step_ended}
+use Rattle.pz_turn.proofs.Common.{◌≢◌, ℕ, zero, suc, List, [], ◌∷◌, Option, Some, None, Bool, true, false, Result, Ok, Err, fold, length, cond, refl, subst, nat_lt, IfErr, find, range_with_len, Dir, GameParts, Instance, Program, RuleRow, Place, Grid, places, searched, StepFault, combinations, Outcome, untouched, joined, followed_by, found_or_stop, after_row, taken, applied_with, applied, Runs, pass_of, passes, is_last, up_to, rest_of, group_runs, block_runs, blocks_run, then_moved, rules_run, given_input, step_ended, step_of}
 use Rattle.pz_game.specs.Game.{players_of}
 use Rattle.pz_program.specs.declared.instance.Block.{Block}
 use Rattle.pz_program.specs.declared.instance.Block.TheVariants.{One, Loop}
 use Rattle.pz_grid.specs.declared.placing.GridFault.TheVariants as grid
 use Rattle.pz_grid.specs.declared.placing.TheConstants.{MATCH_LIMIT}
-use Rattle.pz_grid.specs.Places.{searched}
 use Rattle.pz_turn.specs.declared.outcome.StepFault.TheVariants.{Memory, MatchLimit}
 use Rattle.pz_turn.specs.declared.instance.TheConstants.{COMBINATION_LIMIT}
 use Rattle.pz_turn.specs.declared.resting.TheConstants.{PASSES}
-use Rattle.pz_turn.specs.Instance.{applied}
-use Rattle.pz_turn.specs.Rest.{rest_of}
-use Rattle.pz_turn.specs.Step.{block_runs, blocks_run, rules_run, step_of}
 
 -- a stop is none for want of memory
 abbrev Stops : {A : Type 0} → Result A StepFault → Type 0
