@@ -5,15 +5,20 @@ pub use Rattle.std.specs.List.{join_by, list_all}
 pub use Rattle.std.specs.Prelude.{IfOk, codes, nat_lt, slice_index}
 pub use Rattle.pz_game.specs.declared.game.GameParts.{GameParts}
 pub use Rattle.pz_level_text.specs.CellOrder.{IsAt, cells_in, column_of, number_of, position_of, row_of}
-pub use Rattle.pz_level_text.specs.Equality.{equals_recorded, same_sets}
+pub use Rattle.pz_level_text.specs.Equality.{same_sets}
+unfoldable pub use Rattle.pz_level_text.specs.Equality.{equals_recorded}
 pub use Rattle.pz_level_text.specs.Labels.{IsLabelOf, IsLabelOfWord, TableView, WriterView, set_text, texts_in}
-pub use Rattle.pz_level_text.specs.LevelNames.{chosen_from, sets_in, standing_names}
+pub use Rattle.pz_level_text.specs.LevelNames.{chosen_from, sets_in}
+unfoldable pub use Rattle.pz_level_text.specs.LevelNames.{standing_names}
 pub use Rattle.pz_level_text.specs.LevelText.{HasNoComma}
+unfoldable pub use Rattle.pz_level_text.specs.LevelText.{text_of_level}
 pub use Rattle.pz_level_text.specs.Naming.{has_names}
 pub use Rattle.pz_record.proofs.Changes.{both_changed, changed_again, known_still, labels_still, one_changed, still_kept}
 pub use Rattle.pz_record.proofs.Sets.{all_of, all_seen, insert_seen}
-pub use Rattle.pz_record.specs.CellNames.{has_name, same_set, set_of, with_name}
+pub use Rattle.pz_record.specs.CellNames.{has_name, set_of}
+unfoldable pub use Rattle.pz_record.specs.CellNames.{same_set, with_name}
 pub use Rattle.pz_record.specs.CellTexts.{joined, text_of_cells}
+unfoldable pub use Rattle.pz_record.specs.CellTexts.{piece, with_cell}
 pub use Rattle.pz_record.specs.Labels.{text_at}
 pub use Rattle.pz_record.specs.Written.{HasTextBut, IsSameBut}
 pub use Rattle.pz_record.specs.declared.order.Order.{Order}
