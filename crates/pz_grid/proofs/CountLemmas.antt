@@ -1,14 +1,8 @@
 -- How many places a row can have: one for each cell and gap. Without a gap, and in a small level with one, that is within the limit of a
 -- search.
-use Rattle.std.proofs.Common.{◌≡◌, ℕ, zero, suc, ◌+◌, ◌*◌, ◌≤◌, List, [], ◌∷◌, filter, Bool, true, false, None, Ok, length, cond, arith, ap, ◌∙◌, refl, mul-le-mul_right}
-use Rattle.std.specs.Prelude.{is_some}
-use Rattle.std.proofs.lemmas.List.{length-append}
+use Rattle.pz_grid.proofs.Common.{◌≡◌, ℕ, zero, suc, ◌+◌, ◌*◌, ◌≤◌, List, [], ◌∷◌, filter, Bool, true, false, None, Ok, length, cond, arith, ap, ◌∙◌, refl, mul-le-mul_right, is_some, length-append, Dir, RuleRow, Grid, IsLawful, row_holds, gap_count, line_length, line_count, places, searched}
 use Rattle.pz_game.specs.declared.limits.TheConstants.{MAX_SIDE}
-use Rattle.pz_game.specs.declared.direction.Dir.{Dir}
 use Rattle.pz_game.specs.declared.direction.Dir.TheVariants.{Up, Down, Left, Right, Action}
-use Rattle.pz_game.specs.Pattern.{RuleRow}
-use Rattle.pz_sheet.specs.Grid.{Grid, IsLawful}
-use Rattle.pz_grid.specs.Places.{row_holds, gap_count, line_length, line_count, places, searched}
 use Rattle.pz_grid.proofs.GatherLemmas.{gather, gather_more}
 use Rattle.pz_grid.proofs.FoundLemmas.{found_with, found_at, found_in, found_at_all, found_in_all, places_all, searched-within}
 

@@ -1,13 +1,6 @@
 -- Folds over lists beside one another.
-use Rattle.std.proofs.Common.{◌≡◌, ℕ, ◌+◌, ◌<◌, ◌≤◌, List, [], ◌∷◌, Bool, true, false, ◌&&◌, length, get_or, take, arith, ap, sym, ◌∙◌, min}
-use Rattle.std.specs.Prelude.{fold}
-use Rattle.std.specs.List.{list_all, enumerate_from, zip}
-use Rattle.std.proofs.lemmas.List.{take_all, take_more}
-use Rattle.std.proofs.lemmas.List.Sums.{fold-append}
-use Rattle.std.proofs.lemmas.List.FromFn.{length-enumerate_from}
-use Rattle.std.proofs.lemmas.List.Folds.{list_all_more, list_all_at}
+use Rattle.pz_grid.proofs.Common.{◌≡◌, ℕ, ◌+◌, ◌<◌, ◌≤◌, List, [], ◌∷◌, Bool, true, false, ◌&&◌, length, get_or, take, arith, ap, sym, ◌∙◌, min, fold, list_all, enumerate_from, zip, take_all, take_more, fold-append, length-enumerate_from, list_all_more, list_all_at, numbered_at}
 use Rattle.std.proofs.lemmas.Slice.Zip.{length-zip, get_or-zip}
-use Rattle.pz_sheet.proofs.RunLemmas.{numbered_at}
 
 -- one more of a fold
 pub fold_take_more : {A S : Type 0} (f : S → A → S) (start : S) (xs : List A) (i : ℕ) (d x : A) → i < length xs → get_or xs i d ≡ x → fold f start (take (i + 1) xs) ≡ f (fold f start (take i xs)) x

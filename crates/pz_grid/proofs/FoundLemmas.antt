@@ -1,18 +1,10 @@
 -- The places of a row, found line by line.
-use Rattle.std.proofs.Common.{◌≡◌, ◌≢◌, ℕ, zero, suc, ◌+◌, ◌-◌, ◌<◌, ◌≤◌, List, [], ◌∷◌, ◌++◌, map, filter, Bool, length, arith, ap, sym, ◌∙◌, refl, inl, inr}
-use Rattle.std.specs.List.{flat_map, range_with_len}
-use Rattle.std.specs.Prelude.{Result, Ok, Err, nat_lt, if◌then◌else◌}
-use Rattle.std.proofs.lemmas.Bool.{ltb-true, ltb-false, false_from_ne_true, true_from_ne_false, cases_lt}
-use Rattle.std.proofs.lemmas.List.{length-append, append_assoc}
+use Rattle.pz_grid.proofs.Common.{◌≡◌, ◌≢◌, ℕ, zero, suc, ◌+◌, ◌-◌, ◌<◌, ◌≤◌, List, [], ◌∷◌, ◌++◌, map, filter, Bool, length, arith, ap, sym, ◌∙◌, refl, inl, inr, flat_map, range_with_len, Result, Ok, Err, nat_lt, if◌then◌else◌, ltb-true, ltb-false, false_from_ne_true, true_from_ne_false, cases_lt, length-append, append_assoc, Dir, RuleRow, Place, Grid, row_holds, place_in, pairs_at, pairs_in, places, gap_count, line_length, line_count}
 use Rattle.std.proofs.lemmas.List.Elements.{filter-append}
-use Rattle.pz_game.specs.declared.direction.Dir.{Dir}
-use Rattle.pz_game.specs.Pattern.{RuleRow}
 use Rattle.pz_grid.specs.declared.placing.GridFault.{GridFault}
 use Rattle.pz_grid.specs.declared.placing.GridFault.TheVariants.{Memory, MatchLimit}
-use Rattle.pz_grid.specs.declared.placing.Place.{Place}
 use Rattle.pz_grid.specs.declared.placing.TheConstants.{MATCH_LIMIT}
-use Rattle.pz_sheet.specs.Grid.{Grid}
-use Rattle.pz_grid.specs.Places.{row_holds, place_in, pairs_at, pairs_in, places, gap_count, line_length, line_count, searched}
+use Rattle.pz_grid.specs.Places.{searched}
 use Rattle.pz_grid.proofs.GatherLemmas.{gather, gather_more}
 
 -- with more numbers the list is no shorter

@@ -1,14 +1,6 @@
 -- Gaps that are left out since the row's first cell behind them doesn't hold.
-use Rattle.std.proofs.Common.{◌≡◌, ℕ, ◌<◌, ◌≤◌, List, [], ◌∷◌, ◌++◌, Bool, false, Option, Some, cond, length, get_or, arith, ap, sym, ◌∙◌, refl, subst}
-use Rattle.std.specs.Prelude.{is_some, IfSome}
-use Rattle.pz_game.specs.declared.direction.Dir.{Dir}
+use Rattle.pz_grid.proofs.Common.{◌≡◌, ℕ, ◌<◌, ◌≤◌, List, [], ◌∷◌, ◌++◌, Bool, false, Option, Some, cond, length, get_or, arith, ap, sym, ◌∙◌, refl, subst, is_some, IfSome, Dir, Item, RuleRow, IsRow, Grid, Place, along, holds_at, holds_behind, cell_holds, row_holds, place_in, gap_count, line_length, enumerate_fails}
 use Rattle.pz_game.specs.declared.direction.Dir.TheVariants.{Up, Down, Left, Right, Action}
-use Rattle.pz_game.specs.declared.pattern.Item.{Item}
-use Rattle.pz_game.specs.Pattern.{RuleRow, IsRow}
-use Rattle.pz_sheet.specs.Grid.{Grid}
-use Rattle.pz_grid.specs.declared.placing.Place.{Place}
-use Rattle.pz_grid.specs.Places.{along, holds_at, holds_behind, cell_holds, row_holds, place_in, gap_count, line_length}
-use Rattle.pz_sheet.proofs.RunLemmas.{enumerate_fails}
 use Rattle.pz_grid.proofs.FoundLemmas.{found_with, found_at, found_at_all}
 use Rattle.pz_grid.proofs.GatherLemmas.{gather}
 use Rattle.pz_grid.proofs.HeadLemmas.{IsBehind, gap_spans}

@@ -1,9 +1,6 @@
 -- Lists made piece by piece.
-use Rattle.std.proofs.Common.{◌≡◌, ℕ, ◌+◌, List, [], ◌∷◌, ◌++◌, arith, ap, ◌∙◌}
-use Rattle.std.specs.List.{flat_map, range_with_len}
+use Rattle.pz_grid.proofs.Common.{◌≡◌, ℕ, ◌+◌, List, [], ◌∷◌, ◌++◌, arith, ap, ◌∙◌, flat_map, range_with_len, append-nil, range_more}
 use Rattle.std.proofs.lemmas.Grind.{flat_map-append}
-use Rattle.std.proofs.lemmas.List.{append-nil}
-use Rattle.pz_sheet.proofs.CountLemmas.{range_more}
 
 -- a list made piece by piece for each number below n
 abbrev pub gather : {X : Type 0} → (ℕ → List X) → ℕ → List X

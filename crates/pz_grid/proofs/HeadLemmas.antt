@@ -1,19 +1,6 @@
 -- A row's cells before its gap stand one after another.
-use Rattle.std.proofs.Common.{◌≡◌, ℕ, zero, suc, ◌+◌, ◌<◌, ◌≤◌, List, [], ◌∷◌, Option, Some, None, Bool, true, ◌&&◌, cond, length, get_or, take, arith, ap, sym, ◌∙◌, refl, filter, length-take}
-use Rattle.std.specs.Prelude.{nat_le}
-use Rattle.std.specs.List.{list_all, enumerate_from}
-use Rattle.std.proofs.lemmas.Bool.{leb-true, le-leb, false_from_ne_true}
-use Rattle.std.proofs.lemmas.List.FromFn.{length-enumerate_from}
-use Rattle.std.proofs.lemmas.List.Sums.{AllPass-from_list_all}
-use Rattle.std.proofs.lemmas.List.{get_or-take, get_or_default}
-use Rattle.pz_game.specs.declared.direction.Dir.{Dir}
-use Rattle.pz_game.specs.declared.pattern.Item.{Item}
-use Rattle.pz_game.specs.Pattern.{RuleRow}
-use Rattle.pz_sheet.specs.Grid.{Grid}
-use Rattle.pz_sheet.specs.Runs.{along, holds_at, holds_along, run_holds}
-use Rattle.pz_sheet.proofs.RunLemmas.{numbered_at, enumerate_more, enumerate_all}
-use Rattle.pz_grid.specs.declared.placing.Place.{Place}
-use Rattle.pz_grid.specs.Places.{distance, cell_holds, row_holds, holds_behind, cells_before, head_of}
+use Rattle.pz_grid.proofs.Common.{◌≡◌, ℕ, zero, suc, ◌+◌, ◌<◌, ◌≤◌, List, [], ◌∷◌, Option, Some, None, Bool, true, ◌&&◌, cond, length, get_or, take, arith, ap, sym, ◌∙◌, refl, filter, length-take, nat_le, list_all, enumerate_from, leb-true, le-leb, false_from_ne_true, length-enumerate_from, AllPass-from_list_all, get_or-take, get_or_default, Dir, Item, RuleRow, Grid, holds_along, run_holds, numbered_at, enumerate_more, enumerate_all, Place, distance, cell_holds, row_holds, holds_behind, cells_before, head_of}
+use Rattle.pz_sheet.specs.Runs.{along, holds_at}
 use Rattle.pz_grid.proofs.PlaceLemmas.{holds_each_cell}
 
 -- tests that agree

@@ -1,3 +1,4 @@
+mod Common
 pub mod SameLemmas
 pub mod GatherLemmas
 pub mod MovementLemmas

@@ -1,24 +1,10 @@
 -- Which objects stand in a cell and in a line, and how a level stays marked.
-use Rattle.std.proofs.Common.{◌≡◌, ◌⊎◌, inl, inr, ℕ, zero, suc, ◌+◌, ◌*◌, ◌<◌, ◌≤◌, List, [], ◌∷◌, Option, Some, None, Bool, true, false, cond, ◌&&◌, ◌||◌, nat_eq, length, get_or, set, map, arith, ap, sym, ◌∙◌, refl, subst, eq-eqb}
-use Rattle.std.specs.Prelude.{IfSome, is_some}
-use Rattle.std.specs.List.{list_any, range_with_len}
-use Rattle.std.proofs.lemmas.Bool.{and_parts, cases_eq, cases_lt, cases_order, eqb-true, or_cases, or_left, or_right}
+use Rattle.pz_grid.proofs.Common.{◌≡◌, ◌⊎◌, inl, inr, ℕ, zero, suc, ◌+◌, ◌*◌, ◌<◌, ◌≤◌, List, [], ◌∷◌, Option, Some, None, Bool, true, false, cond, ◌&&◌, ◌||◌, nat_eq, length, get_or, set, map, arith, ap, sym, ◌∙◌, refl, subst, eq-eqb, IfSome, is_some, list_any, range_with_len, and_parts, cases_eq, cases_lt, cases_order, eqb-true, or_cases, or_left, or_right, length-set, get_or_past, get_or-set_same, get_or-set_other, member, Dir, Item, Piece, still_place, is_in, in_row, in_column, Grid, LevelState, cell_at, with_place, stilled, names, names_object, forbids_object, placed_on, is_on, tells_of, is_marked, IsMarked, IsMarkedAt, IsMore}
 use Rattle.std.proofs.lemmas.Nat.{mul-add-lt}
-use Rattle.std.proofs.lemmas.List.{length-set, get_or_past, get_or-set_same, get_or-set_other}
-use Rattle.pz_sets.specs.Sets.{member}
-use Rattle.pz_game.specs.declared.direction.Dir.{Dir}
-use Rattle.pz_game.specs.declared.pattern.Item.{Item}
-use Rattle.pz_cells.specs.declared.piece.Piece.{Piece}
-use Rattle.pz_cells.specs.Cell.{still_place}
 use Rattle.pz_cells.specs.Standing.{standing}
-use Rattle.pz_sheet.specs.Presence.{is_in, in_row, in_column}
-use Rattle.pz_sheet.specs.Grid.{Grid, LevelState, cell_at, with_place}
-use Rattle.pz_sheet.specs.Movement.{stilled}
 use Rattle.pz_sheet.specs.Pushing.{pushed_place, pushed, is_one_of}
-use Rattle.pz_game.specs.Items.{names, names_object, forbids_object, placed_on, is_on, tells_of}
 use Rattle.pz_cells.specs.Rewriting.{kept, replaced, rewritten_place, rewritten_cell}
 use Rattle.pz_sheet.specs.Rewriting.{with_rewritten}
-use Rattle.pz_grid.specs.Marks.{is_marked, IsMarked, IsMarkedAt, IsMore}
 
 -- ---- a test over numbers
 pub any_in : (p : ℕ → Bool) (a n k : ℕ) → a ≤ k → k < a + n → p k ≡ true → list_any p (range_with_len a n) ≡ true

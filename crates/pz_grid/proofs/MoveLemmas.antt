@@ -1,16 +1,5 @@
 -- What a movement marks: what has landed stays, so in the end each line holds what was marked for it.
-use Rattle.std.proofs.Common.{◌≡◌, inl, inr, ℕ, ◌+◌, ◌*◌, ◌<◌, List, [], Option, Some, None, Bool, true, false, ◌&&◌, ◌||◌, nat_eq, ◌∷◌, length, get_or, take, map, arith, ap, sym, ◌∙◌, refl, subst}
-use Rattle.std.proofs.lemmas.List.Folds.{list_any_more}
-use Rattle.pz_game.specs.declared.pattern.Item.{Item}
-use Rattle.pz_cells.specs.declared.piece.Piece.{Piece}
-use Rattle.pz_cells.specs.Cell.{still_piece, still_place}
-use Rattle.pz_sheet.specs.Presence.{is_in, in_row, in_column}
-use Rattle.pz_sheet.specs.Grid.{Grid, LevelState, place_at, with_place}
-use Rattle.pz_grid.specs.Movement.{in_pass, spot, heading_goal}
-use Rattle.pz_sheet.specs.Movement.{stilled}
-use Rattle.pz_game.specs.Items.{names, names_object}
-use Rattle.pz_grid.specs.Marks.{is_marked, IsMore, IsWidened, IsWidenedBy}
-use Rattle.pz_grid.specs.Staying.{IsStill, KeepsStill, IsMove}
+use Rattle.pz_grid.proofs.Common.{◌≡◌, inl, inr, ℕ, ◌+◌, ◌*◌, ◌<◌, List, [], Option, Some, None, Bool, true, false, ◌&&◌, ◌||◌, nat_eq, ◌∷◌, length, get_or, take, map, arith, ap, sym, ◌∙◌, refl, subst, list_any_more, Item, Piece, still_piece, still_place, is_in, in_row, in_column, Grid, LevelState, place_at, with_place, in_pass, spot, heading_goal, stilled, names, names_object, is_marked, IsMore, IsWidened, IsWidenedBy, IsStill, KeepsStill, IsMove}
 use Rattle.pz_grid.proofs.StayLemmas.{still-moved_to}
 use Rattle.pz_grid.proofs.MarkLemmas.{more_only, in_row_from, in_column_from, is_in_at, is_in_cells, piece_is_in, still_same}
 

@@ -1,10 +1,5 @@
 -- The movement is folded over spots, and keeps the size of a level.
-use Rattle.std.proofs.Common.{◌≡◌, ℕ, ◌+◌, List, [], ◌∷◌, map, arith, ap, ◌∙◌, refl}
-use Rattle.std.specs.Prelude.{fold}
-use Rattle.std.specs.List.{range_with_len}
-use Rattle.std.proofs.lemmas.List.FromFn.{map-range_with_len_more}
-use Rattle.std.proofs.lemmas.List.Sums.{fold-append}
-use Rattle.pz_sheet.specs.Grid.{Grid, SameSize}
+use Rattle.pz_grid.proofs.Common.{◌≡◌, ℕ, ◌+◌, List, [], ◌∷◌, map, arith, ap, ◌∙◌, refl, fold, range_with_len, map-range_with_len_more, fold-append, Grid, SameSize}
 use Rattle.pz_grid.proofs.GatherLemmas.{gather, gather_more}
 
 -- one more of a fold over numbered items

@@ -1,13 +1,5 @@
 -- The objects that a row names, as one set.
-use Rattle.std.proofs.Common.{◌≡◌, ℕ, List, [], ◌∷◌, Bool, true, false, not, ◌||◌, ap, sym, ◌∙◌, refl, eq-eqb, inl, inr}
-use Rattle.std.specs.Prelude.{◌↔◌, IsTrue}
-use Rattle.std.specs.List.{list_all, list_any}
-use Rattle.std.proofs.lemmas.Bool.{eqb-true, and_parts, or_cases, or_left, or_right, and_from}
-use Rattle.pz_sets.specs.Sets.{member, IsWithin}
-use Rattle.pz_game.specs.declared.pattern.Item.{Item}
-use Rattle.pz_game.specs.Items.{names, names_object}
-use Rattle.pz_game.specs.Pattern.{AreNamed}
-use Rattle.pz_grid.specs.Admitted.{marks_item, marks_cell}
+use Rattle.pz_grid.proofs.Common.{◌≡◌, ℕ, List, [], ◌∷◌, Bool, true, false, not, ◌||◌, ap, sym, ◌∙◌, refl, eq-eqb, inl, inr, ◌↔◌, IsTrue, list_all, list_any, eqb-true, and_parts, or_cases, or_left, or_right, and_from, member, IsWithin, Item, names, names_object, AreNamed, marks_item, marks_cell}
 
 -- every object that is named is in a set, or one isn't
 item_marked : (marks : List ℕ) (item : Item) → (names item.word ≡ true → member marks item.object ≡ true) → marks_item marks item ≡ true

@@ -1,22 +1,9 @@
 -- The places of a row are those pairs that hold.
-use Rattle.std.proofs.Common.{◌≡◌, ℕ, zero, suc, ◌+◌, ◌-◌, ◌<◌, ◌≤◌, List, [], ◌∷◌, filter, Option, Some, None, Bool, true, false, cond, ◌&&◌, ◌||◌, length, get_or, arith, ap, sym, ◌∙◌, refl, subst, inl, inr}
-use Rattle.std.specs.Prelude.{Contains, IfSome, nat_lt, nat_le, nat_eq, is_some, if◌then◌else◌}
-use Rattle.std.specs.List.{flat_map, range_with_len, enumerate_from}
-use Rattle.std.proofs.lemmas.Bool.{cases_eq, ltb-true, leb-true, lt-leb, le-leb, eqb-true, eq-eqb, and_parts, and_from}
+use Rattle.pz_grid.proofs.Common.{◌≡◌, ℕ, zero, suc, ◌+◌, ◌-◌, ◌<◌, ◌≤◌, List, [], ◌∷◌, filter, Option, Some, None, Bool, true, false, cond, ◌&&◌, ◌||◌, length, get_or, arith, ap, sym, ◌∙◌, refl, subst, inl, inr, Contains, IfSome, nat_lt, nat_le, nat_eq, is_some, if◌then◌else◌, flat_map, range_with_len, enumerate_from, cases_eq, ltb-true, leb-true, lt-leb, le-leb, eqb-true, eq-eqb, and_parts, and_from, length-enumerate_from, get_or_default, AllPass-from_list_all, Dir, Item, RuleRow, IsRow, Place, Grid, cell_at, on_map, along, distance, holds_at, cell_holds, row_holds, line_count, line_length, place_in, gap_count, pairs_at, pairs_in, pairs, places, still_holds, numbered_at}
 use Rattle.std.proofs.lemmas.List.Concat.{flat_map_single}
 use Rattle.std.proofs.lemmas.List.Elements.{All-filter, All-contains, All-contains_itself, filter_passes, Contains-append_left, Contains-append_right, Contains-append_cases}
-use Rattle.std.proofs.lemmas.List.FromFn.{length-enumerate_from}
-use Rattle.std.proofs.lemmas.List.{get_or_default}
-use Rattle.std.proofs.lemmas.List.Sums.{AllPass-from_list_all}
-use Rattle.pz_game.specs.declared.direction.Dir.{Dir}
 use Rattle.pz_game.specs.declared.direction.Dir.TheVariants.{Up, Down, Left, Right, Action}
-use Rattle.pz_game.specs.declared.pattern.Item.{Item}
-use Rattle.pz_game.specs.Pattern.{RuleRow, IsRow}
-use Rattle.pz_grid.specs.declared.placing.Place.{Place}
 use Rattle.pz_cells.specs.Pattern.{pattern_holds}
-use Rattle.pz_sheet.specs.Grid.{Grid, cell_at}
-use Rattle.pz_grid.specs.Places.{on_map, along, distance, holds_at, cell_holds, row_holds, line_count, line_length, place_in, gap_count, pairs_at, pairs_in, pairs, places, still_holds}
-use Rattle.pz_sheet.proofs.RunLemmas.{numbered_at}
 
 -- what is in one of the lists is in all of them together
 gathered : {X : Type 0} (h : ℕ → List X) (a n k : ℕ) (x : X) → a ≤ k → k < a + n → Contains (h k) x → Contains (flat_map h (range_with_len a n)) x

@@ -1,11 +1,7 @@
 -- The test of two levels decides whether they are the same.
-use Rattle.std.proofs.Common.{◌≡◌, ℕ, List, [], ◌∷◌, Option, true, ap, sym, ◌∙◌, refl}
-use Rattle.std.specs.Prelude.{nat_eq, IsTrue, ◌↔◌}
-use Rattle.std.proofs.lemmas.Bool.{and_parts, and_from, eqb-true, eq-eqb}
-use Rattle.pz_cells.specs.declared.piece.Piece.{Piece}
+use Rattle.pz_grid.proofs.Common.{◌≡◌, ℕ, List, [], ◌∷◌, Option, true, ap, sym, ◌∙◌, refl, nat_eq, IsTrue, ◌↔◌, and_parts, and_from, eqb-true, eq-eqb, Piece, Grid}
 use Rattle.pz_cells.specs.Sameness.{same_cell}
 use Rattle.pz_cells.proofs.SameLemmas.{same_cell_is, same_cell_self}
-use Rattle.pz_sheet.specs.Grid.{Grid}
 use Rattle.pz_sheet.specs.Sameness.{same_cells, same_layers, same_size, same_grid}
 
 pub same_cells_is : (a b : List (List (Option Piece))) → same_cells a b ≡ true → a ≡ b

@@ -1,15 +1,5 @@
 -- The passes of the movement end.
-use Rattle.std.proofs.Common.{◌≡◌, inl, inr, ℕ, zero, suc, ◌+◌, ◌*◌, ◌<◌, ◌≤◌, List, [], ◌∷◌, Option, Some, None, Bool, true, false, cond, length, get_or, set, map, arith, ap, sym, ◌∙◌, refl}
-use Rattle.std.specs.Prelude.{fold}
-use Rattle.std.specs.List.{sum_by}
-use Rattle.std.proofs.lemmas.Bool.{cases_lt}
-use Rattle.std.proofs.lemmas.List.{get_or_past, set_past}
-use Rattle.std.proofs.lemmas.List.Sums.{sum_by-cons, sum_by-set}
-use Rattle.pz_cells.specs.declared.piece.Piece.{Piece}
-use Rattle.pz_game.specs.declared.direction.Dir.{Dir}
-use Rattle.pz_sheet.specs.Grid.{Grid, cell_at, place_at, with_place}
-use Rattle.pz_grid.specs.Movement.{Pass, Spot, in_pass, move_at, move_place, moved_to, heading_goal, heads, heading_count, moving, pass_of, settle, resolved, spots}
-use Rattle.pz_cells.specs.Cell.{still_place}
+use Rattle.pz_grid.proofs.Common.{◌≡◌, inl, inr, ℕ, zero, suc, ◌+◌, ◌*◌, ◌<◌, ◌≤◌, List, [], ◌∷◌, Option, Some, None, Bool, true, false, cond, length, get_or, set, map, arith, ap, sym, ◌∙◌, refl, fold, sum_by, cases_lt, get_or_past, set_past, sum_by-cons, sum_by-set, Piece, Dir, Grid, cell_at, place_at, with_place, Pass, Spot, in_pass, move_at, move_place, moved_to, heading_goal, heads, heading_count, moving, pass_of, settle, resolved, spots, still_place}
 
 -- a write of what counts for nothing adds nothing
 sum_by-set-le : {X : Type 0} (f : X → ℕ) (xs : List X) (i : ℕ) (y d : X) → f y ≤ f (get_or xs i d) → sum_by f (set xs i y) ≤ sum_by f xs

@@ -1,32 +1,12 @@
 -- No place starts in a line that is not searched, and no more start cells are tested than admitted lines have.
-use Rattle.std.proofs.Common.{◌≡◌, ℕ, ◌+◌, ◌*◌, ◌≤◌, List, [], ◌∷◌, get_or, Bool, true, false, cond, not, ◌||◌, nat_eq, Option, None, Some, arith, ap, sym, ◌∙◌, refl, subst, mul-le-mul_right}
-use Rattle.std.specs.Prelude.{is_some}
-use Rattle.std.specs.List.{list_all, list_any, range_with_len, count_by, sum_by}
-use Rattle.std.proofs.lemmas.Bool.{and_from, and_parts, eqb-true, false_from_ne_true}
-use Rattle.std.proofs.lemmas.List.Sums.{list_all-from_AllPass, count_by-le-length, sum_by-append}
-use Rattle.std.proofs.lemmas.List.FromFn.{length-range_with_len}
+use Rattle.pz_grid.proofs.Common.{◌≡◌, ℕ, ◌+◌, ◌*◌, ◌≤◌, List, [], ◌∷◌, get_or, Bool, true, false, cond, not, ◌||◌, nat_eq, Option, None, Some, arith, ap, sym, ◌∙◌, refl, subst, mul-le-mul_right, is_some, list_all, list_any, range_with_len, count_by, sum_by, and_from, and_parts, eqb-true, false_from_ne_true, list_all-from_AllPass, count_by-le-length, sum_by-append, length-range_with_len, member, Dir, Item, RuleRow, Piece, Place, is_in, run_holds, Grid, LevelState, cell_at, names, row_holds, place_in, gap_count, line_length, line_count, pairs, places, head_of, starts_with, IsMarked, marks_of, marks_item, marks_cell, admits, admits_line, admitted, searches_level, searches_line, line_of, start_of, starts_at, starts_in, start_count, StartsNowhere, sum_more, count_more, HoldsSomewhere}
 use Rattle.std.proofs.lemmas.Map.Views.{any-filter_same}
-use Rattle.pz_sets.specs.Sets.{member}
-use Rattle.pz_game.specs.declared.direction.Dir.{Dir}
 use Rattle.pz_game.specs.declared.direction.Dir.TheVariants.{Up, Down, Left, Right, Action}
 use Rattle.pz_game.specs.declared.pattern.Word.{Word}
 use Rattle.pz_game.specs.declared.pattern.Word.TheVariants.{Present, Still, Toward, Absent}
-use Rattle.pz_game.specs.declared.pattern.Item.{Item}
-use Rattle.pz_game.specs.Pattern.{RuleRow}
-use Rattle.pz_cells.specs.declared.piece.Piece.{Piece}
-use Rattle.pz_grid.specs.declared.placing.Place.{Place}
 use Rattle.pz_cells.specs.Standing.{standing}
-use Rattle.pz_sheet.specs.Presence.{is_in}
-use Rattle.pz_sheet.specs.Runs.{run_holds}
-use Rattle.pz_sheet.specs.Grid.{Grid, LevelState, cell_at}
-use Rattle.pz_game.specs.Items.{names}
 use Rattle.pz_cells.specs.Pattern.{word_holds, item_holds, pattern_holds}
-use Rattle.pz_grid.specs.Places.{row_holds, place_in, gap_count, line_length, line_count, pairs, places, head_of, starts_with}
-use Rattle.pz_grid.specs.Marks.{IsMarked}
-use Rattle.pz_grid.specs.Admitted.{marks_of, marks_item, marks_cell, admits, admits_line, admitted, searches_level, searches_line, line_of, start_of, starts_at, starts_in, start_count, StartsNowhere}
 use Rattle.pz_grid.proofs.MarkLemmas.{in_row_from, in_column_from}
-use Rattle.pz_sheet.proofs.CountLemmas.{sum_more, count_more}
-use Rattle.pz_sheet.specs.Searching.{HoldsSomewhere}
 use Rattle.pz_grid.proofs.SomewhereLemmas.{HoldsThere, line_nowhere, nowhere_none}
 use Rattle.pz_grid.proofs.GatherLemmas.{gather}
 use Rattle.pz_grid.proofs.HeadLemmas.{head_from_row}

@@ -1,17 +1,6 @@
 -- The cells of a row that has a place hold in the line where it starts, and so somewhere on the map.
-use Rattle.std.proofs.Common.{◌≡◌, ℕ, ◌+◌, ◌-◌, ◌<◌, List, [], ◌∷◌, filter, Bool, true, false, cond, get_or, ap, sym, ◌∙◌, refl, subst}
-use Rattle.std.specs.Prelude.{All}
-use Rattle.std.proofs.lemmas.Bool.{false_from_ne_true}
-use Rattle.std.proofs.lemmas.List.{get_or_default}
-use Rattle.pz_game.specs.declared.direction.Dir.{Dir}
+use Rattle.pz_grid.proofs.Common.{◌≡◌, ℕ, ◌+◌, ◌-◌, ◌<◌, List, [], ◌∷◌, filter, Bool, true, false, cond, get_or, ap, sym, ◌∙◌, refl, subst, All, false_from_ne_true, get_or_default, Dir, Item, RuleRow, Grid, HoldsSomewhere, HoldsInLine, Place, on_map, along, distance, holds_at, row_holds, line_count, pairs, places, line_at, line_of, StartsNowhere}
 use Rattle.pz_game.specs.declared.direction.Dir.TheVariants.{Up, Down, Left, Right, Action}
-use Rattle.pz_game.specs.declared.pattern.Item.{Item}
-use Rattle.pz_game.specs.Pattern.{RuleRow}
-use Rattle.pz_sheet.specs.Grid.{Grid}
-use Rattle.pz_sheet.specs.Searching.{HoldsSomewhere, HoldsInLine}
-use Rattle.pz_grid.specs.declared.placing.Place.{Place}
-use Rattle.pz_grid.specs.Places.{on_map, along, distance, holds_at, row_holds, line_count, pairs, places}
-use Rattle.pz_grid.specs.Admitted.{line_at, line_of, StartsNowhere}
 use Rattle.pz_grid.proofs.PlaceLemmas.{on_map_holds, back_from, holds_each_cell}
 
 -- a rule's cell holds somewhere in a line of the map

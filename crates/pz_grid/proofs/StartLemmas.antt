@@ -1,15 +1,6 @@
 -- Starts that are left out since the row's cells before its gap don't hold there.
-use Rattle.std.proofs.Common.{◌≡◌, ℕ, zero, suc, ◌+◌, ◌-◌, ◌<◌, ◌≤◌, List, [], ◌∷◌, ◌++◌, map, filter, Bool, true, false, cond, arith, ap, sym, ◌∙◌, refl}
-use Rattle.std.specs.List.{range_with_len}
-use Rattle.std.proofs.lemmas.List.{append-nil}
-use Rattle.std.proofs.lemmas.Bool.{false_from_ne_true}
-use Rattle.pz_game.specs.declared.direction.Dir.{Dir}
+use Rattle.pz_grid.proofs.Common.{◌≡◌, ℕ, zero, suc, ◌+◌, ◌-◌, ◌<◌, ◌≤◌, List, [], ◌∷◌, ◌++◌, map, filter, Bool, true, false, cond, arith, ap, sym, ◌∙◌, refl, range_with_len, append-nil, false_from_ne_true, Dir, Item, RuleRow, Grid, run_holds, row_holds, place_in, gap_count, head_of, starts_with}
 use Rattle.pz_game.specs.declared.direction.Dir.TheVariants.{Up, Down, Left, Right, Action}
-use Rattle.pz_game.specs.declared.pattern.Item.{Item}
-use Rattle.pz_game.specs.Pattern.{RuleRow}
-use Rattle.pz_sheet.specs.Grid.{Grid}
-use Rattle.pz_sheet.specs.Runs.{run_holds}
-use Rattle.pz_grid.specs.Places.{row_holds, place_in, gap_count, head_of, starts_with}
 use Rattle.pz_grid.proofs.FoundLemmas.{found_at}
 use Rattle.pz_grid.proofs.GatherLemmas.{gather, gather_more}
 use Rattle.pz_grid.proofs.HeadLemmas.{head_from_row}

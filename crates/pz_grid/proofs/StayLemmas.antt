@@ -1,13 +1,5 @@
 -- A piece that is still stays where it stands to the end of the movement: nothing moves it, and nothing enters its place.
-use Rattle.std.proofs.Common.{◌≡◌, ◌≢◌, inl, inr, ℕ, ◌+◌, ◌*◌, List, [], Option, Some, None, length, get_or, set, ap, sym, ◌∙◌, refl, subst}
-use Rattle.std.proofs.lemmas.Bool.{cases_lt, cases_eq}
-use Rattle.std.proofs.lemmas.List.{get_or-set_same, get_or-set_other, set_past}
-use Rattle.pz_cells.specs.declared.piece.Piece.{Piece}
-use Rattle.pz_game.specs.declared.direction.Dir.{Dir}
-use Rattle.pz_cells.specs.Cell.{still_piece}
-use Rattle.pz_sheet.specs.Grid.{Grid, place_at}
-use Rattle.pz_grid.specs.Staying.{IsStill, KeepsStill}
-use Rattle.pz_grid.specs.Movement.{Pass, Spot, neighbour, unless_taken, free, heading_goal, moved_to}
+use Rattle.pz_grid.proofs.Common.{◌≡◌, ◌≢◌, inl, inr, ℕ, ◌+◌, ◌*◌, List, [], Option, Some, None, length, get_or, set, ap, sym, ◌∙◌, refl, subst, cases_lt, cases_eq, get_or-set_same, get_or-set_other, set_past, Piece, Dir, still_piece, Grid, place_at, IsStill, KeepsStill, Pass, Spot, neighbour, unless_taken, free, heading_goal, moved_to}
 
 -- a write to another place leaves it
 still_write : (cells : List (List (Option Piece))) (i at : ℕ) (place : Option Piece) (index layer object : ℕ) → (index ≡ i → layer ≡ at → ⊥) → IsStill cells index layer object → IsStill (set cells i (set (get_or cells i []) at place)) index layer object

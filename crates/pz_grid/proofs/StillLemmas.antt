@@ -1,13 +1,5 @@
 -- A cell in which nothing heads anywhere is left as it is by a pass, and so are rows of such cells, and columns of such rows.
-use Rattle.std.proofs.Common.{◌≡◌, ℕ, zero, suc, ◌+◌, ◌-◌, ◌≤◌, ◌<◌, List, [], ◌∷◌, Bool, Option, Some, None, map, get_or, arith, refl, ap, sym, ◌∙◌}
-use Rattle.std.specs.List.{range_with_len}
-use Rattle.std.specs.Prelude.{fold}
-use Rattle.pz_game.specs.declared.direction.Dir.{Dir}
-use Rattle.pz_cells.specs.declared.piece.Piece.{Piece}
-use Rattle.pz_cells.specs.Cell.{still_piece, still_place}
-use Rattle.pz_sheet.specs.Grid.{Grid, cell_at, place_at}
-use Rattle.pz_sheet.specs.Movement.{AreStill, AreColumnsStill}
-use Rattle.pz_grid.specs.Movement.{Pass, Spot, spot, in_pass, heading_goal, moved_to, move_place, move_at, spots_at, spots_in}
+use Rattle.pz_grid.proofs.Common.{◌≡◌, ℕ, zero, suc, ◌+◌, ◌-◌, ◌≤◌, ◌<◌, List, [], ◌∷◌, Bool, Option, Some, None, map, get_or, arith, refl, ap, sym, ◌∙◌, range_with_len, fold, Dir, Piece, still_piece, still_place, Grid, cell_at, place_at, AreStill, AreColumnsStill, Pass, Spot, spot, in_pass, heading_goal, moved_to, move_place, move_at, spots_at, spots_in}
 use Rattle.pz_grid.proofs.GatherLemmas.{gather}
 use Rattle.pz_grid.proofs.MovementLemmas.{fold_gather_more}
 

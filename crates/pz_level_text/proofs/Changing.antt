@@ -1,26 +1,15 @@
 -- The texts of a level's cells, where one cell has changed since it was seen.
-use Rattle.std.proofs.Common.{◌≡◌, ◌≢◌, ℕ, ◌+◌, ◌*◌, ◌/◌, ◌%◌, ◌<◌, ◌≤◌, List, [], Option, None, Bool, true, false, not, ◌&&◌, cond, length, set, get_or, refl, ap, ap₂, sym, ◌∙◌, arith, inl, inr, is_some, get_or-set_same, get_or-set_other}
-use Rattle.std.specs.Prelude.{nat_lt}
+use Rattle.pz_level_text.proofs.Common.{◌≡◌, ◌≢◌, ℕ, ◌+◌, ◌*◌, ◌/◌, ◌%◌, ◌<◌, ◌≤◌, List, [], Option, None, Bool, true, false, not, ◌&&◌, cond, length, set, get_or, refl, ap, ap₂, sym, ◌∙◌, arith, inl, inr, is_some, get_or-set_same, get_or-set_other, nat_lt, length-set, ext_get_or, GameParts, Grid, IsLawful, SameSize, cell_at, stands, Order, set_of, standing_names, joined, texts_in, column_of, row_of, number_of}
 use Rattle.std.proofs.lemmas.Bool.{cases_eq, cases_lt}
-use Rattle.std.proofs.lemmas.List.{length-set, ext_get_or}
 use Rattle.std.proofs.Math.Nat.{div-lt_iff_lt-mul}
 use Rattle.std.proofs.lemmas.Nat.{div-add-mod', div-mul-add, mod-mul-add}
 use Rattle.pz_cells.specs.declared.piece.Piece.{Piece}
 use Rattle.pz_cells.specs.Sameness.{same_cell}
 use Rattle.pz_cells.specs.Standing.{standing}
 use Rattle.pz_cells.proofs.SameLemmas.{same_cell_is}
-use Rattle.pz_game.specs.declared.game.GameParts.{GameParts}
 use Rattle.pz_sheet.specs.Changes.{with_cell, cell_there, differ_in}
-use Rattle.pz_sheet.specs.Grid.{Grid, IsLawful, SameSize, cell_at}
 use Rattle.pz_sheet.specs.Presence.{cell_of}
-use Rattle.pz_sheet.specs.Standing.{stands}
-use Rattle.pz_record.specs.declared.order.Order.{Order}
 use Rattle.pz_record.specs.declared.order.Order.TheVariants.{Rows, Columns}
-use Rattle.pz_record.specs.CellNames.{set_of}
-use Rattle.pz_level_text.specs.LevelNames.{standing_names}
-use Rattle.pz_record.specs.CellTexts.{joined}
-use Rattle.pz_level_text.specs.Labels.{texts_in}
-use Rattle.pz_level_text.specs.CellOrder.{column_of, row_of, number_of}
 use Rattle.pz_level_text.proofs.Labelling.{chosen_same}
 use Rattle.pz_level_text.proofs.Ordered.{text_at_number, length-texts_in}
 use Rattle.pz_level_text.proofs.Walking.{on_map}

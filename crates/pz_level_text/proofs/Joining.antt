@@ -1,8 +1,5 @@
 -- The text of a set of names, as it is written.
-use Rattle.std.proofs.Common.{Bor, ◌≡◌, ℕ, List, [], ◌∷◌, ◌++◌, map, refl, ap}
-use Rattle.std.specs.List.{join_by}
-use Rattle.std.proofs.lemmas.List.{append-nil}
-use Rattle.pz_record.specs.CellTexts.{joined}
+use Rattle.pz_level_text.proofs.Common.{Bor, ◌≡◌, ℕ, List, [], ◌∷◌, ◌++◌, map, refl, ap, join_by, append-nil, joined}
 
 -- the names with a space between two
 pub joins : (names : List (Bor (List ℕ))) → join_by (λ n. n.now) (32 ∷ []) names ≡ joined (map (λ n. n.now) names)

@@ -1,18 +1,7 @@
 -- The labels of sets of objects.
-use Rattle.std.proofs.Common.{◌≡◌, ℕ, suc, ◌+◌, ◌/◌, ◌%◌, ◌<◌, ◌≤◌, Bool, List, [], ◌∷◌, length, take, get_or, Option, Some, None, Result, Ok, Err, refl, ap, sym, ◌∙◌, arith}
-use Rattle.std.specs.Prelude.{All, IfOk, IfSome, slice_index}
+use Rattle.pz_level_text.proofs.Common.{◌≡◌, ℕ, suc, ◌+◌, ◌/◌, ◌%◌, ◌<◌, ◌≤◌, Bool, List, [], ◌∷◌, length, take, get_or, Option, Some, None, Result, Ok, Err, refl, ap, sym, ◌∙◌, arith, All, IfOk, IfSome, slice_index, get_or-take, length-take, GameParts, in_word, member, Grid, stands, chosen_from, standing_names, set_of, joined, text_at, TableView, set_text, IsLabelOf, IsLabelOfWord}
 use Rattle.std.specs.declared.alloc.AllocError.{AllocError}
-use Rattle.std.proofs.lemmas.List.{get_or-take, length-take}
-use Rattle.pz_game.specs.declared.game.GameParts.{GameParts}
-use Rattle.pz_sets.specs.Sets.{in_word, member}
-use Rattle.pz_sheet.specs.Grid.{Grid}
-use Rattle.pz_sheet.specs.Standing.{stands}
-use Rattle.pz_level_text.specs.LevelNames.{chosen_from, standing_names}
 use Rattle.pz_level_text.specs.declared.labelled_set.LabelledSet.{LabelledSet}
-use Rattle.pz_record.specs.CellNames.{set_of}
-use Rattle.pz_record.specs.CellTexts.{joined}
-use Rattle.pz_record.specs.Labels.{text_at}
-use Rattle.pz_level_text.specs.Labels.{TableView, set_text, IsLabelOf, IsLabelOfWord}
 
 -- tests that agree choose the same names
 pub chosen_same : (f g : ℕ → Bool) → ((n : ℕ) → f n ≡ g n) → (k : ℕ) (names : List (List ℕ)) → chosen_from f k names ≡ chosen_from g k names

@@ -1,25 +1,13 @@
 -- The text of a level reads as the names of its cells.
-use Rattle.std.proofs.Common.{◌≡◌, ◌≢◌, ℕ, suc, ◌<◌, ◌^◌, ◌&&◌, not, List, [], ◌∷◌, length, map, All, Bool, true, false, Some, cond, refl, ap, ap₂, ◌∙◌}
-use Rattle.std.specs.List.{list_all}
+use Rattle.pz_level_text.proofs.Common.{◌≡◌, ◌≢◌, ℕ, suc, ◌<◌, ◌^◌, ◌&&◌, not, List, [], ◌∷◌, length, map, All, Bool, true, false, Some, cond, refl, ap, ap₂, ◌∙◌, list_all, GameParts, Grid, stands, Order, set_of, cells_in, chosen_from, standing_names, sets_in, joined, text_of_cells, HasNoComma, texts_in, all_of}
 use Rattle.std.proofs.lemmas.List.Elements.{All-head, All-tail}
 use Rattle.std.proofs.lemmas.Bool.{ne_eqb, and_parts}
 use Rattle.pz_game.specs.Game.{IsGame}
-use Rattle.pz_game.specs.declared.game.GameParts.{GameParts}
 use Rattle.pz_game.specs.Word.{IsWord}
-use Rattle.pz_sheet.specs.Grid.{Grid}
-use Rattle.pz_sheet.specs.Standing.{stands}
-use Rattle.pz_record.specs.declared.order.Order.{Order}
-use Rattle.pz_record.specs.CellNames.{set_of}
 use Rattle.pz_entries.specs.Names.{name_set, is_space}
-use Rattle.pz_level_text.specs.CellOrder.{cells_in}
-use Rattle.pz_level_text.specs.LevelNames.{chosen_from, standing_names, sets_in}
-use Rattle.pz_record.specs.CellTexts.{joined, text_of_cells}
-use Rattle.pz_level_text.specs.LevelText.{HasNoComma}
 use Rattle.pz_entries.specs.Reading.{reading, plain}
 use Rattle.pz_entries.proofs.Joining.{AreGameNames, set_reads}
-use Rattle.pz_level_text.specs.Labels.{texts_in}
 use Rattle.pz_entries.proofs.RoundTrip.{round_trip, all_append}
-use Rattle.pz_record.proofs.Sets.{all_of}
 
 abbrev Solid : ℕ → Type 0
 Solid c = c ≢ 32 × c ≢ 10 × c ≢ 13

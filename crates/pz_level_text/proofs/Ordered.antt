@@ -1,19 +1,6 @@
 -- The sets of a level's cells, one after the other.
-use Rattle.std.proofs.Common.{◌≡◌, ℕ, Bool, suc, ◌+◌, ◌*◌, ◌<◌, ◌≤◌, ◌&&◌, List, [], ◌∷◌, length, drop, get_or, true, false, refl, ap, sym, ◌∙◌, arith}
-use Rattle.std.proofs.lemmas.List.{length-map, get_or-map, drop_more, drop_all}
+use Rattle.pz_level_text.proofs.Common.{◌≡◌, ℕ, Bool, suc, ◌+◌, ◌*◌, ◌<◌, ◌≤◌, ◌&&◌, List, [], ◌∷◌, length, drop, get_or, true, false, refl, ap, sym, ◌∙◌, arith, length-map, get_or-map, drop_more, drop_all, GameParts, member, Grid, stands, Order, set_of, same_set, texts_in, position_of, column_of, row_of, cells_in, standing_names, sets_in, joined, same_sets, equals_recorded, has_names}
 use Rattle.std.proofs.lemmas.List.FromFn.{length-map-range_with_len, get_or-map-range_with_len}
-use Rattle.pz_game.specs.declared.game.GameParts.{GameParts}
-use Rattle.pz_sets.specs.Sets.{member}
-use Rattle.pz_sheet.specs.Grid.{Grid}
-use Rattle.pz_sheet.specs.Standing.{stands}
-use Rattle.pz_record.specs.declared.order.Order.{Order}
-use Rattle.pz_record.specs.CellNames.{set_of, same_set}
-use Rattle.pz_level_text.specs.Labels.{texts_in}
-use Rattle.pz_level_text.specs.CellOrder.{position_of, column_of, row_of, cells_in}
-use Rattle.pz_level_text.specs.LevelNames.{standing_names, sets_in}
-use Rattle.pz_record.specs.CellTexts.{joined}
-use Rattle.pz_level_text.specs.Equality.{same_sets, equals_recorded}
-use Rattle.pz_level_text.specs.Naming.{has_names}
 use Rattle.pz_level_text.proofs.Labelling.{named_at}
 
 pub length-sets_in : (game : GameParts) (order : Order) (grid : Grid) → length (sets_in game order grid) ≡ grid.width * grid.height

@@ -1,19 +1,8 @@
 -- Worked cases of level texts, and of levels that are as they were recorded.
-use Rattle.std.proofs.Common.{◌≡◌, ℕ, List, [], ◌∷◌, Option, Some, None, true, false, refl}
-use Rattle.std.specs.Prelude.{codes, map}
+use Rattle.pz_level_text.proofs.Common.{◌≡◌, ℕ, List, [], ◌∷◌, Option, Some, None, true, false, refl, codes, map, GameParts, Grid, with_name, same_set, equals_recorded, set_text, standing_names, with_cell, piece, text_of_level, cells_in, has_names}
 use Rattle.std.specs.Fmt.{digits}
-use Rattle.pz_game.specs.declared.game.GameParts.{GameParts}
 use Rattle.pz_cells.specs.declared.piece.Piece.{Piece}
-use Rattle.pz_sheet.specs.Grid.{Grid}
 use Rattle.pz_record.specs.declared.order.Order.TheVariants.{Rows, Columns}
-use Rattle.pz_record.specs.CellNames.{with_name, same_set}
-use Rattle.pz_level_text.specs.Equality.{equals_recorded}
-use Rattle.pz_level_text.specs.Labels.{set_text}
-use Rattle.pz_level_text.specs.LevelNames.{standing_names}
-use Rattle.pz_record.specs.CellTexts.{with_cell, piece}
-use Rattle.pz_level_text.specs.LevelText.{text_of_level}
-use Rattle.pz_level_text.specs.CellOrder.{cells_in}
-use Rattle.pz_level_text.specs.Naming.{has_names}
 
 -- the texts of sets of objects
 

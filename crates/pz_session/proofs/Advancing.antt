@@ -1,14 +1,7 @@
 -- A link leaves what is left as it is.
-use Rattle.std.proofs.Common.{◌≡◌, ◌<◌, ℕ, zero, suc, ◌+◌, ◌-◌, true, ◌&&◌, [], ◌∷◌, Option, Some, None, is_none, drop, length, get_or, refl, ap, sym, ◌∙◌, arith}
-use Rattle.std.proofs.lemmas.Bool.{and_parts, false≢true}
-use Rattle.std.proofs.lemmas.List.{drop_more}
-use Rattle.pz_record.specs.declared.input.Input.{Input}
+use Rattle.pz_session.proofs.Common.{◌≡◌, ◌<◌, ℕ, zero, suc, ◌+◌, ◌-◌, true, ◌&&◌, [], ◌∷◌, Option, Some, None, is_none, drop, length, get_or, refl, ap, sym, ◌∙◌, arith, and_parts, false≢true, drop_more, Input, Player, begun, tick_link, items_from, numbered, played, ticks_after, left_in, to_come, left_with, left, is_waiting, is_waiting_in}
 use Rattle.pz_case.specs.declared.item.Stop.TheVariants.{AgainLimit}
 use Rattle.pz_session.specs.declared.player.Phase.TheVariants as phase
-use Rattle.pz_session.specs.declared.player.Player.{Player}
-use Rattle.pz_session.specs.Board.{begun, tick_link}
-use Rattle.pz_session.specs.Session.{items_from, numbered, played, ticks_after}
-use Rattle.pz_session.specs.Player.{left_in, to_come, left_with, left, is_waiting, is_waiting_in}
 use Rattle.pz_session.proofs.Leaving.{left-at, left-of_stopped}
 
 none-from : {X : Type 0} (o : Option X) → is_none o ≡ true → o ≡ None

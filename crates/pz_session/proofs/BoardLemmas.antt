@@ -1,29 +1,16 @@
 -- All levels of a session are its game's, and a step that is cancelled leaves the level.
-use Rattle.std.proofs.Common.{◌≡◌, ℕ, List, ◌∷◌, Option, Some, None, Bool, true, false, not, cond, Result, Ok, Err, All, drop, refl, ap, sym, ◌∙◌, subst}
-use Rattle.std.specs.Prelude.{IfOk}
+use Rattle.pz_session.proofs.Common.{◌≡◌, ℕ, List, ◌∷◌, Option, Some, None, Bool, true, false, not, cond, Result, Ok, Err, All, drop, refl, ap, sym, ◌∙◌, subst, IfOk, GameParts, Commands, Program, has, cancel, restart, Grid, IsOfGame, Outcome, given_input, must_cancel, with_cancel, ended, step_ended, step_of, rules_run, FrameKind, Stop, Link, GivesLink, is_idle, State, at_level, showing_end, restarted, reached_link, effect, keeping, idle, pressed_to, press_link, ticked_to, tick_link}
 use Rattle.std.proofs.lemmas.List.Elements.{All-head, All-tail}
-use Rattle.pz_game.specs.declared.game.GameParts.{GameParts}
-use Rattle.pz_program.specs.declared.commands.Commands.{Commands}
 use Rattle.pz_game.specs.declared.direction.Dir.{Dir}
-use Rattle.pz_program.specs.declared.instance.Program.{Program}
-use Rattle.pz_program.specs.Commands.{has, cancel, restart}
 use Rattle.pz_game.specs.Game.{players_of}
-use Rattle.pz_sheet.specs.Grid.{Grid, IsOfGame}
 use Rattle.pz_sheet.specs.Sameness.{same_grid}
 use Rattle.pz_bare.specs.Loading.{loaded}
 use Rattle.pz_grid.proofs.SameLemmas.{same_grid_is, same_grid_self}
 use Rattle.pz_turn.specs.declared.outcome.StepFault.{StepFault}
 use Rattle.pz_turn.specs.declared.stepping.StepEnd.{StepEnd}
-use Rattle.pz_turn.specs.Outcome.{Outcome}
-use Rattle.pz_turn.specs.Step.{given_input, must_cancel, with_cancel, ended, step_ended, step_of, rules_run}
-use Rattle.pz_case.specs.declared.item.FrameKind.{FrameKind}
 use Rattle.pz_case.specs.declared.item.FrameKind.TheVariants.{Move, Tick}
-use Rattle.pz_case.specs.declared.item.Stop.{Stop}
 use Rattle.pz_session.specs.declared.chain.Shown.{Shown}
 use Rattle.pz_session.specs.declared.chain.PlayFault.{PlayFault}
-use Rattle.pz_session.specs.Chain.{Link, GivesLink}
-use Rattle.pz_session.specs.Turn.{is_idle}
-use Rattle.pz_session.specs.Board.{State, at_level, showing_end, restarted, reached_link, effect, keeping, idle, pressed_to, press_link, ticked_to, tick_link}
 
 -- a level that is loaded
 pub loaded_of_game : (game : GameParts) (index : ℕ) (grid : Grid) → grid ≡ loaded game index → IsOfGame game grid

@@ -1,28 +1,11 @@
 -- How many items a session has at most.
-use Rattle.std.proofs.Common.{◌≡◌, ℕ, zero, suc, ◌+◌, ◌*◌, ◌<◌, ◌≤◌, ◌^◌, Bool, true, false, ◌||◌, List, [], ◌∷◌, length, map, Option, Some, None, option_to_list, Result, Ok, Err, IfOk, if◌then◌else◌, refl, ap, ◌∙◌, arith}
-use Rattle.std.proofs.lemmas.List.{length-map, length-append}
-use Rattle.pz_program.specs.declared.commands.Commands.{Commands}
+use Rattle.pz_session.proofs.Common.{◌≡◌, ℕ, zero, suc, ◌+◌, ◌*◌, ◌<◌, ◌≤◌, ◌^◌, Bool, true, false, ◌||◌, List, [], ◌∷◌, length, map, Option, Some, None, option_to_list, Result, Ok, Err, IfOk, if◌then◌else◌, refl, ap, ◌∙◌, arith, length-map, length-append, Commands, Grid, Outcome, step_of, has_won, Input, Stop, Frame, FrameKind, level_from, PlanState, Link, Chain, follow, ticks, preceded, Links, Played, played, going_on, showing, after_chain, ticks_after, numbered, items_from, is_idle, State, at_level, keeping, frame_of, restarted, won_link, kept_link, reached_link, effect, pressed_to, ticked_to, tick_link, press_link, undo_link, input_link, begun, start_link, board_links, state_of, played_items}
 use Rattle.pz_program.specs.Commands as command
-use Rattle.pz_sheet.specs.Grid.{Grid}
 use Rattle.pz_turn.specs.declared.outcome.StepFault.{StepFault}
-use Rattle.pz_turn.specs.Outcome.{Outcome}
-use Rattle.pz_turn.specs.Step.{step_of}
-use Rattle.pz_turn.specs.Win.{has_won}
-use Rattle.pz_record.specs.declared.input.Input.{Input}
 use Rattle.pz_record.specs.declared.input.Input.TheVariants as input
-use Rattle.pz_case.specs.declared.item.Stop.{Stop}
-use Rattle.pz_case.specs.declared.item.Frame.{Frame}
-use Rattle.pz_case.specs.declared.item.FrameKind.{FrameKind}
 use Rattle.pz_case.specs.declared.item.FrameKind.TheVariants.{Move, Tick}
 use Rattle.pz_case.specs.declared.item.Item.TheVariants as item
-use Rattle.pz_case.specs.FirstLevel.{level_from}
-use Rattle.pz_case.specs.Plan.{PlanState}
 use Rattle.pz_session.specs.declared.chain.TheConstants.{MOST_TICKS}
-use Rattle.pz_session.specs.Chain.{Link, Chain, follow, ticks, preceded}
-use Rattle.pz_session.specs.Session.{Links, Played, played, going_on, showing, after_chain, ticks_after, numbered, items_from}
-use Rattle.pz_session.specs.Turn.{is_idle}
-use Rattle.pz_session.specs.Board.{State, at_level, keeping, frame_of, restarted, won_link, kept_link, reached_link, effect, pressed_to, ticked_to, tick_link, press_link, undo_link, input_link, begun, start_link, board_links}
-use Rattle.pz_session.specs.Case.{state_of, played_items}
 
 -- a link shows two frames at most
 abbrev pub IsShort : {S : Type 0} → Result (Link S) Stop → Type 0

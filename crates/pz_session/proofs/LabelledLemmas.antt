@@ -1,11 +1,9 @@
 -- The labels that a writer keeps stay those of a level, wherever the level goes.
-use Rattle.std.proofs.Common.{◌≡◌, Option, Some, sym, subst}
-use Rattle.pz_sheet.specs.Grid.{Grid}
+use Rattle.pz_session.proofs.Common.{◌≡◌, Option, Some, sym, subst, Grid, HasLabels}
 use Rattle.pz_level_text.specs.Labels.{WriterView}
 use Rattle.pz_session.specs.declared.labelled.Labelled.{Labelled}
 use Rattle.pz_session.specs.declared.labelled.Labelled.TheVariants.{Level, Before, Spare, Nothing}
 use Rattle.pz_session.specs.Labelled.{labelled_of, moved_to}
-use Rattle.pz_session.specs.Inside.{HasLabels}
 
 abbrev Keeps : WriterView → Labelled → Grid → Option Grid → Option Grid → Type 0
 Keeps texts labelled level before spare = HasLabels texts (labelled_of labelled level before spare)

@@ -1,23 +1,12 @@
 -- What an item takes from what is left.
-use Rattle.std.proofs.Common.{◌≡◌, ℕ, ◌+◌, Bool, true, false, ◌&&◌, List, [], ◌∷◌, ◌++◌, Option, Some, None, option_to_list, is_none, drop, length, map, subst, Ok, Err, Result, if◌then◌else◌, refl, ap, ap₂, sym, ◌∙◌}
-use Rattle.std.proofs.lemmas.Bool.{ltb-false}
-use Rattle.std.proofs.lemmas.List.{drop_all, map-append, append_assoc}
-use Rattle.pz_record.specs.declared.input.Input.{Input}
-use Rattle.pz_case.specs.declared.item.Stop.{Stop}
+use Rattle.pz_session.proofs.Common.{◌≡◌, ℕ, ◌+◌, Bool, true, false, ◌&&◌, List, [], ◌∷◌, ◌++◌, Option, Some, None, option_to_list, is_none, drop, length, map, subst, Ok, Err, Result, if◌then◌else◌, refl, ap, ap₂, sym, ◌∙◌, ltb-false, drop_all, map-append, append_assoc, Input, Stop, Frame, Item, Played, items_from, numbered, played, showing, going_on, after_chain, State, board_links, settled, tick_link, verdict_of, Link, follow, ticks, preceded, GivesLink, shown_frames, Player, pending, left_in, to_come, to_follow, left_with, left, is_waiting, is_waiting_in}
 use Rattle.pz_case.specs.declared.item.Verdict.TheVariants.{Stopped}
-use Rattle.pz_case.specs.declared.item.Frame.{Frame}
-use Rattle.pz_case.specs.declared.item.Item.{Item}
 use Rattle.pz_case.specs.declared.item.Item.TheVariants as item
 use Rattle.pz_session.specs.declared.player.Phase.{Phase}
 use Rattle.pz_session.specs.declared.player.Phase.TheVariants as phase
-use Rattle.pz_session.specs.Session.{Played, items_from, numbered, played, showing, going_on, after_chain}
 use Rattle.pz_session.specs.declared.chain.Shown.{Shown}
 use Rattle.pz_session.specs.declared.chain.PlayFault.{PlayFault}
 use Rattle.pz_session.specs.declared.chain.PlayFault.TheVariants as fault
-use Rattle.pz_session.specs.Board.{State, board_links, settled, tick_link, verdict_of}
-use Rattle.pz_session.specs.Chain.{Link, follow, ticks, preceded, GivesLink, shown_frames}
-use Rattle.pz_session.specs.declared.player.Player.{Player}
-use Rattle.pz_session.specs.Player.{pending, left_in, to_come, to_follow, left_with, left, is_waiting, is_waiting_in}
 
 pub left-first : (at : Phase) (n : ℕ) (frame : Frame) (first : Option Frame) (second : List Frame) (taken : ℕ) (inputs : List Input) (state : State) → first ≡ Some frame → left_in at n (option_to_list first ++ second) taken inputs state ≡ item.Frame n taken frame ∷ left_in at (n + 1) second taken inputs state
 unfolding left_in items_from numbered

@@ -1,3 +1,4 @@
+mod Common
 pub mod Leaving
 pub mod Advancing
 pub mod Bounds

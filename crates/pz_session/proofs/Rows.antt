@@ -1,6 +1,5 @@
 -- Worked sessions, computed.
-use Rattle.std.proofs.Common.{◌≡◌, ℕ, List, [], ◌∷◌, Option, Some, None, Err, false, if◌then◌else◌, refl}
-use Rattle.std.specs.Prelude.{codes}
+use Rattle.pz_session.proofs.Common.{◌≡◌, ℕ, List, [], ◌∷◌, Option, Some, None, Err, false, if◌then◌else◌, refl, codes, GameParts, Program, Grid, step_of, rules_run, blocks_run, block_runs, has_won, Input, FrameKind, Item, level_from, PlanState, played, numbered, items_from, frame_of, start_link, press_link, tick_link, undo_link, restarted, won_link, kept_link, reached_link, effect, begun, settled, played_items, items_of_plan}
 use Rattle.pz_game.specs.declared.denotation.Denotation.{Denotation}
 use Rattle.pz_game.specs.declared.denotation.Kind.TheVariants.{Object}
 use Rattle.pz_game.specs.declared.direction.Dir.TheVariants.{Left, Right}
@@ -8,34 +7,21 @@ use Rattle.pz_game.specs.declared.level.LevelEntry.{LevelEntry}
 use Rattle.pz_game.specs.declared.level.LevelEntry.TheVariants.{Message, Level}
 use Rattle.pz_game.specs.declared.win_line.Quantifier.TheVariants.{No}
 use Rattle.pz_game.specs.declared.win_line.WinLine.{WinLine}
-use Rattle.pz_game.specs.declared.game.GameParts.{GameParts}
 use Rattle.pz_program.specs.declared.instance.Block.TheVariants.{One}
-use Rattle.pz_program.specs.declared.instance.Program.{Program}
 use Rattle.pz_game.specs.declared.pattern.Word.TheVariants.{Toward}
 use Rattle.pz_game.specs.Pattern.{RuleRow}
 use Rattle.pz_cells.specs.declared.piece.Piece.{Piece}
-use Rattle.pz_sheet.specs.Grid.{Grid}
 use Rattle.pz_grid.specs.Places.{searched}
 use Rattle.pz_turn.specs.Instance.{applied}
 use Rattle.pz_turn.specs.Rest.{rest_of}
-use Rattle.pz_turn.specs.Step.{step_of, rules_run, blocks_run, block_runs}
-use Rattle.pz_turn.specs.Win.{has_won}
-use Rattle.pz_record.specs.declared.input.Input.{Input}
 use Rattle.pz_record.specs.declared.input.Input.TheVariants.{Press, Undo, Restart, Tick}
 use Rattle.pz_record.specs.declared.order.Order.TheVariants.{Rows}
 use Rattle.pz_level_text.specs.Equality.{equals_recorded}
 use Rattle.pz_level_text.specs.LevelText.{text_of_level}
-use Rattle.pz_case.specs.declared.item.FrameKind.{FrameKind}
 use Rattle.pz_case.specs.declared.item.FrameKind.TheVariants as kind
-use Rattle.pz_case.specs.declared.item.Item.{Item}
 use Rattle.pz_case.specs.declared.item.Item.TheVariants.{Frame, Close}
 use Rattle.pz_case.specs.declared.item.Refusal.TheVariants.{NoLevel}
 use Rattle.pz_case.specs.declared.item.Verdict.TheVariants.{Passed, Differs, Refused}
-use Rattle.pz_case.specs.FirstLevel.{level_from}
-use Rattle.pz_case.specs.Plan.{PlanState}
-use Rattle.pz_session.specs.Session.{played, numbered, items_from}
-use Rattle.pz_session.specs.Board.{frame_of, start_link, press_link, tick_link, undo_link, restarted, won_link, kept_link, reached_link, effect, begun, settled}
-use Rattle.pz_session.specs.Case.{played_items, items_of_plan}
 
 abbrev named : ℕ → Denotation
 named object = record { kind = Object; members = object ∷ []; number = object }

@@ -1,16 +1,7 @@
 -- The items of a session that begins.
-use Rattle.std.proofs.Common.{◌≡◌, ℕ, ◌+◌, ◌<◌, ◌≤◌, ◌^◌, List, length, Result, Ok, Err, IfOk, ap, ap₂, ◌∙◌, arith}
-use Rattle.pz_game.specs.declared.game.GameParts.{GameParts}
-use Rattle.pz_program.specs.declared.instance.Program.{Program}
+use Rattle.pz_session.proofs.Common.{◌≡◌, ℕ, ◌+◌, ◌<◌, ◌≤◌, ◌^◌, List, length, Result, Ok, Err, IfOk, ap, ap₂, ◌∙◌, arith, GameParts, Program, Input, Item, PlanState, Player, left, left_with, State, start_link, loaded_at, state_of, played_items}
 use Rattle.pz_record.specs.declared.order.Order.{Order}
-use Rattle.pz_record.specs.declared.input.Input.{Input}
-use Rattle.pz_case.specs.declared.item.Item.{Item}
-use Rattle.pz_case.specs.Plan.{PlanState}
 use Rattle.pz_session.specs.declared.chain.TheConstants.{MOST_TICKS}
-use Rattle.pz_session.specs.declared.player.Player.{Player}
-use Rattle.pz_session.specs.Player.{left, left_with}
-use Rattle.pz_session.specs.Board.{State, start_link, loaded_at}
-use Rattle.pz_session.specs.Case.{state_of, played_items}
 use Rattle.pz_session.proofs.Bounds.{items_bound}
 
 pub starts : (plan : PlanState) (state : State) (game : GameParts) (program : Program) (order : Order) (recorded : List (List (List ℕ))) (first : ℕ)

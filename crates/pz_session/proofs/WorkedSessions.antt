@@ -1,22 +1,13 @@
 -- Worked cases of sessions: undo and restart, what commands make of a step, the order of the items, and the close.
-use Rattle.std.proofs.Common.{◌≡◌, ℕ, suc, List, [], ◌∷◌, length, Option, Some, None, Bool, true, false, Ok, Err, refl}
-use Rattle.std.specs.Prelude.{codes, map, nat_lt, ◌==◌, if◌then◌else◌}
+use Rattle.pz_session.proofs.Common.{◌≡◌, ℕ, suc, List, [], ◌∷◌, length, Option, Some, None, Bool, true, false, Ok, Err, refl, codes, map, nat_lt, ◌==◌, if◌then◌else◌, GameParts, Commands, either, Program, Grid, Outcome, blocks_run, rules_run, step_of, has_won, FrameKind, Frame, level_from, PlanState, State, frame_of, start_link, restarted, won_link, kept_link, reached_link, effect, press_link, undo_link, begun, settled, played_items, items_of_plan, Links, closing, played, numbered, items_from, is_idle}
 use Rattle.std.specs.Fmt.{digits}
 use Rattle.pz_game.specs.declared.denotation.Denotation.{Denotation}
 use Rattle.pz_game.specs.declared.denotation.Kind.TheVariants.{Object}
 use Rattle.pz_game.specs.declared.direction.Dir.TheVariants.{Up, Right}
 use Rattle.pz_game.specs.declared.level.LevelEntry.{LevelEntry}
 use Rattle.pz_game.specs.declared.level.LevelEntry.TheVariants.{Message, Level}
-use Rattle.pz_game.specs.declared.game.GameParts.{GameParts}
 use Rattle.pz_program.specs.Commands as command
-use Rattle.pz_program.specs.declared.commands.Commands.{Commands}
-use Rattle.pz_program.specs.Commands.{either}
-use Rattle.pz_program.specs.declared.instance.Program.{Program}
 use Rattle.pz_cells.specs.declared.piece.Piece.{Piece}
-use Rattle.pz_sheet.specs.Grid.{Grid}
-use Rattle.pz_turn.specs.Outcome.{Outcome}
-use Rattle.pz_turn.specs.Step.{blocks_run, rules_run, step_of}
-use Rattle.pz_turn.specs.Win.{has_won}
 use Rattle.pz_record.specs.declared.input.Input.TheVariants.{Press, Undo, Restart, Tick}
 use Rattle.pz_record.specs.declared.order.Order.TheVariants.{Rows}
 use Rattle.pz_record.specs.CellNames.{with_name, same_set}
@@ -24,20 +15,11 @@ use Rattle.pz_level_text.specs.Equality.{equals_recorded}
 use Rattle.pz_level_text.specs.LevelNames.{standing_names}
 use Rattle.pz_record.specs.CellTexts.{with_cell, piece}
 use Rattle.pz_level_text.specs.LevelText.{text_of_level}
-use Rattle.pz_case.specs.declared.item.FrameKind.{FrameKind}
 use Rattle.pz_case.specs.declared.item.FrameKind.TheVariants as kind
-use Rattle.pz_case.specs.declared.item.Frame.{Frame}
 use Rattle.pz_case.specs.declared.item.Item.TheVariants as item
 use Rattle.pz_case.specs.declared.item.Refusal.TheVariants.{NoLevel}
 use Rattle.pz_case.specs.declared.item.Stop.TheVariants as stop
 use Rattle.pz_case.specs.declared.item.Verdict.TheVariants.{Passed, Differs, Stopped, Refused}
-use Rattle.pz_case.specs.FirstLevel.{level_from}
-use Rattle.pz_case.specs.Plan.{PlanState}
-use Rattle.pz_session.specs.Board.{State, frame_of, start_link, restarted, won_link, kept_link, reached_link, effect}
-use Rattle.pz_session.specs.Board.{press_link, undo_link, begun, settled}
-use Rattle.pz_session.specs.Case.{played_items, items_of_plan}
-use Rattle.pz_session.specs.Session.{Links, closing, played, numbered, items_from}
-use Rattle.pz_session.specs.Turn.{is_idle}
 
 -- the objects 0 background, alone on its layer, and 1 player and 2 crate on another
 abbrev object : ℕ → Denotation

@@ -1,18 +1,10 @@
 -- A pass that leaves calm items out gives what the whole pass gives.
-use Rattle.std.proofs.Common.{◌≡◌, ℕ, suc, ◌+◌, ◌/◌, ◌<◌, ◌≤◌, Result, Ok, Err, List, [], ◌∷◌, Bool, true, false, cond, ◌||◌, inl, inr, fold, take, drop, length, get_or, refl, ap, sym, ◌∙◌, arith, subst}
+use Rattle.pz_turn.proofs.Common.{◌≡◌, ℕ, suc, ◌+◌, ◌/◌, ◌<◌, ◌≤◌, Result, Ok, Err, List, [], ◌∷◌, Bool, true, false, cond, ◌||◌, inl, inr, fold, take, drop, length, get_or, refl, ap, sym, ◌∙◌, arith, subst, cases_lt, or_parts, take_more, take_all, take-append-drop, get_or-drop, length-drop, get_or_default, Commands, either, StepFault, Outcome, untouched, followed_by, joined, Runs, pass_of, ends, IsCalm, AreCalmFrom}
 use Rattle.std.specs.Int.RustNames.{bit_or}
-use Rattle.std.proofs.lemmas.Bool.{cases_lt, or_parts}
-use Rattle.std.proofs.lemmas.List.{take_more, take_all, take-append-drop, get_or-drop, length-drop, get_or_default}
 use Rattle.std.proofs.lemmas.List.Sums.{fold-append}
 use Rattle.std.proofs.lemmas.Nat.{or_comm, or_shr}
 use lib.Arith.{bin_ind}
 use lib.Bits.{or_step, or_self}
-use Rattle.pz_program.specs.declared.commands.Commands.{Commands}
-use Rattle.pz_program.specs.Commands.{either}
-use Rattle.pz_turn.specs.declared.outcome.StepFault.{StepFault}
-use Rattle.pz_turn.specs.Outcome.{Outcome, untouched, followed_by, joined}
-use Rattle.pz_turn.specs.Rest.{Runs, pass_of, ends}
-use Rattle.pz_turn.specs.Calm.{IsCalm, AreCalmFrom}
 use Rattle.pz_turn.proofs.Passes.{fold_stops}
 
 -- ---- the commands of either

@@ -1,10 +1,7 @@
 -- Going through all combinations in order.
-use Rattle.std.proofs.Common.{◌≡◌, ℕ, suc, ◌+◌, ◌*◌, ◌<◌, List, [], ◌∷◌, ◌++◌, map, take, drop, length, get_or, set, fold, refl, ap, sym, ◌∙◌, append_assoc, arith}
-use Rattle.std.specs.List.{flat_map}
-use Rattle.std.proofs.lemmas.List.{take_more, append-nil, map-append, length-append, length-map, drop-drop}
+use Rattle.pz_turn.proofs.Common.{◌≡◌, ℕ, suc, ◌+◌, ◌*◌, ◌<◌, List, [], ◌∷◌, ◌++◌, map, take, drop, length, get_or, set, fold, refl, ap, sym, ◌∙◌, append_assoc, arith, flat_map, take_more, append-nil, map-append, length-append, length-map, drop-drop, combinations}
 use Rattle.std.proofs.lemmas.List.Concat.{flat_map-append}
 use Rattle.std.proofs.lemmas.Grind.{fold-append, drop-set_at}
-use Rattle.pz_turn.specs.Combinations.{combinations}
 use Rattle.pz_base.specs.Lists.{product_of}
 
 -- a last element put behind each of these

@@ -1,19 +1,8 @@
 -- An instance without effect leaves a level as it is.
-use Rattle.std.proofs.Common.{◌≡◌, ◌⊎◌, ◌*◌, ◌≤◌, List, [], ◌∷◌, map, refl, ap, sym, ◌∙◌, arith, Bool, true, false, cond, Ok, None, inl, inr}
-use Rattle.std.specs.Prelude.{fold}
-use Rattle.std.specs.List.{zip}
-use Rattle.pz_program.specs.declared.commands.Commands.{Commands}
-use Rattle.pz_program.specs.declared.instance.Instance.{Instance}
-use Rattle.pz_game.specs.Pattern.{RuleRow}
-use Rattle.pz_grid.specs.declared.placing.Place.{Place}
-use Rattle.pz_sheet.specs.Grid.{Grid, IsLawful}
-use Rattle.pz_grid.specs.Places.{places, searched, still_matches}
-use Rattle.pz_grid.specs.Rewriting.{Rewriting, in_rewrite, rewritten, rewritten_row}
+use Rattle.pz_turn.proofs.Common.{◌≡◌, ◌⊎◌, ◌*◌, ◌≤◌, List, [], ◌∷◌, map, refl, ap, sym, ◌∙◌, arith, Bool, true, false, cond, Ok, None, inl, inr, fold, zip, Commands, Instance, RuleRow, Place, Grid, IsLawful, places, searched, still_matches, Rewriting, in_rewrite, rewritten, rewritten_row, untouched, found_or_stop, applied_at, outcome_of, applied, HasNoEffect}
 use Rattle.pz_grid.proofs.CountLemmas.{searched-gapless, searched-small}
 use Rattle.pz_turn.proofs.SingleRow.{row_nowhere, row_ends}
 use Rattle.pz_turn.specs.declared.instance.TheConstants.{FEW_CELLS}
-use Rattle.pz_turn.specs.Outcome.{untouched}
-use Rattle.pz_turn.specs.Instance.{found_or_stop, applied_at, outcome_of, applied, HasNoEffect}
 
 nothing_beside : (A B : Type 0) (xs : List A) → zip {K = A} {X = B} xs [] ≡ []
 nothing_beside A B [] = refl

@@ -1,3 +1,4 @@
+mod Common
 pub mod Applying
 pub mod Combining
 pub mod Limits

@@ -1,9 +1,5 @@
 -- Lemmas on passes.
-use Rattle.std.proofs.Common.{◌≡◌, ℕ, ◌+◌, ◌<◌, Result, Ok, Err, List, [], ◌∷◌, fold, drop, length, get_or, refl, ap, sym, ◌∙◌}
-use Rattle.std.proofs.lemmas.List.{at_drop_more}
-use Rattle.pz_turn.specs.declared.outcome.StepFault.{StepFault}
-use Rattle.pz_turn.specs.Outcome.{Outcome, followed_by, joined}
-use Rattle.pz_turn.specs.Rest.{Runs}
+use Rattle.pz_turn.proofs.Common.{◌≡◌, ℕ, ◌+◌, ◌<◌, Result, Ok, Err, List, [], ◌∷◌, fold, drop, length, get_or, refl, ap, sym, ◌∙◌, at_drop_more, StepFault, Outcome, followed_by, joined, Runs}
 
 -- after a stop nothing more is run
 pub fold_stopped : {L I : Type 0} (applied : I → Runs L) (fault : StepFault) (xs : List I) → fold (λ so_far x. followed_by so_far (applied x)) (Err fault) xs ≡ Err fault

@@ -1,11 +1,8 @@
 -- When a loop of passes ends.
-use Rattle.std.proofs.Common.{◌≡◌, ℕ, ◌+◌, ◌<◌, ◌≤◌, Bool, true, false, not, Ok, Err, Some, None, length, get_or, refl, ap, ◌∙◌, arith, add-one, below_more}
-use Rattle.std.specs.List.{find, range_with_len}
+use Rattle.pz_turn.proofs.Common.{◌≡◌, ℕ, ◌+◌, ◌<◌, ◌≤◌, Bool, true, false, not, Ok, Err, Some, None, length, get_or, refl, ap, ◌∙◌, arith, add-one, below_more, find, range_with_len, Outcome, followed_by, joined, Runs, passes, ends, ends_after, is_last, up_to, rest_of}
 use Rattle.std.proofs.lemmas.List.FromFn.{length-range_with_len, get_or-range_with_len}
 use Rattle.std.proofs.lemmas.List.Recursion.{found_at, found_nowhere}
 use Rattle.pz_turn.specs.declared.outcome.StepFault.TheVariants.{LoopLimit}
-use Rattle.pz_turn.specs.Outcome.{Outcome, followed_by, joined}
-use Rattle.pz_turn.specs.Rest.{Runs, passes, ends, ends_after, is_last, up_to, rest_of}
 
 -- the first number that passes a test
 pub find_first : (p : ℕ → Bool) (limit n : ℕ) → n < limit → ((k : ℕ) → k < n → p k ≡ false) → p n ≡ true → find p (range_with_len 0 limit) ≡ Some n

@@ -1,24 +1,11 @@
 -- The segments of a group, run one after another, give what its instances give.
-use Rattle.std.proofs.Common.{◌≡◌, ℕ, Result, Ok, Err, List, [], ◌∷◌, ◌++◌, Bool, false, ◌||◌, inl, inr, fold, get_or, refl, ap, sym, subst, ◌∙◌}
-use Rattle.std.specs.List.{All, flat_map}
+use Rattle.pz_turn.proofs.Common.{◌≡◌, ℕ, Result, Ok, Err, List, [], ◌∷◌, ◌++◌, Bool, false, ◌||◌, inl, inr, fold, get_or, refl, ap, sym, subst, ◌∙◌, All, flat_map, Commands, Instance, no_commands, either, Dir, IsInstanceOf, IsGroupOf, RuleRow, IsRowOf, AreRowsOf, AsksAmong, Grid, IsLawful, places, StepFault, applied, Outcome, untouched, followed_by, joined, Runs, pass_of, rest_of}
 use Rattle.std.proofs.Math.Bool.{or_assoc, or-false}
 use Rattle.std.proofs.lemmas.List.Elements.{All-nil, All-cons, All-head, All-tail}
 use Rattle.std.proofs.lemmas.List.Sums.{fold-append}
-use Rattle.pz_program.specs.declared.commands.Commands.{Commands}
-use Rattle.pz_program.specs.declared.instance.Instance.{Instance}
-use Rattle.pz_program.specs.Commands.{no_commands, either}
-use Rattle.pz_game.specs.declared.direction.Dir.{Dir}
-use Rattle.pz_program.specs.Instance.{IsInstanceOf, IsGroupOf}
 use Rattle.pz_game.specs.Masks.{IsLow}
-use Rattle.pz_game.specs.Pattern.{RuleRow, IsRowOf, AreRowsOf, AsksAmong}
 use Rattle.pz_program.specs.Segments.{IsIdle, IsMoving, IsLeftOut, instances_of}
 use Rattle.pz_cells.proofs.HoldLemmas.{low_of_game}
-use Rattle.pz_sheet.specs.Grid.{Grid, IsLawful}
-use Rattle.pz_grid.specs.Places.{places}
-use Rattle.pz_turn.specs.declared.outcome.StepFault.{StepFault}
-use Rattle.pz_turn.specs.Instance.{applied}
-use Rattle.pz_turn.specs.Outcome.{Outcome, untouched, followed_by, joined}
-use Rattle.pz_turn.specs.Rest.{Runs, pass_of, rest_of}
 use Rattle.pz_turn.proofs.Calm.{either_assoc, either_comm}
 use Rattle.pz_turn.proofs.Effectless.{applied_without_effect}
 use Rattle.pz_turn.proofs.Passes.{fold_stopped}

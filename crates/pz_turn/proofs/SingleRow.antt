@@ -1,21 +1,7 @@
 -- An instance of one row: each place of the row is a combination.
-use Rattle.std.proofs.Common.{◌≡◌, ◌<◌, ◌≤◌, List, [], ◌∷◌, map, length, nat_eq, refl, ap, sym, ◌∙◌, arith, Result, Ok, Err, inl, inr}
-use Rattle.std.specs.Prelude.{fold, false}
-use Rattle.std.proofs.lemmas.Bool.{cases_lt}
-use Rattle.std.proofs.lemmas.List.{append-nil, length-map}
-use Rattle.pz_game.specs.declared.direction.Dir.{Dir}
-use Rattle.pz_program.specs.declared.instance.Instance.{Instance}
-use Rattle.pz_game.specs.Pattern.{RuleRow}
-use Rattle.pz_grid.specs.declared.placing.Place.{Place}
-use Rattle.pz_sheet.specs.Grid.{Grid}
-use Rattle.pz_grid.specs.Places.{places, searched}
-use Rattle.pz_grid.specs.Rewriting.{Rewriting, in_rewrite}
+use Rattle.pz_turn.proofs.Common.{◌≡◌, ◌<◌, ◌≤◌, List, [], ◌∷◌, map, length, nat_eq, refl, ap, sym, ◌∙◌, arith, Result, Ok, Err, inl, inr, fold, false, cases_lt, append-nil, length-map, Dir, Instance, RuleRow, Place, Grid, places, searched, Rewriting, in_rewrite, StepFault, combinations, untouched, found_or_stop, after_row, taken, applied_at, outcome_of, applied}
 use Rattle.pz_grid.proofs.FoundLemmas.{searched-within, searched-over}
-use Rattle.pz_turn.specs.declared.outcome.StepFault.{StepFault}
 use Rattle.pz_turn.specs.declared.outcome.StepFault.TheVariants.{MatchLimit}
-use Rattle.pz_turn.specs.Combinations.{combinations}
-use Rattle.pz_turn.specs.Outcome.{untouched}
-use Rattle.pz_turn.specs.Instance.{found_or_stop, after_row, taken, applied_at, outcome_of, applied}
 use Rattle.pz_turn.proofs.Applying.{applied_ends, applied_stops, map-nothing_behind}
 use Rattle.pz_turn.proofs.Skipping.{applied_none}
 

@@ -1,18 +1,7 @@
 -- Rows that are left out at once: one has no place, and those before it are within the limit.
-use Rattle.std.proofs.Common.{◌≡◌, ℕ, ◌+◌, ◌<◌, List, [], ◌∷◌, map, length, get_or, drop, refl, ap, sym, subst, ◌∙◌, arith, Option, None, Some, is_some, false, Ok}
-use Rattle.std.specs.List.{flat_map}
-use Rattle.std.proofs.lemmas.List.{at_drop_more}
-use Rattle.pz_game.specs.declared.direction.Dir.{Dir}
-use Rattle.pz_program.specs.declared.instance.Instance.{Instance}
-use Rattle.pz_game.specs.Pattern.{RuleRow}
-use Rattle.pz_grid.specs.declared.placing.Place.{Place}
-use Rattle.pz_sheet.specs.Grid.{Grid, IsLawful}
-use Rattle.pz_grid.specs.Places.{places}
+use Rattle.pz_turn.proofs.Common.{◌≡◌, ℕ, ◌+◌, ◌<◌, List, [], ◌∷◌, map, length, get_or, drop, refl, ap, sym, subst, ◌∙◌, arith, Option, None, Some, is_some, false, Ok, flat_map, at_drop_more, Dir, Instance, RuleRow, Place, Grid, IsLawful, places, combinations, untouched, found_or_stop, after_row, taken, applied_to, applied_with, applied}
 use Rattle.pz_grid.proofs.FoundLemmas.{searched-within}
 use Rattle.pz_grid.proofs.CountLemmas.{searched-gapless}
-use Rattle.pz_turn.specs.Combinations.{combinations}
-use Rattle.pz_turn.specs.Outcome.{untouched}
-use Rattle.pz_turn.specs.Instance.{found_or_stop, after_row, taken, applied_to, applied_with, applied}
 
 -- the places of some rows are taken without a stop, and have no combination
 pub record IsNoneTaken (grid : Grid) (dir : Dir) (rows : List RuleRow) : Type 0 where

@@ -1,13 +1,6 @@
 -- How a step ends.
-use Rattle.std.proofs.Common.{◌≡◌, Option, Ok, Err, ap, sym, ◌∙◌}
-use Rattle.pz_game.specs.declared.direction.Dir.{Dir}
-use Rattle.pz_program.specs.declared.instance.Program.{Program}
+use Rattle.pz_turn.proofs.Common.{◌≡◌, Option, Ok, Err, ap, sym, ◌∙◌, Dir, Program, GameParts, Grid, StepFault, Outcome, rules_run, given_input, must_cancel, with_cancel, ended, step_ended, step_of}
 use Rattle.pz_game.specs.Game.{players_of}
-use Rattle.pz_game.specs.declared.game.GameParts.{GameParts}
-use Rattle.pz_sheet.specs.Grid.{Grid}
-use Rattle.pz_turn.specs.declared.outcome.StepFault.{StepFault}
-use Rattle.pz_turn.specs.Outcome.{Outcome}
-use Rattle.pz_turn.specs.Step.{rules_run, given_input, must_cancel, with_cancel, ended, step_ended, step_of}
 
 pub step_stops : (game : GameParts) (program : Program) (grid start : Grid) (input : Option Dir) (fault : StepFault) → start ≡ given_input (players_of game) input grid → rules_run program start ≡ Err fault → step_of game program grid input ≡ Err fault
 unfolding step_of

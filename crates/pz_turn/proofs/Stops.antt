@@ -1,29 +1,13 @@
 -- The stops of a step are its limits: want of memory is none of them.
-use Rattle.std.proofs.Common.{◌≢◌, ℕ, zero, suc, List, [], ◌∷◌, Option, Some, None, Bool, true, false, Result, Ok, Err, fold, length, cond, refl, subst}
-use Rattle.std.specs.Prelude.{nat_lt, IfErr}
-use Rattle.std.specs.List.{find, range_with_len}
-use Rattle.pz_game.specs.declared.direction.Dir.{Dir}
+use Rattle.pz_turn.proofs.Common.{◌≢◌, ℕ, zero, suc, List, [], ◌∷◌, Option, Some, None, Bool, true, false, Result, Ok, Err, fold, length, cond, refl, subst, nat_lt, IfErr, find, range_with_len, Dir, GameParts, Instance, Program, RuleRow, Place, Grid, places, searched, StepFault, combinations, Outcome, untouched, joined, followed_by, found_or_stop, after_row, taken, applied_with, applied, Runs, pass_of, passes, is_last, up_to, rest_of, group_runs, block_runs, blocks_run, then_moved, rules_run, given_input, step_ended, step_of}
 use Rattle.pz_game.specs.Game.{players_of}
-use Rattle.pz_game.specs.declared.game.GameParts.{GameParts}
-use Rattle.pz_program.specs.declared.instance.Instance.{Instance}
 use Rattle.pz_program.specs.declared.instance.Block.{Block}
 use Rattle.pz_program.specs.declared.instance.Block.TheVariants.{One, Loop}
-use Rattle.pz_program.specs.declared.instance.Program.{Program}
-use Rattle.pz_game.specs.Pattern.{RuleRow}
 use Rattle.pz_grid.specs.declared.placing.GridFault.TheVariants as grid
-use Rattle.pz_grid.specs.declared.placing.Place.{Place}
 use Rattle.pz_grid.specs.declared.placing.TheConstants.{MATCH_LIMIT}
-use Rattle.pz_sheet.specs.Grid.{Grid}
-use Rattle.pz_grid.specs.Places.{places, searched}
-use Rattle.pz_turn.specs.declared.outcome.StepFault.{StepFault}
 use Rattle.pz_turn.specs.declared.outcome.StepFault.TheVariants.{Memory, MatchLimit}
 use Rattle.pz_turn.specs.declared.instance.TheConstants.{COMBINATION_LIMIT}
 use Rattle.pz_turn.specs.declared.resting.TheConstants.{PASSES}
-use Rattle.pz_turn.specs.Combinations.{combinations}
-use Rattle.pz_turn.specs.Outcome.{Outcome, untouched, joined, followed_by}
-use Rattle.pz_turn.specs.Instance.{found_or_stop, after_row, taken, applied_with, applied}
-use Rattle.pz_turn.specs.Rest.{Runs, pass_of, passes, is_last, up_to, rest_of, group_runs}
-use Rattle.pz_turn.specs.Step.{block_runs, blocks_run, then_moved, rules_run, given_input, step_ended, step_of}
 
 -- a stop is none for want of memory
 abbrev Stops : {A : Type 0} → Result A StepFault → Type 0

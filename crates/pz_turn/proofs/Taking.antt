@@ -1,15 +1,5 @@
 -- The places of rows, taken one row after another.
-use Rattle.std.proofs.Common.{◌≡◌, ℕ, ◌+◌, ◌<◌, List, [], ◌∷◌, ◌++◌, length, get_or, drop, eqb, false, append_assoc, refl, ap, sym, ◌∙◌, Result, Ok, Err}
-use Rattle.std.proofs.lemmas.List.{at_drop_more}
-use Rattle.pz_program.specs.declared.instance.Instance.{Instance}
-use Rattle.pz_game.specs.declared.direction.Dir.{Dir}
-use Rattle.pz_game.specs.Pattern.{RuleRow}
-use Rattle.pz_grid.specs.declared.placing.Place.{Place}
-use Rattle.pz_sheet.specs.Grid.{Grid}
-use Rattle.pz_turn.specs.declared.outcome.StepFault.{StepFault}
-use Rattle.pz_grid.specs.Places.{searched}
-use Rattle.pz_turn.specs.Outcome.{untouched}
-use Rattle.pz_turn.specs.Instance.{found_or_stop, taken, after_row, applied}
+use Rattle.pz_turn.proofs.Common.{◌≡◌, ℕ, ◌+◌, ◌<◌, List, [], ◌∷◌, ◌++◌, length, get_or, drop, eqb, false, append_assoc, refl, ap, sym, ◌∙◌, Result, Ok, Err, at_drop_more, Instance, Dir, RuleRow, Place, Grid, StepFault, searched, untouched, found_or_stop, taken, after_row, applied}
 use Rattle.pz_turn.proofs.Combining.{combinations-last}
 use Rattle.pz_turn.proofs.Skipping.{applied_none}
 

@@ -1,28 +1,11 @@
 -- What has not changed is as it was.
-use Rattle.std.proofs.Common.{◌≡◌, ℕ, ◌+◌, ◌*◌, List, [], ◌∷◌, Option, Some, None, Bool, true, false, not, cond, set, fold, Result, Ok, Err, refl, ap, sym, ◌∙◌}
-use Rattle.std.specs.Prelude.{IfOk}
-use Rattle.std.specs.List.{enumerate_from, zip, find, range_with_len}
-use Rattle.std.proofs.lemmas.Bool.{not-false, not-true, or_parts}
-use Rattle.std.proofs.lemmas.List.{set-get_or}
+use Rattle.pz_turn.proofs.Common.{◌≡◌, ℕ, ◌+◌, ◌*◌, List, [], ◌∷◌, Option, Some, None, Bool, true, false, not, cond, set, fold, Result, Ok, Err, refl, ap, sym, ◌∙◌, IfOk, enumerate_from, zip, find, range_with_len, not-false, not-true, or_parts, set-get_or, Dir, Instance, RuleRow, Place, Grid, cell_at, position_of, still_matches, Rewriting, in_rewrite, rewritten_at, rewritten_along, rewritten_row, rewritten, StepFault, combinations, Given, Outcome, followed_by, joined, GivesOutcome, taken, applied_at, given, outcome_of, applied_with, applied, pass_of, passes, ends, ends_after, is_last, up_to, rest_of, rests}
 use Rattle.pz_turn.specs.declared.outcome.StepFault.TheVariants.{MatchLimit}
-use Rattle.pz_game.specs.declared.direction.Dir.{Dir}
 use Rattle.pz_game.specs.declared.pattern.Item.{Item}
-use Rattle.pz_program.specs.declared.instance.Instance.{Instance}
-use Rattle.pz_game.specs.Pattern.{RuleRow}
 use Rattle.pz_cells.specs.declared.piece.Piece.{Piece}
-use Rattle.pz_grid.specs.declared.placing.Place.{Place}
-use Rattle.pz_sheet.specs.Grid.{Grid, cell_at}
-use Rattle.pz_grid.specs.Places.{position_of, still_matches}
-use Rattle.pz_grid.specs.Rewriting.{Rewriting, in_rewrite, rewritten_at, rewritten_along, rewritten_row, rewritten}
 use Rattle.pz_cells.specs.Rewriting.{rewritten_cell}
 use Rattle.pz_cells.specs.Sameness.{same_cell}
 use Rattle.pz_cells.proofs.SameLemmas.{same_cell_is}
-use Rattle.pz_turn.specs.declared.outcome.StepFault.{StepFault}
-use Rattle.pz_turn.specs.Combinations.{combinations}
-use Rattle.pz_turn.specs.declared.outcome.Given.{Given}
-use Rattle.pz_turn.specs.Outcome.{Outcome, followed_by, joined, GivesOutcome}
-use Rattle.pz_turn.specs.Instance.{taken, applied_at, given, outcome_of, applied_with, applied}
-use Rattle.pz_turn.specs.Rest.{pass_of, passes, ends, ends_after, is_last, up_to, rest_of, rests}
 use Rattle.pz_turn.proofs.Passes.{fold_stopped}
 
 -- if nothing has changed at the end, nothing had at the start, and the level is the same

@@ -1,6 +1,5 @@
 -- Worked cases of instances, groups, steps and wins.
-use Rattle.std.proofs.Common.{◌≡◌, ℕ, List, [], ◌∷◌, Option, Some, None, Bool, true, false, Ok, Err, length, refl}
-use Rattle.std.specs.Prelude.{codes}
+use Rattle.pz_turn.proofs.Common.{◌≡◌, ℕ, List, [], ◌∷◌, Option, Some, None, Bool, true, false, Ok, Err, length, refl, codes, GameParts, Commands, Instance, Program, RuleRow, Grid, searched, combinations, cancel, no_commands, applied, pass_of, rest_of, group_runs, block_runs, blocks_run, rules_run, step_of, has_won}
 use Rattle.pz_game.specs.declared.denotation.Denotation.{Denotation}
 use Rattle.pz_game.specs.declared.denotation.Kind.{Kind}
 use Rattle.pz_game.specs.declared.denotation.Kind.TheVariants.{Object, Property, Aggregate}
@@ -8,26 +7,13 @@ use Rattle.pz_game.specs.declared.direction.Dir.TheVariants.{Right}
 use Rattle.pz_game.specs.declared.win_line.Quantifier.{Quantifier}
 use Rattle.pz_game.specs.declared.win_line.Quantifier.TheVariants as quantifier
 use Rattle.pz_game.specs.declared.win_line.WinLine.{WinLine}
-use Rattle.pz_game.specs.declared.game.GameParts.{GameParts}
-use Rattle.pz_program.specs.declared.commands.Commands.{Commands}
 use Rattle.pz_game.specs.declared.pattern.Item.{Item}
 use Rattle.pz_game.specs.declared.pattern.Word.{Word}
 use Rattle.pz_game.specs.declared.pattern.Word.TheVariants.{Present, Toward, Absent}
-use Rattle.pz_program.specs.declared.instance.Instance.{Instance}
 use Rattle.pz_program.specs.declared.instance.Block.TheVariants.{One}
-use Rattle.pz_program.specs.declared.instance.Program.{Program}
-use Rattle.pz_game.specs.Pattern.{RuleRow}
 use Rattle.pz_cells.specs.declared.piece.Piece.{Piece}
-use Rattle.pz_sheet.specs.Grid.{Grid}
-use Rattle.pz_grid.specs.Places.{searched}
 use Rattle.pz_turn.specs.declared.outcome.StepFault.TheVariants.{LoopLimit}
 use Rattle.pz_turn.specs.declared.resting.TheConstants.{PASSES}
-use Rattle.pz_turn.specs.Combinations.{combinations}
-use Rattle.pz_program.specs.Commands.{cancel, no_commands}
-use Rattle.pz_turn.specs.Instance.{applied}
-use Rattle.pz_turn.specs.Rest.{pass_of, rest_of, group_runs}
-use Rattle.pz_turn.specs.Step.{block_runs, blocks_run, rules_run, step_of}
-use Rattle.pz_turn.specs.Win.{has_won}
 
 -- the first list varies fastest
 in_order : combinations {X = ℕ} ((1 ∷ 2 ∷ []) ∷ (3 ∷ 4 ∷ []) ∷ []) ≡ ((1 ∷ 3 ∷ []) ∷ (2 ∷ 3 ∷ []) ∷ (1 ∷ 4 ∷ []) ∷ (2 ∷ 4 ∷ []) ∷ [])

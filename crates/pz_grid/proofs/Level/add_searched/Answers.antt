@@ -1,6 +1,4 @@
-use Rattle.std.proofs.Common.{List, ◌++◌, ap, sym, ◌∙◌}
-use Rattle.std.proofs.lemmas.List.{append-nil}
-use Rattle.pz_grid.specs.declared.placing.Place.{Place}
+use Rattle.pz_grid.proofs.Common.{List, ◌++◌, ap, sym, ◌∙◌, append-nil, Place}
 use Rattle.pz_grid.proofs.SkipLemmas.{found_nowhere}
 use Rattle.pz_grid.proofs.Level.add_searched.Goals as goal
 

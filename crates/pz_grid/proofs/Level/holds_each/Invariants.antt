@@ -1,6 +1,4 @@
-use Rattle.std.proofs.Common.{◌≡◌, take, true}
-use Rattle.std.specs.List.{list_all}
-use Rattle.pz_sheet.specs.Presence.{is_in, cell_of}
+use Rattle.pz_grid.proofs.Common.{◌≡◌, take, true, list_all, is_in, cell_of}
 use Rattle.pz_grid.proofs.Level.holds_each.Given as goal
 
 abbrev pub invariant-loop-object : goal.invariant-loop-object

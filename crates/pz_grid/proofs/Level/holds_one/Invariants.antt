@@ -1,6 +1,4 @@
-use Rattle.std.proofs.Common.{◌≡◌, take, false}
-use Rattle.std.specs.List.{list_any}
-use Rattle.pz_sheet.specs.Presence.{is_in, cell_of}
+use Rattle.pz_grid.proofs.Common.{◌≡◌, take, false, list_any, is_in, cell_of}
 use Rattle.pz_grid.proofs.Level.holds_one.Given as goal
 
 abbrev pub invariant-loop-object : goal.invariant-loop-object

@@ -1,6 +1,4 @@
-use Rattle.std.proofs.Common.{sym, ap, ◌∙◌}
-use Rattle.pz_sheet.specs.Grid.{LevelState}
-use Rattle.pz_grid.specs.Admitted.{searches_level}
+use Rattle.pz_grid.proofs.Common.{sym, ap, ◌∙◌, LevelState, searches_level}
 use Rattle.pz_grid.proofs.SkipLemmas.{places_none}
 use Rattle.pz_grid.proofs.Level.is_searched_for.Goals as goal
 

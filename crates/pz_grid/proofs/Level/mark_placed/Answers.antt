@@ -1,6 +1,4 @@
-use Rattle.std.proofs.Common.{◌≡◌, ◌<◌, ℕ, List, length, get_or, arith, ap, sym, ◌∙◌}
-use Rattle.std.proofs.lemmas.List.{get_or_default}
-use Rattle.pz_game.specs.declared.pattern.Item.{Item}
+use Rattle.pz_grid.proofs.Common.{◌≡◌, ◌<◌, ℕ, List, length, get_or, arith, ap, sym, ◌∙◌, get_or_default, Item}
 use Rattle.pz_grid.proofs.MoveLemmas.{more_item}
 use Rattle.pz_grid.proofs.Level.mark_placed.Goals as goal
 

@@ -1,6 +1,4 @@
-use Rattle.std.proofs.Common.{◌≡◌, take}
-use Rattle.pz_game.specs.Items.{names_object}
-use Rattle.pz_grid.specs.Marks.{IsMore}
+use Rattle.pz_grid.proofs.Common.{◌≡◌, take, names_object, IsMore}
 use Rattle.pz_grid.proofs.Level.mark_placed.Given as goal
 
 abbrev pub invariant-loop-item : goal.invariant-loop-item

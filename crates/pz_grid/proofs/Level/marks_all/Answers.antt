@@ -1,6 +1,4 @@
-use Rattle.std.proofs.Common.{List, ℕ, subst, rules}
-use Rattle.std.specs.Prelude.{◌↔◌, IsTrue, All}
-use Rattle.pz_sets.specs.Sets.{IsWithin}
+use Rattle.pz_grid.proofs.Common.{List, ℕ, subst, rules, ◌↔◌, IsTrue, All, IsWithin}
 use Rattle.pz_game.specs.Masks.{IsLow}
 use Rattle.pz_grid.proofs.NamedLemmas.{named_decide}
 use Rattle.pz_grid.proofs.Level.marks_all.Goals as goal

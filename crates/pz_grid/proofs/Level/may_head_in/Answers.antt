@@ -1,8 +1,4 @@
-use Rattle.std.proofs.Common.{sym, subst}
-use Rattle.std.specs.List.{All}
-use Rattle.pz_game.specs.Pattern.{AreOf}
-use Rattle.pz_sheet.specs.Grid.{Grid}
-use Rattle.pz_sheet.specs.Searching.{HoldsSomewhere}
+use Rattle.pz_grid.proofs.Common.{sym, subst, All, AreOf, Grid, HoldsSomewhere}
 use Rattle.pz_grid.proofs.SomewhereLemmas.{nowhere_none}
 use Rattle.pz_grid.proofs.Level.may_head_in.Goals as goal
 

@@ -1,7 +1,4 @@
-use Rattle.std.proofs.Common.{sym, subst}
-use Rattle.std.specs.List.{All}
-use Rattle.pz_sheet.specs.Grid.{Grid}
-use Rattle.pz_sheet.specs.Searching.{HoldsSomewhere}
+use Rattle.pz_grid.proofs.Common.{sym, subst, All, Grid, HoldsSomewhere}
 use Rattle.pz_grid.proofs.SomewhereLemmas.{nowhere_none}
 use Rattle.pz_grid.proofs.Level.may_hold.Goals as goal
 

@@ -1,4 +1,4 @@
-use Rattle.std.proofs.Common.{sym, ◌∙◌}
+use Rattle.pz_grid.proofs.Common.{sym, ◌∙◌}
 use Rattle.pz_grid.proofs.SkipLemmas.{unsearched_nowhere}
 use Rattle.pz_grid.proofs.Level.may_start.Goals as goal
 

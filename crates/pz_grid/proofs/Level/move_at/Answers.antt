@@ -1,7 +1,4 @@
-use Rattle.std.proofs.Common.{◌≡◌, Option, Some, ap, ◌∙◌}
-use Rattle.pz_cells.specs.declared.piece.Piece.{Piece}
-use Rattle.pz_cells.specs.Cell.{still_piece}
-use Rattle.pz_sheet.specs.Grid.{with_place}
+use Rattle.pz_grid.proofs.Common.{◌≡◌, Option, Some, ap, ◌∙◌, Piece, still_piece, with_place}
 use Rattle.pz_grid.proofs.MoveLemmas.{moves_piece}
 use Rattle.pz_grid.proofs.Level.move_at.Goals as goal
 

@@ -1,6 +1,4 @@
-use Rattle.std.proofs.Common.{ℕ, ◌≡◌, false, ap, sym, ◌∙◌, arith}
-use Rattle.std.specs.Prelude.{fold}
-use Rattle.pz_grid.specs.Movement.{Pass, in_pass, move_at, spots_in}
+use Rattle.pz_grid.proofs.Common.{ℕ, ◌≡◌, false, ap, sym, ◌∙◌, arith, fold, Pass, in_pass, move_at, spots_in}
 use Rattle.pz_grid.proofs.GatherLemmas.{gather}
 use Rattle.pz_grid.proofs.MoveLemmas.{moves_on}
 use Rattle.pz_grid.proofs.MovementLemmas.{fold_gather_more, same_size_on}

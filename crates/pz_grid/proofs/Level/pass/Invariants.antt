@@ -1,8 +1,4 @@
-use Rattle.std.proofs.Common.{◌≡◌, ◌≤◌, ◌-◌, false}
-use Rattle.std.specs.Prelude.{fold}
-use Rattle.pz_grid.specs.Movement.{in_pass, move_at, spots_in}
-use Rattle.pz_sheet.specs.Grid.{SameSize}
-use Rattle.pz_grid.specs.Staying.{IsMove}
+use Rattle.pz_grid.proofs.Common.{◌≡◌, ◌≤◌, ◌-◌, false, fold, in_pass, move_at, spots_in, SameSize, IsMove}
 use Rattle.pz_grid.proofs.GatherLemmas.{gather}
 use Rattle.pz_grid.proofs.Level.pass.Given as goal
 

@@ -1,5 +1,4 @@
-use Rattle.std.proofs.Common.{ap, sym, ◌∙◌}
-use Rattle.pz_grid.specs.Movement.{Pass, in_pass, move_at, spot}
+use Rattle.pz_grid.proofs.Common.{ap, sym, ◌∙◌, Pass, in_pass, move_at, spot}
 use Rattle.pz_grid.proofs.MoveLemmas.{moves_on}
 use Rattle.pz_grid.proofs.MovementLemmas.{fold_map_more, same_size_on}
 use Rattle.pz_grid.proofs.Level.pass_at.Goals as goal

@@ -1,9 +1,4 @@
-use Rattle.std.proofs.Common.{◌≡◌, map}
-use Rattle.std.specs.Prelude.{fold}
-use Rattle.std.specs.List.{range_with_len}
-use Rattle.pz_grid.specs.Movement.{in_pass, move_at, spot}
-use Rattle.pz_sheet.specs.Grid.{SameSize}
-use Rattle.pz_grid.specs.Staying.{IsMove}
+use Rattle.pz_grid.proofs.Common.{◌≡◌, map, fold, range_with_len, in_pass, move_at, spot, SameSize, IsMove}
 use Rattle.pz_grid.proofs.Level.pass_at.Given as goal
 
 abbrev pub invariant-loop-layer : goal.invariant-loop-layer

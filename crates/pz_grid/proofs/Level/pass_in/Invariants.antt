@@ -1,8 +1,4 @@
-use Rattle.std.proofs.Common.{◌≡◌, ◌≤◌, ◌-◌}
-use Rattle.std.specs.Prelude.{fold}
-use Rattle.pz_grid.specs.Movement.{in_pass, move_at, spots_at}
-use Rattle.pz_sheet.specs.Grid.{SameSize}
-use Rattle.pz_grid.specs.Staying.{IsMove}
+use Rattle.pz_grid.proofs.Common.{◌≡◌, ◌≤◌, ◌-◌, fold, in_pass, move_at, spots_at, SameSize, IsMove}
 use Rattle.pz_grid.proofs.GatherLemmas.{gather}
 use Rattle.pz_grid.proofs.Level.pass_in.Given as goal
 

@@ -1,7 +1,4 @@
-use Rattle.std.proofs.Common.{◌<◌, arith, ap, nat_eq, sym, subst}
-use Rattle.std.specs.Prelude.{IfSome}
-use Rattle.pz_sheet.specs.Grid.{LevelState}
-use Rattle.pz_grid.specs.Marks.{IsMarkedAt}
+use Rattle.pz_grid.proofs.Common.{◌<◌, arith, ap, nat_eq, sym, subst, IfSome, LevelState, IsMarkedAt}
 use Rattle.pz_grid.proofs.MarkLemmas.{marked_put}
 use Rattle.pz_grid.proofs.Level.put.Goals as goal
 

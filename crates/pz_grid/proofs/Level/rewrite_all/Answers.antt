@@ -1,13 +1,5 @@
-use Rattle.std.proofs.Common.{◌≤◌, ◌≡◌, List, length, get_or, arith, ap, sym, ◌∙◌, min}
-use Rattle.std.specs.Prelude.{fold}
-use Rattle.std.specs.List.{zip}
-use Rattle.std.proofs.lemmas.List.Folds.{list_any_at}
-use Rattle.std.proofs.lemmas.List.{get_or_default}
+use Rattle.pz_grid.proofs.Common.{◌≤◌, ◌≡◌, List, length, get_or, arith, ap, sym, ◌∙◌, min, fold, zip, list_any_at, get_or_default, RuleRow, Place, Rewriting, in_rewrite, rewritten_row, places_object, row_places}
 use Rattle.std.proofs.lemmas.Slice.Zip.{length-zip}
-use Rattle.pz_game.specs.Pattern.{RuleRow}
-use Rattle.pz_grid.specs.declared.placing.Place.{Place}
-use Rattle.pz_grid.specs.Rewriting.{Rewriting, in_rewrite, rewritten_row}
-use Rattle.pz_grid.specs.Marks.{places_object, row_places}
 use Rattle.pz_grid.proofs.MoveLemmas.{widened_on}
 use Rattle.pz_grid.proofs.MovementLemmas.{same_size_on}
 use Rattle.pz_grid.proofs.FoldLemmas.{zip_at, fold_zip_more, fold_zip_all}

@@ -1,9 +1,4 @@
-use Rattle.std.proofs.Common.{◌≡◌, take}
-use Rattle.std.specs.Prelude.{fold}
-use Rattle.std.specs.List.{zip}
-use Rattle.pz_sheet.specs.Grid.{SameSize}
-use Rattle.pz_grid.specs.Marks.{IsWidenedBy, places_object}
-use Rattle.pz_grid.specs.Rewriting.{in_rewrite, rewritten_row}
+use Rattle.pz_grid.proofs.Common.{◌≡◌, take, fold, zip, SameSize, IsWidenedBy, places_object, in_rewrite, rewritten_row}
 use Rattle.pz_grid.proofs.Level.rewrite_all.Given as goal
 
 abbrev pub invariant-loop-index : goal.invariant-loop-index

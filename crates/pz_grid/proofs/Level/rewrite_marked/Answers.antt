@@ -1,7 +1,4 @@
-use Rattle.std.proofs.Common.{◌<◌, arith, ap, sym, subst}
-use Rattle.pz_sheet.specs.Grid.{LevelState}
-use Rattle.pz_grid.specs.Marks.{IsMarkedAt}
-use Rattle.pz_game.specs.Items.{names_object}
+use Rattle.pz_grid.proofs.Common.{◌<◌, arith, ap, sym, subst, LevelState, IsMarkedAt, names_object}
 use Rattle.pz_grid.proofs.MarkLemmas.{marked_rewritten}
 use Rattle.pz_grid.proofs.Level.rewrite_marked.Goals as goal
 

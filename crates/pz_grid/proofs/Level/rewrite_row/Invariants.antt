@@ -1,10 +1,4 @@
-use Rattle.std.proofs.Common.{◌≡◌, take}
-use Rattle.std.specs.Prelude.{fold}
-use Rattle.std.specs.List.{enumerate_from, zip, list_any}
-use Rattle.pz_sheet.specs.Grid.{SameSize}
-use Rattle.pz_grid.specs.Marks.{IsWidenedBy}
-use Rattle.pz_grid.specs.Rewriting.{in_rewrite, rewritten_along}
-use Rattle.pz_game.specs.Items.{names_object}
+use Rattle.pz_grid.proofs.Common.{◌≡◌, take, fold, enumerate_from, zip, list_any, SameSize, IsWidenedBy, in_rewrite, rewritten_along, names_object}
 use Rattle.pz_grid.proofs.Level.rewrite_row.Given as goal
 
 abbrev pub invariant-loop-index : goal.invariant-loop-index

@@ -1,6 +1,5 @@
-use Rattle.std.proofs.Common.{◌≡◌, ap, ◌∙◌}
+use Rattle.pz_grid.proofs.Common.{◌≡◌, ap, ◌∙◌, LevelState}
 use Rattle.std.proofs.lemmas.Bool.Decides.{same_from_decides}
-use Rattle.pz_sheet.specs.Grid.{LevelState}
 use Rattle.pz_sheet.specs.Sameness.{same_grid}
 use Rattle.pz_grid.proofs.SameLemmas.{same_grid_decides}
 use Rattle.pz_grid.proofs.Level.same.Goals as goal

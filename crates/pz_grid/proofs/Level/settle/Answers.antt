@@ -1,5 +1,4 @@
-use Rattle.std.proofs.Common.{◌≡◌, ◌<◌, ℕ, true, false, ap, sym, ◌∙◌, subst}
-use Rattle.pz_grid.specs.Movement.{Pass, pass_of, moving, settle}
+use Rattle.pz_grid.proofs.Common.{◌≡◌, ◌<◌, ℕ, true, false, ap, sym, ◌∙◌, subst, Pass, pass_of, moving, settle}
 use Rattle.pz_grid.proofs.SettleLemmas.{fewer_from_moved, settle_moved, settle_done}
 use Rattle.pz_grid.proofs.MoveLemmas.{moves_on}
 use Rattle.pz_grid.proofs.MovementLemmas.{same_size_on}

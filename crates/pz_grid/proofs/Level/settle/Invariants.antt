@@ -1,7 +1,4 @@
-use Rattle.std.proofs.Common.{◌≡◌}
-use Rattle.pz_sheet.specs.Grid.{SameSize}
-use Rattle.pz_grid.specs.Staying.{IsMove}
-use Rattle.pz_grid.specs.Movement.{moving, settle}
+use Rattle.pz_grid.proofs.Common.{◌≡◌, SameSize, IsMove, moving, settle}
 use Rattle.pz_grid.proofs.Level.settle.Given as goal
 
 abbrev pub invariant-loop : goal.invariant-loop

@@ -1,5 +1,4 @@
-use Rattle.std.proofs.Common.{arith}
-use Rattle.pz_grid.specs.Places.{line_length}
+use Rattle.pz_grid.proofs.Common.{arith, line_length}
 use Rattle.pz_grid.proofs.SkipLemmas.{starts_nowhere}
 use Rattle.pz_grid.proofs.Level.tested.Goals as goal
 

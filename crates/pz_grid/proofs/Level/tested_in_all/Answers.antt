@@ -1,6 +1,4 @@
-use Rattle.std.proofs.Common.{ℕ, ◌*◌, ◌≤◌, ◌≡◌, arith, subst}
-use Rattle.pz_grid.specs.Places.{line_count, line_length, places}
-use Rattle.pz_grid.specs.Admitted.{searches_line, starts_in}
+use Rattle.pz_grid.proofs.Common.{ℕ, ◌*◌, ◌≤◌, ◌≡◌, arith, subst, line_count, line_length, places, searches_line, starts_in}
 use Rattle.pz_grid.proofs.CountLemmas.{length_low}
 use Rattle.pz_grid.proofs.SkipLemmas.{searched_lines, tested_more, starts_more, tested_bounded}
 use Rattle.pz_grid.proofs.Level.tested_in_all.Goals as goal

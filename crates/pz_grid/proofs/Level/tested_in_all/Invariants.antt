@@ -1,8 +1,5 @@
-use Rattle.std.proofs.Common.{◌≤◌, ◌*◌}
-use Rattle.std.specs.List.{sum_by, range_with_len}
+use Rattle.pz_grid.proofs.Common.{◌≤◌, ◌*◌, sum_by, range_with_len, starts_in, line_length, places}
 use Rattle.pz_game.specs.declared.limits.TheConstants.{MAX_SIDE}
-use Rattle.pz_grid.specs.Admitted.{starts_in}
-use Rattle.pz_grid.specs.Places.{line_length, places}
 use Rattle.pz_grid.proofs.SkipLemmas.{searched_lines}
 use Rattle.pz_grid.proofs.Level.tested_in_all.Given as goal
 

@@ -1,7 +1,5 @@
-use Rattle.std.proofs.Common.{sym, subst}
-use Rattle.std.specs.Prelude.{All}
+use Rattle.pz_grid.proofs.Common.{sym, subst, All, HoldsInLine}
 use Rattle.pz_sheet.specs.declared.line.Line.{Line}
-use Rattle.pz_sheet.specs.Searching.{HoldsInLine}
 use Rattle.pz_grid.proofs.SomewhereLemmas.{line_nowhere}
 use Rattle.pz_grid.proofs.admitting.may_head.Goals as goal
 

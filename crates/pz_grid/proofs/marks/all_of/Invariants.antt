@@ -1,6 +1,4 @@
-use Rattle.std.proofs.Common.{◌≡◌, ◌<◌, ℕ, true}
-use Rattle.pz_sets.specs.Sets.{member}
-use Rattle.pz_grid.specs.Marks.{is_marked}
+use Rattle.pz_grid.proofs.Common.{◌≡◌, ◌<◌, ℕ, true, member, is_marked}
 use Rattle.pz_grid.proofs.marks.all_of.Given as goal
 
 abbrev pub invariant-loop-line : goal.invariant-loop-line

@@ -1,9 +1,5 @@
-use Rattle.std.proofs.Common.{◌≡◌, ◌+◌, ◌<◌, List, [], ◌∷◌, ◌++◌, filter, length, take, true, arith, ap, sym, ◌∙◌, subst, Err}
-use Rattle.std.specs.List.{list_all, enumerate_from}
-use Rattle.std.proofs.lemmas.Result.{err_from_is_err_and}
+use Rattle.pz_grid.proofs.Common.{◌≡◌, ◌+◌, ◌<◌, List, [], ◌∷◌, ◌++◌, filter, length, take, true, arith, ap, sym, ◌∙◌, subst, Err, list_all, enumerate_from, err_from_is_err_and, Place, row_holds, cell_holds, holds_behind, place_in, head_of, line_length}
 use Rattle.pz_grid.specs.declared.placing.TheConstants.{MATCH_LIMIT}
-use Rattle.pz_grid.specs.declared.placing.Place.{Place}
-use Rattle.pz_grid.specs.Places.{row_holds, cell_holds, holds_behind, place_in, head_of, line_length}
 use Rattle.pz_grid.proofs.HeadLemmas.{begun_with_gap}
 use Rattle.pz_grid.proofs.PlaceLemmas.{own_gap}
 use Rattle.pz_grid.proofs.StartLemmas.{starts_at}

@@ -1,6 +1,4 @@
-use Rattle.std.proofs.Common.{ℕ, ◌+◌, arith, ap, sym, ◌∙◌}
-use Rattle.pz_grid.specs.Admitted.{admits_line}
-use Rattle.pz_sheet.proofs.CountLemmas.{count_yes, count_no}
+use Rattle.pz_grid.proofs.Common.{ℕ, ◌+◌, arith, ap, sym, ◌∙◌, admits_line, count_yes, count_no}
 use Rattle.pz_grid.proofs.placing.admitted.Goals as goal
 use Rattle.pz_grid.proofs.placing.admitted.Goals.{then-admits_line, else-admits_line}
 

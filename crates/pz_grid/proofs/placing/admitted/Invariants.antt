@@ -1,6 +1,4 @@
-use Rattle.std.proofs.Common.{◌≡◌, ◌≤◌}
-use Rattle.std.specs.List.{count_by, range_with_len}
-use Rattle.pz_grid.specs.Admitted.{admits_line}
+use Rattle.pz_grid.proofs.Common.{◌≡◌, ◌≤◌, count_by, range_with_len, admits_line}
 use Rattle.pz_grid.proofs.placing.admitted.Given as goal
 
 abbrev pub invariant-loop-line : goal.invariant-loop-line

@@ -1,7 +1,4 @@
-use Rattle.std.proofs.Common.{◌≡◌, false, sym, subst}
-use Rattle.pz_game.specs.declared.direction.Dir.{Dir}
-use Rattle.pz_sheet.proofs.RunLemmas.{action_leads_nowhere}
-use Rattle.pz_grid.specs.Places.{starts_with}
+use Rattle.pz_grid.proofs.Common.{◌≡◌, false, sym, subst, Dir, action_leads_nowhere, starts_with}
 use Rattle.pz_grid.proofs.placing.next_start.Goals as goal
 
 pub returns-in-Action : goal.returns-in-Action

@@ -1,9 +1,6 @@
-use Rattle.std.proofs.Common.{◌<◌, ◌≡◌, [], List, length, arith, ap, sym, ◌∙◌, subst, Ok, Err}
-use Rattle.std.proofs.lemmas.Result.{err_from_is_err_and}
+use Rattle.pz_grid.proofs.Common.{◌<◌, ◌≡◌, [], List, length, arith, ap, sym, ◌∙◌, subst, Ok, Err, err_from_is_err_and, Place, line_count, places}
 use Rattle.pz_grid.specs.declared.placing.GridFault.TheVariants.{MatchLimit}
-use Rattle.pz_grid.specs.declared.placing.Place.{Place}
 use Rattle.pz_grid.specs.declared.placing.TheConstants.{MATCH_LIMIT}
-use Rattle.pz_grid.specs.Places.{line_count, places}
 use Rattle.pz_grid.proofs.GatherLemmas.{gather}
 use Rattle.pz_grid.proofs.FoundLemmas.{found_in, places_all, gather_step, gather_too_long, searched-within, searched-over, limit_if_not_memory}
 use Rattle.pz_grid.proofs.placing.places.Goals as goal

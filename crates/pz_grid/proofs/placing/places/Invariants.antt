@@ -1,4 +1,4 @@
-use Rattle.std.proofs.Common.{◌≡◌}
+use Rattle.pz_grid.proofs.Common.{◌≡◌}
 use Rattle.pz_grid.proofs.GatherLemmas.{gather}
 use Rattle.pz_grid.proofs.FoundLemmas.{found_in}
 use Rattle.pz_grid.proofs.placing.places.Given as goal

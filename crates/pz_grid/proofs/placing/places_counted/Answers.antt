@@ -1,6 +1,4 @@
-use Rattle.std.proofs.Common.{◌≤◌, List, sym, subst}
-use Rattle.pz_grid.specs.declared.placing.Place.{Place}
-use Rattle.pz_grid.specs.Admitted.{start_count}
+use Rattle.pz_grid.proofs.Common.{◌≤◌, List, sym, subst, Place, start_count}
 use Rattle.pz_grid.proofs.FoundLemmas.{searched-gives}
 use Rattle.pz_grid.proofs.placing.places_counted.Goals as goal
 

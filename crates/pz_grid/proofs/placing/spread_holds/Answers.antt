@@ -1,7 +1,4 @@
-use Rattle.std.proofs.Common.{ℕ, ◌<◌, ◌≤◌, true, false, ◌≡◌, List, Option, length, get_or, arith, ap, sym, ◌∙◌}
-use Rattle.pz_game.specs.declared.pattern.Item.{Item}
-use Rattle.pz_grid.specs.Places.{along, cell_holds, distance, holds_at}
-use Rattle.pz_sheet.proofs.RunLemmas.{enumerate_more, enumerate_fails, enumerate_all}
+use Rattle.pz_grid.proofs.Common.{ℕ, ◌<◌, ◌≤◌, true, false, ◌≡◌, List, Option, length, get_or, arith, ap, sym, ◌∙◌, Item, along, cell_holds, distance, holds_at, enumerate_more, enumerate_fails, enumerate_all}
 use Rattle.pz_grid.proofs.placing.spread_holds.Goals as goal
 
 pub returns-then-not-holds_along : goal.returns-then-not-holds_along

@@ -1,6 +1,4 @@
-use Rattle.std.proofs.Common.{◌≡◌, take, true}
-use Rattle.std.specs.List.{list_all, enumerate_from}
-use Rattle.pz_grid.specs.Places.{cell_holds}
+use Rattle.pz_grid.proofs.Common.{◌≡◌, take, true, list_all, enumerate_from, cell_holds}
 use Rattle.pz_grid.proofs.placing.spread_holds.Given as goal
 
 abbrev pub invariant-loop-index : goal.invariant-loop-index

@@ -1,11 +1,4 @@
-use Rattle.std.proofs.Common.{◌≤◌, ◌≡◌, ◌&&◌, List, Bool, length, get_or, arith, ap, sym, ◌∙◌, min}
-use Rattle.std.specs.Prelude.{nat_eq}
-use Rattle.std.specs.List.{list_all, zip}
-use Rattle.std.proofs.lemmas.List.{get_or_default}
-use Rattle.std.proofs.lemmas.Bool.{eq-eqb}
-use Rattle.pz_game.specs.Pattern.{RuleRow}
-use Rattle.pz_grid.specs.declared.placing.Place.{Place}
-use Rattle.pz_grid.specs.Places.{still_holds}
+use Rattle.pz_grid.proofs.Common.{◌≤◌, ◌≡◌, ◌&&◌, List, Bool, length, get_or, arith, ap, sym, ◌∙◌, min, nat_eq, list_all, zip, get_or_default, eq-eqb, RuleRow, Place, still_holds}
 use Rattle.pz_grid.proofs.FoldLemmas.{all_zip_more, all_zip_fails, all_zip_all}
 use Rattle.pz_grid.proofs.placing.still_matches.Goals as goal
 

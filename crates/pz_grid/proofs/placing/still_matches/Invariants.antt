@@ -1,6 +1,4 @@
-use Rattle.std.proofs.Common.{◌≡◌, take, true}
-use Rattle.std.specs.List.{list_all, zip}
-use Rattle.pz_grid.specs.Places.{still_holds}
+use Rattle.pz_grid.proofs.Common.{◌≡◌, take, true, list_all, zip, still_holds}
 use Rattle.pz_grid.proofs.placing.still_matches.Given as goal
 
 abbrev pub invariant-loop-index : goal.invariant-loop-index

@@ -1,7 +1,4 @@
-use Rattle.std.proofs.Common.{List, ◌≤◌, arith, subst}
-use Rattle.std.specs.List.{count_by, range_with_len}
-use Rattle.pz_game.specs.declared.pattern.Item.{Item}
-use Rattle.pz_grid.specs.Places.{line_length, starts_with}
+use Rattle.pz_grid.proofs.Common.{List, ◌≤◌, arith, subst, count_by, range_with_len, Item, line_length, starts_with}
 use Rattle.pz_grid.proofs.SkipLemmas.{starts_fewer}
 use Rattle.pz_grid.proofs.placing.tested_for.Goals as goal
 

@@ -1,8 +1,4 @@
-use Rattle.std.proofs.Common.{◌≡◌, ℕ, false, arith, sym, subst}
-use Rattle.std.specs.List.{range_with_len}
-use Rattle.pz_game.specs.declared.direction.Dir.{Dir}
-use Rattle.pz_sheet.proofs.RunLemmas.{action_leads_nowhere}
-use Rattle.pz_grid.specs.Places.{line_length, starts_with}
+use Rattle.pz_grid.proofs.Common.{◌≡◌, ℕ, false, arith, sym, subst, range_with_len, Dir, action_leads_nowhere, line_length, starts_with}
 use Rattle.pz_grid.proofs.SkipLemmas.{count_none}
 use Rattle.pz_grid.proofs.placing.tested_in.Goals as goal
 

@@ -1,5 +1,4 @@
-use Rattle.std.proofs.Common.{◌≡◌, ◌+◌, ◌*◌, ◌<◌, ◌≤◌, ◌&&◌, ap, ap₂, sym, ◌∙◌, slice_index_or, []}
-use Rattle.pz_level_text.specs.Naming.{has_names}
+use Rattle.pz_level_text.proofs.Common.{◌≡◌, ◌+◌, ◌*◌, ◌<◌, ◌≤◌, ◌&&◌, ap, ap₂, sym, ◌∙◌, slice_index_or, [], has_names}
 use Rattle.pz_level_text.proofs.Ordered.{other_size, same_start, named_step, same_end, same_from}
 use Rattle.pz_level_text.proofs.equality.equals.Goals as goal
 

@@ -1,5 +1,4 @@
-use Rattle.std.proofs.Common.{◌≡◌, ◌*◌, length}
-use Rattle.pz_level_text.specs.Equality.{equals_recorded}
+use Rattle.pz_level_text.proofs.Common.{◌≡◌, ◌*◌, length, equals_recorded}
 use Rattle.pz_level_text.proofs.Ordered.{same_from}
 use Rattle.pz_level_text.proofs.equality.equals.Given as goal
 

@@ -1,8 +1,6 @@
-use Rattle.std.proofs.Common.{ap, ◌∙◌, map, Bor, List, ℕ}
+use Rattle.pz_level_text.proofs.Common.{ap, ◌∙◌, map, Bor, List, ℕ, with_name, insert_seen}
 use Rattle.std.specs.Ordering.{nat_cmp}
 use Rattle.std.specs.Cmp.Lexicographic.{slice_cmp}
-use Rattle.pz_record.specs.CellNames.{with_name}
-use Rattle.pz_record.proofs.Sets.{insert_seen}
 use Rattle.pz_level_text.proofs.level_names.insert.Goals as goal
 
 pub returns : goal.returns

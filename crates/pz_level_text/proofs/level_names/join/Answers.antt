@@ -1,4 +1,4 @@
-use Rattle.std.proofs.Common.{◌≡◌, rules}
+use Rattle.pz_level_text.proofs.Common.{◌≡◌, rules}
 use Rattle.pz_level_text.proofs.Joining.{joins}
 use Rattle.pz_level_text.proofs.level_names.join.Goals as goal
 

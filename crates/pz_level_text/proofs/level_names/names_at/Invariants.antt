@@ -1,7 +1,4 @@
-use Rattle.std.proofs.Common.{◌≡◌, drop, map, fold}
-use Rattle.pz_sheet.specs.Standing.{stands}
-use Rattle.pz_record.specs.CellNames.{with_name, set_of}
-use Rattle.pz_level_text.specs.LevelNames.{chosen_from, standing_names}
+use Rattle.pz_level_text.proofs.Common.{◌≡◌, drop, map, fold, stands, with_name, set_of, chosen_from, standing_names}
 use Rattle.pz_level_text.proofs.level_names.names_at.Given as goal
 
 abbrev pub invariant-loop-object : goal.invariant-loop-object

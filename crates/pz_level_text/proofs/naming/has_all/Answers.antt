@@ -1,9 +1,4 @@
-use Rattle.std.proofs.Common.{ap, ◌∙◌, Vec, Global, ℕ}
-use Rattle.std.specs.List.{list_all}
-use Rattle.pz_sets.specs.Sets.{member}
-use Rattle.pz_record.specs.CellNames.{has_name}
-use Rattle.pz_level_text.specs.LevelNames.{chosen_from}
-use Rattle.pz_record.proofs.Sets.{all_seen}
+use Rattle.pz_level_text.proofs.Common.{ap, ◌∙◌, Vec, Global, ℕ, list_all, member, has_name, chosen_from, all_seen}
 use Rattle.pz_level_text.proofs.naming.has_all.Goals as goal
 
 pub returns : goal.returns

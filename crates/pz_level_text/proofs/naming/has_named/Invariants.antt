@@ -1,7 +1,4 @@
-use Rattle.std.proofs.Common.{◌≡◌, drop}
-use Rattle.pz_sets.specs.Sets.{member}
-use Rattle.pz_record.specs.CellNames.{has_name}
-use Rattle.pz_level_text.specs.LevelNames.{chosen_from}
+use Rattle.pz_level_text.proofs.Common.{◌≡◌, drop, member, has_name, chosen_from}
 use Rattle.pz_level_text.proofs.naming.has_named.Given as goal
 
 abbrev pub invariant-loop-object : goal.invariant-loop-object

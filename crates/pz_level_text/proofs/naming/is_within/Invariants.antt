@@ -1,8 +1,4 @@
-use Rattle.std.proofs.Common.{◌≡◌, drop}
-use Rattle.std.specs.List.{list_all}
-use Rattle.pz_sets.specs.Sets.{member}
-use Rattle.pz_record.specs.CellNames.{has_name}
-use Rattle.pz_level_text.specs.LevelNames.{chosen_from}
+use Rattle.pz_level_text.proofs.Common.{◌≡◌, drop, list_all, member, has_name, chosen_from}
 use Rattle.pz_level_text.proofs.naming.is_within.Given as goal
 
 abbrev pub invariant-loop-object : goal.invariant-loop-object

@@ -1,9 +1,6 @@
-use Rattle.std.proofs.Common.{◌≡◌, ◌*◌, ◌<◌, ◌≤◌, ◌^◌, length, ap, ◌∙◌, arith}
-use Rattle.pz_level_text.specs.LevelText.{text_of_level}
-use Rattle.pz_level_text.specs.Labels.{WriterView}
+use Rattle.pz_level_text.proofs.Common.{◌≡◌, ◌*◌, ◌<◌, ◌≤◌, ◌^◌, length, ap, ◌∙◌, arith, text_of_level, WriterView, texts_in}
 use Rattle.pz_entries.specs.Reading.{reading}
 use Rattle.pz_level_text.proofs.LevelReads.{level_reads}
-use Rattle.pz_level_text.specs.Labels.{texts_in}
 use Rattle.pz_level_text.proofs.Ordered.{length-texts_in}
 use Rattle.pz_level_text.proofs.reading_back.level_text.Goals as goal
 

@@ -1,4 +1,4 @@
-use Rattle.std.proofs.Common.{◌≡◌, ◌++◌, length}
+use Rattle.pz_session.proofs.Common.{◌≡◌, ◌++◌, length}
 use Rattle.pz_session.proofs.run.left_in.Given as goal
 
 abbrev pub decreases-items : goal.decreases-items

@@ -1,5 +1,4 @@
-use Rattle.std.proofs.Common.{◌≤◌, length, ◌∙◌, List, subst}
-use Rattle.pz_record.specs.declared.input.Input.{Input}
+use Rattle.pz_session.proofs.Common.{◌≤◌, length, ◌∙◌, List, subst, Input}
 use Rattle.pz_record.specs.declared.input.TheConstants.{MOST_INPUTS}
 use Rattle.pz_session.proofs.Starting.{starts, begins_if_ok, room_if_ok}
 use Rattle.pz_session.proofs.run.play.Goals as goal

@@ -1,5 +1,5 @@
 use Rattle.pz_turn.proofs.Segments.{left_out_pass}
-use Rattle.std.proofs.lemmas.Bool.{not-true}
+use Rattle.pz_turn.proofs.Common.{not-true}
 use Rattle.pz_turn.proofs.group.is_left_out.Goals as goal
 
 pub returns-in-Some : goal.returns-in-Some

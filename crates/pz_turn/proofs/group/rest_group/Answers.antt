@@ -1,6 +1,4 @@
-use Rattle.std.proofs.Common.{sym, subst}
-use Rattle.pz_program.specs.Instance.{IsInstanceOf, IsGroupOf}
-use Rattle.pz_turn.specs.Outcome.{GivesOutcome}
+use Rattle.pz_turn.proofs.Common.{sym, subst, IsInstanceOf, IsGroupOf, GivesOutcome}
 use Rattle.pz_turn.proofs.Segments.{all_in_each, rest_by_segments}
 use Rattle.pz_turn.proofs.group.rest_group.Goals as goal
 

@@ -1,11 +1,5 @@
-use Rattle.std.proofs.Common.{◌≡◌, ℕ, ◌+◌, ◌<◌, List, ◌∷◌, ◌++◌, map, fold, take, drop, set, length, get_or, refl, ap, sym, ◌∙◌, arith}
-use Rattle.std.proofs.lemmas.List.{get_or_default, take_all, length-set}
+use Rattle.pz_turn.proofs.Common.{◌≡◌, ℕ, ◌+◌, ◌<◌, List, ◌∷◌, ◌++◌, map, fold, take, drop, set, length, get_or, refl, ap, sym, ◌∙◌, arith, get_or_default, take_all, length-set, Place, Rewriting, in_rewrite, same_size_on, combinations, applied_at}
 use Rattle.std.proofs.lemmas.Grind.{drop-set_at}
-use Rattle.pz_grid.specs.declared.placing.Place.{Place}
-use Rattle.pz_grid.specs.Rewriting.{Rewriting, in_rewrite}
-use Rattle.pz_grid.proofs.MovementLemmas.{same_size_on}
-use Rattle.pz_turn.specs.Combinations.{combinations}
-use Rattle.pz_turn.specs.Instance.{applied_at}
 use Rattle.pz_turn.proofs.Combining.{fold-ending_more, combinations-last, ending, drop_after}
 use Rattle.pz_turn.proofs.instance.+apply_all.Goals as goal
 

@@ -1,7 +1,4 @@
-use Rattle.std.proofs.Common.{length, ◌≡◌, ◌++◌, ◌+◌, map, fold, take, drop}
-use Rattle.pz_sheet.specs.Grid.{SameSize}
-use Rattle.pz_grid.specs.Rewriting.{in_rewrite}
-use Rattle.pz_turn.specs.Instance.{applied_at}
+use Rattle.pz_turn.proofs.Common.{length, ◌≡◌, ◌++◌, ◌+◌, map, fold, take, drop, SameSize, in_rewrite, applied_at}
 use Rattle.pz_turn.proofs.Combining.{ending}
 use Rattle.pz_turn.proofs.instance.+apply_all.Given as goal
 

@@ -1,8 +1,4 @@
-use Rattle.std.proofs.Common.{◌≡◌, ◌∷◌, [], false, map, fold, drop}
-use Rattle.pz_grid.specs.declared.placing.Place.{Place}
-use Rattle.pz_sheet.specs.Grid.{SameSize}
-use Rattle.pz_grid.specs.Rewriting.{in_rewrite}
-use Rattle.pz_turn.specs.Instance.{applied_at}
+use Rattle.pz_turn.proofs.Common.{◌≡◌, ◌∷◌, [], false, map, fold, drop, Place, SameSize, in_rewrite, applied_at}
 use Rattle.pz_turn.proofs.instance.apply_each.Given as goal
 
 abbrev pub invariant-loop-place : goal.invariant-loop-place

@@ -1,14 +1,5 @@
-use Rattle.std.proofs.Common.{◌≡◌, ◌<◌, ◌∷◌, [], List, Ok, length, map, fold, nat_eq, subst, ap, sym, ◌∙◌}
-use Rattle.std.proofs.lemmas.Result.{err_from_is_err_and}
-use Rattle.std.proofs.lemmas.Bool.{eqb-true}
-use Rattle.std.proofs.lemmas.List.{nil_from_length}
+use Rattle.pz_turn.proofs.Common.{◌≡◌, ◌<◌, ◌∷◌, [], List, Ok, length, map, fold, nat_eq, subst, ap, sym, ◌∙◌, err_from_is_err_and, eqb-true, nil_from_length, false, IsRowOf, AreRowsOf, Place, Rewriting, in_rewrite, Given, applied_at}
 use Rattle.std.proofs.lemmas.List.Elements.{All-head}
-use Rattle.std.specs.Prelude.{false}
-use Rattle.pz_game.specs.Pattern.{IsRowOf, AreRowsOf}
-use Rattle.pz_grid.specs.declared.placing.Place.{Place}
-use Rattle.pz_grid.specs.Rewriting.{Rewriting, in_rewrite}
-use Rattle.pz_turn.specs.declared.outcome.Given.{Given}
-use Rattle.pz_turn.specs.Instance.{applied_at}
 use Rattle.pz_turn.proofs.SingleRow.{positive, row_stops, row_nowhere, row_ends}
 use Rattle.pz_turn.proofs.instance.apply_row.Goals as goal
 

@@ -1,14 +1,4 @@
-use Rattle.std.proofs.Common.{◌≡◌, ◌++◌, min, List, Vec, Global, Option, Some, Ok, [], length, map, fold, drop, arith, ap, subst, ◌∙◌}
-use Rattle.std.proofs.lemmas.Result.{err_from_is_err_and}
-use Rattle.std.proofs.lemmas.List.{drop_all}
-use Rattle.std.specs.Prelude.{false, MatchOption}
-use Rattle.pz_program.specs.declared.instance.Instance.{Instance}
-use Rattle.pz_sheet.specs.Grid.{Grid}
-use Rattle.pz_grid.specs.declared.placing.Place.{Place}
-use Rattle.pz_grid.specs.Rewriting.{Rewriting, in_rewrite}
-use Rattle.pz_turn.specs.Combinations.{combinations}
-use Rattle.pz_turn.specs.Outcome.{untouched}
-use Rattle.pz_turn.specs.Instance.{applied_at, applied, given, taken}
+use Rattle.pz_turn.proofs.Common.{◌≡◌, ◌++◌, min, List, Vec, Global, Option, Some, Ok, [], length, map, fold, drop, arith, ap, subst, ◌∙◌, err_from_is_err_and, drop_all, false, MatchOption, Instance, Grid, Place, Rewriting, in_rewrite, combinations, untouched, applied_at, applied, given, taken}
 use Rattle.pz_turn.proofs.Applying.{applied_stops, applied_too_often, applied_ends}
 use Rattle.pz_turn.proofs.instance.apply_rows.Goals as goal
 

@@ -1,7 +1,4 @@
-use Rattle.std.proofs.Common.{◌≡◌, ◌++◌, ◌∷◌, ℕ, ◌+◌, ◌*◌, [], List, length, take, min, ap, sym, ◌∙◌}
-use Rattle.std.proofs.lemmas.List.{take_more}
-use Rattle.pz_grid.specs.declared.placing.Place.{Place}
-use Rattle.pz_turn.specs.Combinations.{combinations}
+use Rattle.pz_turn.proofs.Common.{◌≡◌, ◌++◌, ◌∷◌, ℕ, ◌+◌, ◌*◌, [], List, length, take, min, ap, sym, ◌∙◌, take_more, Place, combinations}
 use Rattle.pz_turn.proofs.Combining.{length-combinations-last}
 use Rattle.pz_turn.proofs.Limits.{capped}
 use Rattle.pz_turn.proofs.instance.combination_count.Goals as goal

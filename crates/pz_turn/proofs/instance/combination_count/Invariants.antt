@@ -1,5 +1,4 @@
-use Rattle.std.proofs.Common.{◌≡◌, take, length, min}
-use Rattle.pz_turn.specs.Combinations.{combinations}
+use Rattle.pz_turn.proofs.Common.{◌≡◌, take, length, min, combinations}
 use Rattle.pz_turn.proofs.instance.combination_count.Given as goal
 
 abbrev pub invariant-loop-list : goal.invariant-loop-list

@@ -1,4 +1,4 @@
-use Rattle.std.proofs.Common.{arith, sym, ◌∙◌}
+use Rattle.pz_turn.proofs.Common.{arith, sym, ◌∙◌}
 use Rattle.pz_turn.proofs.Skipping.{none_first, none_after, none_more, applied_none, gapless}
 use Rattle.pz_turn.proofs.Effectless.{applied_without_effect}
 use Rattle.pz_turn.proofs.instance.is_left_out.Goals as goal

@@ -1,4 +1,4 @@
-use Rattle.std.proofs.Common.{drop}
+use Rattle.pz_turn.proofs.Common.{drop}
 use Rattle.pz_turn.proofs.Skipping.{IsNoneTaken}
 use Rattle.pz_turn.proofs.instance.is_left_out.Given as goal
 

@@ -1,9 +1,4 @@
-use Rattle.std.proofs.Common.{◌≡◌, ◌∙◌, ◌∷◌, ◌++◌, List, [], Ok, length, drop, nat_eq, ◌+◌, ap, rules, sym}
-use Rattle.std.proofs.lemmas.Result.{err_from_is_err_and}
-use Rattle.std.proofs.lemmas.Bool.{eqb-true}
-use Rattle.std.proofs.lemmas.List.{nil_from_length}
-use Rattle.pz_grid.specs.declared.placing.Place.{Place}
-use Rattle.pz_turn.specs.Instance.{taken}
+use Rattle.pz_turn.proofs.Common.{◌≡◌, ◌∙◌, ◌∷◌, ◌++◌, List, [], Ok, length, drop, nat_eq, ◌+◌, ap, rules, sym, err_from_is_err_and, eqb-true, nil_from_length, Place, taken}
 use Rattle.pz_turn.proofs.Taking.{following, following_more, following_stop, applied_until}
 use Rattle.pz_turn.proofs.instance.take_places.Goals as goal
 

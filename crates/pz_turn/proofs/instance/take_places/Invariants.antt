@@ -1,5 +1,4 @@
-use Rattle.std.proofs.Common.{◌≡◌, drop}
-use Rattle.pz_turn.specs.Instance.{taken}
+use Rattle.pz_turn.proofs.Common.{◌≡◌, drop, taken}
 use Rattle.pz_turn.proofs.Taking.{following}
 use Rattle.pz_turn.proofs.instance.take_places.Given as goal
 

@@ -1,5 +1,4 @@
-use Rattle.std.proofs.Common.{arith}
-use Rattle.std.proofs.lemmas.Result.{err_from_is_err_and}
+use Rattle.pz_turn.proofs.Common.{arith, err_from_is_err_and}
 use Rattle.pz_turn.proofs.Passes.{fold_stops}
 use Rattle.pz_turn.proofs.resting.pass.Goals as goal
 

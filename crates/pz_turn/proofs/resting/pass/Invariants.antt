@@ -1,7 +1,4 @@
-use Rattle.std.proofs.Common.{◌≡◌, Ok, drop, fold}
-use Rattle.pz_sheet.specs.Grid.{SameSize}
-use Rattle.pz_turn.specs.Outcome.{followed_by}
-use Rattle.pz_turn.specs.Rest.{pass_of}
+use Rattle.pz_turn.proofs.Common.{◌≡◌, Ok, drop, fold, SameSize, followed_by, pass_of}
 use Rattle.pz_turn.proofs.resting.pass.Given as goal
 
 -- the items that are left, run from here, give what the pass gives

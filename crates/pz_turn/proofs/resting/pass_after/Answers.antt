@@ -1,10 +1,4 @@
-use Rattle.std.proofs.Common.{◌≡◌, ◌+◌, ℕ, true, false, not, ◌||◌, sym, ◌∙◌, subst, ap}
-use Rattle.std.proofs.lemmas.Result.{err_from_is_err_and}
-use Rattle.pz_program.specs.Commands.{either}
-use Rattle.pz_sheet.specs.Grid.{Grid}
-use Rattle.pz_grid.proofs.MovementLemmas.{same_size_on}
-use Rattle.pz_turn.specs.Outcome.{Outcome}
-use Rattle.pz_turn.specs.declared.outcome.Given.{Given}
+use Rattle.pz_turn.proofs.Common.{◌≡◌, ◌+◌, ℕ, true, false, not, ◌||◌, sym, ◌∙◌, subst, ap, err_from_is_err_and, either, Grid, same_size_on, Outcome, Given}
 use Rattle.pz_turn.proofs.Calm.{Passing, passing_changed, passing_quiet, passing_stops}
 use Rattle.pz_turn.proofs.resting.pass_after.Goals.{then-given, else-given, else-index-calm_from-via-then-index-calm_from+else-not-so_far, else-index-calm_from-via-else-index-calm_from}
 use Rattle.pz_turn.proofs.resting.pass_after.Goals as goal

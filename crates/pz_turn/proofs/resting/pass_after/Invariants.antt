@@ -1,4 +1,4 @@
-use Rattle.pz_sheet.specs.Grid.{SameSize}
+use Rattle.pz_turn.proofs.Common.{SameSize}
 use Rattle.pz_turn.proofs.Calm.{Passing}
 use Rattle.pz_turn.proofs.resting.pass_after.Given as goal
 

@@ -1,15 +1,6 @@
-use Rattle.std.proofs.Common.{◌≡◌, Bool, true, false, cond, take, Ok, arith, ap, sym, ◌∙◌, subst}
-use Rattle.std.proofs.lemmas.Bool.{or_parts}
-use Rattle.std.proofs.lemmas.Result.{err_from_is_err_and}
-use Rattle.pz_grid.proofs.MovementLemmas.{same_size_on}
-use Rattle.pz_sheet.specs.Grid.{Grid}
-use Rattle.pz_turn.specs.declared.outcome.Given.{Given}
-use Rattle.pz_turn.specs.Calm.{AreCalmFrom}
-use Rattle.pz_turn.specs.Outcome.{Outcome, joined}
-use Rattle.pz_turn.specs.Rest.{pass_of, ends}
+use Rattle.pz_turn.proofs.Common.{◌≡◌, Bool, true, false, cond, take, Ok, arith, ap, sym, ◌∙◌, subst, or_parts, err_from_is_err_and, same_size_on, Grid, Given, AreCalmFrom, Outcome, joined, pass_of, ends, not-false, not-true}
 use Rattle.pz_turn.proofs.Calm.{calm_rest, calm_more}
 use Rattle.pz_turn.proofs.RestLemmas.{rest_ends, rest_never_ends, running_more}
-use Rattle.std.proofs.lemmas.Bool.{not-false, not-true}
 use Rattle.pz_turn.proofs.resting.to_rest.Goals as goal
 
 pub returns-in_err-passed-clause-outcome : goal.returns-in_err-passed-clause-outcome

@@ -1,7 +1,4 @@
-use Rattle.std.proofs.Common.{◌≡◌, false}
-use Rattle.pz_sheet.specs.Grid.{SameSize}
-use Rattle.pz_turn.specs.Calm.{AreCalmFrom}
-use Rattle.pz_turn.specs.Rest.{pass_of}
+use Rattle.pz_turn.proofs.Common.{◌≡◌, false, SameSize, AreCalmFrom, pass_of}
 use Rattle.pz_turn.proofs.RestLemmas.{Running}
 use Rattle.pz_turn.proofs.resting.to_rest.Given as goal
 

@@ -1,7 +1,5 @@
-use Rattle.std.proofs.Common.{◌<◌, ◌≤◌, [], length, get_or, min, arith, sym, ◌∙◌}
-use Rattle.std.proofs.lemmas.List.{get_or_default}
+use Rattle.pz_turn.proofs.Common.{◌<◌, ◌≤◌, [], length, get_or, min, arith, sym, ◌∙◌, get_or_default, keeps_player}
 use Rattle.pz_grid.proofs.FoldLemmas.{all_zip_more, all_zip_fails, all_zip_all}
-use Rattle.pz_turn.specs.Step.{keeps_player}
 use Rattle.pz_turn.proofs.stepping.all_keep_players.Goals as goal
 
 pub returns-then-not-keeps_player : goal.returns-then-not-keeps_player

@@ -1,6 +1,4 @@
-use Rattle.std.proofs.Common.{◌≡◌, take, true}
-use Rattle.std.specs.List.{list_all, zip}
-use Rattle.pz_turn.specs.Step.{keeps_player}
+use Rattle.pz_turn.proofs.Common.{◌≡◌, take, true, list_all, zip, keeps_player}
 use Rattle.pz_turn.proofs.stepping.all_keep_players.Given as goal
 
 abbrev pub invariant-loop-index : goal.invariant-loop-index

@@ -1,5 +1,4 @@
-use Rattle.std.proofs.Common.{◌≡◌, take, false}
-use Rattle.std.specs.List.{list_any}
+use Rattle.pz_turn.proofs.Common.{◌≡◌, take, false, list_any}
 use Rattle.pz_sheet.specs.Presence.{holds_one}
 use Rattle.pz_turn.proofs.stepping.some_player.Given as goal
 

@@ -1,7 +1,4 @@
-use Rattle.std.proofs.Common.{ap, sym, ◌∙◌, Ok}
-use Rattle.std.proofs.lemmas.Result.{err_from_is_err_and, IfOk-weaker}
-use Rattle.pz_program.specs.declared.commands.Commands.{Commands}
-use Rattle.pz_turn.specs.Step.{ended, with_cancel}
+use Rattle.pz_turn.proofs.Common.{ap, sym, ◌∙◌, Ok, err_from_is_err_and, IfOk-weaker, Commands, ended, with_cancel}
 use Rattle.pz_turn.proofs.StepLemmas.{step_stops, step_ends}
 use Rattle.pz_turn.proofs.stepping.step_in.Goals as goal
 

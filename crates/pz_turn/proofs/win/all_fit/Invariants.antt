@@ -1,6 +1,4 @@
-use Rattle.std.proofs.Common.{◌≡◌, take, true}
-use Rattle.std.specs.List.{list_all}
-use Rattle.pz_turn.specs.Win.{fits_if}
+use Rattle.pz_turn.proofs.Common.{◌≡◌, take, true, list_all, fits_if}
 use Rattle.pz_turn.proofs.win.all_fit.Given as goal
 
 abbrev pub invariant-loop-index : goal.invariant-loop-index

@@ -1,6 +1,4 @@
-use Rattle.std.proofs.Common.{◌≡◌, take, true}
-use Rattle.std.specs.List.{list_all}
-use Rattle.pz_turn.specs.Win.{line_holds}
+use Rattle.pz_turn.proofs.Common.{◌≡◌, take, true, list_all, line_holds}
 use Rattle.pz_turn.proofs.win.all_hold.Given as goal
 
 abbrev pub invariant-loop-line : goal.invariant-loop-line

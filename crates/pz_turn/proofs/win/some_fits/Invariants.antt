@@ -1,6 +1,4 @@
-use Rattle.std.proofs.Common.{◌≡◌, take, false}
-use Rattle.std.specs.List.{list_any}
-use Rattle.pz_turn.specs.Win.{fits_both}
+use Rattle.pz_turn.proofs.Common.{◌≡◌, take, false, list_any, fits_both}
 use Rattle.pz_turn.proofs.win.some_fits.Given as goal
 
 abbrev pub invariant-loop-index : goal.invariant-loop-index

@@ -1,9 +1,4 @@
-use Rattle.std.proofs.Common.{ap, ◌∙◌}
-use Rattle.pz_record.specs.CellNames.{set_of}
-use Rattle.pz_record.specs.CellTexts.{joined}
-use Rattle.pz_level_text.specs.Labels.{WriterView}
-use Rattle.pz_level_text.specs.LevelNames.{standing_names}
-use Rattle.pz_record.proofs.Changes.{known_still, labels_still}
+use Rattle.pz_level_text.proofs.Common.{ap, ◌∙◌, set_of, joined, WriterView, standing_names, known_still, labels_still}
 use Rattle.pz_level_text.proofs.cell_labels.CellLabels.label_at.Goals as goal
 
 pub invariant_of-self : goal.invariant_of-self

@@ -1,10 +1,4 @@
-use Rattle.std.proofs.Common.{◌≡◌, ◌+◌, ◌<◌, List, ℕ, length, slice_set, arith, ap, sym, subst, ◌∙◌}
-use Rattle.pz_record.specs.declared.order.Order.{Order}
-use Rattle.pz_record.specs.Labels.{text_at}
-use Rattle.pz_record.specs.Written.{IsSameBut}
-use Rattle.pz_record.proofs.Changes.{one_changed}
-use Rattle.pz_level_text.specs.Labels.{WriterView, texts_in}
-use Rattle.pz_level_text.specs.CellOrder.{number_of}
+use Rattle.pz_level_text.proofs.Common.{◌≡◌, ◌+◌, ◌<◌, List, ℕ, length, slice_set, arith, ap, sym, subst, ◌∙◌, Order, text_at, IsSameBut, one_changed, WriterView, texts_in, number_of}
 use Rattle.pz_level_text.proofs.Changing.{read_at, number_within, looked}
 use Rattle.pz_level_text.proofs.cell_labels.CellLabels.look.Goals as goal
 

@@ -1,13 +1,4 @@
-use Rattle.std.proofs.Common.{◌≡◌, ◌≤◌, ◌<◌, ◌*◌, ◌++◌, ◌∷◌, [], length, get_or, arith, ap, ap₂, sym, ◌∙◌}
-use Rattle.std.proofs.lemmas.List.{take_more, take_all}
-use Rattle.pz_game.specs.declared.game.GameParts.{GameParts}
-use Rattle.pz_record.specs.declared.order.Order.{Order}
-use Rattle.pz_record.specs.CellNames.{set_of}
-use Rattle.pz_record.specs.Labels.{text_at}
-use Rattle.pz_level_text.specs.Labels.{WriterView, TableView, texts_in}
-use Rattle.pz_level_text.specs.LevelNames.{standing_names}
-use Rattle.pz_record.specs.CellTexts.{joined}
-use Rattle.pz_level_text.specs.CellOrder.{column_of, row_of}
+use Rattle.pz_level_text.proofs.Common.{◌≡◌, ◌≤◌, ◌<◌, ◌*◌, ◌++◌, ◌∷◌, [], length, get_or, arith, ap, ap₂, sym, ◌∙◌, take_more, take_all, GameParts, Order, set_of, text_at, WriterView, TableView, texts_in, standing_names, joined, column_of, row_of}
 use Rattle.pz_level_text.proofs.Ordered.{text_at_number, length-texts_in}
 use Rattle.pz_level_text.proofs.cell_labels.CellLabels.look_at_all.Goals as goal
 

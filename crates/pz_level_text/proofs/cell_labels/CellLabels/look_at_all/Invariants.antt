@@ -1,5 +1,4 @@
-use Rattle.std.proofs.Common.{◌≡◌, take}
-use Rattle.pz_level_text.specs.Labels.{texts_in}
+use Rattle.pz_level_text.proofs.Common.{◌≡◌, take, texts_in}
 use Rattle.pz_level_text.proofs.cell_labels.CellLabels.look_at_all.Given as goal
 
 abbrev pub invariant-loop-number : goal.invariant-loop-number

@@ -1,7 +1,5 @@
-use Rattle.std.proofs.Common.{◌≡◌, ◌<◌, ◌≤◌, ℕ, false, length, subst, ◌∙◌}
+use Rattle.pz_level_text.proofs.Common.{◌≡◌, ◌<◌, ◌≤◌, ℕ, false, length, subst, ◌∙◌, Grid, still_kept, both_changed}
 use Rattle.pz_sheet.specs.Changes.{differ_in}
-use Rattle.pz_sheet.specs.Grid.{Grid}
-use Rattle.pz_record.proofs.Changes.{still_kept, both_changed}
 use Rattle.pz_level_text.proofs.Changing.{seen_count, seen_more, all_seen}
 use Rattle.pz_level_text.proofs.cell_labels.CellLabels.look_at_changes.Goals as goal
 

@@ -1,5 +1,4 @@
-use Rattle.std.proofs.Common.{◌≡◌, ◌*◌, ◌-◌, length, take}
-use Rattle.pz_record.specs.Written.{IsSameBut}
+use Rattle.pz_level_text.proofs.Common.{◌≡◌, ◌*◌, ◌-◌, length, take, IsSameBut}
 use Rattle.pz_level_text.proofs.Changing.{IsSeenTo}
 use Rattle.pz_level_text.proofs.cell_labels.CellLabels.look_at_changes.Given as goal
 

@@ -1,7 +1,4 @@
-use Rattle.std.proofs.Common.{slice_set, ap, ◌∙◌}
-use Rattle.std.proofs.lemmas.List.{map-set}
-use Rattle.pz_record.specs.Labels.{text_at}
-use Rattle.pz_level_text.specs.Labels.{WriterView}
+use Rattle.pz_level_text.proofs.Common.{slice_set, ap, ◌∙◌, map-set, text_at, WriterView}
 use Rattle.pz_level_text.proofs.cell_labels.CellLabels.put.Goals as goal
 
 pub returns-clause-cells : goal.returns-clause-cells

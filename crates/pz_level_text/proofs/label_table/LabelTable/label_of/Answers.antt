@@ -1,9 +1,4 @@
-use Rattle.std.proofs.Common.{◌≡◌, ℕ, List, ap, sym, ◌∙◌}
-use Rattle.pz_sets.specs.Sets.{member}
-use Rattle.pz_sheet.specs.Standing.{stands}
-use Rattle.pz_record.specs.CellNames.{set_of}
-use Rattle.pz_level_text.specs.LevelNames.{chosen_from, standing_names}
-use Rattle.pz_record.specs.CellTexts.{joined}
+use Rattle.pz_level_text.proofs.Common.{◌≡◌, ℕ, List, ap, sym, ◌∙◌, member, stands, set_of, chosen_from, standing_names, joined}
 use Rattle.pz_level_text.proofs.Labelling.{chosen_same, labels_kept}
 use Rattle.pz_level_text.proofs.label_table.LabelTable.label_of.Goals as goal
 

@@ -1,7 +1,5 @@
-use Rattle.std.proofs.Common.{◌≡◌, ℕ, List, length, get_or, arith, ap, sym, subst, ◌∙◌}
-use Rattle.std.specs.Prelude.{slice_index}
+use Rattle.pz_level_text.proofs.Common.{◌≡◌, ℕ, List, length, get_or, arith, ap, sym, subst, ◌∙◌, slice_index, TableView, IsLabelOf}
 use Rattle.pz_level_text.specs.declared.labelled_set.LabelledSet.{LabelledSet}
-use Rattle.pz_level_text.specs.Labels.{TableView, IsLabelOf}
 use Rattle.pz_level_text.proofs.Labelling.{label_of_word}
 use Rattle.pz_level_text.proofs.label_table.LabelTable.labelled_at.Goals as goal
 

@@ -1,4 +1,4 @@
-use Rattle.std.proofs.Common.{◌∙◌}
+use Rattle.pz_level_text.proofs.Common.{◌∙◌}
 use Rattle.pz_level_text.proofs.Labelling.{set_standing, label_standing}
 use Rattle.pz_level_text.proofs.label_table.LabelTable.look_up.Goals as goal
 

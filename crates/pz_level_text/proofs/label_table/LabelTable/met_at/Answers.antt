@@ -1,5 +1,4 @@
-use Rattle.std.proofs.Common.{List, ℕ, ap, sym}
-use Rattle.std.specs.Prelude.{slice_index}
+use Rattle.pz_level_text.proofs.Common.{List, ℕ, ap, sym, slice_index}
 use Rattle.pz_level_text.proofs.Labelling.{word_standing}
 use Rattle.pz_level_text.proofs.label_table.LabelTable.met_at.Goals as goal
 

@@ -1,6 +1,4 @@
-use Rattle.std.proofs.Common.{Option, IfSome, sym, subst, ◌∙◌}
-use Rattle.pz_record.specs.Written.{HasTextBut}
-use Rattle.pz_record.proofs.Changes.{changed_again}
+use Rattle.pz_level_text.proofs.Common.{Option, IfSome, sym, subst, ◌∙◌, HasTextBut, changed_again}
 use Rattle.pz_level_text.specs.declared.text_writer.LastText.{LastText}
 use Rattle.pz_level_text.proofs.text_writer.TextWriter.look_at_changes.Goals as goal
 use Rattle.pz_level_text.proofs.text_writer.TextWriter.look_at_changes.Goals.{in-Some, in-None}

@@ -1,5 +1,4 @@
-use Rattle.std.proofs.Common.{ap, ◌∙◌}
-use Rattle.pz_session.specs.Board.{State, loaded_at}
+use Rattle.pz_session.proofs.Common.{ap, ◌∙◌, State, loaded_at}
 use Rattle.pz_session.proofs.board.Board.enter.Goals as goal
 
 pub returns : goal.returns

@@ -1,9 +1,5 @@
-use Rattle.std.proofs.Common.{◌≡◌, Option, Some, option_map, not, rules, ap, ap₂, sym, subst, ◌∙◌}
-use Rattle.std.specs.Prelude.{IfSome}
-use Rattle.pz_sheet.specs.Grid.{Grid, LevelState}
+use Rattle.pz_session.proofs.Common.{◌≡◌, Option, Some, option_map, not, rules, ap, ap₂, sym, subst, ◌∙◌, IfSome, Grid, LevelState, State, at_level, keeping, state_in}
 use Rattle.pz_sheet.specs.Sameness.{same_grid}
-use Rattle.pz_session.specs.Board.{State, at_level, keeping}
-use Rattle.pz_session.specs.Inside.{state_in}
 use Rattle.pz_session.proofs.BoardLemmas.{pressed, tells}
 use Rattle.pz_session.proofs.LabelledLemmas.{kept_before}
 use Rattle.pz_session.proofs.board.Board.press.Goals as goal

@@ -1,5 +1,4 @@
-use Rattle.std.proofs.Common.{option_map, ap, ◌∙◌}
-use Rattle.pz_sheet.specs.Grid.{LevelState, IsOfGame}
+use Rattle.pz_session.proofs.Common.{option_map, ap, ◌∙◌, LevelState, IsOfGame}
 use Rattle.pz_session.proofs.BoardLemmas.{taken}
 use Rattle.pz_session.proofs.LabelledLemmas.{kept_spare}
 use Rattle.pz_session.proofs.board.Board.step_back.Goals as goal

@@ -1,7 +1,4 @@
-use Rattle.std.proofs.Common.{ap, sym, ◌∙◌}
-use Rattle.pz_sheet.specs.Grid.{LevelState}
-use Rattle.pz_session.specs.Board.{at_level}
-use Rattle.pz_session.specs.Inside.{state_in}
+use Rattle.pz_session.proofs.Common.{ap, sym, ◌∙◌, LevelState, at_level, state_in}
 use Rattle.pz_session.proofs.BoardLemmas.{ticked}
 use Rattle.pz_session.proofs.board.Board.tick.Goals as goal
 

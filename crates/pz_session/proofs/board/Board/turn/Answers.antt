@@ -1,7 +1,4 @@
-use Rattle.std.proofs.Common.{◌≡◌, true, subst}
-use Rattle.std.specs.Prelude.{IfOk}
-use Rattle.pz_program.specs.Commands.{has, cancel}
-use Rattle.pz_session.specs.Board.{State}
+use Rattle.pz_session.proofs.Common.{◌≡◌, true, subst, IfOk, has, cancel, State}
 use Rattle.pz_session.proofs.BoardLemmas.{stays_cancelled}
 use Rattle.pz_session.proofs.board.Board.turn.Goals as goal
 

@@ -1,5 +1,4 @@
-use Rattle.std.proofs.Common.{◌≡◌}
-use Rattle.pz_session.specs.Player.{left, work}
+use Rattle.pz_session.proofs.Common.{◌≡◌, left, work}
 use Rattle.pz_session.proofs.player.Player.next.Given as goal
 
 abbrev pub decreases-links : goal.decreases-links

@@ -1,5 +1,4 @@
-use Rattle.std.proofs.Common.{Ok}
-use Rattle.pz_session.specs.Board.{start_link}
+use Rattle.pz_session.proofs.Common.{Ok, start_link}
 use Rattle.pz_session.proofs.player.Player.start.Goals as goal
 
 pub returns-in-Ok-clause-left : goal.returns-in-Ok-clause-left

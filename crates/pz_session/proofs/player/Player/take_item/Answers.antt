@@ -1,6 +1,5 @@
-use Rattle.std.proofs.Common.{◌≡◌, ◌+◌, [], ◌∷◌, Some, None, refl, ap, sym, ◌∙◌}
+use Rattle.pz_session.proofs.Common.{◌≡◌, ◌+◌, [], ◌∷◌, Some, None, refl, ap, sym, ◌∙◌, left}
 use Rattle.pz_case.specs.declared.item.Item.TheVariants as item
-use Rattle.pz_session.specs.Player.{left}
 use Rattle.pz_session.proofs.Leaving.{left-at, left-first, left-numbered, left-of_stopped, left-of_over, left-of_closed}
 use Rattle.pz_session.proofs.player.Player.take_item.Goals as goal
 use Rattle.pz_session.proofs.player.Player.take_item.Goals.{in-Stopped, in-Between}

@@ -1,5 +1,4 @@
-use Rattle.std.proofs.Common.{drop, refl, ◌∙◌}
-use Rattle.pz_session.specs.Chain.{shown_frames}
+use Rattle.pz_session.proofs.Common.{drop, refl, ◌∙◌, shown_frames}
 use Rattle.pz_session.proofs.Leaving.{left-at, left-link, left-link_stopped, link-ok, link-stopped}
 use Rattle.pz_session.proofs.player.Player.take_link.Goals as goal
 

@@ -1,5 +1,4 @@
-use Rattle.std.proofs.Common.{subst}
-use Rattle.pz_program.specs.Instance.{IsBlockOf}
+use Rattle.pz_turn.proofs.Common.{subst, IsBlockOf}
 use Rattle.pz_turn.proofs.stepping.BlockRunnable.run.Goals as goal
 
 pub to_rest-requires : goal.to_rest-requires

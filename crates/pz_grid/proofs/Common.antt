@@ -1,0 +1,31 @@
+-- The words of the proofs of this crate: what several of them import.
+pub use Rattle.std.proofs.Common.{Bool, Err, List, None, Ok, Option, Some, [], ap, arith, cond, false, filter, get_or, inl, inr, length, length-take, map, min, mul-le-mul_right, nat_eq, not, refl, rules, set, subst, suc, sym, take, true, zero, ℕ, ◌&&◌, ◌*◌, ◌++◌, ◌+◌, ◌-◌, ◌<◌, ◌||◌, ◌∙◌, ◌∷◌, ◌≡◌, ◌≢◌, ◌≤◌, ◌⊎◌}
+pub use Rattle.std.proofs.lemmas.Bool.{and_from, and_parts, cases_eq, cases_lt, cases_order, eq-eqb, eqb-true, false_from_ne_true, le-leb, leb-true, lt-leb, ltb-false, ltb-true, or_cases, or_left, or_right, true_from_ne_false}
+pub use Rattle.std.proofs.lemmas.List.{append-nil, append_assoc, get_or-set_other, get_or-set_same, get_or-take, get_or_default, get_or_past, length-append, length-set, set_past, take_all, take_more}
+pub use Rattle.std.proofs.lemmas.List.Folds.{list_all_at, list_all_more, list_any_at, list_any_more}
+pub use Rattle.std.proofs.lemmas.List.FromFn.{length-enumerate_from, length-range_with_len, map-range_with_len_more}
+pub use Rattle.std.proofs.lemmas.List.Sums.{AllPass-from_list_all, count_by-le-length, fold-append, list_all-from_AllPass, sum_by-append, sum_by-cons, sum_by-set}
+pub use Rattle.std.proofs.lemmas.Result.{err_from_is_err_and}
+pub use Rattle.std.specs.List.{count_by, enumerate_from, flat_map, list_all, list_any, range_with_len, sum_by, zip}
+pub use Rattle.std.specs.Prelude.{All, Contains, IfSome, IsTrue, Result, fold, if◌then◌else◌, is_some, nat_le, nat_lt, ◌↔◌}
+pub use Rattle.pz_cells.specs.Cell.{still_piece, still_place}
+pub use Rattle.pz_cells.specs.declared.piece.Piece.{Piece}
+pub use Rattle.pz_game.specs.Items.{forbids_object, is_on, names, names_object, placed_on, tells_of}
+pub use Rattle.pz_game.specs.Pattern.{AreNamed, AreOf, IsRow, RuleRow}
+pub use Rattle.pz_game.specs.declared.direction.Dir.{Dir}
+pub use Rattle.pz_game.specs.declared.pattern.Item.{Item}
+pub use Rattle.pz_grid.specs.Admitted.{StartsNowhere, admits, admits_line, admitted, line_at, line_of, marks_cell, marks_item, marks_of, searches_level, searches_line, start_count, start_of, starts_at, starts_in}
+pub use Rattle.pz_grid.specs.Marks.{IsMarked, IsMarkedAt, IsMore, IsWidened, IsWidenedBy, is_marked, places_object, row_places}
+pub use Rattle.pz_grid.specs.Movement.{Pass, Spot, free, heading_count, heading_goal, heads, in_pass, move_at, move_place, moved_to, moving, neighbour, pass_of, resolved, settle, spot, spots, spots_at, spots_in, unless_taken}
+pub use Rattle.pz_grid.specs.Places.{along, cell_holds, cells_before, distance, gap_count, head_of, holds_at, holds_behind, line_count, line_length, on_map, pairs, pairs_at, pairs_in, place_in, places, row_holds, searched, starts_with, still_holds}
+pub use Rattle.pz_grid.specs.Rewriting.{Rewriting, in_rewrite, rewritten_along, rewritten_row}
+pub use Rattle.pz_grid.specs.Staying.{IsMove, IsStill, KeepsStill}
+pub use Rattle.pz_grid.specs.declared.placing.Place.{Place}
+pub use Rattle.pz_sets.specs.Sets.{IsWithin, member}
+pub use Rattle.pz_sheet.proofs.CountLemmas.{count_more, count_no, count_yes, range_more, sum_more}
+pub use Rattle.pz_sheet.proofs.RunLemmas.{action_leads_nowhere, enumerate_all, enumerate_fails, enumerate_more, numbered_at}
+pub use Rattle.pz_sheet.specs.Grid.{Grid, IsLawful, LevelState, SameSize, cell_at, place_at, with_place}
+pub use Rattle.pz_sheet.specs.Movement.{AreColumnsStill, AreStill, stilled}
+pub use Rattle.pz_sheet.specs.Presence.{cell_of, in_column, in_row, is_in}
+pub use Rattle.pz_sheet.specs.Runs.{holds_along, run_holds}
+pub use Rattle.pz_sheet.specs.Searching.{HoldsInLine, HoldsSomewhere}
