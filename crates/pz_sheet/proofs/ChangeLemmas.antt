@@ -1,26 +1,9 @@
 -- The cells in which an older level differs are found one by one, and give it back.
-use Rattle.pz_cells.specs.Layering.{Layering}
-use Rattle.std.proofs.Common.{◌≡◌, inl, inr, ℕ, zero, suc, ◌+◌, ◌*◌, ◌<◌, ◌≤◌, List, [], ◌∷◌, ◌++◌, Option, Some, None, Bool, true, false, not, cond, set, drop, length, get_or, ap, sym, ◌∙◌, refl, subst, arith}
-use Rattle.std.specs.Prelude.{IsTrue, ◌↔◌, fold}
-use Rattle.std.proofs.lemmas.List.{append-nil, length-append, length-map, get_or_default}
-use Rattle.std.proofs.lemmas.Bool.{cases_eq}
-use Rattle.std.proofs.Math.Seq.{set-append_seam, drop-length}
-use Rattle.std.specs.List.{All}
+use Rattle.pz_sheet.proofs.Common.{Layering, ◌≡◌, inl, inr, ℕ, zero, suc, ◌+◌, ◌*◌, ◌<◌, ◌≤◌, List, [], ◌∷◌, ◌++◌, Option, Some, None, Bool, true, false, not, cond, set, drop, length, get_or, ap, sym, ◌∙◌, refl, subst, arith, IsTrue, ◌↔◌, fold, length-append, length-map, get_or_default, cases_eq, set-append_seam, All, Cell, Piece, same_cell, same_cell_is, same_cell_self, CellChange, changed_from, changed_cells, with_cell, restored, differ_in, cell_there, IsNextDiffering, Grid, BareState, SameSize, cell_of, IsNext, seen, IsSound, AreAlike, HeadingSets, grid_of, IsStored, no_cell, sound_at}
+use Rattle.std.proofs.lemmas.List.{append-nil}
+use Rattle.std.proofs.Math.Seq.{drop-length}
 use Rattle.pz_base.proofs.ListLemmas.{drop-next}
-use Rattle.pz_cells.specs.declared.cell.Cell.{Cell}
-use Rattle.pz_cells.specs.declared.piece.Piece.{Piece}
-use Rattle.pz_cells.specs.Sameness.{same_cell}
-use Rattle.pz_cells.proofs.SameLemmas.{same_cell_is, same_cell_self}
 use Rattle.pz_sheet.specs.declared.Sheet.TheInside.{Inside}
-use Rattle.pz_sheet.specs.Changes.{CellChange, changed_from, changed_cells, with_cell, restored, differ_in, cell_there}
-use Rattle.pz_cells.specs.Differing.{IsNextDiffering}
-use Rattle.pz_sheet.specs.Grid.{Grid, BareState, SameSize}
-use Rattle.pz_sheet.specs.Presence.{cell_of}
-use Rattle.pz_sets.specs.Next.{IsNext}
-use Rattle.pz_cells.specs.Lists.{seen, IsSound, AreAlike}
-use Rattle.pz_planes.specs.Notes.{HeadingSets}
-use Rattle.pz_sheet.specs.Seen.{grid_of, IsStored}
-use Rattle.pz_cells.proofs.ListLemmas.{no_cell, sound_at}
 use Rattle.pz_sheet.proofs.SameLemmas.{seen_alike, alike_seen, are_same}
 use Rattle.pz_sheet.proofs.SheetLemmas.{only_false, seen_at}
 

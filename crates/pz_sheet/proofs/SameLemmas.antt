@@ -1,6 +1,5 @@
 -- Cells in words are the same if their words have the same numbers, and levels if none of their cells differ.
-use Rattle.pz_sheet.proofs.Common.{Layering, ◌≡◌, ℕ, ◌<◌, [], Option, Some, None, Bool, true, false, not, length, ap, sym, refl, arith, IsTrue, ◌↔◌, is_some, ext_get_or, All, flag, each_number, Cell, seen, IsSound, AreAlike, same_cell, cell_alike, objects_alike, heads_alike, same_cell_is, same_cell_self, differ_in, Grid, SameSize, cell_of}
-use Rattle.pz_sets.specs.Next.{IsNext}
+use Rattle.pz_sheet.proofs.Common.{Layering, ◌≡◌, ℕ, ◌<◌, [], Option, Some, None, Bool, true, false, not, length, ap, sym, refl, arith, IsTrue, ◌↔◌, is_some, ext_get_or, All, flag, each_number, Cell, seen, IsSound, AreAlike, same_cell, cell_alike, objects_alike, heads_alike, same_cell_is, same_cell_self, differ_in, Grid, SameSize, cell_of, IsNext}
 
 pub seen_alike : (N : ℕ) (layering : Layering) (cell other : Cell N) → IsSound layering cell → IsSound layering other → AreAlike cell other → seen layering cell ≡ seen layering other
 seen_alike N layering cell other sound sound_other same =
