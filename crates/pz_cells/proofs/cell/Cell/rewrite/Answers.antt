@@ -1,5 +1,5 @@
 use Rattle.pz_cells.proofs.Common.{ℕ, List, ap, sym, ◌∙◌, arith, member, IsProper, AreMasksOf, rewritten_cell, cell_of}
-use Rattle.pz_cells.proofs.HoldLemmas.{masks_of_game, masks_fit}
+use Rattle.pz_cells.proofs.HoldLemmas.{masks_fit}
 use Rattle.pz_cells.proofs.RewriteLemmas.{AreRewritten, lawful_rewritten, cell_rewritten, placed_within, mid_proper, changed_by}
 use Rattle.pz_cells.proofs.cell.Cell.rewrite.Given.{Over}
 use Rattle.pz_cells.proofs.cell.Cell.rewrite.Goals.{After-self-3-1}
@@ -7,20 +7,18 @@ use Rattle.pz_cells.proofs.cell.Cell.rewrite.Goals as goal
 
 pub replace-moved-requires : goal.replace-moved-requires
 replace-moved-requires g c number here =
-    let m = masks_of_game g.row.N c.args.layers.now c.args.right.now c.masks-is.result.now c.objects_on.ensures.law c.requires.right_of c.masks-is.ensures in
-    let fit = masks_fit g.row.N c.args.layers.now c.args.right.now c.masks-is.result.now c.objects_on.ensures.law c.requires.right_of m in
+    let fit = masks_fit g.row.N c.args.layers.now c.args.right.now c.masks-is.result.now c.objects_on.ensures.law c.requires.right_of c.masks-is.ensures in
     omega (arith, fit.headed number (ap (λ (ws : List ℕ). member ws number) (sym c.words-2.ensures.words) ∙ here))
 
 pub replace-replaced-requires : goal.replace-replaced-requires
 replace-replaced-requires g c object here =
-    let m = masks_of_game g.row.N c.args.layers.now c.args.right.now c.masks-is.result.now c.objects_on.ensures.law c.requires.right_of c.masks-is.ensures in
-    let within = placed_within c.args.layers.now.layers c.args.right.now c.masks-is.result.now c.requires.right_of m object (ap (λ (ws : List ℕ). member ws object) (sym c.words-4.ensures.words) ∙ here) in
-    omega (arith, within, c.objects_on.ensures.law.room)
+    let fit = masks_fit g.row.N c.args.layers.now c.args.right.now c.masks-is.result.now c.objects_on.ensures.law c.requires.right_of c.masks-is.ensures in
+    omega (arith, placed_within c.args.layers.now.layers c.args.right.now c.masks-is.result.now c.requires.right_of fit.are object (ap (λ (ws : List ℕ). member ws object) (sym c.words-4.ensures.words) ∙ here), c.objects_on.ensures.law.room)
 
 masks_of : (g : Over) (c : After-self-3-1 g) → AreMasksOf c.args.left.now c.masks-was.result.now × AreMasksOf c.args.right.now c.masks-is.result.now
 masks_of g c = (
-  masks_of_game g.row.N c.args.layers.now c.args.left.now c.masks-was.result.now c.objects_on.ensures.law c.requires.left_of c.masks-was.ensures,
-  masks_of_game g.row.N c.args.layers.now c.args.right.now c.masks-is.result.now c.objects_on.ensures.law c.requires.right_of c.masks-is.ensures,
+  (masks_fit g.row.N c.args.layers.now _ _ c.objects_on.ensures.law c.requires.left_of c.masks-was.ensures).are,
+  (masks_fit g.row.N c.args.layers.now _ _ c.objects_on.ensures.law c.requires.right_of c.masks-is.ensures).are,
 )
 
 are_rewritten : (g : Over) (c : After-self-3-1 g) → AreRewritten c.args.layers.now.layers c.masks-was.result.now c.masks-is.result.now c.args.self.now.objects c.args.self.now.movement c.replace-replaced.new.words c.replace-moved.new.words c.end_leaving.new.movement
