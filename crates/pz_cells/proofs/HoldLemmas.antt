@@ -13,6 +13,10 @@ use Rattle.pz_cells.proofs.PlaceLemmas.{place_some, first_toward}
 pub place_seen : (depth : ℕ) (layers objects movement : List ℕ) (layer : ℕ) → layer < depth → get_or (cell_of depth layers objects movement) layer None ≡ place_of layers objects movement layer
 place_seen depth layers objects movement layer low = get_or-map-range_with_len (place_of layers objects movement) 0 depth layer layer None low (omega arith)
 
+-- past the layers nothing stands
+pub place_everywhere : (depth : ℕ) (layers objects movement : List ℕ) (layer : ℕ) → All (λ l. l < depth) layers → AreLawful layers objects movement → get_or (cell_of depth layers objects movement) layer None ≡ place_of layers objects movement layer
+place_everywhere depth layers objects movement layer low lawful = grind (arith, cases_lt layer depth, get_or_past (cell_of depth layers objects movement) layer None, length-map-range_with_len (place_of layers objects movement) 0 depth, place_seen depth layers objects movement layer, lawful.shows layer, lawful.of_game, low)
+
 -- each object of the seen cell stands on its layer
 pub on_its_layer : (depth : ℕ) (layers objects movement : List ℕ) → AreLawful layers objects movement → OnItsLayer layers (cell_of depth layers objects movement)
 on_its_layer depth layers objects movement lawful layer = grind (arith, cases_lt layer depth, get_or_past (cell_of depth layers objects movement) layer None, length-map-range_with_len (place_of layers objects movement) 0 depth, place_seen depth layers objects movement layer, lawful.shows layer, lawful.of_game)

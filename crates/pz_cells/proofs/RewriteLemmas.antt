@@ -1,8 +1,8 @@
 -- What a rewriting does to the sets of a cell.
-use Rattle.pz_cells.proofs.Common.{◌≡◌, ◌≢◌, ◌⊎◌, nat_lt, inl, inr, ℕ, ◌+◌, ◌<◌, ◌≤◌, List, Option, Some, None, Bool, true, false, cond, not, ◌&&◌, ◌||◌, length, get_or, arith, ap, sym, ◌∙◌, refl, subst, nat_eq, All, is_some, ◌↔◌, cases_lt, and_parts, or_cases, or_right, or_parts, get_or-map-range_with_len, length-map-range_with_len, common_steps, member, Piece, Dir, Word, Item, AreOf, standing, same_cell, is_toward, flag, heads, IsProper, place_of, cell_of, Shows, AreLawful, each_number, names, placed_on, tells_of, tells_movement, names_object, forbids_object, heading_of, new_heading, kept, replaced, rewritten_place, rewritten_cell, Masks, toward, begins, settles, AreMasksOf, ends, Leaves, removed_by}
+use Rattle.pz_cells.proofs.Common.{map, find, option_map, piece_with, first_of, range_with_len, ◌≡◌, ◌≢◌, ◌⊎◌, nat_lt, inl, inr, ℕ, ◌+◌, ◌<◌, ◌≤◌, List, Option, Some, None, Bool, true, false, cond, not, ◌&&◌, ◌||◌, length, get_or, arith, ap, sym, ◌∙◌, refl, subst, nat_eq, All, is_some, ◌↔◌, cases_lt, and_parts, or_cases, or_right, or_parts, get_or-map-range_with_len, length-map-range_with_len, common_steps, member, Piece, Dir, Word, Item, AreOf, standing, same_cell, is_toward, flag, heads, IsProper, place_of, cell_of, Shows, AreLawful, each_number, names, placed_on, tells_of, tells_movement, names_object, forbids_object, heading_of, new_heading, kept, replaced, rewritten_place, rewritten_cell, Masks, toward, begins, settles, AreMasksOf, ends, Leaves, removed_by}
 use Rattle.pz_cells.proofs.SameLemmas.{same_cell_is, same_cell_self}
-use Rattle.pz_cells.proofs.PlaceLemmas.{shows_alike, lawful_from_shows, cell_from_shows}
-use Rattle.pz_cells.proofs.HoldLemmas.{place_seen, standing_seen, placed_is}
+use Rattle.pz_cells.proofs.PlaceLemmas.{lawful_from_shows, cell_shown}
+use Rattle.pz_cells.proofs.HoldLemmas.{place_everywhere, standing_seen, placed_is}
 
 -- an object that the left names or the right forbids
 abbrev pub is_removable : List Item → List Item → ℕ → Bool
@@ -127,14 +127,12 @@ module _ (layers : List ℕ) (left right : List Item) (l r : Masks) (objects mov
   lawful_rewritten proper =
       lawful_from_shows layers objects_new movement_new (λ layer. rewritten_place left right layer (place_of layers objects movement layer)) w.of_game (λ layer. rewritten_shows layer (place_of layers objects movement layer) (lawful.shows layer)) proper
 
-  pub cell_rewritten : (depth : ℕ) → cell_of depth layers objects_new movement_new ≡ rewritten_cell left right (cell_of depth layers objects movement)
-  cell_rewritten depth =
-      let old = cell_of depth layers objects movement in
-      let f = λ (layer : ℕ). rewritten_place left right layer (get_or old layer None) in
-      let long : length old ≡ depth = length-map-range_with_len (place_of layers objects movement) 0 depth in
-      cell_from_shows depth layers objects_new movement_new (rewritten_cell left right old) (length-map-range_with_len f 0 (length old) ∙ long) w.of_game
-      (λ layer low. subst (Shows layers (member objects_new) (heads movement_new layer) layer) (sym (get_or-map-range_with_len f 0 (length old) layer layer None (omega (arith, long)) (omega arith)))
-      (rewritten_shows layer (get_or old layer None) (subst (Shows layers (member objects) (heads movement layer) layer) (sym (place_seen depth layers objects movement layer low)) (lawful.shows layer))))
+  pub cell_rewritten : (depth : ℕ) → All (λ l. l < depth) layers → cell_of depth layers objects_new movement_new ≡ rewritten_cell left right (cell_of depth layers objects movement)
+  cell_rewritten depth low =
+      let here = λ (layer : ℕ). place_everywhere depth layers objects movement layer low lawful in
+      let long = length-map-range_with_len (place_of layers objects movement) 0 depth in
+      cell_shown depth layers objects_new movement_new (λ layer. rewritten_place left right layer (place_of layers objects movement layer)) w.of_game (λ layer. rewritten_shows layer (place_of layers objects movement layer) (lawful.shows layer))
+      ∙ (λ i. map (λ layer. rewritten_place left right layer (sym (here layer) i)) (range_with_len 0 (sym long i)))
 
   -- the directions between have no bits between the fields
   pub mid_proper : IsProper mid
@@ -145,20 +143,18 @@ pub placed_within : (layers : List ℕ) (right : List Item) (r : Masks) → AreO
 placed_within layers right r are mr object here = (let p = mr.placed_only object here in subst (λ (k : ℕ). k < length layers) p.3 (placed_is layers p.0 right p.1 are p.2).0)
 
 -- ---- whether the cell changed
--- nothing stands past the layers
-place_past : (depth : ℕ) (layers objects movement : List ℕ) (layer : ℕ) → All (λ l. l < depth) layers → AreLawful layers objects movement → depth ≤ layer → place_of layers objects movement layer ≡ None
-place_past depth layers objects movement layer low lawful past = grind (arith, lawful.shows layer, lawful.of_game, low)
-
 -- words that answer alike show one cell
-pub cell_alike : (depth : ℕ) (layers objects movement objects_new movement_new : List ℕ) → AreLawful layers objects movement → AreLawful layers objects_new movement_new → ((object : ℕ) → member objects_new object ≡ member objects object) → ((layer : ℕ) (dir : Dir) → heads movement_new layer dir ≡ heads movement layer dir) → cell_of depth layers objects_new movement_new ≡ cell_of depth layers objects movement
-cell_alike depth layers objects movement objects_new movement_new lawful lawful_new same_objects same_heads =
-    cell_from_shows depth layers objects_new movement_new (cell_of depth layers objects movement) (length-map-range_with_len (place_of layers objects movement) 0 depth) lawful_new.of_game (λ layer low.
-    subst (Shows layers (member objects_new) (heads movement_new layer) layer) (sym (place_seen depth layers objects movement layer low))
-    (shows_alike layers (member objects) (member objects_new) (heads movement layer) (heads movement_new layer) layer (place_of layers objects movement layer) (λ object on. same_objects object) (same_heads layer) (lawful.shows layer)))
+pub cell_alike : (depth : ℕ) (layers objects movement objects_new movement_new : List ℕ) → ((object : ℕ) → member objects_new object ≡ member objects object) → ((layer : ℕ) (dir : Dir) → heads movement_new layer dir ≡ heads movement layer dir) → cell_of depth layers objects_new movement_new ≡ cell_of depth layers objects movement
+cell_alike depth layers objects movement objects_new movement_new same_objects same_heads =
+    λ i. map (λ layer. option_map (piece_with (first_of (λ dir. same_heads layer dir i))) (find (λ object. same_objects object i && nat_eq (get_or layers object 0) layer) (range_with_len 0 (length layers)))) (range_with_len 0 depth)
 
 -- one cell is shown by words that answer alike
 pub member_seen : (depth : ℕ) (layers objects movement : List ℕ) (object : ℕ) → All (λ l. l < depth) layers → AreLawful layers objects movement → member objects object ≡ is_some (standing (cell_of depth layers objects movement) object)
 member_seen depth layers objects movement object low lawful = grind (arith, standing_seen depth layers objects movement object low lawful)
+
+heads_seen : (depth : ℕ) (layers objects movement : List ℕ) (layer : ℕ) (dir : Dir) → All (λ l. l < depth) layers → AreLawful layers objects movement → heads movement layer dir ≡ is_toward (heading_of (get_or (cell_of depth layers objects movement) layer None)) dir
+heads_seen depth layers objects movement layer dir low lawful =
+    toward_shown layers (member objects) (heads movement layer) layer (place_of layers objects movement layer) dir (lawful.shows layer) ∙ ap (λ (p : Option Piece). is_toward (heading_of p) dir) (sym (place_everywhere depth layers objects movement layer low lawful))
 
 pub objects_alike : (depth : ℕ) (layers objects movement objects_new movement_new : List ℕ) → All (λ l. l < depth) layers → AreLawful layers objects movement → AreLawful layers objects_new movement_new → cell_of depth layers objects_new movement_new ≡ cell_of depth layers objects movement → (object : ℕ) → member objects_new object ≡ member objects object
 objects_alike depth layers objects movement objects_new movement_new low lawful lawful_new e object =
@@ -166,12 +162,7 @@ objects_alike depth layers objects movement objects_new movement_new low lawful 
 
 pub heads_alike : (depth : ℕ) (layers objects movement objects_new movement_new : List ℕ) → All (λ l. l < depth) layers → AreLawful layers objects movement → AreLawful layers objects_new movement_new → cell_of depth layers objects_new movement_new ≡ cell_of depth layers objects movement → (layer : ℕ) (dir : Dir) → heads movement_new layer dir ≡ heads movement layer dir
 heads_alike depth layers objects movement objects_new movement_new low lawful lawful_new e layer dir =
-    toward_shown layers (member objects_new) (heads movement_new layer) layer (place_of layers objects_new movement_new layer) dir (lawful_new.shows layer)
-    ∙ ap (λ (p : Option Piece). is_toward (heading_of p) dir) (elim (cases_lt layer depth) [
-      | inl within ↦ sym (place_seen depth layers objects_new movement_new layer within) ∙ ap (λ (c : List (Option Piece)). get_or c layer None) e ∙ place_seen depth layers objects movement layer within
-      | inr past ↦ place_past depth layers objects_new movement_new layer low lawful_new past ∙ sym (place_past depth layers objects movement layer low lawful past)
-    ])
-    ∙ sym (toward_shown layers (member objects) (heads movement layer) layer (place_of layers objects movement layer) dir (lawful.shows layer))
+    heads_seen depth layers objects_new movement_new layer dir low lawful_new ∙ ap (λ (c : List (Option Piece)). is_toward (heading_of (get_or c layer None)) dir) e ∙ sym (heads_seen depth layers objects movement layer dir low lawful)
 
 -- where the objects stay, none of them leaves
 none_leaves : (layers : List ℕ) (right : List Item) (l r : Masks) (objects movement objects_new mid movement_new : List ℕ) → AreOf layers right → AreMasksOf right r → ((object : ℕ) → member objects object ≡ true → object < length layers) → AreRewritten layers l r objects movement objects_new mid movement_new → ((object : ℕ) → member objects_new object ≡ member objects object) → (object : ℕ) → Leaves layers objects r.layers (removed_by l r) object → ⊥
@@ -194,7 +185,7 @@ changed_by depth layers right l r objects movement objects_new mid movement_new 
       forth n =
           let parts = or_parts moved replaced n in
           let same = is_replaced.0 parts.1 in
-          sym e ∙ cell_alike depth layers objects movement objects_new movement_new lawful lawful_new same (λ layer dir. settled same layer dir ∙ is_moved.0 parts.0 (flag layer dir))
+          sym e ∙ cell_alike depth layers objects movement objects_new movement_new same (λ layer dir. settled same layer dir ∙ is_moved.0 parts.0 (flag layer dir))
 
       back : new_cell ≡ cell_of depth layers objects movement → (moved || replaced) ≡ false
       back h =

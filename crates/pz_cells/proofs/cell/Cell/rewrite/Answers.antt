@@ -37,7 +37,7 @@ pub returns-clause-sound : goal.returns-clause-sound
 returns-clause-sound g c = lawful_rewritten c.args.layers.now.layers c.args.left.now c.args.right.now c.masks-was.result.now c.masks-is.result.now c.args.self.now.objects c.args.self.now.movement c.replace-replaced.new.words c.replace-moved.new.words c.end_leaving.new.movement c.requires.right_of (masks_of g c).0 (masks_of g c).1 c.requires.sound (are_rewritten g c) (c.end_leaving.ensures.proper (proper_mid g c))
 
 pub returns-clause-cell : goal.returns-clause-cell
-returns-clause-cell g c = cell_rewritten c.args.layers.now.layers c.args.left.now c.args.right.now c.masks-was.result.now c.masks-is.result.now c.args.self.now.objects c.args.self.now.movement c.replace-replaced.new.words c.replace-moved.new.words c.end_leaving.new.movement c.requires.right_of (masks_of g c).0 (masks_of g c).1 c.requires.sound (are_rewritten g c) c.args.layers.now.depth
+returns-clause-cell g c = cell_rewritten c.args.layers.now.layers c.args.left.now c.args.right.now c.masks-was.result.now c.masks-is.result.now c.args.self.now.objects c.args.self.now.movement c.replace-replaced.new.words c.replace-moved.new.words c.end_leaving.new.movement c.requires.right_of (masks_of g c).0 (masks_of g c).1 c.requires.sound (are_rewritten g c) c.args.layers.now.depth c.objects_on.ensures.law.layered
 
 pub returns-clause-changed : goal.returns-clause-changed
 returns-clause-changed g c =
