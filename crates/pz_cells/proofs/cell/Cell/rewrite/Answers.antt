@@ -41,6 +41,5 @@ returns-clause-cell g c = cell_rewritten c.args.layers.now.layers c.args.left.no
 
 pub returns-clause-changed : goal.returns-clause-changed
 returns-clause-changed g c =
-    changed_by c.args.layers.now.depth c.args.layers.now.layers c.args.right.now c.masks-was.result.now c.masks-is.result.now c.args.self.now.objects c.args.self.now.movement c.replace-replaced.new.words c.replace-moved.new.words c.end_leaving.new.movement
-    c.replace-moved.result c.replace-replaced.result (rewritten_cell c.args.left.now c.args.right.now (cell_of c.args.layers.now.depth c.args.layers.now.layers c.args.self.now.objects c.args.self.now.movement))
-    c.requires.right_of (masks_of g c).1 c.objects_on.ensures.law.layered c.requires.sound (returns-clause-sound g c) (are_rewritten g c) (proper_mid g c) c.replace-moved.ensures.changed c.replace-replaced.ensures.changed (returns-clause-cell g c)
+    changed_by c.args.layers.now.layers c.args.left.now c.args.right.now c.masks-was.result.now c.masks-is.result.now c.args.self.now.objects c.args.self.now.movement c.replace-replaced.new.words c.replace-moved.new.words c.end_leaving.new.movement c.requires.right_of (masks_of g c).0 (masks_of g c).1 c.requires.sound (are_rewritten g c)
+    c.args.layers.now.depth c.replace-moved.result c.replace-replaced.result c.objects_on.ensures.law.layered (c.end_leaving.ensures.proper (proper_mid g c)) c.replace-moved.ensures.changed c.replace-replaced.ensures.changed
