@@ -24,7 +24,11 @@ abbrev pub gone_by : List ℕ → Masks → Masks → ℕ → Bool
 gone_by layers l r object = member r.layers (get_or layers object 0) || (member l.present object || member r.absent object)
 
 -- what the words of a rewritten cell are
-pub record AreRewritten (layers : List ℕ) (l r : Masks) (objects movement objects_new mid movement_new : List ℕ) : Type 0 where
+pub record AreRewritten (layers : List ℕ) (left right : List Item) (l r : Masks) (objects movement objects_new mid movement_new : List ℕ) : Type 0 where
+  pub are : AreOf layers right
+  pub ml : AreMasksOf left l
+  pub mr : AreMasksOf right r
+  pub lawful : AreLawful layers objects movement
   pub is_new : (object : ℕ) → object < length layers → member objects_new object ≡ ((member objects object && not (gone_by layers l r object)) || member r.placed object)
   pub of_game : (object : ℕ) → member objects_new object ≡ true → object < length layers
   pub is_mid : (number : ℕ) → member mid number ≡ ((member movement number && not (member r.settled number || (member l.told number && member r.covered number))) || member r.headed number)
@@ -60,26 +64,26 @@ decided : (b : Bool) (x y : List (Option Piece)) → (b ≡ false → x ≡ y) �
 decided false x y f g = grind (arith, f refl, same_cell_self x)
 decided true x y f g = grind (arith, g, same_cell_is x y)
 
-module _ (layers : List ℕ) (left right : List Item) (l r : Masks) (objects movement objects_new mid movement_new : List ℕ) (are : AreOf layers right) (ml : AreMasksOf left l) (mr : AreMasksOf right r) (lawful : AreLawful layers objects movement) (w : AreRewritten layers l r objects movement objects_new mid movement_new) where
+module _ (layers : List ℕ) (left right : List Item) (l r : Masks) (objects movement objects_new mid movement_new : List ℕ) (w : AreRewritten layers left right l r objects movement objects_new mid movement_new) where
   removable : (object : ℕ) → (member l.present object || member r.absent object) ≡ is_removable left right object
-  removable object = grind (arith, ml.present object, mr.absent object)
+  removable object = grind (arith, w.ml.present object, w.mr.absent object)
 
   -- what is placed stands alone on its layer
   placed_here : (object : ℕ) → member r.placed object ≡ true → IfSome (placed_on (get_or layers object 0) right) (λ item. item.object ≡ object) × (is_some (placed_on (get_or layers object 0) right) ≡ true)
   placed_here object h =
-      let p = mr.placed_only object h in
-      let on : p.0 ≡ get_or layers object 0 = sym (placed_is layers p.0 right p.1 are p.2).1 ∙ ap (λ (k : ℕ). get_or layers k 0) p.3 in
+      let p = w.mr.placed_only object h in
+      let on : p.0 ≡ get_or layers object 0 = sym (placed_is layers p.0 right p.1 w.are p.2).1 ∙ ap (λ (k : ℕ). get_or layers k 0) p.3 in
       subst (λ (o : Option Item). IfSome o (λ item. item.object ≡ object) × (is_some o ≡ true)) (sym p.2 ∙ ap (λ (k : ℕ). placed_on k right) on) (p.3, refl)
 
   others : (layer : ℕ) (dir : Dir) → ((object : ℕ) → Leaves layers objects r.layers (removed_by l r) object → get_or layers object 0 ≡ layer → ⊥) → heads movement_new layer dir ≡ ((heads movement layer dir && not (ends (tells_of layer left) (placed_on layer right))) || begins dir (placed_on layer right))
-  others layer dir none = w.others layer dir none ∙ grind (arith, w.is_mid (flag layer dir), mr.settled layer dir, ml.told layer dir, mr.covered layer dir, mr.headed layer dir, ends_by (tells_of layer left) (placed_on layer right))
+  others layer dir none = w.others layer dir none ∙ grind (arith, w.is_mid (flag layer dir), w.mr.settled layer dir, w.ml.told layer dir, w.mr.covered layer dir, w.mr.headed layer dir, ends_by (tells_of layer left) (placed_on layer right))
 
   -- each layer shows what the definition says of it
   rewritten_shows : (layer : ℕ) (here : Option Piece) → Shows layers (member objects) (heads movement layer) layer here → Shows layers (member objects_new) (heads movement_new layer) layer (rewritten_place left right layer here)
   rewritten_shows layer here shown = by_placed (placed_on layer right) refl where
     -- where nothing is placed an object stays unless it is removable
     stays : placed_on layer right ≡ None → (object : ℕ) → get_or layers object 0 ≡ layer → object < length layers → member objects_new object ≡ (member objects object && not (is_removable left right object))
-    stays e object on low = grind (arith, w.is_new object low, mr.layers layer, e, on, removable object, placed_here object)
+    stays e object on low = grind (arith, w.is_new object low, w.mr.layers layer, e, on, removable object, placed_here object)
 
     toward_kept : placed_on layer right ≡ None → ((object : ℕ) → Leaves layers objects r.layers (removed_by l r) object → get_or layers object 0 ≡ layer → ⊥) → (dir : Dir) → heads movement_new layer dir ≡ heads movement layer dir
     toward_kept e none dir = grind (arith, others layer dir none, e)
@@ -87,10 +91,10 @@ module _ (layers : List ℕ) (left right : List Item) (l r : Masks) (objects mov
     by_test : placed_on layer right ≡ None → (piece : Piece) → Shows layers (member objects) (heads movement layer) layer (Some piece) → (b : Bool) → is_removable left right piece.object ≡ b → Shows layers (member objects_new) (heads movement_new layer) layer (cond b None (Some piece))
     by_test e piece shown true f = (
       λ object new on. grind (arith, stays e object on (w.of_game object new), new, shown.2 object, on, f),
-      λ dir. ap (λ (k : ℕ). heads movement_new k dir) (sym shown.1) ∙ w.ended piece.object dir (record { here = shown.0; removed = removable piece.object ∙ f; free = ap (member r.layers) shown.1 ∙ mr.layers layer ∙ ap is_some e }),
+      λ dir. ap (λ (k : ℕ). heads movement_new k dir) (sym shown.1) ∙ w.ended piece.object dir (record { here = shown.0; removed = removable piece.object ∙ f; free = ap (member r.layers) shown.1 ∙ w.mr.layers layer ∙ ap is_some e }),
     )
     by_test e piece shown false f = (
-      grind (arith, stays e piece.object shown.1 (lawful.of_game piece.object shown.0), shown.0, f),
+      grind (arith, stays e piece.object shown.1 (w.lawful.of_game piece.object shown.0), shown.0, f),
       shown.1,
       λ object new on. shown.2 object (grind (arith, stays e object on (w.of_game object new), new)) on,
       λ dir. toward_kept e (λ object g on. grind (arith, shown.2 object g.here on, g.removed, removable object, f)) dir ∙ shown.3 dir,
@@ -106,32 +110,32 @@ module _ (layers : List ℕ) (left right : List Item) (l r : Masks) (objects mov
     by_placed : (found : Option Item) → placed_on layer right ≡ found → Shows layers (member objects_new) (heads movement_new layer) layer (replaced found (tells_of layer left) left right here)
     by_placed None e = by_here e here shown
     by_placed (Some item) e =
-        let is = placed_is layers layer right item are e in (
-          w.is_new item.object is.0 ∙ or_right _ _ (mr.placed layer item e),
+        let is = placed_is layers layer right item w.are e in (
+          w.is_new item.object is.0 ∙ or_right _ _ (w.mr.placed layer item e),
           is.1,
-          λ object new on. grind (arith, w.is_new object (w.of_game object new), new, mr.layers layer, e, on, placed_here object),
-          λ dir. others layer dir (λ object g on. absurd (grind (arith, g.free, on, mr.layers layer, e))) ∙ ap (λ (o : Option Item). (heads movement layer dir && not (ends (tells_of layer left) o)) || begins dir o) e ∙ new_toward item.word (tells_of layer left) here (heads movement layer dir) dir is.2 (toward_shown layers (member objects) (heads movement layer) layer here dir shown),
+          λ object new on. grind (arith, w.is_new object (w.of_game object new), new, w.mr.layers layer, e, on, placed_here object),
+          λ dir. others layer dir (λ object g on. absurd (grind (arith, g.free, on, w.mr.layers layer, e))) ∙ ap (λ (o : Option Item). (heads movement layer dir && not (ends (tells_of layer left) o)) || begins dir o) e ∙ new_toward item.word (tells_of layer left) here (heads movement layer dir) dir is.2 (toward_shown layers (member objects) (heads movement layer) layer here dir shown),
         )
 
   -- the new words are lawful, and what is seen of them is the definition's cell
   pub lawful_rewritten : IsProper movement_new → AreLawful layers objects_new movement_new
   lawful_rewritten proper =
-      lawful_from_shows layers objects_new movement_new (λ layer. rewritten_place left right layer (place_of layers objects movement layer)) w.of_game (λ layer. rewritten_shows layer (place_of layers objects movement layer) (lawful.shows layer)) proper
+      lawful_from_shows layers objects_new movement_new (λ layer. rewritten_place left right layer (place_of layers objects movement layer)) w.of_game (λ layer. rewritten_shows layer (place_of layers objects movement layer) (w.lawful.shows layer)) proper
 
   pub cell_rewritten : (depth : ℕ) → All (λ l. l < depth) layers → cell_of depth layers objects_new movement_new ≡ rewritten_cell left right (cell_of depth layers objects movement)
   cell_rewritten depth low =
-      let here = λ (layer : ℕ). place_everywhere depth layers objects movement layer low lawful in
+      let here = λ (layer : ℕ). place_everywhere depth layers objects movement layer low w.lawful in
       let long = length-map-range_with_len (place_of layers objects movement) 0 depth in
-      cell_shown depth layers objects_new movement_new (λ layer. rewritten_place left right layer (place_of layers objects movement layer)) w.of_game (λ layer. rewritten_shows layer (place_of layers objects movement layer) (lawful.shows layer))
+      cell_shown depth layers objects_new movement_new (λ layer. rewritten_place left right layer (place_of layers objects movement layer)) w.of_game (λ layer. rewritten_shows layer (place_of layers objects movement layer) (w.lawful.shows layer))
       ∙ (λ i. map (λ layer. rewritten_place left right layer (sym (here layer) i)) (range_with_len 0 (sym long i)))
 
   -- the directions between have no bits between the fields
   pub mid_proper : IsProper mid
-  mid_proper number high = grind (arith, w.is_mid number, lawful.proper number high, mr.proper_headed number high)
+  mid_proper number high = grind (arith, w.is_mid number, w.lawful.proper number high, w.mr.proper_headed number high)
 
   -- where the objects stay, none of them leaves
   none_leaves : ((object : ℕ) → member objects_new object ≡ member objects object) → (object : ℕ) → Leaves layers objects r.layers (removed_by l r) object → ⊥
-  none_leaves same object g = absurd (grind (arith, g.removed, g.free, g.here, w.is_new object (lawful.of_game object g.here), same object, placed_here object, mr.layers (get_or layers object 0)))
+  none_leaves same object g = absurd (grind (arith, g.removed, g.free, g.here, w.is_new object (w.lawful.of_game object g.here), same object, placed_here object, w.mr.layers (get_or layers object 0)))
 
   -- whether the cell changed
   pub changed_by : (depth : ℕ) (moved replaced : Bool) → All (λ layer. layer < depth) layers → IsProper movement_new → ((moved ≡ false) ↔ ((number : ℕ) → member mid number ≡ member movement number)) → ((replaced ≡ false) ↔ ((number : ℕ) → member objects_new number ≡ member objects number))
@@ -150,9 +154,9 @@ module _ (layers : List ℕ) (left right : List Item) (l r : Masks) (objects mov
         back : rewritten_cell left right (cell_of depth layers objects movement) ≡ cell_of depth layers objects movement → (moved || replaced) ≡ false
         back h =
             let lawful_new = lawful_rewritten proper in
-            let same = objects_alike depth layers objects movement objects_new movement_new low lawful lawful_new (cell_rewritten depth low ∙ h) in
-            let heads_same = heads_alike depth layers objects movement objects_new movement_new low lawful lawful_new (cell_rewritten depth low ∙ h) in
-            ap (λ b. b || replaced) (is_moved.1 (each_number (λ mine theirs. mine ≡ theirs) mid movement mid_proper lawful.proper refl (λ layer dir. sym (settled same layer dir) ∙ heads_same layer dir))) ∙ is_replaced.1 same
+            let same = objects_alike depth layers objects movement objects_new movement_new low w.lawful lawful_new (cell_rewritten depth low ∙ h) in
+            let heads_same = heads_alike depth layers objects movement objects_new movement_new low w.lawful lawful_new (cell_rewritten depth low ∙ h) in
+            ap (λ b. b || replaced) (is_moved.1 (each_number (λ mine theirs. mine ≡ theirs) mid movement mid_proper w.lawful.proper refl (λ layer dir. sym (settled same layer dir) ∙ heads_same layer dir))) ∙ is_replaced.1 same
 
 -- ---- the loops
 -- the layers up to one, and that one

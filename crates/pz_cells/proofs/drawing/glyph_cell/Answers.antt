@@ -10,14 +10,10 @@ loop-object-preserved g c =
     let are = glyph_read c.args.game.now c.values.result.now c.args.number c.index-values-number.result objects c.values.ensures.values c.requires.number c.items-object-items.ensures in
     let was = seen c.args.layers.now c.loop-object.cell in
     let object = get_or objects at 0 in
-    let is : seen c.args.layers.now c.put.new.self ≡ put was object =
-    c.put.ensures.cell ∙ ap (λ (layer : ℕ). set was layer (Some c.still.result)) c.layer_of-layer.ensures.layer ∙ ap (λ (piece : Piece). set was (get_or c.args.layers.now.layers object 0) (Some piece)) c.still.ensures in
+    let is : seen c.args.layers.now c.put.new.self ≡ put was object = cc (c.put.ensures.cell, c.layer_of-layer.ensures.layer, c.still.ensures) in
     record {
       sound = c.put.ensures.sound;
-      rest = ap (λ (all : List ℕ). fold put (seen c.args.layers.now c.put.new.self) (drop (at + 1) all)) are
-          ∙ ap (λ (cell : List (Option Piece)). fold put cell (drop (at + 1) objects)) is
-          ∙ sym (at_drop_more (fold put was) objects at 0 c.loop-object-test.true)
-          ∙ ap (λ (all : List ℕ). fold put was (drop at all)) (sym are) ∙ c.loop-object.invariant.rest;
+      rest = cc (are, is, at_drop_more (fold put was) objects at 0 c.loop-object-test.true, c.loop-object.invariant.rest);
     }
 
 pub returns-clause-cell : goal.returns-clause-cell
@@ -26,5 +22,4 @@ returns-clause-cell g c =
     let at = c.loop-object.object-index in
     let objects = c.items-object-items.result.now in
     let are = glyph_read c.args.game.now c.values.result.now c.args.number c.index-values-number.result objects c.values.ensures.values c.requires.number c.items-object-items.ensures in
-    let was = seen c.args.layers.now c.loop-object.cell in
-    sym (ap (λ (all : List ℕ). fold put was (drop at all)) are ∙ ap (fold put was) (drop_all at objects c.loop-object-test.false)) ∙ c.loop-object.invariant.rest
+    cc (are, ap (fold put (seen c.args.layers.now c.loop-object.cell)) (drop_all at objects c.loop-object-test.false), c.loop-object.invariant.rest)
