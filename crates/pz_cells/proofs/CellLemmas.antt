@@ -23,7 +23,3 @@ standing_on_layer layers cell piece h e = standing_found cell piece.object (get_
 -- an object is nowhere but on its layer
 pub standing_off_layer : (layers : List ℕ) (cell : List (Option Piece)) (object : ℕ) → OnItsLayer layers cell → IfSome (get_or cell (get_or layers object 0) None) (λ p. p.object ≢ object) → standing cell object ≡ None
 standing_off_layer layers cell object h absent = standing_none cell object (λ k. grind (arith, h k))
-
--- an object of no layer is nowhere
-pub standing_past : (layers : List ℕ) (cell : List (Option Piece)) (object : ℕ) → OnItsLayer layers cell → length layers ≤ object → standing cell object ≡ None
-standing_past layers cell object h past = standing_none cell object (λ k. grind (arith, h k))

@@ -30,4 +30,5 @@ pub use Rattle.pz_game.specs.declared.direction.Dir.{Dir}
 pub use Rattle.pz_game.specs.declared.masks.Masks.{Masks}
 pub use Rattle.pz_game.specs.declared.pattern.Item.{Item}
 pub use Rattle.pz_game.specs.declared.pattern.Word.{Word}
+pub use Rattle.pz_game.specs.declared.direction.Dir.TheVariants.{Action, Down, Left, Right, Up}
 pub use Rattle.pz_sets.specs.Sets.{AreApart, AreSame, IsWithin, member}

@@ -1,13 +1,12 @@
 -- What holds in a cell, by sets.
-use Rattle.pz_cells.proofs.Common.{cases_Bool, ◌≡◌, inl, inr, ℕ, suc, ◌<◌, ◌≤◌, List, [], ◌∷◌, Option, Some, None, Bool, true, false, not, cond, length, get_or, arith, ap, sym, ◌∙◌, refl, subst, ◌*◌, ◌/◌, ◌%◌, ◌&&◌, ◌||◌, nat_eq, All, IsTrue, ◌↔◌, find, cases_lt, and_parts, or_right, and_from, eqb-true, or_cases, get_or_past, get_or-map-range_with_len, length-map-range_with_len, member, IsWithin, AreApart, Piece, Dir, Word, Item, AreOf, IsOf, standing, names, names_object, forbids_object, places_on, placed_on, is_toward, flag, heads, heading_in, IsProper, place_of, cell_of, AreLawful, each_number, flag_of, dir_bit-low, Masks, toward, is_still, asks_toward, asks_still, IsLow, AreMasksOf, begins, list_any, Layering, IsLayering}
+use Rattle.pz_cells.proofs.Common.{cases_Bool, ◌≡◌, inl, inr, ℕ, suc, ◌<◌, ◌≤◌, List, [], ◌∷◌, Option, Some, None, Bool, true, false, not, cond, length, get_or, arith, ap, sym, ◌∙◌, refl, subst, ◌*◌, ◌/◌, ◌%◌, ◌&&◌, ◌||◌, nat_eq, All, IsTrue, ◌↔◌, find, cases_lt, and_parts, or_right, and_from, eqb-true, or_cases, get_or_past, get_or-map-range_with_len, length-map-range_with_len, member, IsWithin, AreApart, Piece, Dir, Word, Item, AreOf, IsOf, standing, names, names_object, forbids_object, places_on, placed_on, is_toward, flag, heads, heading_in, IsProper, place_of, cell_of, AreLawful, each_number, flag_of, dir_bit-low, Masks, toward, is_still, asks_toward, asks_still, IsLow, AreMasksOf, begins, list_any, Layering, IsLayering, Up, Down, Left, Right, Action}
 use Rattle.pz_game.specs.declared.limits.TheConstants.{MAX_LAYERS, MAX_OBJECTS}
 use Rattle.pz_game.specs.declared.pattern.Word.TheVariants.{Present, Still, Toward, Absent}
-use Rattle.pz_game.specs.declared.direction.Dir.TheVariants.{Up, Down, Left, Right, Action}
 use Rattle.std.proofs.lemmas.List.Folds.{list_any_at}
 use Rattle.std.proofs.lemmas.List.Sums.{AllPass-from_list_all, list_all-from_AllPass}
 use Rattle.pz_cells.specs.Pattern.{word_holds, item_holds, pattern_holds}
 use Rattle.pz_cells.proofs.SameLemmas.{same_dir_is, same_dir_self}
-use Rattle.pz_cells.proofs.CellLemmas.{OnItsLayer, standing_on_layer, standing_off_layer, standing_past}
+use Rattle.pz_cells.proofs.CellLemmas.{OnItsLayer, standing_on_layer, standing_none}
 use Rattle.pz_cells.proofs.PlaceLemmas.{place_some, first_toward}
 
 pub place_seen : (depth : ℕ) (layers objects movement : List ℕ) (layer : ℕ) → layer < depth → get_or (cell_of depth layers objects movement) layer None ≡ place_of layers objects movement layer
@@ -34,10 +33,7 @@ standing_seen depth layers objects movement object low lawful =
     let seen = place_seen depth layers objects movement layer in
     elim (cases_Bool (member objects object)) [
       | inl there ↦ grind (arith, there, standing_on_layer layers cell piece all (seen (low object 0 (lawful.of_game object there)) ∙ sym (place_some layers objects movement layer object lawful there refl)))
-      | inr none ↦ elim (cases_lt object (length layers)) [
-        | inl within ↦ grind (arith, none, standing_off_layer layers cell object all, seen (low object 0 within), lawful.shows layer)
-        | inr past ↦ grind (arith, none, standing_past layers cell object all past)
-      ]
+      | inr none ↦ grind (arith, none, standing_none cell object (λ k. grind (arith, place_everywhere depth layers objects movement k low lawful, lawful.shows k, none)))
     ]
 
 -- the directions of a layer are its heading
@@ -136,20 +132,14 @@ directions_fit set depth count asked proper is low room number here = elim (case
   | inr outside ↦ absurd (grind (arith, proper number outside, here))
 ]
 
--- what is found passes the test and is an element
-find_all : {X : Type 0} (P : X → Type 0) (p : X → Bool) (xs : List X) (x : X) → All P xs → find p xs ≡ Some x → P x × (p x ≡ true)
-find_all P p [] x all e = cc
-find_all {X} P p (y ∷ ys) x all e = elim (cases_Bool (p y)) [
-  | inl t ↦ (let same : y ≡ x = grind (arith, t, e) in (subst P same (all 0 y (omega arith)), ap p (sym same) ∙ t))
-  | inr f ↦ find_all P p ys x (λ k d h. all (suc k) d (omega arith)) (grind (arith, f, e))
-]
-
 -- the item that is placed on a layer is of that layer and names its object
 pub placed_is : (layers : List ℕ) (layer : ℕ) (right : List Item) (item : Item) → AreOf layers right → placed_on layer right ≡ Some item → (item.object < length layers) × (get_or layers item.object 0 ≡ layer) × (names item.word ≡ true)
-placed_is layers layer right item are e =
-    let f = find_all (IsOf layers) (places_on layer) right item are e in
-    let parts = and_parts (names item.word) (nat_eq item.layer layer) f.1 in
-    (f.0.object, f.0.layer ∙ eqb-true _ _ parts.1, parts.0)
+placed_is layers layer [] item are e = cc
+placed_is layers layer (x ∷ right) item are e = elim (cases_Bool (places_on layer x)) [
+  | inl t ↦ (let parts = and_parts (names x.word) _ t in let is = are 0 x (omega arith) in let same : x ≡ item = grind (arith, t, e) in
+      subst (λ (it : Item). (it.object < length layers) × (get_or layers it.object 0 ≡ layer) × (names it.word ≡ true)) same (is.object, is.layer ∙ eqb-true _ _ parts.1, parts.0))
+  | inr f ↦ placed_is layers layer right item (λ k d h. are (suc k) d (omega arith)) (grind (arith, f, e))
+]
 
 -- the sets of a cell of a rule of the game, without a number beyond so many words
 pub record FitWords (items : List Item) (masks : Masks) (count : ℕ) : Type 0 where

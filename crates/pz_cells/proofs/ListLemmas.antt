@@ -1,8 +1,7 @@
 -- Lists of cells in words, changed one by one.
-use Rattle.pz_cells.proofs.Common.{inl, inr, zero, suc, ◌^◌, get_or-set_same, get_or-set_other, length-set, range_with_len, ◌≢◌, ◌≡◌, ℕ, ◌+◌, ◌*◌, ◌<◌, ◌≤◌, List, [], Option, None, Bool, true, false, map, set, length, get_or, ap, sym, ◌∙◌, refl, subst, arith, cases_eq, get_or_default, length-map, get_or-map, ext_get_or, member, Dir, heads, flag, Cell, Piece, still_place, place_of, cell_of, Shows, AreLawful, length-map-range_with_len, Layering, seen, IsSound, AreMapped}
+use Rattle.pz_cells.proofs.Common.{inl, inr, zero, suc, ◌^◌, get_or-set_same, get_or-set_other, length-set, range_with_len, ◌≢◌, ◌≡◌, ℕ, ◌+◌, ◌*◌, ◌<◌, ◌≤◌, List, [], Option, None, Bool, true, false, map, set, length, get_or, ap, sym, ◌∙◌, refl, subst, arith, cases_eq, get_or_default, length-map, get_or-map, ext_get_or, member, Dir, heads, flag, Cell, Piece, still_place, place_of, cell_of, Shows, AreLawful, length-map-range_with_len, Layering, seen, IsSound, AreMapped, All}
 use prog.Memory.{up}
 use Rattle.std.proofs.lemmas.Simd.{map-map}
-use Rattle.std.specs.List.{All}
 use Rattle.pz_cells.proofs.PlaceLemmas.{cell_shown, lawful_from_shows}
 
 -- a cell without words
@@ -44,9 +43,6 @@ pub record AreWalked {N : ℕ} (Turns : Cell N → Cell N → Type 0) (old now :
   pub turned : (k : ℕ) (cell : Cell N) → k < index → Turns (get_or old k cell) (get_or now k cell)
   pub rest : (k : ℕ) (cell : Cell N) → index ≤ k → get_or now k cell ≡ get_or old k cell
 
-pub walked_none : {N : ℕ} (Turns : Cell N → Cell N → Type 0) (old : List (Cell N)) → AreWalked Turns old old 0
-walked_none Turns old = record { long = refl; turned = λ k cell below. absurd (omega (arith, below)); rest = λ k cell above. refl }
-
 -- one cell is changed, and another was before
 pub turned_set : {N : ℕ} (Turns : Cell N → Cell N → Type 0) (old now : List (Cell N)) (index k : ℕ) (cell new d : Cell N) → index < length now → cell ≡ get_or now index cell → get_or now index d ≡ get_or old index d → Turns cell new → (k ≢ index → Turns (get_or old k d) (get_or now k d)) → Turns (get_or old k d) (get_or (set now index new) k d)
 turned_set {N} Turns old now index k cell new d within is was turns before = elim (cases_eq k index) [
@@ -61,10 +57,6 @@ walked_more Turns old now index cell new within w is turns = record {
   turned = λ k d below. turned_set Turns old now index k cell new d within is (w.rest index d (omega arith)) turns (λ other. w.turned k d (omega (arith, below, other)));
   rest = λ k d above. get_or-set_other now index k new d (λ same. absurd (omega (arith, same, above))) ∙ w.rest k d (omega (arith, above));
 }
-
--- a cell that is still to come is as sound as it was
-pub walked_sound : {N : ℕ} (layering : Layering) (Turns : Cell N → Cell N → Type 0) (old now : List (Cell N)) (index : ℕ) (cell : Cell N) → All (IsSound layering) old → index < length now → AreWalked Turns old now index → cell ≡ get_or now index cell → IsSound layering cell
-walked_sound layering Turns old now index cell sound within w is = sound_at layering old index cell sound (omega (arith, within, w.long)) (is ∙ w.rest index cell (omega arith))
 
 -- a cell is changed as a function says of what is seen of it
 abbrev pub Turns : {N : ℕ} → Layering → (List (Option Piece) → List (Option Piece)) → Cell N → Cell N → Type 0

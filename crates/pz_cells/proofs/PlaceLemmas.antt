@@ -1,6 +1,5 @@
 -- What words show, and how one layer of a cell changes.
-use Rattle.pz_cells.proofs.Common.{length-set, map, ◌≡◌, ◌≢◌, inl, inr, ℕ, ◌<◌, List, Option, Some, None, Bool, true, false, not, ◌&&◌, ◌||◌, length, get_or, set, arith, ap, sym, ◌∙◌, refl, subst, nat_eq, eq-eqb, zero, suc, ◌+◌, ◌≤◌, cond, cases_eq, eqb-true, and_parts, or_cases, ext_get_or, get_or-map-range_with_len, length-map-range_with_len, common_steps, member, Piece, Dir, same_dir, is_toward, IsProper, heads, heading_in, first_of, IsOnLayer, IsSetOf, place_of, cell_of, Shows, AreLawful, Changes, stands_on, piece_with, find, option_map, range_with_len}
-use Rattle.pz_game.specs.declared.direction.Dir.TheVariants.{Up, Down, Left, Right, Action}
+use Rattle.pz_cells.proofs.Common.{length-set, map, ◌≡◌, ◌≢◌, inl, inr, ℕ, ◌<◌, List, Option, Some, None, Bool, true, false, not, ◌&&◌, ◌||◌, length, get_or, set, arith, ap, sym, ◌∙◌, refl, subst, nat_eq, eq-eqb, zero, suc, ◌+◌, ◌≤◌, cond, cases_eq, eqb-true, and_parts, or_cases, ext_get_or, get_or-map-range_with_len, length-map-range_with_len, common_steps, member, Piece, Dir, same_dir, is_toward, IsProper, heads, heading_in, first_of, IsOnLayer, IsSetOf, place_of, cell_of, Shows, AreLawful, Changes, stands_on, piece_with, find, option_map, range_with_len, Up, Down, Left, Right, Action}
 
 -- the first direction that a test picks, of tests that pick one or none
 pub first_toward : (test : Dir → Bool) (heading : Option Dir) → ((dir : Dir) → test dir ≡ is_toward heading dir) → first_of test ≡ heading
@@ -46,16 +45,8 @@ cell_shown depth layers objects movement place of_game shows = λ i. map (λ lay
 pub place_some : (layers objects movement : List ℕ) (layer object : ℕ) → AreLawful layers objects movement → member objects object ≡ true → get_or layers object 0 ≡ layer → Some (record { object = object; heading = heading_in movement layer }) ≡ place_of layers objects movement layer
 place_some layers objects movement layer object lawful here on = grind (arith, lawful.shows layer, first_toward (heads movement layer))
 
--- two objects of one layer are one
-pub one_object : (layers objects movement : List ℕ) (layer a b : ℕ) → AreLawful layers objects movement → member objects a ≡ true → get_or layers a 0 ≡ layer → member objects b ≡ true → get_or layers b 0 ≡ layer → a ≡ b
-one_object layers objects movement layer a b lawful here on there at = grind (arith, lawful.shows layer)
-
-pub shows_alike : (layers : List ℕ) (has has_new : ℕ → Bool) (toward toward_new : Dir → Bool) (layer : ℕ) (place : Option Piece) → ((object : ℕ) → get_or layers object 0 ≡ layer → has_new object ≡ has object) → ((dir : Dir) → toward_new dir ≡ toward dir) → Shows layers has toward layer place → Shows layers has_new toward_new layer place
-shows_alike layers has has_new toward toward_new layer place objects movement shown = grind (arith, objects, movement)
-
 pub shows_changed : (layers objects movement objects_new movement_new : List ℕ) (layer : ℕ) (place : Option Piece) → Changes layers objects movement objects_new movement_new layer place → (other : ℕ) → other ≢ layer → (there : Option Piece) → Shows layers (member objects) (heads movement other) other there → Shows layers (member objects_new) (heads movement_new other) other there
-shows_changed layers objects movement objects_new movement_new layer place c other apart there shown =
-    shows_alike layers (member objects) (member objects_new) (heads movement other) (heads movement_new other) other there (λ object on. c.same_objects object (λ e. apart (sym on ∙ e))) (λ dir. c.same_movement other dir apart) shown
+shows_changed layers objects movement objects_new movement_new layer place c other apart there shown = grind (arith, shown, λ (object : ℕ) (on : get_or layers object 0 ≡ other). c.same_objects object (λ e. apart (sym on ∙ e)), λ (dir : Dir). c.same_movement other dir apart)
 
 -- each layer after one of them changed
 shows_after : (layers objects movement objects_new movement_new : List ℕ) (layer : ℕ) (place : Option Piece) → AreLawful layers objects movement → Changes layers objects movement objects_new movement_new layer place → (other : ℕ) → Shows layers (member objects_new) (heads movement_new other) other (cond (nat_eq other layer) place (place_of layers objects movement other))
@@ -84,7 +75,7 @@ pub changes_lifted : (layers objects movement objects_new movement_new : List �
 changes_lifted layers objects movement objects_new movement_new layer object lawful here on objects_are movement_is proper = record {
   proper = proper;
   of_game = λ other new. lawful.of_game other (grind (arith, objects_are other, new));
-  here = (λ other new at. grind (arith, objects_are other, new, one_object layers objects movement layer other object lawful (grind (arith, objects_are other, new)) at here on), λ dir. grind (arith, movement_is layer dir));
+  here = (λ other new at. grind (arith, objects_are other, new, lawful.shows layer, at, here, on), λ dir. grind (arith, movement_is layer dir));
   same_objects = λ other apart. grind (arith, objects_are other, apart, on);
   same_movement = λ other dir apart. grind (arith, movement_is other dir, apart);
 }
@@ -138,7 +129,7 @@ object_there layers objects movement layer piece lawful e = grind (arith, lawful
 pub changes_turned : (layers objects movement movement_new : List ℕ) (object : ℕ) (dir : Dir) → AreLawful layers objects movement → member objects object ≡ true → ((other : ℕ) (way : Dir) → heads movement_new other way ≡ ((nat_eq other (get_or layers object 0) && same_dir dir way) || (not (nat_eq other (get_or layers object 0)) && heads movement other way))) → IsProper movement_new → Changes layers objects movement objects movement_new (get_or layers object 0) (Some (record { object = object; heading = Some dir }))
 changes_turned layers objects movement movement_new object dir lawful here movement_is proper = record {
   of_game = lawful.of_game;
-  here = (here, refl, λ other there at. one_object layers objects movement (get_or layers object 0) other object lawful there at here refl, λ way. grind (arith, movement_is (get_or layers object 0) way));
+  here = (here, refl, λ other there at. grind (arith, lawful.shows (get_or layers object 0), there, at, here), λ way. grind (arith, movement_is (get_or layers object 0) way));
   same_objects = λ other apart. refl;
   proper = proper;
   same_movement = λ other way apart. grind (arith, movement_is other way, apart);

@@ -19,17 +19,13 @@ toward_shown layers has toward layer place dir h = grind arith
 ends_by : (told : Bool) (found : Option Item) → (settles found || (told && is_some found)) ≡ ends told found
 ends_by told found = grind arith
 
--- what is taken from a cell, by the masks of the two cells
-abbrev pub gone_by : List ℕ → Masks → Masks → ℕ → Bool
-gone_by layers l r object = member r.layers (get_or layers object 0) || (member l.present object || member r.absent object)
-
 -- what the words of a rewritten cell are
 pub record AreRewritten (layers : List ℕ) (left right : List Item) (l r : Masks) (objects movement objects_new mid movement_new : List ℕ) : Type 0 where
   pub are : AreOf layers right
   pub ml : AreMasksOf left l
   pub mr : AreMasksOf right r
   pub lawful : AreLawful layers objects movement
-  pub is_new : (object : ℕ) → object < length layers → member objects_new object ≡ ((member objects object && not (gone_by layers l r object)) || member r.placed object)
+  pub is_new : (object : ℕ) → object < length layers → member objects_new object ≡ ((member objects object && not (member r.layers (get_or layers object 0) || (member l.present object || member r.absent object))) || member r.placed object)
   pub of_game : (object : ℕ) → member objects_new object ≡ true → object < length layers
   pub is_mid : (number : ℕ) → member mid number ≡ ((member movement number && not (member r.settled number || (member l.told number && member r.covered number))) || member r.headed number)
   pub ended : (object : ℕ) (dir : Dir) → Leaves layers objects r.layers (removed_by l r) object → heads movement_new (get_or layers object 0) dir ≡ false

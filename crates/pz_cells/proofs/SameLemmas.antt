@@ -7,14 +7,11 @@ same_dir_is a b h = grind arith
 pub same_dir_self : (a : Dir) → same_dir a a ≡ true
 same_dir_self a = grind arith
 
-same_heading_self : (a : Option Dir) → same_heading a a ≡ true
-same_heading_self a = grind (arith, same_dir_self)
-
 same_place_is : (a b : Option Piece) → same_place a b ≡ true → a ≡ b
 same_place_is a b h = grind (arith, eqb-true)
 
 same_place_self : (a : Option Piece) → same_place a a ≡ true
-same_place_self a = grind (arith, same_heading_self)
+same_place_self a = grind (arith, same_dir_self)
 
 pub same_cell_is : (a b : List (Option Piece)) → same_cell a b ≡ true → a ≡ b
 same_cell_is [] b h = grind arith
