@@ -1,5 +1,5 @@
 -- What a cell says of an object is what stands on the layer of the object.
-use Rattle.pz_cells.proofs.Common.{◌≡◌, ◌≢◌, ℕ, suc, zero, ◌≤◌, List, [], ◌∷◌, Option, Some, None, length, get_or, arith, refl, IfSome, Piece, standing, IsOnLayer}
+use Rattle.pz_cells.proofs.Common.{◌≡◌, ◌≢◌, ℕ, suc, zero, List, [], ◌∷◌, Option, Some, None, get_or, arith, refl, IfSome, Piece, standing, IsOnLayer}
 
 -- each object of a cell stands on its layer
 abbrev pub OnItsLayer : List ℕ → List (Option Piece) → Type 0

@@ -1,5 +1,5 @@
 -- Cells that are drawn and filled.
-use Rattle.pz_cells.proofs.Common.{range_with_len, true, arith, ◌≡◌, ℕ, ◌+◌, ◌<◌, List, [], ◌∷◌, ◌++◌, map, take, Option, None, false, length, get_or, ap, sym, ◌∙◌, subst, replicate, common_steps, option_map_or, glyph_objects, length-replicate, get_or-replicate, map_more, member, heads, flag, Cell, Piece, empty_cell, cell_of, Shows, AreLawful, Layering, seen, IsSound, All}
+use Rattle.pz_cells.proofs.Common.{range_with_len, true, arith, ◌≡◌, ℕ, ◌+◌, ◌<◌, List, [], ◌∷◌, ◌++◌, map, take, Option, None, false, length, get_or, ap, sym, ◌∙◌, replicate, common_steps, option_map_or, glyph_objects, map_more, member, heads, flag, Cell, Piece, empty_cell, cell_of, Shows, AreLawful, Layering, seen, IsSound, All}
 use Rattle.std.proofs.lemmas.Option.{slice_get-get_or}
 use Rattle.std.proofs.lemmas.List.{map_push}
 use Rattle.std.proofs.lemmas.List.FromFn.{length-range_with_len}

@@ -1,5 +1,5 @@
 -- What holds in a cell, by sets.
-use Rattle.pz_cells.proofs.Common.{cases_Bool, ◌≡◌, inl, inr, ℕ, suc, ◌<◌, ◌≤◌, List, [], ◌∷◌, Option, Some, None, Bool, true, false, not, cond, length, get_or, arith, ap, sym, ◌∙◌, refl, subst, ◌*◌, ◌/◌, ◌%◌, ◌&&◌, ◌||◌, nat_eq, All, IsTrue, ◌↔◌, find, cases_lt, and_parts, or_right, and_from, eqb-true, or_cases, get_or_past, get_or-map-range_with_len, length-map-range_with_len, member, IsWithin, AreApart, Piece, Dir, Word, Item, AreOf, IsOf, standing, names, names_object, forbids_object, places_on, placed_on, is_toward, flag, heads, heading_in, IsProper, place_of, cell_of, AreLawful, each_number, flag_of, dir_bit-low, Masks, toward, is_still, asks_toward, asks_still, IsLow, AreMasksOf, begins, list_any, Layering, IsLayering, Up, Down, Left, Right, Action}
+use Rattle.pz_cells.proofs.Common.{cases_Bool, ◌≡◌, inl, inr, ℕ, suc, ◌<◌, ◌≤◌, List, [], ◌∷◌, Option, Some, None, Bool, true, false, not, cond, length, get_or, arith, ap, sym, ◌∙◌, refl, subst, ◌*◌, ◌/◌, ◌%◌, ◌&&◌, nat_eq, All, IsTrue, ◌↔◌, cases_lt, and_parts, eqb-true, or_cases, get_or_past, get_or-map-range_with_len, length-map-range_with_len, member, IsWithin, AreApart, Piece, Dir, Word, Item, AreOf, standing, names, places_on, placed_on, is_toward, flag, heads, heading_in, IsProper, place_of, cell_of, AreLawful, each_number, flag_of, dir_bit-low, Masks, toward, is_still, asks_toward, asks_still, IsLow, AreMasksOf, begins, list_any, Layering, IsLayering, Up, Down, Left, Right, Action}
 use Rattle.pz_game.specs.declared.limits.TheConstants.{MAX_LAYERS, MAX_OBJECTS}
 use Rattle.pz_game.specs.declared.pattern.Word.TheVariants.{Present, Still, Toward, Absent}
 use Rattle.std.proofs.lemmas.List.Folds.{list_any_at}

@@ -1,5 +1,5 @@
 -- Lists of cells in words, changed one by one.
-use Rattle.pz_cells.proofs.Common.{inl, inr, zero, suc, ◌^◌, get_or-set_same, get_or-set_other, length-set, range_with_len, ◌≢◌, ◌≡◌, ℕ, ◌+◌, ◌*◌, ◌<◌, ◌≤◌, List, [], Option, None, Bool, true, false, map, set, length, get_or, ap, sym, ◌∙◌, refl, subst, arith, cases_eq, get_or_default, length-map, get_or-map, ext_get_or, member, Dir, heads, flag, Cell, Piece, still_place, place_of, cell_of, Shows, AreLawful, length-map-range_with_len, Layering, seen, IsSound, AreMapped, All}
+use Rattle.pz_cells.proofs.Common.{inl, inr, zero, suc, ◌^◌, get_or-set_same, get_or-set_other, length-set, range_with_len, ◌≢◌, ◌≡◌, ℕ, ◌+◌, ◌*◌, ◌<◌, ◌≤◌, List, [], Option, Bool, true, false, map, set, length, get_or, ap, sym, ◌∙◌, subst, arith, cases_eq, get_or_default, length-map, get_or-map, ext_get_or, member, Dir, heads, flag, Cell, Piece, still_place, place_of, cell_of, Shows, AreLawful, Layering, seen, IsSound, AreMapped, All}
 use prog.Memory.{up}
 use Rattle.std.proofs.lemmas.Simd.{map-map}
 use Rattle.pz_cells.proofs.PlaceLemmas.{cell_shown, lawful_from_shows}

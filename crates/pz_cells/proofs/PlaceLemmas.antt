@@ -1,5 +1,5 @@
 -- What words show, and how one layer of a cell changes.
-use Rattle.pz_cells.proofs.Common.{length-set, map, ◌≡◌, ◌≢◌, inl, inr, ℕ, ◌<◌, List, Option, Some, None, Bool, true, false, not, ◌&&◌, ◌||◌, length, get_or, set, arith, ap, sym, ◌∙◌, refl, subst, nat_eq, eq-eqb, zero, suc, ◌+◌, ◌≤◌, cond, cases_eq, eqb-true, and_parts, or_cases, ext_get_or, get_or-map-range_with_len, length-map-range_with_len, common_steps, member, Piece, Dir, same_dir, is_toward, IsProper, heads, heading_in, first_of, IsOnLayer, IsSetOf, place_of, cell_of, Shows, AreLawful, Changes, stands_on, piece_with, find, option_map, range_with_len, Up, Down, Left, Right, Action}
+use Rattle.pz_cells.proofs.Common.{length-set, map, ◌≡◌, ◌≢◌, inl, inr, ℕ, ◌<◌, List, Option, Some, None, Bool, true, false, not, ◌&&◌, ◌||◌, length, get_or, set, arith, ap, sym, ◌∙◌, refl, subst, nat_eq, eq-eqb, zero, suc, ◌+◌, ◌≤◌, cond, cases_eq, eqb-true, and_parts, ext_get_or, get_or-map-range_with_len, length-map-range_with_len, common_steps, member, Piece, Dir, same_dir, is_toward, IsProper, heads, heading_in, first_of, IsOnLayer, IsSetOf, place_of, cell_of, Shows, AreLawful, Changes, stands_on, piece_with, find, option_map, range_with_len, Up, Down, Left, Right, Action}
 
 -- the first direction that a test picks, of tests that pick one or none
 pub first_toward : (test : Dir → Bool) (heading : Option Dir) → ((dir : Dir) → test dir ≡ is_toward heading dir) → first_of test ≡ heading

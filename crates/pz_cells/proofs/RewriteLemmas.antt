@@ -1,5 +1,5 @@
 -- What a rewriting does to the sets of a cell.
-use Rattle.pz_cells.proofs.Common.{IfSome, map, find, option_map, piece_with, first_of, range_with_len, ◌≡◌, ◌≢◌, ◌⊎◌, nat_lt, inl, inr, ℕ, ◌+◌, ◌<◌, ◌≤◌, List, Option, Some, None, Bool, true, false, cond, not, ◌&&◌, ◌||◌, length, get_or, arith, ap, sym, ◌∙◌, refl, subst, nat_eq, All, is_some, ◌↔◌, cases_lt, and_parts, or_cases, or_right, or_parts, get_or-map-range_with_len, length-map-range_with_len, common_steps, member, Piece, Dir, Word, Item, AreOf, standing, same_cell, is_toward, flag, heads, IsProper, place_of, cell_of, Shows, AreLawful, each_number, names, placed_on, tells_of, tells_movement, names_object, forbids_object, heading_of, new_heading, kept, replaced, rewritten_place, rewritten_cell, Masks, toward, begins, settles, AreMasksOf, ends, Leaves, removed_by}
+use Rattle.pz_cells.proofs.Common.{IfSome, map, find, option_map, piece_with, first_of, range_with_len, ◌≡◌, ◌≢◌, nat_lt, inl, inr, ℕ, ◌+◌, ◌<◌, ◌≤◌, List, Option, Some, None, Bool, true, false, cond, not, ◌&&◌, ◌||◌, length, get_or, arith, ap, sym, ◌∙◌, refl, subst, nat_eq, All, is_some, ◌↔◌, cases_lt, and_parts, or_right, or_parts, length-map-range_with_len, common_steps, member, Piece, Dir, Word, Item, AreOf, standing, same_cell, is_toward, flag, heads, IsProper, place_of, cell_of, Shows, AreLawful, each_number, names, placed_on, tells_of, tells_movement, names_object, forbids_object, heading_of, new_heading, kept, replaced, rewritten_place, rewritten_cell, Masks, toward, begins, settles, AreMasksOf, ends, Leaves, removed_by}
 use Rattle.pz_cells.proofs.SameLemmas.{same_cell_is, same_cell_self}
 use Rattle.pz_cells.proofs.PlaceLemmas.{lawful_from_shows, cell_shown}
 use Rattle.pz_cells.proofs.HoldLemmas.{place_everywhere, standing_seen, placed_is}

@@ -1,5 +1,5 @@
 -- The test of two cells decides whether they are the same.
-use Rattle.pz_cells.proofs.Common.{◌≡◌, List, [], ◌∷◌, Option, true, refl, arith, eqb-true, Dir, Piece, same_dir, same_heading, same_place, same_cell}
+use Rattle.pz_cells.proofs.Common.{◌≡◌, List, [], ◌∷◌, Option, true, refl, arith, eqb-true, Dir, Piece, same_dir, same_place, same_cell}
 
 pub same_dir_is : (a b : Dir) → same_dir a b ≡ true → a ≡ b
 same_dir_is a b h = grind arith

@@ -1,4 +1,4 @@
-use Rattle.pz_cells.proofs.Common.{◌≡◌, ◌+◌, ℕ, List, Option, Some, drop, set, get_or, ap, sym, ◌∙◌, fold, at_drop_more, drop_all, Piece, with_object, seen}
+use Rattle.pz_cells.proofs.Common.{◌≡◌, get_or, ap, fold, at_drop_more, drop_all, with_object, seen}
 use Rattle.pz_cells.proofs.DrawLemmas.{glyph_read}
 use Rattle.pz_cells.proofs.drawing.glyph_cell.Goals as goal
 

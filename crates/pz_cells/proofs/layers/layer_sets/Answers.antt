@@ -1,4 +1,4 @@
-use Rattle.pz_cells.proofs.Common.{◌≡◌, ◌<◌, ◌+◌, ◌++◌, ◌∷◌, [], ℕ, List, inl, inr, length, get_or, arith, ap, ◌∙◌, cases_lt, IsSetOf}
+use Rattle.pz_cells.proofs.Common.{◌≡◌, ◌<◌, ◌+◌, ◌++◌, ◌∷◌, [], ℕ, List, length, get_or, arith, ap, ◌∙◌, IsSetOf}
 use Rattle.std.proofs.lemmas.List.{get_or_append_left, get_or_push, length_push}
 use Rattle.pz_cells.proofs.layers.layer_sets.Goals as goal
 

@@ -1,4 +1,4 @@
-use Rattle.pz_cells.proofs.Common.{◌≡◌, ◌<◌, inl, inr, ℕ, set, length, get_or, arith, sym, ◌∙◌, subst, get_or-set_same, get_or-set_other, length-set, cases_eq, get_or_default, Cell, IsStilled}
+use Rattle.pz_cells.proofs.Common.{◌<◌, length, arith, ◌∙◌, get_or-set_other, length-set, IsStilled}
 use Rattle.pz_cells.proofs.ListLemmas.{small_cell, sound_at, turned_set}
 use Rattle.pz_cells.proofs.stilling.still_cells.Goals as goal
 
