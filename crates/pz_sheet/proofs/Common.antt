@@ -9,7 +9,7 @@ pub use Rattle.std.specs.List.{All, count_by, enumerate_from, list_all, list_any
 pub use Rattle.std.specs.Prelude.{IfSome, IsTrue, MatchOption, fold, nat_le, nat_lt, ◌↔◌}
 pub use Rattle.std.proofs.Math.Seq.{set-append_seam}
 pub use Rattle.pz_cells.proofs.DrawLemmas.{AreGlyphs, no_number}
-pub use Rattle.pz_cells.proofs.HoldLemmas.{AreMet, low_of_game, met_all, on_its_layer, standing_by, standing_seen}
+pub use Rattle.pz_cells.proofs.HoldLemmas.{asked_by, low_of_game, met_all, on_its_layer, standing_by, standing_seen}
 pub use Rattle.pz_cells.proofs.ListLemmas.{cell_mapped, no_cell, small_cell, sound_at}
 pub use Rattle.pz_cells.proofs.RewriteLemmas.{cell_alike, heads_alike, member_seen, objects_alike}
 pub use Rattle.pz_cells.proofs.SameLemmas.{same_cell_is, same_cell_self}
@@ -25,8 +25,8 @@ pub use Rattle.pz_cells.specs.declared.cell.Cell.{Cell}
 pub use Rattle.pz_cells.specs.declared.piece.Piece.{Piece}
 pub use Rattle.pz_cells.specs.Differing.{IsNextDiffering}
 pub use Rattle.pz_game.proofs.FlagLemmas.{each_number, flag_of}
-pub use Rattle.pz_game.specs.Headings.{flag, heading_in, heads}
-pub use Rattle.pz_game.specs.Masks.{IsLow, asks_toward}
+pub use Rattle.pz_game.specs.Headings.{flag, heading_in, heads, is_toward}
+pub use Rattle.pz_game.specs.Masks.{IsLow, asks_toward, toward}
 pub use Rattle.pz_game.specs.Pattern.{AreOf, AreRequired}
 pub use Rattle.pz_game.specs.Size.{IsSize}
 pub use Rattle.pz_game.specs.declared.direction.Dir.{Dir}

@@ -3,7 +3,7 @@ use Rattle.pz_sheet.proofs.Common.{Layering, ◌≡◌, ℕ, ◌<◌, [], Option
 
 pub seen_alike : (N : ℕ) (layering : Layering) (cell other : Cell N) → IsSound layering cell → IsSound layering other → AreAlike cell other → seen layering cell ≡ seen layering other
 seen_alike N layering cell other sound sound_other same =
-    cell_alike layering.depth layering.layers other.objects other.movement cell.objects cell.movement sound_other sound same.0 (λ layer dir. same.1 (flag layer dir))
+    cell_alike layering.depth layering.layers other.objects other.movement cell.objects cell.movement same.0 (λ layer dir. same.1 (flag layer dir))
 
 pub alike_seen : (N : ℕ) (layering : Layering) (cell other : Cell N) → All (λ l. l < layering.depth) layering.layers → IsSound layering cell → IsSound layering other → seen layering cell ≡ seen layering other → AreAlike cell other
 alike_seen N layering cell other low sound sound_other e = (

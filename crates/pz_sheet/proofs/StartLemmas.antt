@@ -35,10 +35,7 @@ module _ (N width height : ℕ) (layering : Layering) (cells : List (Cell N)) (n
       let there : at < length cells = omega (arith, mul-add-lt y width x height y_in x_in, s.covers) in
       let here = sym (get_or-map (seen layering) cells at (no_cell N) [] there) in
       let met = met_all layering.depth layering.layers cell.objects cell.movement pattern s.law.layered (s.sound at (no_cell N) there) are (ap (λ places. pattern_holds places pattern) here ∙ holds) in
-      elim (cases_Bool (names item.word)) [
-        | inl named ↦ grind (arith, named, met.present item.object, list_any_at (λ (it : Item). names it.word && nat_eq it.object item.object) pattern k other within)
-        | inr named ↦ grind (arith, named, met.absent item.object, list_any_at (λ (it : Item). not (names it.word) && nat_eq it.object item.object) pattern k other within)
-      ]
+      grind (arith, (met k other within).0, (met k other within).1)
 
   pub noted_in_line : (axis : Axis) (number at : ℕ) → number < line_count grid axis → at < line_length grid axis → at < 128 → (pattern : List Item) → AreOf layering.layers pattern → holds_in grid (record { axis = axis; number = number }) pattern at ≡ true → MayHold (lines_of planes axis) number at pattern
   noted_in_line Horizontal number at line_in at_in small pattern are holds k other within =
