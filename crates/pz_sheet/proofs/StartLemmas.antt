@@ -1,5 +1,5 @@
 -- Where rules' cells hold one after another, the objects that they name as present are noted, and those that they name as absent are not.
-use Rattle.pz_sheet.proofs.Common.{cases_Bool, Layering, ◌≡◌, inl, inr, ℕ, ◌+◌, ◌*◌, ◌<◌, ◌≤◌, List, [], Bool, true, not, ◌&&◌, nat_eq, length, get_or, arith, ap, sym, ◌∙◌, All, list_all, enumerate_from, cases_lt, false≢true, true_from_ne_false, get_or_default, get_or-map, list_any_at, mul-add-lt, member, Item, AreOf, Cell, pattern_holds, met_all, Grid, cell_at, LineSets, PlaneSets, AreItemsOf, MayHold, MayRun, lines_of, Axis, Horizontal, Vertical, Way, Ahead, Back, step_to, room_from, Line, line_length, line_count, x_at, y_at, holds_in, dir_of, runs_in, ArePlaced, holds_along, HeadingSets, grid_of, IsStored, seen, no_cell}
+use Rattle.pz_sheet.proofs.Common.{Layering, ◌≡◌, inl, inr, ℕ, ◌+◌, ◌*◌, ◌<◌, ◌≤◌, List, [], Bool, true, length, get_or, arith, ap, sym, ◌∙◌, All, list_all, enumerate_from, cases_lt, false≢true, true_from_ne_false, get_or_default, get_or-map, mul-add-lt, member, Item, AreOf, Cell, pattern_holds, met_all, Grid, cell_at, LineSets, PlaneSets, AreItemsOf, MayHold, MayRun, lines_of, Axis, Horizontal, Vertical, Way, Ahead, Back, step_to, room_from, Line, line_length, line_count, x_at, y_at, holds_in, dir_of, runs_in, ArePlaced, holds_along, HeadingSets, grid_of, IsStored, seen, no_cell}
 use Rattle.pz_game.specs.Items.{names}
 use Rattle.pz_planes.proofs.BitLemmas.{step_within}
 use Rattle.pz_sheet.proofs.RunLemmas.{enumerate_fails, along_in, run_past}
