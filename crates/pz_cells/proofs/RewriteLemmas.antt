@@ -1,5 +1,5 @@
 -- What a rewriting does to the sets of a cell.
-use Rattle.pz_cells.proofs.Common.{IfSome, map, find, option_map, piece_with, first_of, range_with_len, ◌≡◌, ◌≢◌, nat_lt, inl, inr, ℕ, ◌+◌, ◌<◌, ◌≤◌, List, Option, Some, None, Bool, true, false, cond, not, ◌&&◌, ◌||◌, length, get_or, arith, ap, sym, ◌∙◌, refl, subst, nat_eq, All, is_some, ◌↔◌, cases_lt, and_parts, or_right, or_parts, length-map-range_with_len, common_steps, member, Piece, Dir, Word, Item, AreOf, standing, same_cell, is_toward, flag, heads, IsProper, place_of, cell_of, Shows, AreLawful, each_number, names, placed_on, tells_of, tells_movement, names_object, forbids_object, heading_of, new_heading, kept, replaced, rewritten_place, rewritten_cell, Masks, toward, begins, settles, AreMasksOf, ends, Leaves, removed_by}
+use Rattle.pz_cells.proofs.Common.{cases_Bool, IfSome, map, find, option_map, piece_with, first_of, range_with_len, ◌≡◌, ◌≢◌, nat_lt, inl, inr, ℕ, ◌+◌, ◌<◌, ◌≤◌, List, Option, Some, None, Bool, true, false, cond, not, ◌&&◌, ◌||◌, length, get_or, arith, ap, sym, ◌∙◌, refl, subst, nat_eq, All, is_some, ◌↔◌, cases_lt, and_parts, or_right, or_parts, length-map-range_with_len, common_steps, member, Piece, Dir, Word, Item, AreOf, standing, same_cell, is_toward, flag, heads, IsProper, place_of, cell_of, Shows, AreLawful, each_number, names, placed_on, tells_of, tells_movement, names_object, forbids_object, heading_of, new_heading, kept, replaced, rewritten_place, rewritten_cell, Masks, toward, begins, settles, AreMasksOf, ends, Leaves, removed_by}
 use Rattle.pz_cells.proofs.SameLemmas.{same_cell_is, same_cell_self}
 use Rattle.pz_cells.proofs.PlaceLemmas.{lawful_from_shows, cell_shown}
 use Rattle.pz_cells.proofs.HoldLemmas.{place_everywhere, standing_seen, placed_is}
@@ -14,6 +14,10 @@ new_toward word told here old dir n e = grind arith
 
 toward_shown : (layers : List ℕ) (has : ℕ → Bool) (toward : Dir → Bool) (layer : ℕ) (place : Option Piece) (dir : Dir) → Shows layers has toward layer place → toward dir ≡ is_toward (heading_of place) dir
 toward_shown layers has toward layer place dir h = grind arith
+
+-- where nothing is placed an object stays unless it is removed
+stays_by : (new here cleared gone removed placed : Bool) → new ≡ ((here && not (cleared || gone)) || placed) → cleared ≡ false → gone ≡ removed → placed ≡ false → new ≡ (here && not removed)
+stays_by new here cleared gone removed placed is free same none = grind arith
 
 -- the directions that end, by the masks of the two cells
 ends_by : (told : Bool) (found : Option Item) → (settles found || (told && is_some found)) ≡ ends told found
@@ -77,9 +81,11 @@ module _ (layers : List ℕ) (left right : List Item) (l r : Masks) (objects mov
   -- each layer shows what the definition says of it
   rewritten_shows : (layer : ℕ) (here : Option Piece) → Shows layers (member objects) (heads movement layer) layer here → Shows layers (member objects_new) (heads movement_new layer) layer (rewritten_place left right layer here)
   rewritten_shows layer here shown = by_placed (placed_on layer right) refl where
-    -- where nothing is placed an object stays unless it is removable
     stays : placed_on layer right ≡ None → (object : ℕ) → get_or layers object 0 ≡ layer → object < length layers → member objects_new object ≡ (member objects object && not (is_removable left right object))
-    stays e object on low = grind (arith, w.is_new object low, w.mr.layers layer, e, on, removable object, placed_here object)
+    stays e object on low =
+        let free : is_some (placed_on (get_or layers object 0) right) ≡ false = ap (λ (k : ℕ). is_some (placed_on k right)) on ∙ ap is_some e in
+        let unplaced : member r.placed object ≡ false = elim (cases_Bool (member r.placed object)) [ inl there ↦ absurd (let f : false ≡ true = sym free ∙ (placed_here object there).1 in cc) | inr none ↦ none ] in
+        stays_by _ _ _ _ _ _ (w.is_new object low) (w.mr.layers (get_or layers object 0) ∙ free) (removable object) unplaced
 
     toward_kept : placed_on layer right ≡ None → ((object : ℕ) → Leaves layers objects r.layers (removed_by l r) object → get_or layers object 0 ≡ layer → ⊥) → (dir : Dir) → heads movement_new layer dir ≡ heads movement layer dir
     toward_kept e none dir = grind (arith, others layer dir none, e)
