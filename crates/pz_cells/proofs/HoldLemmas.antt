@@ -113,8 +113,7 @@ module _ (depth : ℕ) (layers objects movement : List ℕ) (items : List Item) 
 pub low_of_game : (depth : ℕ) (layers : List ℕ) (items : List Item) → All (λ layer. layer < depth) layers → length layers ≤ MAX_OBJECTS → depth ≤ MAX_LAYERS → AreOf layers items → All IsLow items
 low_of_game depth layers items low few shallow are k d within =
     let is = are k d within in
-    let there = low (get_or items k d).object 0 is.object in
-    (omega (arith, is.object, few), omega (arith, there, is.layer, shallow))
+    (omega (arith, is.object, few), omega (arith, low (get_or items k d).object 0 is.object, is.layer, shallow))
 
 -- two tests that decide the parts of what a third decides
 pub both_decide : {A B : Type 0} (x y p : Bool) → (IsTrue x ↔ A) → (IsTrue y ↔ B) → ((A × B) ↔ (p ≡ true)) → x ≡ true → y ≡ p

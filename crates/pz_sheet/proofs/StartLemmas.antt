@@ -31,7 +31,6 @@ module _ (N width height : ℕ) (layering : Layering) (cells : List (Cell N)) (n
   stands_here x y x_in y_in pattern are holds k other within =
       let at = y * width + x in
       let cell = get_or cells at (no_cell N) in
-      let item = get_or pattern k other in
       let there : at < length cells = omega (arith, mul-add-lt y width x height y_in x_in, s.covers) in
       let here = sym (get_or-map (seen layering) cells at (no_cell N) [] there) in
       let met = met_all layering.depth layering.layers cell.objects cell.movement pattern s.law.layered (s.sound at (no_cell N) there) are (ap (λ places. pattern_holds places pattern) here ∙ holds) in

@@ -19,7 +19,6 @@ loop-object-preserved g c =
 pub returns-clause-cell : goal.returns-clause-cell
 returns-clause-cell g c =
     let put = with_object c.args.layers.now.layers in
-    let at = c.loop-object.object-index in
     let objects = c.items-object-items.result.now in
     let are = glyph_read c.args.game.now c.values.result.now c.args.number c.index-values-number.result objects c.values.ensures.values c.requires.number c.items-object-items.ensures in
-    cc (are, ap (fold put (seen c.args.layers.now c.loop-object.cell)) (drop_all at objects c.loop-object-test.false), c.loop-object.invariant.rest)
+    cc (are, ap (fold put (seen c.args.layers.now c.loop-object.cell)) (drop_all c.loop-object.object-index objects c.loop-object-test.false), c.loop-object.invariant.rest)
