@@ -1,5 +1,5 @@
-use Rattle.pz_cells.proofs.Common.{◌≡◌, get_or, ap, fold, at_drop_more, drop_all, with_object, seen}
-use Rattle.pz_cells.proofs.DrawLemmas.{glyph_read}
+use Rattle.pz_cells.proofs.Common.{◌≡◌, get_or, ap, fold, drop_all, with_object, seen}
+use Rattle.pz_cells.proofs.DrawLemmas.{drawn_more, glyph_read}
 use Rattle.pz_cells.proofs.drawing.glyph_cell.Goals as goal
 
 pub loop-object-preserved : goal.loop-object-preserved
@@ -9,11 +9,10 @@ loop-object-preserved g c =
     let objects = c.items-object-items.result.now in
     let are = glyph_read c.args.game.now c.values.result.now c.args.number c.index-values-number.result objects c.values.ensures.values c.requires.number c.items-object-items.ensures in
     let was = seen c.args.layers.now c.loop-object.cell in
-    let object = get_or objects at 0 in
-    let is : seen c.args.layers.now c.put.new.self ≡ put was object = cc (c.put.ensures.cell, c.layer_of-layer.ensures.layer, c.still.ensures) in
+    let is : seen c.args.layers.now c.put.new.self ≡ put was (get_or objects at 0) = cc (c.put.ensures.cell, c.layer_of-layer.ensures.layer, c.still.ensures) in
     record {
       sound = c.put.ensures.sound;
-      rest = cc (are, is, at_drop_more (fold put was) objects at 0 c.loop-object-test.true, c.loop-object.invariant.rest);
+      rest = drawn_more put was _ _ _ objects at are c.loop-object-test.true is c.loop-object.invariant.rest;
     }
 
 pub returns-clause-cell : goal.returns-clause-cell
