@@ -1,5 +1,5 @@
 -- What a cell says of an object is what stands on the layer of the object.
-use Rattle.pz_cells.proofs.Common.{◌≡◌, ◌≢◌, ℕ, suc, zero, ◌≤◌, List, [], ◌∷◌, Option, Some, None, length, get_or, arith, refl, IfSome, Piece, standing, IsOnLayer}
+use Rattle.pz_cells.proofs.Common.{◌≡◌, ◌≢◌, ℕ, suc, zero, List, [], ◌∷◌, Option, Some, None, get_or, arith, refl, IfSome, Piece, standing, IsOnLayer}
 
 -- each object of a cell stands on its layer
 abbrev pub OnItsLayer : List ℕ → List (Option Piece) → Type 0
@@ -23,7 +23,3 @@ standing_on_layer layers cell piece h e = standing_found cell piece.object (get_
 -- an object is nowhere but on its layer
 pub standing_off_layer : (layers : List ℕ) (cell : List (Option Piece)) (object : ℕ) → OnItsLayer layers cell → IfSome (get_or cell (get_or layers object 0) None) (λ p. p.object ≢ object) → standing cell object ≡ None
 standing_off_layer layers cell object h absent = standing_none cell object (λ k. grind (arith, h k))
-
--- an object of no layer is nowhere
-pub standing_past : (layers : List ℕ) (cell : List (Option Piece)) (object : ℕ) → OnItsLayer layers cell → length layers ≤ object → standing cell object ≡ None
-standing_past layers cell object h past = standing_none cell object (λ k. grind (arith, h k))

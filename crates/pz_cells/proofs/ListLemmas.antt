@@ -1,10 +1,8 @@
 -- Lists of cells in words, changed one by one.
-use Rattle.pz_cells.proofs.Common.{inl, inr, zero, suc, ◌^◌, get_or-set_same, get_or-set_other, ◌≡◌, ℕ, ◌+◌, ◌*◌, ◌<◌, ◌≤◌, List, [], Option, None, Bool, true, false, map, set, length, get_or, ap, sym, ◌∙◌, refl, subst, arith, cases_eq, get_or_default, length-map, get_or-map, ext_get_or, member, Dir, heads, flag, Cell, Piece, still_place, place_of, cell_of, Shows, AreLawful, length-map-range_with_len, Layering, seen, IsSound, AreMapped}
+use Rattle.pz_cells.proofs.Common.{inl, inr, zero, suc, ◌^◌, get_or-set_same, get_or-set_other, length-set, range_with_len, ◌≢◌, ◌≡◌, ℕ, ◌+◌, ◌*◌, ◌<◌, ◌≤◌, List, [], Option, Bool, true, false, map, set, length, get_or, ap, sym, ◌∙◌, subst, arith, cases_eq, get_or_default, length-map, get_or-map, ext_get_or, member, Dir, heads, flag, Cell, Piece, still_place, place_of, cell_of, Shows, AreLawful, Layering, seen, IsSound, AreMapped, All}
 use prog.Memory.{up}
-use Rattle.std.proofs.lemmas.List.{length-set}
-use Rattle.std.specs.List.{All}
-use Rattle.pz_cells.proofs.HoldLemmas.{place_seen}
-use Rattle.pz_cells.proofs.PlaceLemmas.{cell_from_shows, lawful_from_shows}
+use Rattle.std.proofs.lemmas.Simd.{map-map}
+use Rattle.pz_cells.proofs.PlaceLemmas.{cell_shown, lawful_from_shows}
 
 -- a cell without words
 pub no_cell : (N : ℕ) → Cell N
@@ -25,28 +23,18 @@ small_cell (suc (suc (suc (suc (suc n))))) h = absurd (omega (arith, h))
 -- words that show what a function makes of each place
 pub cell_mapped : (depth : ℕ) (layers objects movement objects_new movement_new : List ℕ) (f : Option Piece → Option Piece) → ((object : ℕ) → member objects_new object ≡ true → object < length layers) → ((layer : ℕ) → Shows layers (member objects_new) (heads movement_new layer) layer (f (place_of layers objects movement layer))) → cell_of depth layers objects_new movement_new ≡ map f (cell_of depth layers objects movement)
 cell_mapped depth layers objects movement objects_new movement_new f of_game shows =
-    let old = cell_of depth layers objects movement in
-    let long : length old ≡ depth = length-map-range_with_len (place_of layers objects movement) 0 depth in
-    cell_from_shows depth layers objects_new movement_new (map f old) (length-map old f ∙ long) of_game (λ layer low.
-    let at : get_or (map f old) layer None ≡ f (place_of layers objects movement layer) = get_or-map f old layer None None (omega (arith, long, low)) ∙ ap f (place_seen depth layers objects movement layer low) in
-    subst (Shows layers (member objects_new) (heads movement_new layer) layer) (sym at) (shows layer))
+    cell_shown depth layers objects_new movement_new (λ layer. f (place_of layers objects movement layer)) of_game shows ∙ sym (map-map f (place_of layers objects movement) (range_with_len 0 depth))
 
 -- what has no heading is still
 pub still_shows : (layers : List ℕ) (has : ℕ → Bool) (toward toward_new : Dir → Bool) (layer : ℕ) (place : Option Piece) → ((dir : Dir) → toward_new dir ≡ false) → Shows layers has toward layer place → Shows layers has toward_new layer (still_place place)
 still_shows layers has toward toward_new layer place none shown = grind (arith, none)
 
 -- words of which the headings were taken away
-stilled_shows : (layers objects movement movement_new : List ℕ) → AreLawful layers objects movement → ((number : ℕ) → member movement_new number ≡ false) → (layer : ℕ) → Shows layers (member objects) (heads movement_new layer) layer (still_place (place_of layers objects movement layer))
-stilled_shows layers objects movement movement_new lawful none layer =
-    still_shows layers (member objects) (heads movement layer) (heads movement_new layer) layer (place_of layers objects movement layer) (λ dir. none (flag layer dir)) (lawful.shows layer)
-
-pub lawful_stilled : (layers objects movement movement_new : List ℕ) → AreLawful layers objects movement → ((number : ℕ) → member movement_new number ≡ false) → AreLawful layers objects movement_new
-lawful_stilled layers objects movement movement_new lawful none =
-    lawful_from_shows layers objects movement_new (λ (layer : ℕ). still_place (place_of layers objects movement layer)) lawful.of_game (stilled_shows layers objects movement movement_new lawful none) (λ number high. none number)
-
-pub cell_stilled : (depth : ℕ) (layers objects movement movement_new : List ℕ) → AreLawful layers objects movement → ((number : ℕ) → member movement_new number ≡ false) → cell_of depth layers objects movement_new ≡ map still_place (cell_of depth layers objects movement)
-cell_stilled depth layers objects movement movement_new lawful none =
-    cell_mapped depth layers objects movement objects movement_new still_place lawful.of_game (stilled_shows layers objects movement movement_new lawful none)
+pub stilled : (depth : ℕ) (layers objects movement movement_new : List ℕ) → AreLawful layers objects movement → ((number : ℕ) → member movement_new number ≡ false) → AreLawful layers objects movement_new × (cell_of depth layers objects movement_new ≡ map still_place (cell_of depth layers objects movement))
+stilled depth layers objects movement movement_new lawful none =
+    let here = place_of layers objects movement in
+    let shows = λ (layer : ℕ). still_shows layers (member objects) (heads movement layer) (heads movement_new layer) layer (here layer) (λ dir. none (flag layer dir)) (lawful.shows layer) in
+    (lawful_from_shows layers objects movement_new (λ (layer : ℕ). still_place (here layer)) lawful.of_game shows (λ number high. none number), cell_mapped depth layers objects movement objects movement_new still_place lawful.of_game shows)
 
 -- ---- a loop over the cells
 -- of some cells those before a number are changed, as a relation says, and the others are as they were
@@ -55,23 +43,20 @@ pub record AreWalked {N : ℕ} (Turns : Cell N → Cell N → Type 0) (old now :
   pub turned : (k : ℕ) (cell : Cell N) → k < index → Turns (get_or old k cell) (get_or now k cell)
   pub rest : (k : ℕ) (cell : Cell N) → index ≤ k → get_or now k cell ≡ get_or old k cell
 
-pub walked_none : {N : ℕ} (Turns : Cell N → Cell N → Type 0) (old : List (Cell N)) → AreWalked Turns old old 0
-walked_none Turns old = record { long = refl; turned = λ k cell below. absurd (omega (arith, below)); rest = λ k cell above. refl }
+-- one cell is changed, and another was before
+pub turned_set : {N : ℕ} (Turns : Cell N → Cell N → Type 0) (old now : List (Cell N)) (index k : ℕ) (cell new d : Cell N) → index < length now → cell ≡ get_or now index cell → get_or now index d ≡ get_or old index d → Turns cell new → (k ≢ index → Turns (get_or old k d) (get_or now k d)) → Turns (get_or old k d) (get_or (set now index new) k d)
+turned_set {N} Turns old now index k cell new d within is was turns before = elim (cases_eq k index) [
+  | inl same ↦ subst (λ (i : ℕ). Turns (get_or old i d) (get_or (set now index new) i d)) (sym same)
+      (subst (Turns (get_or old index d)) (sym (get_or-set_same now index new d within)) (subst (λ (c : Cell N). Turns c new) (is ∙ get_or_default now index cell d within ∙ was) turns))
+  | inr other ↦ subst (Turns (get_or old k d)) (sym (get_or-set_other now index k new d other)) (before other)
+]
 
 pub walked_more : {N : ℕ} (Turns : Cell N → Cell N → Type 0) (old now : List (Cell N)) (index : ℕ) (cell new : Cell N) → index < length now → AreWalked Turns old now index → cell ≡ get_or now index cell → Turns cell new → AreWalked Turns old (set now index new) (index + 1)
-walked_more {N} Turns old now index cell new within w is turns = record {
+walked_more Turns old now index cell new within w is turns = record {
   long = length-set now index new ∙ w.long;
-  turned = λ k d below. elim (cases_eq k index) [
-    | inl same ↦ (let was : cell ≡ get_or old index d = is ∙ w.rest index cell (omega arith) ∙ get_or_default old index cell d (omega (arith, within, w.long)) in
-        subst (λ (i : ℕ). Turns (get_or old i d) (get_or (set now index new) i d)) (sym same) (subst (Turns (get_or old index d)) (sym (get_or-set_same now index new d within)) (subst (λ (c : Cell N). Turns c new) was turns)))
-    | inr other ↦ subst (Turns (get_or old k d)) (sym (get_or-set_other now index k new d other)) (w.turned k d (omega (arith, below, other)))
-  ];
+  turned = λ k d below. turned_set Turns old now index k cell new d within is (w.rest index d (omega arith)) turns (λ other. w.turned k d (omega (arith, below, other)));
   rest = λ k d above. get_or-set_other now index k new d (λ same. absurd (omega (arith, same, above))) ∙ w.rest k d (omega (arith, above));
 }
-
--- a cell that is still to come is as sound as it was
-pub walked_sound : {N : ℕ} (layering : Layering) (Turns : Cell N → Cell N → Type 0) (old now : List (Cell N)) (index : ℕ) (cell : Cell N) → All (IsSound layering) old → index < length now → AreWalked Turns old now index → cell ≡ get_or now index cell → IsSound layering cell
-walked_sound layering Turns old now index cell sound within w is = sound_at layering old index cell sound (omega (arith, within, w.long)) (is ∙ w.rest index cell (omega arith))
 
 -- a cell is changed as a function says of what is seen of it
 abbrev pub Turns : {N : ℕ} → Layering → (List (Option Piece) → List (Option Piece)) → Cell N → Cell N → Type 0

@@ -1,7 +1,5 @@
 -- What words show, and how one layer of a cell changes.
-use Rattle.pz_cells.proofs.Common.{◌≡◌, ◌≢◌, inl, inr, ℕ, ◌<◌, List, Option, Some, None, Bool, true, false, not, ◌&&◌, ◌||◌, length, get_or, set, arith, ap, sym, ◌∙◌, refl, subst, nat_eq, eq-eqb, zero, suc, ◌+◌, ◌≤◌, cond, cases_eq, eqb-true, and_parts, or_cases, ext_get_or, get_or-map-range_with_len, length-map-range_with_len, common_steps, member, Piece, Dir, same_dir, is_toward, IsProper, heads, heading_in, first_of, IsOnLayer, IsSetOf, place_of, cell_of, Shows, AreLawful, Changes, stands_on, piece_with, find, option_map, range_with_len}
-use Rattle.std.proofs.lemmas.List.{length-set}
-use Rattle.pz_game.specs.declared.direction.Dir.TheVariants.{Up, Down, Left, Right, Action}
+use Rattle.pz_cells.proofs.Common.{length-set, map, ◌≡◌, ◌≢◌, inl, inr, ℕ, ◌<◌, List, Option, Some, None, Bool, true, false, not, ◌&&◌, ◌||◌, length, get_or, set, arith, ap, sym, ◌∙◌, refl, subst, nat_eq, eq-eqb, zero, suc, ◌+◌, ◌≤◌, cond, cases_eq, eqb-true, and_parts, ext_get_or, get_or-map-range_with_len, length-map-range_with_len, common_steps, member, Piece, Dir, same_dir, is_toward, IsProper, heads, heading_in, first_of, IsOnLayer, IsSetOf, place_of, cell_of, Shows, AreLawful, Changes, stands_on, piece_with, find, option_map, range_with_len, Up, Down, Left, Right, Action}
 
 -- the first direction that a test picks, of tests that pick one or none
 pub first_toward : (test : Dir → Bool) (heading : Option Dir) → ((dir : Dir) → test dir ≡ is_toward heading dir) → first_of test ≡ heading
@@ -40,26 +38,15 @@ lawful_from_shows layers objects movement place of_game shows proper = record {
 }
 
 -- and their view is those places
-pub cell_from_shows : (depth : ℕ) (layers objects movement : List ℕ) (cell : List (Option Piece)) → length cell ≡ depth → ((object : ℕ) → member objects object ≡ true → object < length layers) → ((layer : ℕ) → layer < depth → Shows layers (member objects) (heads movement layer) layer (get_or cell layer None)) → cell_of depth layers objects movement ≡ cell
-cell_from_shows depth layers objects movement cell long of_game shows =
-    ext_get_or None (cell_of depth layers objects movement) cell (length-map-range_with_len (place_of layers objects movement) 0 depth ∙ sym long) (λ layer within.
-    let low : layer < depth = omega (arith, within, length-map-range_with_len (place_of layers objects movement) 0 depth) in
-    get_or-map-range_with_len (place_of layers objects movement) 0 depth layer layer None low (omega arith) ∙ place_shown layers objects movement layer (get_or cell layer None) of_game (shows layer low))
+pub cell_shown : (depth : ℕ) (layers objects movement : List ℕ) (place : ℕ → Option Piece) → ((object : ℕ) → member objects object ≡ true → object < length layers) → ((layer : ℕ) → Shows layers (member objects) (heads movement layer) layer (place layer)) → cell_of depth layers objects movement ≡ map place (range_with_len 0 depth)
+cell_shown depth layers objects movement place of_game shows = λ i. map (λ layer. place_shown layers objects movement layer (place layer) of_game (shows layer) i) (range_with_len 0 depth)
 
 -- a layer with one
 pub place_some : (layers objects movement : List ℕ) (layer object : ℕ) → AreLawful layers objects movement → member objects object ≡ true → get_or layers object 0 ≡ layer → Some (record { object = object; heading = heading_in movement layer }) ≡ place_of layers objects movement layer
 place_some layers objects movement layer object lawful here on = grind (arith, lawful.shows layer, first_toward (heads movement layer))
 
--- two objects of one layer are one
-pub one_object : (layers objects movement : List ℕ) (layer a b : ℕ) → AreLawful layers objects movement → member objects a ≡ true → get_or layers a 0 ≡ layer → member objects b ≡ true → get_or layers b 0 ≡ layer → a ≡ b
-one_object layers objects movement layer a b lawful here on there at = grind (arith, lawful.shows layer)
-
-pub shows_alike : (layers : List ℕ) (has has_new : ℕ → Bool) (toward toward_new : Dir → Bool) (layer : ℕ) (place : Option Piece) → ((object : ℕ) → get_or layers object 0 ≡ layer → has_new object ≡ has object) → ((dir : Dir) → toward_new dir ≡ toward dir) → Shows layers has toward layer place → Shows layers has_new toward_new layer place
-shows_alike layers has has_new toward toward_new layer place objects movement shown = grind (arith, objects, movement)
-
 pub shows_changed : (layers objects movement objects_new movement_new : List ℕ) (layer : ℕ) (place : Option Piece) → Changes layers objects movement objects_new movement_new layer place → (other : ℕ) → other ≢ layer → (there : Option Piece) → Shows layers (member objects) (heads movement other) other there → Shows layers (member objects_new) (heads movement_new other) other there
-shows_changed layers objects movement objects_new movement_new layer place c other apart there shown =
-    shows_alike layers (member objects) (member objects_new) (heads movement other) (heads movement_new other) other there (λ object on. c.same_objects object (λ e. apart (sym on ∙ e))) (λ dir. c.same_movement other dir apart) shown
+shows_changed layers objects movement objects_new movement_new layer place c other apart there shown = grind (arith, shown, λ (object : ℕ) (on : get_or layers object 0 ≡ other). c.same_objects object (λ e. apart (sym on ∙ e)), λ (dir : Dir). c.same_movement other dir apart)
 
 -- each layer after one of them changed
 shows_after : (layers objects movement objects_new movement_new : List ℕ) (layer : ℕ) (place : Option Piece) → AreLawful layers objects movement → Changes layers objects movement objects_new movement_new layer place → (other : ℕ) → Shows layers (member objects_new) (heads movement_new other) other (cond (nat_eq other layer) place (place_of layers objects movement other))
@@ -72,23 +59,23 @@ pub lawful_changed : (layers objects movement objects_new movement_new : List �
 lawful_changed layers objects movement objects_new movement_new layer place lawful c =
     lawful_from_shows layers objects_new movement_new (λ other. cond (nat_eq other layer) place (place_of layers objects movement other)) c.of_game (shows_after layers objects movement objects_new movement_new layer place lawful c) c.proper
 
+-- a place of a table is written
+set_table : (p : ℕ → Option Piece) (depth layer : ℕ) (place : Option Piece) → map (λ k. cond (nat_eq k layer) place (p k)) (range_with_len 0 depth) ≡ set (map p (range_with_len 0 depth)) layer place
+set_table p depth layer place =
+    let new = λ (k : ℕ). cond (nat_eq k layer) place (p k) in
+    ext_get_or None (map new (range_with_len 0 depth)) (set (map p (range_with_len 0 depth)) layer place) (length-map-range_with_len new 0 depth ∙ sym (length-set (map p (range_with_len 0 depth)) layer place ∙ length-map-range_with_len p 0 depth)) (λ k within.
+    grind (arith, common_steps, within, length-map-range_with_len new 0 depth, length-map-range_with_len p 0 depth, get_or-map-range_with_len new 0 depth k k None, get_or-map-range_with_len p 0 depth k k None))
+
 pub cell_changed : (depth : ℕ) (layers objects movement objects_new movement_new : List ℕ) (layer : ℕ) (place : Option Piece) → AreLawful layers objects movement → Changes layers objects movement objects_new movement_new layer place → cell_of depth layers objects_new movement_new ≡ set (cell_of depth layers objects movement) layer place
 cell_changed depth layers objects movement objects_new movement_new layer place lawful c =
-    let old = cell_of depth layers objects movement in
-    let long : length old ≡ depth = length-map-range_with_len (place_of layers objects movement) 0 depth in
-    cell_from_shows depth layers objects_new movement_new (set old layer place) (length-set old layer place ∙ long) c.of_game (λ other low.
-    let there = get_or-map-range_with_len (place_of layers objects movement) 0 depth other other None low (omega arith) in
-    subst (Shows layers (member objects_new) (heads movement_new other) other) (elim (cases_eq other layer) [
-      | inl same ↦ grind (arith, common_steps, same, long, low)
-      | inr apart ↦ grind (arith, common_steps, apart, there)
-    ]) (shows_after layers objects movement objects_new movement_new layer place lawful c other))
+    cell_shown depth layers objects_new movement_new (λ other. cond (nat_eq other layer) place (place_of layers objects movement other)) c.of_game (shows_after layers objects movement objects_new movement_new layer place lawful c) ∙ set_table (place_of layers objects movement) depth layer place
 
 -- an object is taken from its layer
 pub changes_lifted : (layers objects movement objects_new movement_new : List ℕ) (layer object : ℕ) → AreLawful layers objects movement → member objects object ≡ true → get_or layers object 0 ≡ layer → ((other : ℕ) → member objects_new other ≡ (not (nat_eq other object) && member objects other)) → ((other : ℕ) (dir : Dir) → heads movement_new other dir ≡ (not (nat_eq other layer) && heads movement other dir)) → IsProper movement_new → Changes layers objects movement objects_new movement_new layer None
 changes_lifted layers objects movement objects_new movement_new layer object lawful here on objects_are movement_is proper = record {
   proper = proper;
   of_game = λ other new. lawful.of_game other (grind (arith, objects_are other, new));
-  here = (λ other new at. grind (arith, objects_are other, new, one_object layers objects movement layer other object lawful (grind (arith, objects_are other, new)) at here on), λ dir. grind (arith, movement_is layer dir));
+  here = (λ other new at. grind (arith, objects_are other, new, lawful.shows layer, at, here, on), λ dir. grind (arith, movement_is layer dir));
   same_objects = λ other apart. grind (arith, objects_are other, apart, on);
   same_movement = λ other dir apart. grind (arith, movement_is other dir, apart);
 }
@@ -97,16 +84,11 @@ changes_lifted layers objects movement objects_new movement_new layer object law
 pub changes_landed : (layers objects movement objects_mid movement_mid objects_new movement_new : List ℕ) (layer : ℕ) (piece : Piece) → Changes layers objects movement objects_mid movement_mid layer None → IsOnLayer layers layer (Some piece) → ((other : ℕ) → member objects_new other ≡ (nat_eq other piece.object || member objects_mid other)) → ((other : ℕ) (dir : Dir) → heads movement_new other dir ≡ ((nat_eq other layer && is_toward piece.heading dir) || heads movement_mid other dir)) → IsProper movement_new → Changes layers objects movement objects_new movement_new layer (Some piece)
 changes_landed layers objects movement objects_mid movement_mid objects_new movement_new layer piece c on objects_are movement_is proper = record {
   of_game = λ other new. grind (arith, objects_are other, new, c.of_game other, on.0);
-  here = (grind (arith, objects_are piece.object), on.1, λ other new at. by_new other (sym (objects_are other) ∙ new) at, λ dir. movement_is layer dir ∙ turned (nat_eq layer layer) (is_toward piece.heading dir) (heads movement_mid layer dir) (eq-eqb layer layer refl) (c.here.1 dir));
+  here = (grind (arith, objects_are piece.object), on.1, λ other new at. grind (arith, objects_are other, new, eqb-true other piece.object, c.here.0 other, at), λ dir. grind (arith, movement_is layer dir, eq-eqb layer layer refl, c.here.1 dir));
   same_objects = λ other apart. grind (arith, objects_are other, apart, on.1, c.same_objects other apart);
   proper = proper;
   same_movement = λ other dir apart. grind (arith, movement_is other dir, apart, c.same_movement other dir apart);
-} where
-  by_new : (other : ℕ) → (nat_eq other piece.object || member objects_mid other) ≡ true → get_or layers other 0 ≡ layer → other ≡ piece.object
-  by_new other new at = elim (or_cases (nat_eq other piece.object) (member objects_mid other) new) [ inl e ↦ eqb-true _ _ e | inr old ↦ absurd (c.here.0 other old at) ]
-
-  turned : (same toward old : Bool) → same ≡ true → old ≡ false → ((same && toward) || old) ≡ toward
-  turned same toward old e f = grind arith
+}
 
 -- what a cell is after one layer changed
 pub put_seen : (depth : ℕ) (layers objects movement objects_new movement_new : List ℕ) (layer : ℕ) (place put : Option Piece) → AreLawful layers objects movement → put ≡ place → Changes layers objects movement objects_new movement_new layer place → AreLawful layers objects_new movement_new × (cell_of depth layers objects_new movement_new ≡ set (cell_of depth layers objects movement) layer put)
@@ -147,7 +129,7 @@ object_there layers objects movement layer piece lawful e = grind (arith, lawful
 pub changes_turned : (layers objects movement movement_new : List ℕ) (object : ℕ) (dir : Dir) → AreLawful layers objects movement → member objects object ≡ true → ((other : ℕ) (way : Dir) → heads movement_new other way ≡ ((nat_eq other (get_or layers object 0) && same_dir dir way) || (not (nat_eq other (get_or layers object 0)) && heads movement other way))) → IsProper movement_new → Changes layers objects movement objects movement_new (get_or layers object 0) (Some (record { object = object; heading = Some dir }))
 changes_turned layers objects movement movement_new object dir lawful here movement_is proper = record {
   of_game = lawful.of_game;
-  here = (here, refl, λ other there at. one_object layers objects movement (get_or layers object 0) other object lawful there at here refl, λ way. grind (arith, movement_is (get_or layers object 0) way));
+  here = (here, refl, λ other there at. grind (arith, lawful.shows (get_or layers object 0), there, at, here), λ way. grind (arith, movement_is (get_or layers object 0) way));
   same_objects = λ other apart. refl;
   proper = proper;
   same_movement = λ other way apart. grind (arith, movement_is other way, apart);

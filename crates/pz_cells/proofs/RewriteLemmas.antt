@@ -1,24 +1,12 @@
 -- What a rewriting does to the sets of a cell.
-use Rattle.pz_cells.proofs.Common.{◌≡◌, ◌≢◌, ◌⊎◌, nat_lt, inl, inr, ℕ, ◌+◌, ◌<◌, ◌≤◌, List, Option, Some, None, Bool, true, false, cond, not, ◌&&◌, ◌||◌, length, get_or, arith, ap, sym, ◌∙◌, refl, subst, nat_eq, All, is_some, ◌↔◌, cases_lt, and_parts, or_cases, or_right, or_parts, get_or-map-range_with_len, length-map-range_with_len, common_steps, member, Piece, Dir, Word, Item, AreOf, standing, same_cell, is_toward, flag, heads, IsProper, place_of, cell_of, Shows, AreLawful, each_number, names, placed_on, tells_of, tells_movement, names_object, forbids_object, heading_of, new_heading, kept, replaced, rewritten_place, rewritten_cell, Masks, toward, begins, settles, AreMasksOf, ends, Leaves, removed_by}
+use Rattle.pz_cells.proofs.Common.{cases_Bool, IfSome, map, find, option_map, piece_with, first_of, range_with_len, ◌≡◌, ◌≢◌, nat_lt, inl, inr, ℕ, ◌+◌, ◌<◌, ◌≤◌, List, Option, Some, None, Bool, true, false, cond, not, ◌&&◌, ◌||◌, length, get_or, arith, ap, sym, ◌∙◌, refl, subst, nat_eq, All, is_some, ◌↔◌, cases_lt, and_parts, or_right, or_parts, length-map-range_with_len, common_steps, member, Piece, Dir, Word, Item, AreOf, standing, same_cell, is_toward, flag, heads, IsProper, place_of, cell_of, Shows, AreLawful, each_number, names, placed_on, tells_of, tells_movement, names_object, forbids_object, heading_of, new_heading, kept, replaced, rewritten_place, rewritten_cell, Masks, toward, begins, settles, AreMasksOf, ends, Leaves, removed_by}
 use Rattle.pz_cells.proofs.SameLemmas.{same_cell_is, same_cell_self}
-use Rattle.pz_cells.proofs.PlaceLemmas.{shows_alike, lawful_from_shows, cell_from_shows}
-use Rattle.pz_cells.proofs.HoldLemmas.{place_seen, standing_seen, placed_is}
+use Rattle.pz_cells.proofs.PlaceLemmas.{lawful_from_shows, cell_shown}
+use Rattle.pz_cells.proofs.HoldLemmas.{place_everywhere, standing_seen, placed_is}
 
 -- an object that the left names or the right forbids
 abbrev pub is_removable : List Item → List Item → ℕ → Bool
 is_removable left right object = names_object object left || forbids_object object right
-
--- an object of the cell on a layer where nothing is placed: it goes if it is removable, or else stays
-pub record Stands (layers : List ℕ) (left right : List Item) (has : ℕ → Bool) (goes : Bool) (object : ℕ) : Type 0 where
-  pub here : has object ≡ true
-  pub free : placed_on (get_or layers object 0) right ≡ None
-  pub removed : is_removable left right object ≡ goes
-
-abbrev pub Goes : List ℕ → List Item → List Item → (ℕ → Bool) → ℕ → Type 0
-Goes layers left right has object = Stands layers left right has true object
-
-abbrev pub Stays : List ℕ → List Item → List Item → (ℕ → Bool) → ℕ → Type 0
-Stays layers left right has object = Stands layers left right has false object
 
 -- where an object is placed, its direction is the definition's
 new_toward : (word : Word) (told : Bool) (here : Option Piece) (old : Bool) (dir : Dir) → names word ≡ true → old ≡ is_toward (heading_of here) dir → ((old && not (told || tells_movement word)) || is_toward (toward true word) dir) ≡ is_toward (new_heading word told here) dir
@@ -27,138 +15,42 @@ new_toward word told here old dir n e = grind arith
 toward_shown : (layers : List ℕ) (has : ℕ → Bool) (toward : Dir → Bool) (layer : ℕ) (place : Option Piece) (dir : Dir) → Shows layers has toward layer place → toward dir ≡ is_toward (heading_of place) dir
 toward_shown layers has toward layer place dir h = grind arith
 
-none_from : (o : Option Item) → is_some o ≡ false → o ≡ None
-none_from found e = grind arith
+-- where nothing is placed an object stays unless it is removed
+stays_by : (new here cleared gone removed placed : Bool) → new ≡ ((here && not (cleared || gone)) || placed) → cleared ≡ false → gone ≡ removed → placed ≡ false → new ≡ (here && not removed)
+stays_by new here cleared gone removed placed is free same none = grind arith
 
 -- the directions that end, by the masks of the two cells
 ends_by : (told : Bool) (found : Option Item) → (settles found || (told && is_some found)) ≡ ends told found
 ends_by told found = grind arith
 
--- what is taken from a cell, by the masks of the two cells
-abbrev pub gone_by : List ℕ → Masks → Masks → ℕ → Bool
-gone_by layers l r object = member r.layers (get_or layers object 0) || (member l.present object || member r.absent object)
-
 -- what the words of a rewritten cell are
-pub record AreRewritten (layers : List ℕ) (l r : Masks) (objects movement objects_new mid movement_new : List ℕ) : Type 0 where
-  pub is_new : (object : ℕ) → object < length layers → member objects_new object ≡ ((member objects object && not (gone_by layers l r object)) || member r.placed object)
+pub record AreRewritten (layers : List ℕ) (left right : List Item) (l r : Masks) (objects movement objects_new mid movement_new : List ℕ) : Type 0 where
+  pub are : AreOf layers right
+  pub ml : AreMasksOf left l
+  pub mr : AreMasksOf right r
+  pub lawful : AreLawful layers objects movement
+  pub is_new : (object : ℕ) → object < length layers → member objects_new object ≡ ((member objects object && not (member r.layers (get_or layers object 0) || (member l.present object || member r.absent object))) || member r.placed object)
   pub of_game : (object : ℕ) → member objects_new object ≡ true → object < length layers
   pub is_mid : (number : ℕ) → member mid number ≡ ((member movement number && not (member r.settled number || (member l.told number && member r.covered number))) || member r.headed number)
   pub ended : (object : ℕ) (dir : Dir) → Leaves layers objects r.layers (removed_by l r) object → heads movement_new (get_or layers object 0) dir ≡ false
   pub others : (layer : ℕ) (dir : Dir) → ((object : ℕ) → Leaves layers objects r.layers (removed_by l r) object → get_or layers object 0 ≡ layer → ⊥) → heads movement_new layer dir ≡ heads mid layer dir
 
-module _ (layers : List ℕ) (left right : List Item) (l r : Masks) (objects movement objects_new mid movement_new : List ℕ) (are : AreOf layers right) (ml : AreMasksOf left l) (mr : AreMasksOf right r) (lawful : AreLawful layers objects movement) (w : AreRewritten layers l r objects movement objects_new mid movement_new) where
-  removable : (object : ℕ) → (member l.present object || member r.absent object) ≡ is_removable left right object
-  removable object = grind (arith, ml.present object, mr.absent object)
-
-  gives : (object : ℕ) → member objects_new object ≡ true → Stays layers left right (member objects) object ⊎ ((item : Item) × (placed_on (get_or layers object 0) right ≡ Some item) × (item.object ≡ object))
-  gives object new = elim (or_cases (member objects object && not (gone_by layers l r object)) (member r.placed object) (sym (w.is_new object (w.of_game object new)) ∙ new)) [
-    | inl h ↦ inl (record { here = grind (arith, h); free = none_from (placed_on (get_or layers object 0) right) (grind (arith, h, mr.layers (get_or layers object 0))); removed = grind (arith, h, removable object) })
-    | inr h ↦ (let p = mr.placed_only object h in inr (p.1, ap (λ (k : ℕ). placed_on k right) (ap (λ (k : ℕ). get_or layers k 0) (sym p.3) ∙ (placed_is layers p.0 right p.1 are p.2).1) ∙ p.2, p.3))
-  ]
-
-  keeps : (object : ℕ) → Stays layers left right (member objects) object → member objects_new object ≡ true
-  keeps object stays = grind (arith, w.is_new object (lawful.of_game object stays.here), mr.layers (get_or layers object 0), stays.free, removable object, stays.removed, stays.here)
-
-  puts : (layer : ℕ) (item : Item) → placed_on layer right ≡ Some item → member objects_new item.object ≡ true
-  puts layer item e = w.is_new item.object (placed_is layers layer right item are e).0 ∙ or_right _ _ (mr.placed layer item e)
-
-  ended : (object : ℕ) (dir : Dir) → Goes layers left right (member objects) object → heads movement_new (get_or layers object 0) dir ≡ false
-  ended object dir goes = w.ended object dir (record { here = goes.here; removed = removable object ∙ goes.removed; free = mr.layers (get_or layers object 0) ∙ ap is_some goes.free })
-
-  others : (layer : ℕ) (dir : Dir) → ((object : ℕ) → Goes layers left right (member objects) object → get_or layers object 0 ≡ layer → ⊥) → heads movement_new layer dir ≡ ((heads movement layer dir && not (ends (tells_of layer left) (placed_on layer right))) || begins dir (placed_on layer right))
-  others layer dir none =
-      w.others layer dir (λ object g on. none object (record { here = g.here; free = none_from (placed_on (get_or layers object 0) right) (sym (mr.layers (get_or layers object 0)) ∙ g.free); removed = sym (removable object) ∙ g.removed }) on)
-      ∙ grind (arith, w.is_mid (flag layer dir), mr.settled layer dir, ml.told layer dir, mr.covered layer dir, mr.headed layer dir, ends_by (tells_of layer left) (placed_on layer right))
-
-  -- each layer shows what the definition says of it
-  rewritten_shows : (layer : ℕ) (here : Option Piece) → Shows layers (member objects) (heads movement layer) layer here → Shows layers (member objects_new) (heads movement_new layer) layer (rewritten_place left right layer here)
-  rewritten_shows layer here shown = by_placed (placed_on layer right) refl where
-    at : (object : ℕ) → get_or layers object 0 ≡ layer → (found : Option Item) → placed_on layer right ≡ found → placed_on (get_or layers object 0) right ≡ found
-    at object on found e = ap (λ (k : ℕ). placed_on k right) on ∙ e
-
-    -- nothing is placed on the layer
-    toward_kept : placed_on layer right ≡ None → ((object : ℕ) → Goes layers left right (member objects) object → get_or layers object 0 ≡ layer → ⊥) → (dir : Dir) → heads movement_new layer dir ≡ heads movement layer dir
-    toward_kept e none dir = grind (arith, others layer dir none, e)
-
-    stays_only : placed_on layer right ≡ None → (object : ℕ) → member objects_new object ≡ true → get_or layers object 0 ≡ layer → Stays layers left right (member objects) object
-    stays_only e object new on = elim (gives object new) [ inl stays ↦ stays | inr (item, f, same) ↦ absurd (grind (arith, at object on None e, f)) ]
-
-    by_test : placed_on layer right ≡ None → (piece : Piece) → Shows layers (member objects) (heads movement layer) layer (Some piece) → (b : Bool) → is_removable left right piece.object ≡ b → Shows layers (member objects_new) (heads movement_new layer) layer (cond b None (Some piece))
-    by_test e piece shown true f = (
-      λ object new on. (let stays = stays_only e object new on in grind (arith, shown.2 object stays.here on, stays.removed, f)),
-      λ dir. ap (λ (k : ℕ). heads movement_new k dir) (sym shown.1) ∙ ended piece.object dir (record { here = shown.0; free = at piece.object shown.1 None e; removed = f }),
-    )
-    by_test e piece shown false f = (
-      keeps piece.object (record { here = shown.0; free = at piece.object shown.1 None e; removed = f }),
-      shown.1,
-      λ object new on. shown.2 object (stays_only e object new on).here on,
-      λ dir. toward_kept e (λ object goes on. grind (arith, shown.2 object goes.here on, goes.removed, f)) dir ∙ shown.3 dir,
-    )
-
-    by_here : placed_on layer right ≡ None → (place : Option Piece) → Shows layers (member objects) (heads movement layer) layer place → Shows layers (member objects_new) (heads movement_new layer) layer (kept left right place)
-    by_here e None shown = (
-      λ object new on. shown.0 object (stays_only e object new on).here on,
-      λ dir. toward_kept e (λ object goes on. shown.0 object goes.here on) dir ∙ shown.1 dir,
-    )
-    by_here e (Some piece) shown = by_test e piece shown (is_removable left right piece.object) refl
-
-    -- nothing of the layer goes where something is placed
-    none_goes : (item : Item) → placed_on layer right ≡ Some item → (object : ℕ) → Goes layers left right (member objects) object → get_or layers object 0 ≡ layer → ⊥
-    none_goes item e object goes on = grind (arith, goes.free, at object on (Some item) e)
-
-    only_placed : (item : Item) → placed_on layer right ≡ Some item → (object : ℕ) → member objects_new object ≡ true → get_or layers object 0 ≡ layer → object ≡ item.object
-    only_placed item e object new on = elim (gives object new) [
-      | inl stays ↦ absurd (grind (arith, stays.free, at object on (Some item) e))
-      | inr (other, f, same) ↦ grind (arith, f, at object on (Some item) e, same)
-    ]
-
-    by_placed : (found : Option Item) → placed_on layer right ≡ found → Shows layers (member objects_new) (heads movement_new layer) layer (replaced found (tells_of layer left) left right here)
-    by_placed None e = by_here e here shown
-    by_placed (Some item) e =
-        let is = placed_is layers layer right item are e in (
-          puts layer item e,
-          is.1,
-          only_placed item e,
-          λ dir. others layer dir (none_goes item e) ∙ ap (λ (o : Option Item). (heads movement layer dir && not (ends (tells_of layer left) o)) || begins dir o) e ∙ new_toward item.word (tells_of layer left) here (heads movement layer dir) dir is.2 (toward_shown layers (member objects) (heads movement layer) layer here dir shown),
-        )
-
-  -- the new words are lawful, and what is seen of them is the definition's cell
-  pub lawful_rewritten : IsProper movement_new → AreLawful layers objects_new movement_new
-  lawful_rewritten proper =
-      lawful_from_shows layers objects_new movement_new (λ layer. rewritten_place left right layer (place_of layers objects movement layer)) w.of_game (λ layer. rewritten_shows layer (place_of layers objects movement layer) (lawful.shows layer)) proper
-
-  pub cell_rewritten : (depth : ℕ) → cell_of depth layers objects_new movement_new ≡ rewritten_cell left right (cell_of depth layers objects movement)
-  cell_rewritten depth =
-      let old = cell_of depth layers objects movement in
-      let f = λ (layer : ℕ). rewritten_place left right layer (get_or old layer None) in
-      let long : length old ≡ depth = length-map-range_with_len (place_of layers objects movement) 0 depth in
-      cell_from_shows depth layers objects_new movement_new (rewritten_cell left right old) (length-map-range_with_len f 0 (length old) ∙ long) w.of_game
-      (λ layer low. subst (Shows layers (member objects_new) (heads movement_new layer) layer) (sym (get_or-map-range_with_len f 0 (length old) layer layer None (omega (arith, long)) (omega arith)))
-      (rewritten_shows layer (get_or old layer None) (subst (Shows layers (member objects) (heads movement layer) layer) (sym (place_seen depth layers objects movement layer low)) (lawful.shows layer))))
-
-  -- the directions between have no bits between the fields
-  pub mid_proper : IsProper mid
-  mid_proper number high = grind (arith, w.is_mid number, lawful.proper number high, mr.proper_headed number high)
-
 -- what is placed is of the game
 pub placed_within : (layers : List ℕ) (right : List Item) (r : Masks) → AreOf layers right → AreMasksOf right r → (object : ℕ) → member r.placed object ≡ true → object < length layers
 placed_within layers right r are mr object here = (let p = mr.placed_only object here in subst (λ (k : ℕ). k < length layers) p.3 (placed_is layers p.0 right p.1 are p.2).0)
 
--- ---- whether the cell changed
--- nothing stands past the layers
-place_past : (depth : ℕ) (layers objects movement : List ℕ) (layer : ℕ) → All (λ l. l < depth) layers → AreLawful layers objects movement → depth ≤ layer → place_of layers objects movement layer ≡ None
-place_past depth layers objects movement layer low lawful past = grind (arith, lawful.shows layer, lawful.of_game, low)
-
 -- words that answer alike show one cell
-pub cell_alike : (depth : ℕ) (layers objects movement objects_new movement_new : List ℕ) → AreLawful layers objects movement → AreLawful layers objects_new movement_new → ((object : ℕ) → member objects_new object ≡ member objects object) → ((layer : ℕ) (dir : Dir) → heads movement_new layer dir ≡ heads movement layer dir) → cell_of depth layers objects_new movement_new ≡ cell_of depth layers objects movement
-cell_alike depth layers objects movement objects_new movement_new lawful lawful_new same_objects same_heads =
-    cell_from_shows depth layers objects_new movement_new (cell_of depth layers objects movement) (length-map-range_with_len (place_of layers objects movement) 0 depth) lawful_new.of_game (λ layer low.
-    subst (Shows layers (member objects_new) (heads movement_new layer) layer) (sym (place_seen depth layers objects movement layer low))
-    (shows_alike layers (member objects) (member objects_new) (heads movement layer) (heads movement_new layer) layer (place_of layers objects movement layer) (λ object on. same_objects object) (same_heads layer) (lawful.shows layer)))
+pub cell_alike : (depth : ℕ) (layers objects movement objects_new movement_new : List ℕ) → ((object : ℕ) → member objects_new object ≡ member objects object) → ((layer : ℕ) (dir : Dir) → heads movement_new layer dir ≡ heads movement layer dir) → cell_of depth layers objects_new movement_new ≡ cell_of depth layers objects movement
+cell_alike depth layers objects movement objects_new movement_new same_objects same_heads =
+    λ i. map (λ layer. option_map (piece_with (first_of (λ dir. same_heads layer dir i))) (find (λ object. same_objects object i && nat_eq (get_or layers object 0) layer) (range_with_len 0 (length layers)))) (range_with_len 0 depth)
 
 -- one cell is shown by words that answer alike
 pub member_seen : (depth : ℕ) (layers objects movement : List ℕ) (object : ℕ) → All (λ l. l < depth) layers → AreLawful layers objects movement → member objects object ≡ is_some (standing (cell_of depth layers objects movement) object)
 member_seen depth layers objects movement object low lawful = grind (arith, standing_seen depth layers objects movement object low lawful)
+
+heads_seen : (depth : ℕ) (layers objects movement : List ℕ) (layer : ℕ) (dir : Dir) → All (λ l. l < depth) layers → AreLawful layers objects movement → heads movement layer dir ≡ is_toward (heading_of (get_or (cell_of depth layers objects movement) layer None)) dir
+heads_seen depth layers objects movement layer dir low lawful =
+    toward_shown layers (member objects) (heads movement layer) layer (place_of layers objects movement layer) dir (lawful.shows layer) ∙ ap (λ (p : Option Piece). is_toward (heading_of p) dir) (sym (place_everywhere depth layers objects movement layer low lawful))
 
 pub objects_alike : (depth : ℕ) (layers objects movement objects_new movement_new : List ℕ) → All (λ l. l < depth) layers → AreLawful layers objects movement → AreLawful layers objects_new movement_new → cell_of depth layers objects_new movement_new ≡ cell_of depth layers objects movement → (object : ℕ) → member objects_new object ≡ member objects object
 objects_alike depth layers objects movement objects_new movement_new low lawful lawful_new e object =
@@ -166,41 +58,107 @@ objects_alike depth layers objects movement objects_new movement_new low lawful 
 
 pub heads_alike : (depth : ℕ) (layers objects movement objects_new movement_new : List ℕ) → All (λ l. l < depth) layers → AreLawful layers objects movement → AreLawful layers objects_new movement_new → cell_of depth layers objects_new movement_new ≡ cell_of depth layers objects movement → (layer : ℕ) (dir : Dir) → heads movement_new layer dir ≡ heads movement layer dir
 heads_alike depth layers objects movement objects_new movement_new low lawful lawful_new e layer dir =
-    toward_shown layers (member objects_new) (heads movement_new layer) layer (place_of layers objects_new movement_new layer) dir (lawful_new.shows layer)
-    ∙ ap (λ (p : Option Piece). is_toward (heading_of p) dir) (elim (cases_lt layer depth) [
-      | inl within ↦ sym (place_seen depth layers objects_new movement_new layer within) ∙ ap (λ (c : List (Option Piece)). get_or c layer None) e ∙ place_seen depth layers objects movement layer within
-      | inr past ↦ place_past depth layers objects_new movement_new layer low lawful_new past ∙ sym (place_past depth layers objects movement layer low lawful past)
-    ])
-    ∙ sym (toward_shown layers (member objects) (heads movement layer) layer (place_of layers objects movement layer) dir (lawful.shows layer))
-
--- where the objects stay, none of them leaves
-none_leaves : (layers : List ℕ) (right : List Item) (l r : Masks) (objects movement objects_new mid movement_new : List ℕ) → AreOf layers right → AreMasksOf right r → ((object : ℕ) → member objects object ≡ true → object < length layers) → AreRewritten layers l r objects movement objects_new mid movement_new → ((object : ℕ) → member objects_new object ≡ member objects object) → (object : ℕ) → Leaves layers objects r.layers (removed_by l r) object → ⊥
-none_leaves layers right l r objects movement objects_new mid movement_new are mr of_game w same object g =
-    by_placed (mr.placed_only object (grind (arith, g.removed, w.is_new object (of_game object g.here), same object, g.here))) where
-      by_placed : (layer : ℕ) × (item : Item) × (placed_on layer right ≡ Some item) × (item.object ≡ object) → ⊥
-      by_placed (layer, item, on, same) = absurd (grind (arith, g.free, mr.layers (get_or layers object 0), (placed_is layers layer right item are on).1, on, same))
+    heads_seen depth layers objects_new movement_new layer dir low lawful_new ∙ ap (λ (c : List (Option Piece)). is_toward (heading_of (get_or c layer None)) dir) e ∙ sym (heads_seen depth layers objects movement layer dir low lawful)
 
 decided : (b : Bool) (x y : List (Option Piece)) → (b ≡ false → x ≡ y) → (x ≡ y → b ≡ false) → b ≡ not (same_cell x y)
 decided false x y f g = grind (arith, f refl, same_cell_self x)
 decided true x y f g = grind (arith, g, same_cell_is x y)
 
-pub changed_by : (depth : ℕ) (layers : List ℕ) (right : List Item) (l r : Masks) (objects movement objects_new mid movement_new : List ℕ) (moved replaced : Bool) (new_cell : List (Option Piece)) → AreOf layers right → AreMasksOf right r → All (λ layer. layer < depth) layers → AreLawful layers objects movement → AreLawful layers objects_new movement_new → AreRewritten layers l r objects movement objects_new mid movement_new → IsProper mid → ((moved ≡ false) ↔ ((number : ℕ) → member mid number ≡ member movement number)) → ((replaced ≡ false) ↔ ((number : ℕ) → member objects_new number ≡ member objects number)) → cell_of depth layers objects_new movement_new ≡ new_cell → (moved || replaced) ≡ not (same_cell new_cell (cell_of depth layers objects movement))
-changed_by depth layers right l r objects movement objects_new mid movement_new moved replaced new_cell are mr low lawful lawful_new w proper is_moved is_replaced e =
-    decided (moved || replaced) new_cell (cell_of depth layers objects movement) forth back where
-      settled : ((object : ℕ) → member objects_new object ≡ member objects object) → (layer : ℕ) (dir : Dir) → heads movement_new layer dir ≡ heads mid layer dir
-      settled same layer dir = w.others layer dir (λ object g on. none_leaves layers right l r objects movement objects_new mid movement_new are mr lawful.of_game w same object g)
+module _ (layers : List ℕ) (left right : List Item) (l r : Masks) (objects movement objects_new mid movement_new : List ℕ) (w : AreRewritten layers left right l r objects movement objects_new mid movement_new) where
+  removable : (object : ℕ) → (member l.present object || member r.absent object) ≡ is_removable left right object
+  removable object = grind (arith, w.ml.present object, w.mr.absent object)
 
-      forth : (moved || replaced) ≡ false → new_cell ≡ cell_of depth layers objects movement
-      forth n =
-          let parts = or_parts moved replaced n in
-          let same = is_replaced.0 parts.1 in
-          sym e ∙ cell_alike depth layers objects movement objects_new movement_new lawful lawful_new same (λ layer dir. settled same layer dir ∙ is_moved.0 parts.0 (flag layer dir))
+  -- what is placed stands alone on its layer
+  placed_here : (object : ℕ) → member r.placed object ≡ true → IfSome (placed_on (get_or layers object 0) right) (λ item. item.object ≡ object) × (is_some (placed_on (get_or layers object 0) right) ≡ true)
+  placed_here object h =
+      let p = w.mr.placed_only object h in
+      let on : p.0 ≡ get_or layers object 0 = sym (placed_is layers p.0 right p.1 w.are p.2).1 ∙ ap (λ (k : ℕ). get_or layers k 0) p.3 in
+      subst (λ (o : Option Item). IfSome o (λ item. item.object ≡ object) × (is_some o ≡ true)) (sym p.2 ∙ ap (λ (k : ℕ). placed_on k right) on) (p.3, refl)
 
-      back : new_cell ≡ cell_of depth layers objects movement → (moved || replaced) ≡ false
-      back h =
-          let same = objects_alike depth layers objects movement objects_new movement_new low lawful lawful_new (e ∙ h) in
-          let heads_same = heads_alike depth layers objects movement objects_new movement_new low lawful lawful_new (e ∙ h) in
-          ap (λ b. b || replaced) (is_moved.1 (each_number (λ mine theirs. mine ≡ theirs) mid movement proper lawful.proper refl (λ layer dir. sym (settled same layer dir) ∙ heads_same layer dir))) ∙ is_replaced.1 same
+  others : (layer : ℕ) (dir : Dir) → ((object : ℕ) → Leaves layers objects r.layers (removed_by l r) object → get_or layers object 0 ≡ layer → ⊥) → heads movement_new layer dir ≡ ((heads movement layer dir && not (ends (tells_of layer left) (placed_on layer right))) || begins dir (placed_on layer right))
+  others layer dir none = w.others layer dir none ∙ grind (arith, w.is_mid (flag layer dir), w.mr.settled layer dir, w.ml.told layer dir, w.mr.covered layer dir, w.mr.headed layer dir, ends_by (tells_of layer left) (placed_on layer right))
+
+  -- each layer shows what the definition says of it
+  rewritten_shows : (layer : ℕ) (here : Option Piece) → Shows layers (member objects) (heads movement layer) layer here → Shows layers (member objects_new) (heads movement_new layer) layer (rewritten_place left right layer here)
+  rewritten_shows layer here shown = by_placed (placed_on layer right) refl where
+    stays : placed_on layer right ≡ None → (object : ℕ) → get_or layers object 0 ≡ layer → object < length layers → member objects_new object ≡ (member objects object && not (is_removable left right object))
+    stays e object on low =
+        let free : is_some (placed_on (get_or layers object 0) right) ≡ false = ap (λ (k : ℕ). is_some (placed_on k right)) on ∙ ap is_some e in
+        let unplaced : member r.placed object ≡ false = elim (cases_Bool (member r.placed object)) [ inl there ↦ absurd (let f : false ≡ true = sym free ∙ (placed_here object there).1 in cc) | inr none ↦ none ] in
+        stays_by _ _ _ _ _ _ (w.is_new object low) (w.mr.layers (get_or layers object 0) ∙ free) (removable object) unplaced
+
+    toward_kept : placed_on layer right ≡ None → ((object : ℕ) → Leaves layers objects r.layers (removed_by l r) object → get_or layers object 0 ≡ layer → ⊥) → (dir : Dir) → heads movement_new layer dir ≡ heads movement layer dir
+    toward_kept e none dir = grind (arith, others layer dir none, e)
+
+    by_test : placed_on layer right ≡ None → (piece : Piece) → Shows layers (member objects) (heads movement layer) layer (Some piece) → (b : Bool) → is_removable left right piece.object ≡ b → Shows layers (member objects_new) (heads movement_new layer) layer (cond b None (Some piece))
+    by_test e piece shown true f = (
+      λ object new on. grind (arith, stays e object on (w.of_game object new), new, shown.2 object, on, f),
+      λ dir. ap (λ (k : ℕ). heads movement_new k dir) (sym shown.1) ∙ w.ended piece.object dir (record { here = shown.0; removed = removable piece.object ∙ f; free = ap (member r.layers) shown.1 ∙ w.mr.layers layer ∙ ap is_some e }),
+    )
+    by_test e piece shown false f = (
+      grind (arith, stays e piece.object shown.1 (w.lawful.of_game piece.object shown.0), shown.0, f),
+      shown.1,
+      λ object new on. shown.2 object (grind (arith, stays e object on (w.of_game object new), new)) on,
+      λ dir. toward_kept e (λ object g on. grind (arith, shown.2 object g.here on, g.removed, removable object, f)) dir ∙ shown.3 dir,
+    )
+
+    by_here : placed_on layer right ≡ None → (place : Option Piece) → Shows layers (member objects) (heads movement layer) layer place → Shows layers (member objects_new) (heads movement_new layer) layer (kept left right place)
+    by_here e None shown = (
+      λ object new on. shown.0 object (grind (arith, stays e object on (w.of_game object new), new)) on,
+      λ dir. toward_kept e (λ object g on. shown.0 object g.here on) dir ∙ shown.1 dir,
+    )
+    by_here e (Some piece) shown = by_test e piece shown (is_removable left right piece.object) refl
+
+    by_placed : (found : Option Item) → placed_on layer right ≡ found → Shows layers (member objects_new) (heads movement_new layer) layer (replaced found (tells_of layer left) left right here)
+    by_placed None e = by_here e here shown
+    by_placed (Some item) e =
+        let is = placed_is layers layer right item w.are e in (
+          w.is_new item.object is.0 ∙ or_right _ _ (w.mr.placed layer item e),
+          is.1,
+          λ object new on. grind (arith, w.is_new object (w.of_game object new), new, w.mr.layers layer, e, on, placed_here object),
+          λ dir. others layer dir (λ object g on. absurd (grind (arith, g.free, on, w.mr.layers layer, e))) ∙ ap (λ (o : Option Item). (heads movement layer dir && not (ends (tells_of layer left) o)) || begins dir o) e ∙ new_toward item.word (tells_of layer left) here (heads movement layer dir) dir is.2 (toward_shown layers (member objects) (heads movement layer) layer here dir shown),
+        )
+
+  -- the new words are lawful, and what is seen of them is the definition's cell
+  pub lawful_rewritten : IsProper movement_new → AreLawful layers objects_new movement_new
+  lawful_rewritten proper =
+      lawful_from_shows layers objects_new movement_new (λ layer. rewritten_place left right layer (place_of layers objects movement layer)) w.of_game (λ layer. rewritten_shows layer (place_of layers objects movement layer) (w.lawful.shows layer)) proper
+
+  pub cell_rewritten : (depth : ℕ) → All (λ l. l < depth) layers → cell_of depth layers objects_new movement_new ≡ rewritten_cell left right (cell_of depth layers objects movement)
+  cell_rewritten depth low =
+      let here = λ (layer : ℕ). place_everywhere depth layers objects movement layer low w.lawful in
+      let long = length-map-range_with_len (place_of layers objects movement) 0 depth in
+      cell_shown depth layers objects_new movement_new (λ layer. rewritten_place left right layer (place_of layers objects movement layer)) w.of_game (λ layer. rewritten_shows layer (place_of layers objects movement layer) (w.lawful.shows layer))
+      ∙ (λ i. map (λ layer. rewritten_place left right layer (sym (here layer) i)) (range_with_len 0 (sym long i)))
+
+  -- the directions between have no bits between the fields
+  pub mid_proper : IsProper mid
+  mid_proper number high = grind (arith, w.is_mid number, w.lawful.proper number high, w.mr.proper_headed number high)
+
+  -- where the objects stay, none of them leaves
+  none_leaves : ((object : ℕ) → member objects_new object ≡ member objects object) → (object : ℕ) → Leaves layers objects r.layers (removed_by l r) object → ⊥
+  none_leaves same object g = absurd (grind (arith, g.removed, g.free, g.here, w.is_new object (w.lawful.of_game object g.here), same object, placed_here object, w.mr.layers (get_or layers object 0)))
+
+  -- whether the cell changed
+  pub changed_by : (depth : ℕ) (moved replaced : Bool) → All (λ layer. layer < depth) layers → IsProper movement_new → ((moved ≡ false) ↔ ((number : ℕ) → member mid number ≡ member movement number)) → ((replaced ≡ false) ↔ ((number : ℕ) → member objects_new number ≡ member objects number))
+      → (moved || replaced) ≡ not (same_cell (rewritten_cell left right (cell_of depth layers objects movement)) (cell_of depth layers objects movement))
+  changed_by depth moved replaced low proper is_moved is_replaced =
+      decided (moved || replaced) (rewritten_cell left right (cell_of depth layers objects movement)) (cell_of depth layers objects movement) forth back where
+        settled : ((object : ℕ) → member objects_new object ≡ member objects object) → (layer : ℕ) (dir : Dir) → heads movement_new layer dir ≡ heads mid layer dir
+        settled same layer dir = w.others layer dir (λ object g on. none_leaves same object g)
+
+        forth : (moved || replaced) ≡ false → rewritten_cell left right (cell_of depth layers objects movement) ≡ cell_of depth layers objects movement
+        forth n =
+            let parts = or_parts moved replaced n in
+            let same = is_replaced.0 parts.1 in
+            sym (cell_rewritten depth low) ∙ cell_alike depth layers objects movement objects_new movement_new same (λ layer dir. settled same layer dir ∙ is_moved.0 parts.0 (flag layer dir))
+
+        back : rewritten_cell left right (cell_of depth layers objects movement) ≡ cell_of depth layers objects movement → (moved || replaced) ≡ false
+        back h =
+            let lawful_new = lawful_rewritten proper in
+            let same = objects_alike depth layers objects movement objects_new movement_new low w.lawful lawful_new (cell_rewritten depth low ∙ h) in
+            let heads_same = heads_alike depth layers objects movement objects_new movement_new low w.lawful lawful_new (cell_rewritten depth low ∙ h) in
+            ap (λ b. b || replaced) (is_moved.1 (each_number (λ mine theirs. mine ≡ theirs) mid movement mid_proper w.lawful.proper refl (λ layer dir. sym (settled same layer dir) ∙ heads_same layer dir))) ∙ is_replaced.1 same
 
 -- ---- the loops
 -- the layers up to one, and that one

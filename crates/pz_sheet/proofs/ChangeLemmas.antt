@@ -1,26 +1,9 @@
 -- The cells in which an older level differs are found one by one, and give it back.
-use Rattle.pz_cells.specs.Layering.{Layering}
-use Rattle.std.proofs.Common.{◌≡◌, inl, inr, ℕ, zero, suc, ◌+◌, ◌*◌, ◌<◌, ◌≤◌, List, [], ◌∷◌, ◌++◌, Option, Some, None, Bool, true, false, not, cond, set, drop, length, get_or, ap, sym, ◌∙◌, refl, subst, arith}
-use Rattle.std.specs.Prelude.{IsTrue, ◌↔◌, fold}
-use Rattle.std.proofs.lemmas.List.{append-nil, length-append, length-map, get_or_default}
-use Rattle.std.proofs.lemmas.Bool.{cases_eq}
-use Rattle.std.proofs.Math.Seq.{set-append_seam, drop-length}
-use Rattle.std.specs.List.{All}
+use Rattle.pz_sheet.proofs.Common.{Layering, ◌≡◌, inl, inr, ℕ, zero, suc, ◌+◌, ◌*◌, ◌<◌, ◌≤◌, List, [], ◌∷◌, ◌++◌, Option, Some, None, Bool, true, false, not, cond, set, drop, length, get_or, ap, sym, ◌∙◌, refl, subst, arith, IsTrue, ◌↔◌, fold, length-append, length-map, get_or_default, cases_eq, set-append_seam, All, Cell, Piece, same_cell, same_cell_is, same_cell_self, CellChange, changed_from, changed_cells, with_cell, restored, differ_in, cell_there, IsNextDiffering, Grid, BareState, SameSize, cell_of, IsNext, seen, IsSound, AreAlike, HeadingSets, grid_of, IsStored, no_cell, sound_at}
+use Rattle.std.proofs.lemmas.List.{append-nil, append_assoc}
+use Rattle.std.proofs.Math.Seq.{drop-length}
 use Rattle.pz_base.proofs.ListLemmas.{drop-next}
-use Rattle.pz_cells.specs.declared.cell.Cell.{Cell}
-use Rattle.pz_cells.specs.declared.piece.Piece.{Piece}
-use Rattle.pz_cells.specs.Sameness.{same_cell}
-use Rattle.pz_cells.proofs.SameLemmas.{same_cell_is, same_cell_self}
 use Rattle.pz_sheet.specs.declared.Sheet.TheInside.{Inside}
-use Rattle.pz_sheet.specs.Changes.{CellChange, changed_from, changed_cells, with_cell, restored, differ_in, cell_there}
-use Rattle.pz_cells.specs.Differing.{IsNextDiffering}
-use Rattle.pz_sheet.specs.Grid.{Grid, BareState, SameSize}
-use Rattle.pz_sheet.specs.Presence.{cell_of}
-use Rattle.pz_sets.specs.Next.{IsNext}
-use Rattle.pz_cells.specs.Lists.{seen, IsSound, AreAlike}
-use Rattle.pz_planes.specs.Notes.{HeadingSets}
-use Rattle.pz_sheet.specs.Seen.{grid_of, IsStored}
-use Rattle.pz_cells.proofs.ListLemmas.{no_cell, sound_at}
 use Rattle.pz_sheet.proofs.SameLemmas.{seen_alike, alike_seen, are_same}
 use Rattle.pz_sheet.proofs.SheetLemmas.{only_false, seen_at}
 
@@ -32,31 +15,19 @@ restored_cells : (changes : List CellChange) (grid : Grid) → restored changes 
 restored_cells [] grid = refl
 restored_cells (change ∷ changes) grid = restored_cells changes (with_cell grid change)
 
-pub shift : {X : Type 0} (front : List X) (x : X) (rest : List X) → (front ++ x ∷ []) ++ rest ≡ front ++ x ∷ rest
-shift [] x rest = refl
-shift (y ∷ front) x rest = ap (λ l. y ∷ l) (shift front x rest)
-
--- behind a front that is one longer
-next : (front : List (List (Option Piece))) (x : List (Option Piece)) (cells older : List (List (Option Piece))) → fold put_back ((front ++ x ∷ []) ++ cells) (changed_from (length (front ++ x ∷ [])) cells older) ≡ (front ++ x ∷ []) ++ older → fold put_back (front ++ x ∷ cells) (changed_from (length front + 1) cells older) ≡ front ++ x ∷ older
-next front x cells older e =
-    let longer : length front + 1 ≡ length (front ++ x ∷ []) = sym (length-append front (x ∷ [])) in
-    ap (λ (all : List (List (Option Piece))). fold put_back all (changed_from (length front + 1) cells older)) (sym (shift front x cells))
-    ∙ (ap (λ (n : ℕ). fold put_back ((front ++ x ∷ []) ++ cells) (changed_from n cells older)) longer ∙ (e ∙ shift front x older))
-
-by_test : (front : List (List (Option Piece))) (cell old : List (Option Piece)) (cells older : List (List (Option Piece))) (b : Bool) → same_cell cell old ≡ b → ((x : List (Option Piece)) → fold put_back ((front ++ x ∷ []) ++ cells) (changed_from (length (front ++ x ∷ [])) cells older) ≡ (front ++ x ∷ []) ++ older)
+by_test : (front : List (List (Option Piece))) (cell old : List (Option Piece)) (cells older : List (List (Option Piece))) (b : Bool) → same_cell cell old ≡ b → ((x : List (Option Piece)) → fold put_back (front ++ x ∷ cells) (changed_from (length front + 1) cells older) ≡ front ++ x ∷ older)
     → fold put_back (front ++ cell ∷ cells) (cond b (changed_from (length front + 1) cells older) (record { number = length front; cell = old } ∷ changed_from (length front + 1) cells older)) ≡ front ++ old ∷ older
-by_test front cell old cells older true same back = next front cell cells older (back cell) ∙ ap (λ (x : List (Option Piece)). front ++ x ∷ older) (same_cell_is cell old same)
-by_test front cell old cells older false other back =
-    ap (λ (all : List (List (Option Piece))). fold put_back all (changed_from (length front + 1) cells older)) (set-append_seam front cell cells old) ∙ next front old cells older (back old)
+by_test front cell old cells older true same back = back cell ∙ ap (λ (x : List (Option Piece)). front ++ x ∷ older) (same_cell_is cell old same)
+by_test front cell old cells older false other back = ap (λ (all : List (List (Option Piece))). fold put_back all (changed_from (length front + 1) cells older)) (set-append_seam front cell cells old) ∙ back old
 
 -- behind a front that is the same already
 back_from : (front cells older : List (List (Option Piece))) → length cells ≡ length older → fold put_back (front ++ cells) (changed_from (length front) cells older) ≡ front ++ older
 back_from front [] [] long = refl
 back_from front [] (old ∷ older) long = absurd (omega (arith, long))
 back_from front (cell ∷ cells) [] long = absurd (omega (arith, long))
-back_from front (cell ∷ cells) (old ∷ older) long = by_test front cell old cells older (same_cell cell old) refl (λ x. back_from (front ++ x ∷ []) cells older (omega (arith, long)))
+back_from front (cell ∷ cells) (old ∷ older) long = by_test front cell old cells older (same_cell cell old) refl (λ x. simp (append_assoc, length-append) at (back_from (front ++ x ∷ []) cells older (omega (arith, long))))
 
-way_back : (grid older : Grid) → SameSize grid older → length grid.cells ≡ length older.cells → restored (changed_cells grid older) grid ≡ older
+pub way_back : (grid older : Grid) → SameSize grid older → length grid.cells ≡ length older.cells → restored (changed_cells grid older) grid ≡ older
 way_back grid older size long =
     let cells : fold put_back grid.cells (changed_cells grid older) ≡ older.cells = back_from [] grid.cells older.cells long in
     restored_cells (changed_cells grid older) grid ∙ (λ i. record { width = sym size.width i; height = sym size.height i; depth = sym size.depth i; layers = sym size.layers i; cells = cells i })
@@ -98,7 +69,7 @@ module _ (grid older : Grid) (long : length grid.cells ≡ length older.cells) w
   pub found_more : (found all : List CellChange) (from index : ℕ) → IsNext (differ_in grid older) from (length grid.cells) (Some index) → found ++ left_from grid older from ≡ all → (found ++ cell_there older index ∷ []) ++ left_from grid older (index + 1) ≡ all
   found_more found all from index next e =
       let other : same_cell (cell_of grid index) (cell_of older index) ≡ false = are_other _ next.2 in
-      shift found (cell_there older index) (left_from grid older (index + 1))
+      append_assoc found (cell_there older index ∷ []) (left_from grid older (index + 1))
       ∙ (ap (λ l. found ++ l) (sym (left_behind from index next.0 (omega (arith, next.1)) next.3 ∙ left_more index false next.1 other)) ∙ e)
 
   -- all are found

@@ -1,8 +1,5 @@
 -- What is noted ends with the lines of the map.
-use Rattle.std.proofs.Common.{◌≡◌, ℕ, ◌*◌, ◌/◌, ◌%◌, ◌<◌, Bool, arith, ◌∙◌, subst}
-use Rattle.pz_planes.specs.Planes.{PlaneSets, AreChanged, HaveSameLines}
-use Rattle.pz_planes.proofs.PlaneLemmas.{column_in, row_in}
-use Rattle.pz_sheet.specs.Noting.{EndWithin}
+use Rattle.pz_sheet.proofs.Common.{◌≡◌, ℕ, ◌*◌, ◌/◌, ◌%◌, ◌<◌, Bool, arith, ◌∙◌, subst, PlaneSets, AreChanged, HaveSameLines, column_in, row_in, EndWithin}
 
 -- a change at a position of the map
 pub ends_still : (width height : ℕ) (old new : PlaneSets) (x y : ℕ) (noted : ℕ → Bool → Bool) → x < width → y < height → old.columns.count ≡ width → old.rows.count ≡ height → AreChanged old new x y noted → EndWithin width height old → EndWithin width height new

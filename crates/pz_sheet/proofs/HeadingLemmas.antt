@@ -1,6 +1,6 @@
 -- If all cells of a rule's row hold somewhere, each heading that the row asks for is noted, for the whole level and for the
 -- lines.
-use Rattle.pz_sheet.proofs.Common.{Layering, ◌≡◌, ◌+◌, ◌*◌, ◌%◌, ◌<◌, ℕ, List, [], ◌∷◌, Bool, true, false, not, inl, inr, suc, length, get_or, arith, ap, sym, ◌∙◌, subst, IsTrue, ◌↔◌, All, list_any, cases_lt, get_or-map, mul-add-lt, div-mul-add, mod-mul-add, member, IsWithin, AreApart, Dir, Item, flag, heads, asks_toward, AreOf, AreRequired, flag_of, Cell, no_cell, pattern_holds, met_all, Grid, HoldsSomewhere, HoldsInLine, Axis, Horizontal, Vertical, HeadingSets, headings_of, line_count, HeadsWithin, grid_of, IsStored, seen}
+use Rattle.pz_sheet.proofs.Common.{Layering, ◌≡◌, ◌+◌, ◌*◌, ◌%◌, ◌<◌, ℕ, List, [], ◌∷◌, Bool, true, false, not, inl, inr, suc, length, get_or, arith, ap, sym, ◌∙◌, subst, IsTrue, ◌↔◌, All, list_any, cases_lt, get_or-map, mul-add-lt, div-mul-add, mod-mul-add, member, IsWithin, AreApart, Dir, Item, flag, heads, asks_toward, AreOf, AreRequired, flag_of, Cell, no_cell, pattern_holds, met_all, asked_by, toward, is_toward, Grid, HoldsSomewhere, HoldsInLine, Axis, Horizontal, Vertical, HeadingSets, headings_of, line_count, HeadsWithin, grid_of, IsStored, seen}
 
 -- a number of both sets: they aren't apart
 pub not_apart : (apart : Bool) (asked words : List ℕ) (number : ℕ) → (IsTrue apart ↔ AreApart asked words) → member asked number ≡ true → member words number ≡ true → not apart ≡ true
@@ -25,7 +25,7 @@ module _ (N width height : ℕ) (layering : Layering) (cells : List (Cell N)) (n
         let cell = get_or cells w.at (no_cell N) in
         let there = sym (get_or-map (seen layering) cells w.at (no_cell N) [] w.within) in
         let met = met_all layering.depth layering.layers cell.objects cell.movement items s.law.layered (s.sound w.at (no_cell N) w.within) are (ap (λ it. pattern_holds it items) there ∙ w.holds) in
-        w.noted (flag layer dir) (met.required layer dir asks)
+        w.noted (flag layer dir) (asked_by (λ k. heads cell.movement k dir ≡ true) (λ it. is_toward (toward true it.word) dir) (λ it. it.layer) items layer (λ k d within. (met k d within).2 dir) asks)
 
     -- the same for the cells of a row
     heads_there : (rows : List (List Item)) (layer : ℕ) (dir : Dir) → All (AreOf layering.layers) rows → All Holds rows → list_any (asks_toward layer dir) rows ≡ true → heads headings layer dir ≡ true

@@ -1,69 +1,34 @@
 -- A level becomes a newer one if it gets the newer one's cells wherever the changes that lead back say that the two differ.
-use Rattle.std.proofs.Common.{◌≡◌, inl, inr, ℕ, ◌+◌, ◌<◌, List, [], ◌∷◌, ◌++◌, Option, Some, None, Bool, true, false, not, cond, set, length, get_or, ap, sym, ◌∙◌, refl, arith, get_or-set_same, get_or-set_other}
-use Rattle.std.specs.Prelude.{fold}
-use Rattle.std.proofs.lemmas.Bool.{cases_eq, cases_lt}
-use Rattle.std.proofs.lemmas.List.{length-append}
-use Rattle.std.proofs.Math.Seq.{set-append_seam}
-use Rattle.pz_sets.specs.Next.{IsNext}
-use Rattle.pz_cells.specs.declared.piece.Piece.{Piece}
-use Rattle.pz_cells.specs.Sameness.{same_cell}
-use Rattle.pz_cells.proofs.SameLemmas.{same_cell_is, same_cell_self}
-use Rattle.pz_sheet.specs.declared.changes.Change.{Change}
-use Rattle.pz_sheet.specs.Changes.{CellChange, changed_from, changed_cells, changes_seen, with_cell, differ_in, cell_there}
-use Rattle.pz_sheet.specs.Grid.{Grid, SameSize}
-use Rattle.pz_sheet.specs.Presence.{cell_of}
-use Rattle.pz_sheet.proofs.ChangeLemmas.{shift}
+use Rattle.pz_sheet.proofs.Common.{map, suc, restored, ◌≡◌, inl, inr, ℕ, ◌+◌, ◌<◌, List, [], ◌∷◌, Option, Some, None, false, not, length, get_or, ap, sym, ◌∙◌, refl, arith, get_or-set_same, get_or-set_other, fold, cases_eq, cases_lt, IsNext, Piece, same_cell, same_cell_is, same_cell_self, Change, CellChange, changed_from, changed_cells, changes_seen, with_cell, differ_in, cell_there, Grid, SameSize, cell_of}
+use Rattle.pz_sheet.proofs.ChangeLemmas.{way_back}
 
 -- cells of a newer level put where changes say
 abbrev pub taken : (N : ℕ) → Grid → List (Change N) → Grid → Grid
 taken N newer changes grid = fold (λ g change. with_cell g (cell_there newer change.index)) grid changes
 
-abbrev put_there : List (List (Option Piece)) → List (List (Option Piece)) → CellChange → List (List (Option Piece))
-put_there all cells change = set cells change.number (get_or all change.number [])
+pub size_back : (newer grid : Grid) → SameSize newer grid → SameSize grid newer
+size_back newer grid size = record { width = sym size.width; height = sym size.height; depth = sym size.depth; layers = sym size.layers }
 
-at_seam : (front : List (List (Option Piece))) (cell : List (Option Piece)) (rest : List (List (Option Piece))) → get_or (front ++ cell ∷ rest) (length front) [] ≡ cell
-at_seam [] cell rest = refl
-at_seam (x ∷ front) cell rest = at_seam front cell rest
+taken_is : (N : ℕ) (newer : Grid) (changes : List (Change N)) (grid : Grid) → taken N newer changes grid ≡ restored (map (λ change. cell_there newer change.number) (changes_seen newer changes)) grid
+taken_is N newer [] grid = refl
+taken_is N newer (change ∷ changes) grid = taken_is N newer changes (with_cell grid (cell_there newer change.index))
 
--- behind a front that is one longer
-next : (front : List (List (Option Piece))) (cell : List (Option Piece)) (newer older : List (List (Option Piece))) → fold (put_there ((front ++ cell ∷ []) ++ newer)) ((front ++ cell ∷ []) ++ older) (changed_from (length (front ++ cell ∷ [])) newer older) ≡ (front ++ cell ∷ []) ++ newer
-    → fold (put_there (front ++ cell ∷ newer)) (front ++ cell ∷ older) (changed_from (length front + 1) newer older) ≡ front ++ cell ∷ newer
-next front cell newer older e =
-    let longer : length front + 1 ≡ length (front ++ cell ∷ []) = sym (length-append front (cell ∷ [])) in
-    ap (λ (all : List (List (Option Piece))). fold (put_there all) (front ++ cell ∷ older) (changed_from (length front + 1) newer older)) (sym (shift front cell newer))
-    ∙ (ap (λ (all : List (List (Option Piece))). fold (put_there ((front ++ cell ∷ []) ++ newer)) all (changed_from (length front + 1) newer older)) (sym (shift front cell older))
-    ∙ (ap (λ (n : ℕ). fold (put_there ((front ++ cell ∷ []) ++ newer)) ((front ++ cell ∷ []) ++ older) (changed_from n newer older)) longer ∙ (e ∙ shift front cell newer)))
+same_either_way : (a b : List (Option Piece)) → same_cell a b ≡ same_cell b a
+same_either_way a b = grind (arith, same_cell_is a b, same_cell_is b a)
 
-by_test : (front : List (List (Option Piece))) (cell old : List (Option Piece)) (newer older : List (List (Option Piece))) (b : Bool) → same_cell cell old ≡ b
-    → fold (put_there (front ++ cell ∷ newer)) (front ++ cell ∷ older) (changed_from (length front + 1) newer older) ≡ front ++ cell ∷ newer
-    → fold (put_there (front ++ cell ∷ newer)) (front ++ old ∷ older) (cond b (changed_from (length front + 1) newer older) (record { number = length front; cell = old } ∷ changed_from (length front + 1) newer older)) ≡ front ++ cell ∷ newer
-by_test front cell old newer older true same e =
-    ap (λ (x : List (Option Piece)). fold (put_there (front ++ cell ∷ newer)) (front ++ x ∷ older) (changed_from (length front + 1) newer older)) (sym (same_cell_is cell old same)) ∙ e
-by_test front cell old newer older false other e =
-    ap (λ (x : List (Option Piece)). fold (put_there (front ++ cell ∷ newer)) (set (front ++ old ∷ older) (length front) x) (changed_from (length front + 1) newer older)) (at_seam front cell newer)
-    ∙ (ap (λ (all : List (List (Option Piece))). fold (put_there (front ++ cell ∷ newer)) all (changed_from (length front + 1) newer older)) (set-append_seam front old older cell) ∙ e)
-
--- behind a front that is the newer one's already
-forth_from : (front newer older : List (List (Option Piece))) → length newer ≡ length older → fold (put_there (front ++ newer)) (front ++ older) (changed_from (length front) newer older) ≡ front ++ newer
-forth_from front [] [] long = refl
-forth_from front [] (old ∷ older) long = absurd (omega (arith, long))
-forth_from front (cell ∷ newer) [] long = absurd (omega (arith, long))
-forth_from front (cell ∷ newer) (old ∷ older) long =
-    by_test front cell old newer older (same_cell cell old) refl (next front cell newer older (forth_from (front ++ cell ∷ []) newer older (omega (arith, long))))
-
--- the same said of cells and of levels
-taken_cells : (N : ℕ) (newer : Grid) (changes : List (Change N)) (grid : Grid) → taken N newer changes grid ≡ record grid { cells = fold (put_there newer.cells) grid.cells (changes_seen newer changes) }
-taken_cells N newer [] grid = refl
-taken_cells N newer (change ∷ changes) grid = taken_cells N newer changes (with_cell grid (cell_there newer change.index))
+-- the changes that lead back, with the newer one's cells, lead there
+turned : (newer : Grid) (number : ℕ) (cells older : List (List (Option Piece))) → ((k : ℕ) → get_or newer.cells (number + k) [] ≡ get_or cells k []) → map (λ change. cell_there newer change.number) (changed_from number cells older) ≡ changed_from number older cells
+turned newer number [] [] here = refl
+turned newer number [] (old ∷ older) here = refl
+turned newer number (cell ∷ cells) [] here = refl
+turned newer number (cell ∷ cells) (old ∷ older) here =
+    let rest = turned newer (number + 1) cells older (λ k. ap (λ (n : ℕ). get_or newer.cells n []) (let e : number + 1 + k ≡ number + suc k = omega arith in e) ∙ here (suc k)) in
+    grind (arith, same_either_way cell old, here 0, rest)
 
 pub all_taken : (N : ℕ) (newer grid : Grid) (changes : List (Change N)) → SameSize newer grid → length newer.cells ≡ length grid.cells → changes_seen newer changes ≡ changed_cells newer grid → taken N newer changes grid ≡ newer
 all_taken N newer grid changes size long e =
-    let cells : fold (put_there newer.cells) grid.cells (changes_seen newer changes) ≡ newer.cells =
-    ap (λ (l : List CellChange). fold (put_there newer.cells) grid.cells l) e ∙ forth_from [] newer.cells grid.cells long in
-    taken_cells N newer changes grid ∙ (λ i. record { width = size.width i; height = size.height i; depth = size.depth i; layers = size.layers i; cells = cells i })
-
-pub size_back : (newer grid : Grid) → SameSize newer grid → SameSize grid newer
-size_back newer grid size = record { width = sym size.width; height = sym size.height; depth = sym size.depth; layers = sym size.layers }
+    taken_is N newer changes grid ∙ ap (λ (found : List CellChange). restored (map (λ change. cell_there newer change.number) found) grid) e
+    ∙ ap (λ (found : List CellChange). restored found grid) (turned newer 0 newer.cells grid.cells (λ k. ap (λ (n : ℕ). get_or newer.cells n []) (let e : 0 + k ≡ k = omega arith in e))) ∙ way_back grid newer (size_back newer grid size) (sym long)
 
 -- ---- cells taken where two levels differ, one after another
 -- up to the next cell that differs, and with it taken, none does

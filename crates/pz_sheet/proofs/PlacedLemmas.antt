@@ -1,18 +1,10 @@
 -- The objects of the cells of a level, noted where they stand.
-use Rattle.pz_cells.specs.Layering.{Layering}
-use Rattle.std.proofs.Common.{◌≡◌, inl, inr, ℕ, ◌+◌, ◌*◌, ◌/◌, ◌%◌, ◌<◌, ◌≤◌, List, false, set, length, get_or, replicate, arith, ap, sym, ◌∙◌, subst, get_or-set_same, get_or-set_other}
-use Rattle.std.specs.List.{All}
-use Rattle.std.proofs.lemmas.Bool.{cases_eq}
-use Rattle.std.proofs.lemmas.List.{get_or_default}
-use Rattle.std.proofs.lemmas.Nat.{mul-add-lt, same_from_place, div-mul-add, mod-mul-add}
-use Rattle.pz_sets.specs.Sets.{member}
-use Rattle.pz_planes.specs.Planes.{PlaneSets, AreChanged, AreThere, HaveSameLines, AreKnown, IsFor}
-use Rattle.pz_planes.proofs.PlaneLemmas.{AreThereAt, still_there, still_there_at, number_of, column_in, row_in, known_of}
-use Rattle.pz_cells.specs.declared.cell.Cell.{Cell}
-use Rattle.pz_sheet.specs.Noting.{AreAllThere, ArePlaced, EndWithin}
+use Rattle.pz_sheet.proofs.Common.{Layering, ◌≡◌, inl, inr, ℕ, ◌+◌, ◌*◌, ◌/◌, ◌%◌, ◌<◌, ◌≤◌, List, false, set, length, get_or, arith, ap, sym, ◌∙◌, subst, get_or-set_same, get_or-set_other, All, cases_eq, get_or_default, mul-add-lt, div-mul-add, mod-mul-add, member, PlaneSets, AreChanged, AreThere, HaveSameLines, AreKnown, IsFor, AreThereAt, still_there_at, number_of, column_in, row_in, known_of, Cell, AreAllThere, ArePlaced, EndWithin, IsSound, no_number}
+use Rattle.std.proofs.Common.{replicate}
+use Rattle.std.proofs.lemmas.Nat.{same_from_place}
+use Rattle.pz_planes.proofs.PlaneLemmas.{still_there}
 use Rattle.pz_sheet.proofs.EndLemmas.{ends_still}
-use Rattle.pz_cells.specs.Lists.{IsSound, HaveSameObjects}
-use Rattle.pz_cells.proofs.DrawLemmas.{no_number}
+use Rattle.pz_cells.specs.Lists.{HaveSameObjects}
 
 -- the objects of one more cell are noted
 pub all_there_more : (N : ℕ) (start old new : PlaneSets) (cells : List (Cell N)) (index : ℕ) (here : Cell N) → index < length cells → here ≡ get_or cells index here → HaveSameLines start old → length cells ≡ start.columns.count * start.rows.count → AreChanged old new (index % old.columns.count) (index / old.columns.count) (λ object was. member here.objects object)

@@ -1,10 +1,9 @@
 -- Cells in words are the same if their words have the same numbers, and levels if none of their cells differ.
-use Rattle.pz_sheet.proofs.Common.{Layering, ◌≡◌, ℕ, ◌<◌, [], Option, Some, None, Bool, true, false, not, length, ap, sym, refl, arith, IsTrue, ◌↔◌, is_some, ext_get_or, All, flag, each_number, Cell, seen, IsSound, AreAlike, same_cell, cell_alike, objects_alike, heads_alike, same_cell_is, same_cell_self, differ_in, Grid, SameSize, cell_of}
-use Rattle.pz_sets.specs.Next.{IsNext}
+use Rattle.pz_sheet.proofs.Common.{Layering, ◌≡◌, ℕ, ◌<◌, [], Option, Some, None, Bool, true, false, not, length, ap, sym, refl, arith, IsTrue, ◌↔◌, is_some, ext_get_or, All, flag, each_number, Cell, seen, IsSound, AreAlike, same_cell, cell_alike, objects_alike, heads_alike, same_cell_is, same_cell_self, differ_in, Grid, SameSize, cell_of, IsNext}
 
 pub seen_alike : (N : ℕ) (layering : Layering) (cell other : Cell N) → IsSound layering cell → IsSound layering other → AreAlike cell other → seen layering cell ≡ seen layering other
 seen_alike N layering cell other sound sound_other same =
-    cell_alike layering.depth layering.layers other.objects other.movement cell.objects cell.movement sound_other sound same.0 (λ layer dir. same.1 (flag layer dir))
+    cell_alike layering.depth layering.layers other.objects other.movement cell.objects cell.movement same.0 (λ layer dir. same.1 (flag layer dir))
 
 pub alike_seen : (N : ℕ) (layering : Layering) (cell other : Cell N) → All (λ l. l < layering.depth) layering.layers → IsSound layering cell → IsSound layering other → seen layering cell ≡ seen layering other → AreAlike cell other
 alike_seen N layering cell other low sound sound_other e = (

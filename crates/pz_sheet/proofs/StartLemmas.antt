@@ -1,5 +1,5 @@
 -- Where rules' cells hold one after another, the objects that they name as present are noted, and those that they name as absent are not.
-use Rattle.pz_sheet.proofs.Common.{cases_Bool, Layering, ◌≡◌, inl, inr, ℕ, ◌+◌, ◌*◌, ◌<◌, ◌≤◌, List, [], Bool, true, not, ◌&&◌, nat_eq, length, get_or, arith, ap, sym, ◌∙◌, All, list_all, enumerate_from, cases_lt, false≢true, true_from_ne_false, get_or_default, get_or-map, list_any_at, mul-add-lt, member, Item, AreOf, Cell, pattern_holds, met_all, Grid, cell_at, LineSets, PlaneSets, AreItemsOf, MayHold, MayRun, lines_of, Axis, Horizontal, Vertical, Way, Ahead, Back, step_to, room_from, Line, line_length, line_count, x_at, y_at, holds_in, dir_of, runs_in, ArePlaced, holds_along, HeadingSets, grid_of, IsStored, seen, no_cell}
+use Rattle.pz_sheet.proofs.Common.{Layering, ◌≡◌, inl, inr, ℕ, ◌+◌, ◌*◌, ◌<◌, ◌≤◌, List, [], Bool, true, length, get_or, arith, ap, sym, ◌∙◌, All, list_all, enumerate_from, cases_lt, false≢true, true_from_ne_false, get_or_default, get_or-map, mul-add-lt, member, Item, AreOf, Cell, pattern_holds, met_all, Grid, cell_at, LineSets, PlaneSets, AreItemsOf, MayHold, MayRun, lines_of, Axis, Horizontal, Vertical, Way, Ahead, Back, step_to, room_from, Line, line_length, line_count, x_at, y_at, holds_in, dir_of, runs_in, ArePlaced, holds_along, HeadingSets, grid_of, IsStored, seen, no_cell}
 use Rattle.pz_game.specs.Items.{names}
 use Rattle.pz_planes.proofs.BitLemmas.{step_within}
 use Rattle.pz_sheet.proofs.RunLemmas.{enumerate_fails, along_in, run_past}
@@ -31,14 +31,10 @@ module _ (N width height : ℕ) (layering : Layering) (cells : List (Cell N)) (n
   stands_here x y x_in y_in pattern are holds k other within =
       let at = y * width + x in
       let cell = get_or cells at (no_cell N) in
-      let item = get_or pattern k other in
       let there : at < length cells = omega (arith, mul-add-lt y width x height y_in x_in, s.covers) in
       let here = sym (get_or-map (seen layering) cells at (no_cell N) [] there) in
       let met = met_all layering.depth layering.layers cell.objects cell.movement pattern s.law.layered (s.sound at (no_cell N) there) are (ap (λ places. pattern_holds places pattern) here ∙ holds) in
-      elim (cases_Bool (names item.word)) [
-        | inl named ↦ grind (arith, named, met.present item.object, list_any_at (λ (it : Item). names it.word && nat_eq it.object item.object) pattern k other within)
-        | inr named ↦ grind (arith, named, met.absent item.object, list_any_at (λ (it : Item). not (names it.word) && nat_eq it.object item.object) pattern k other within)
-      ]
+      grind (arith, (met k other within).0, (met k other within).1)
 
   pub noted_in_line : (axis : Axis) (number at : ℕ) → number < line_count grid axis → at < line_length grid axis → at < 128 → (pattern : List Item) → AreOf layering.layers pattern → holds_in grid (record { axis = axis; number = number }) pattern at ≡ true → MayHold (lines_of planes axis) number at pattern
   noted_in_line Horizontal number at line_in at_in small pattern are holds k other within =

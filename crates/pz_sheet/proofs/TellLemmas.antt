@@ -1,19 +1,8 @@
 -- Where nothing heads, the planes of the rows tell in which cells two levels differ.
-use Rattle.std.proofs.Common.{◌≡◌, inl, inr, ℕ, ◌*◌, ◌/◌, ◌%◌, ◌<◌, ◌≤◌, List, Option, Some, None, false, length, get_or, arith, ap, sym, ◌∙◌, subst}
-use Rattle.std.specs.List.{All}
-use Rattle.std.proofs.lemmas.Bool.{cases_lt}
-use Rattle.std.proofs.lemmas.List.{get_or_default}
-use Rattle.pz_sets.specs.Sets.{member}
-use Rattle.pz_planes.specs.Planes.{PlaneSets, AreSameAt, stands_in, IsNextDifferingPosition}
-use Rattle.pz_planes.proofs.PlaneLemmas.{number_of, column_in, row_in}
-use Rattle.pz_cells.specs.declared.cell.Cell.{Cell}
+use Rattle.pz_sheet.proofs.Common.{◌≡◌, inl, inr, ℕ, ◌*◌, ◌/◌, ◌%◌, ◌<◌, ◌≤◌, List, Option, Some, None, false, length, get_or, arith, ap, sym, ◌∙◌, subst, All, cases_lt, get_or_default, member, PlaneSets, stands_in, number_of, column_in, row_in, Cell, Layering, AreAlike, IsSound, IsNext, differ_in, Grid, ArePlaced}
+use Rattle.pz_planes.specs.Planes.{AreSameAt, IsNextDifferingPosition}
 use Rattle.pz_cells.specs.Differing.{IsNextDiffering as IsNextCell}
-use Rattle.pz_cells.specs.Layering.{Layering}
-use Rattle.pz_cells.specs.Lists.{AreAlike, HeadNowhere, IsSound}
-use Rattle.pz_sets.specs.Next.{IsNext}
-use Rattle.pz_sheet.specs.Changes.{differ_in}
-use Rattle.pz_sheet.specs.Grid.{Grid}
-use Rattle.pz_sheet.specs.Noting.{ArePlaced}
+use Rattle.pz_cells.specs.Lists.{HeadNowhere}
 use Rattle.pz_sheet.proofs.ChangeLemmas.{AreBoth, over_layers, same_width, same_height, next_is}
 use Rattle.pz_sheet.proofs.PlacedLemmas.{there_of}
 use Rattle.pz_sheet.proofs.SheetLemmas.{only_false}

@@ -1,13 +1,15 @@
-use Rattle.pz_cells.proofs.Common.{arith, ◌∙◌, filled_cell}
-use Rattle.pz_cells.proofs.ListLemmas.{small_cell, Turns, walked_none, walked_more, walked_sound, walked_all}
+use Rattle.pz_cells.proofs.Common.{◌<◌, length, arith, refl, ◌∙◌, filled_cell}
+use Rattle.pz_cells.proofs.ListLemmas.{small_cell, sound_at, Turns, walked_more, walked_all}
 use Rattle.pz_cells.proofs.drawing.fill_cells.Goals as goal
 
 pub loop-index-init : goal.loop-index-init
-loop-index-init g c = walked_none (Turns c.args.layers.now (filled_cell c.args.layer c.args.piece)) c.args.cells.now.items
+loop-index-init g c = record { long = refl; turned = λ k cell below. absurd (omega (arith, below)); rest = λ k cell above. refl }
 
 pub fill-requires : goal.fill-requires
 fill-requires g c =
-    let sound = walked_sound c.args.layers.now (Turns c.args.layers.now (filled_cell c.args.layer c.args.piece)) c.args.cells.now.items c.loop-index.cells.items c.loop-index.index c.index_mut.result.now c.requires.sound (omega (arith, c.loop-index-test.true, c.len-index-end.ensures ∙ c.args.cells.now.ok.0, c.loop-index.invariant.long)) c.loop-index.invariant c.index_mut.ensures.value in
+    let index = c.loop-index.index in
+    let within : index < length c.args.cells.now.items = omega (arith, c.loop-index-test.true, c.len-index-end.ensures ∙ c.args.cells.now.ok.0) in
+    let sound = sound_at c.args.layers.now c.args.cells.now.items index c.index_mut.result.now c.requires.sound within (c.index_mut.ensures.value ∙ c.loop-index.invariant.rest index c.index_mut.result.now (omega arith)) in
     (small_cell _ c.depth.ensures.law.short, (search, (c.requires.low, (sound, c.requires.on_layer))))
 
 pub loop-index-preserved : goal.loop-index-preserved

@@ -1,13 +1,10 @@
-use Rattle.pz_cells.proofs.Common.{◌≡◌, ◌<◌, ◌+◌, ◌++◌, ◌∷◌, [], ℕ, List, inl, inr, length, get_or, arith, ap, ◌∙◌, cases_lt, IsSetOf}
+use Rattle.pz_cells.proofs.Common.{◌≡◌, ◌<◌, ◌+◌, ◌++◌, ◌∷◌, [], ℕ, List, length, get_or, arith, ap, ◌∙◌, IsSetOf}
 use Rattle.std.proofs.lemmas.List.{get_or_append_left, get_or_push, length_push}
 use Rattle.pz_cells.proofs.layers.layer_sets.Goals as goal
 
 -- the sets of the layers up to one, and its own
 one_more : (layers set : List ℕ) (sets now : List (List ℕ)) (layer : ℕ) → now ≡ sets ++ set ∷ [] → length sets ≡ layer → ((k : ℕ) (other : List ℕ) → k < length sets → IsSetOf layers (get_or sets k other) k) → IsSetOf layers set layer → (k : ℕ) (other : List ℕ) → k < length now → IsSetOf layers (get_or now k other) k
-one_more layers set sets now layer is long table here k other within object low = elim (cases_lt k (length sets)) [
-  | inl below ↦ grind (arith, is, get_or_append_left sets (set ∷ []) other k, table k other below object low)
-  | inr above ↦ grind (arith, is, length_push sets set, get_or_push sets set other k, here object low)
-]
+one_more layers set sets now layer is long table here k other within object low = grind (arith, is, get_or_append_left sets (set ∷ []) other k, table k other, length_push sets set, get_or_push sets set other k, here object low)
 
 pub loop-layer-preserved : goal.loop-layer-preserved
 loop-layer-preserved c = record {

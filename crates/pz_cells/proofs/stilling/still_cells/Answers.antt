@@ -1,5 +1,5 @@
-use Rattle.pz_cells.proofs.Common.{◌≡◌, ◌<◌, inl, inr, ℕ, set, length, get_or, arith, sym, ◌∙◌, subst, get_or-set_same, get_or-set_other, length-set, cases_eq, get_or_default, Cell, IsStilled}
-use Rattle.pz_cells.proofs.ListLemmas.{small_cell, sound_at}
+use Rattle.pz_cells.proofs.Common.{◌<◌, length, arith, ◌∙◌, get_or-set_other, length-set, IsStilled}
+use Rattle.pz_cells.proofs.ListLemmas.{small_cell, sound_at, turned_set}
 use Rattle.pz_cells.proofs.stilling.still_cells.Goals as goal
 
 pub still_all-requires : goal.still_all-requires
@@ -21,14 +21,8 @@ loop-index-preserved g c =
     let within : index < length now = omega (arith, c.loop-index-test.true, c.requires.range.1, i.long) in
     record {
       long = length-set now index new ∙ i.long;
-      stilled = λ k cell late below. elim (cases_eq k index) [
-        | inl same ↦
-            let was : here ≡ get_or old index cell = c.index_mut.ensures.value ∙ get_or_default now index here cell within ∙ i.behind index cell (omega arith) in
-            let is : IsStilled c.args.layers.now here new = record { sound = c.still_all.ensures.sound; seen_still = c.still_all.ensures.cell; nowhere = c.still_all.ensures.none; objects = c.still_all.ensures.objects } in
-            subst (λ (n : ℕ). IsStilled c.args.layers.now (get_or old n cell) (get_or (set now index new) n cell)) (sym same)
-            (subst (IsStilled c.args.layers.now (get_or old index cell)) (sym (get_or-set_same now index new cell within)) (subst (λ (it : Cell g.row.N). IsStilled c.args.layers.now it new) was is))
-        | inr other ↦ subst (IsStilled c.args.layers.now (get_or old k cell)) (sym (get_or-set_other now index k new cell other)) (i.stilled k cell late (omega (arith, below, other)))
-      ];
+      stilled = λ k cell late below. turned_set (IsStilled c.args.layers.now) old now index k here new cell within c.index_mut.ensures.value (i.behind index cell (omega arith))
+          (record { sound = c.still_all.ensures.sound; seen_still = c.still_all.ensures.cell; nowhere = c.still_all.ensures.none; objects = c.still_all.ensures.objects }) (λ other. i.stilled k cell late (omega (arith, below, other)));
       before = λ k cell early. get_or-set_other now index k new cell (λ same. absurd (omega (arith, same, early, c.loop-index.auto.index))) ∙ i.before k cell early;
       behind = λ k cell past. get_or-set_other now index k new cell (λ same. absurd (omega (arith, same, past))) ∙ i.behind k cell (omega (arith, past));
     }

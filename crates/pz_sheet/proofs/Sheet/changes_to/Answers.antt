@@ -1,12 +1,7 @@
-use Rattle.std.proofs.Common.{◌≡◌, ◌+◌, ◌++◌, [], ◌∷◌, All, List, Option, arith, ap, sym, ◌∙◌, subst}
+use Rattle.pz_sheet.proofs.Common.{◌≡◌, ◌+◌, ◌++◌, [], ◌∷◌, All, List, Option, arith, ap, sym, ◌∙◌, subst, Piece, Layering, seen, IsSound, Change, CellChange, changed_cells, changes_seen, IsChangeOf, cell_there, layers_in}
 use Rattle.std.proofs.lemmas.List.{map-append}
 use Rattle.std.proofs.lemmas.List.Elements.{All-append, All-cons, All-nil}
-use Rattle.pz_cells.specs.declared.piece.Piece.{Piece}
-use Rattle.pz_cells.specs.Layering.{Layering}
-use Rattle.pz_cells.specs.Lists.{seen, IsSound}
-use Rattle.pz_sheet.specs.declared.changes.Change.{Change}
-use Rattle.pz_sheet.specs.Changes.{CellChange, changed_cells, changes_seen, change_seen, IsChangeOf, cell_there}
-use Rattle.pz_sheet.specs.Grid.{layers_in}
+use Rattle.pz_sheet.specs.Changes.{change_seen}
 use Rattle.pz_sheet.proofs.ChangeLemmas.{found_more, all_found, left_from, way_back_by}
 use Rattle.pz_sheet.proofs.Sheet.changes_to.Goals as goal
 

@@ -1,6 +1,4 @@
-use Rattle.std.proofs.Common.{◌≡◌, ◌≤◌, ◌++◌, ◌-◌, length}
-use Rattle.std.specs.List.{All}
-use Rattle.pz_sheet.specs.Changes.{changed_cells, changes_seen, IsChangeOf}
+use Rattle.pz_sheet.proofs.Common.{◌≡◌, ◌≤◌, ◌++◌, ◌-◌, length, All, changed_cells, changes_seen, IsChangeOf}
 use Rattle.pz_sheet.proofs.ChangeLemmas.{left_from}
 use Rattle.pz_sheet.proofs.Sheet.changes_to.Given as goal
 

@@ -1,5 +1,4 @@
-use Rattle.std.proofs.Common.{◌≡◌, drop, length}
-use Rattle.pz_sheet.specs.Grid.{SameSize}
+use Rattle.pz_sheet.proofs.Common.{◌≡◌, drop, length, SameSize}
 use Rattle.pz_sheet.proofs.NewerLemmas.{taken}
 use Rattle.pz_sheet.proofs.Sheet.go_on.Given as goal
 

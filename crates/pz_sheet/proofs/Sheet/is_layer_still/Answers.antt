@@ -1,6 +1,4 @@
-use Rattle.std.proofs.Common.{List, [], Option, None, get_or, ap, sym, ◌∙◌, ℕ}
-use Rattle.pz_cells.specs.declared.piece.Piece.{Piece}
-use Rattle.pz_cells.specs.Cell.{still_place}
+use Rattle.pz_sheet.proofs.Common.{List, [], Option, None, get_or, ap, sym, ◌∙◌, ℕ, Piece, still_place}
 use Rattle.pz_cells.proofs.HoldLemmas.{place_seen}
 use Rattle.pz_sheet.proofs.StillLemmas.{place_is_still}
 use Rattle.pz_sheet.proofs.Sheet.is_layer_still.Goals as goal

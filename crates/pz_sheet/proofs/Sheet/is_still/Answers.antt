@@ -1,7 +1,4 @@
-use Rattle.std.proofs.Common.{List, [], Option, get_or, map, ap, sym, ◌∙◌, ℕ}
-use Rattle.pz_cells.specs.declared.piece.Piece.{Piece}
-use Rattle.pz_cells.specs.Cell.{still_place}
-use Rattle.pz_sheet.specs.Grid.{layers_in}
+use Rattle.pz_sheet.proofs.Common.{List, [], Option, get_or, map, ap, sym, ◌∙◌, ℕ, Piece, still_place, layers_in}
 use Rattle.pz_sheet.proofs.StillLemmas.{still_seen}
 use Rattle.pz_sheet.proofs.Sheet.is_still.Goals as goal
 

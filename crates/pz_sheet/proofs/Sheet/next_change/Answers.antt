@@ -1,11 +1,7 @@
-use Rattle.std.proofs.Common.{◌≤◌, List, length, ap, sym, ◌∙◌, refl, subst}
-use Rattle.pz_cells.specs.declared.cell.Cell.{Cell}
-use Rattle.pz_cells.specs.Differing.{IsNextDiffering}
-use Rattle.pz_planes.specs.Planes.{LineSets, IsNextDifferingPosition as IsNextPosition}
-use Rattle.pz_sheet.specs.Grid.{Grid}
+use Rattle.pz_sheet.proofs.Common.{◌≤◌, List, length, ap, sym, ◌∙◌, refl, subst, Cell, IsNextDiffering, LineSets, Grid, small_cell}
+use Rattle.pz_planes.specs.Planes.{IsNextDifferingPosition as IsNextPosition}
 use Rattle.pz_sheet.proofs.SheetLemmas.{lawful_here}
 use Rattle.pz_sheet.proofs.ChangeLemmas.{both_of, as_many, as_many_seen, next_is}
-use Rattle.pz_cells.proofs.ListLemmas.{small_cell}
 use Rattle.pz_sheet.proofs.StillLemmas.{nowhere_read, all_head_nowhere}
 use Rattle.pz_sheet.proofs.TellLemmas.{next_by_planes}
 use Rattle.pz_sheet.proofs.Sheet.next_change.Goals as goal

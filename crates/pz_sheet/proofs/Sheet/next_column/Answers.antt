@@ -1,5 +1,4 @@
-use Rattle.std.proofs.Common.{arith, ap, subst}
-use Rattle.pz_sheet.specs.Grid.{Grid, BareState, IsLawful}
+use Rattle.pz_sheet.proofs.Common.{arith, ap, subst, Grid, BareState, IsLawful}
 use Rattle.pz_sheet.proofs.SheetLemmas.{lawful_seen}
 use Rattle.pz_sheet.proofs.StillLemmas.{columns_are_still}
 use Rattle.pz_sheet.proofs.Sheet.next_column.Goals as goal

@@ -1,6 +1,4 @@
-use Rattle.pz_sheet.proofs.Common.{◌≡◌, ◌<◌, ℕ, List, Bool, Item, arith, ap, sym, ◌∙◌, Grid, x_at, y_at, holds_in, dir_of, holds_along, line_length, room_from, step_to}
-use Rattle.pz_sheet.specs.declared.line.Line.{Line}
-use Rattle.pz_planes.specs.declared.line.Way.{Way}
+use Rattle.pz_sheet.proofs.Common.{◌≡◌, ◌<◌, ℕ, List, Bool, Item, arith, ap, sym, ◌∙◌, Grid, x_at, y_at, holds_in, dir_of, holds_along, line_length, room_from, step_to, Line, Way}
 use Rattle.pz_sheet.specs.Line.{IsOnLine}
 use Rattle.pz_sheet.proofs.RunLemmas.{enumerate_more, enumerate_fails, enumerate_all, along_in, run_past}
 use Rattle.pz_sheet.proofs.Sheet.rest_holds.Goals as goal

@@ -1,5 +1,4 @@
-use Rattle.pz_sheet.proofs.Common.{ℕ, [], get_or, ap, sym, ◌∙◌, seen}
-use Rattle.pz_cells.specs.Layering.{Layering}
+use Rattle.pz_sheet.proofs.Common.{ℕ, [], get_or, ap, sym, ◌∙◌, seen, Layering}
 use Rattle.pz_sheet.proofs.SheetLemmas.{unrewritten}
 use Rattle.pz_sheet.proofs.Sheet.rewrite.Goals as goal
 

@@ -1,7 +1,4 @@
-use Rattle.std.proofs.Common.{length, arith, ap, sym, ◌∙◌, subst, length-set}
-use Rattle.pz_sheet.specs.Changes.{differ_in}
-use Rattle.pz_sheet.specs.Grid.{Grid, SameSize}
-use Rattle.pz_sheet.specs.Presence.{cell_of}
+use Rattle.pz_sheet.proofs.Common.{length, arith, ap, sym, ◌∙◌, subst, length-set, differ_in, Grid, SameSize, cell_of}
 use Rattle.pz_sheet.proofs.NewerLemmas.{same_before}
 use Rattle.pz_sheet.proofs.Sheet.take_all.Goals as goal
 

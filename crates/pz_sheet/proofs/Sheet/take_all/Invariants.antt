@@ -1,6 +1,4 @@
-use Rattle.std.proofs.Common.{ℕ, ◌≡◌, ◌≤◌, ◌<◌, ◌-◌, false, length}
-use Rattle.pz_sheet.specs.Changes.{differ_in}
-use Rattle.pz_sheet.specs.Grid.{SameSize}
+use Rattle.pz_sheet.proofs.Common.{ℕ, ◌≡◌, ◌≤◌, ◌<◌, ◌-◌, false, length, differ_in, SameSize}
 use Rattle.pz_sheet.proofs.Sheet.take_all.Given as goal
 
 abbrev pub invariant-changes : goal.invariant-changes

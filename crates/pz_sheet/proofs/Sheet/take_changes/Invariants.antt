@@ -1,6 +1,4 @@
-use Rattle.std.proofs.Common.{◌≡◌, drop, length}
-use Rattle.pz_sheet.specs.Changes.{changes_seen, restored}
-use Rattle.pz_sheet.specs.Grid.{SameSize}
+use Rattle.pz_sheet.proofs.Common.{◌≡◌, drop, length, changes_seen, restored, SameSize}
 use Rattle.pz_sheet.proofs.Sheet.take_changes.Given as goal
 
 abbrev pub invariant-loop-change : goal.invariant-loop-change

@@ -1,9 +1,5 @@
-use Rattle.std.proofs.Common.{◌≡◌, ◌*◌, ◌/◌, ◌%◌, ℕ, Bool, List, true, false, length, arith, ap, sym, ◌∙◌, subst}
-use Rattle.pz_sets.specs.Sets.{member}
-use Rattle.pz_cells.proofs.DrawLemmas.{no_number}
-use Rattle.pz_planes.specs.Planes.{AreChanged, HaveSameLines, PlaneSets}
-use Rattle.pz_planes.proofs.PlaneLemmas.{still_there_at, same_lines}
-use Rattle.pz_sheet.specs.Noting.{AreAllThere}
+use Rattle.pz_sheet.proofs.Common.{◌≡◌, ◌*◌, ◌/◌, ◌%◌, ℕ, Bool, List, true, false, length, arith, ap, sym, ◌∙◌, subst, member, no_number, AreChanged, HaveSameLines, PlaneSets, still_there_at, AreAllThere}
+use Rattle.pz_planes.proofs.PlaneLemmas.{same_lines}
 use Rattle.pz_sheet.proofs.EndLemmas.{ends_still_at}
 use Rattle.pz_sheet.proofs.PlacedLemmas.{all_there_more, all_there, none_of_empty}
 use Rattle.pz_sheet.proofs.noting.note_all.Goals as goal

@@ -1,9 +1,4 @@
-use Rattle.std.proofs.Common.{ℕ, ◌*◌, ◌<◌, ◌≤◌, false, get_or}
-use Rattle.pz_sets.specs.Sets.{member}
-use Rattle.pz_cells.specs.declared.cell.Cell.{Cell}
-use Rattle.pz_planes.specs.Planes.{HaveSameLines}
-use Rattle.pz_planes.proofs.PlaneLemmas.{AreThereAt}
-use Rattle.pz_sheet.specs.Noting.{EndWithin}
+use Rattle.pz_sheet.proofs.Common.{ℕ, ◌*◌, ◌<◌, ◌≤◌, false, get_or, member, Cell, HaveSameLines, AreThereAt, EndWithin}
 use Rattle.pz_sheet.proofs.noting.note_all.Given as goal
 
 abbrev pub invariant-loop-index : goal.invariant-loop-index

@@ -1,8 +1,5 @@
-use Rattle.std.proofs.Common.{ℕ, length, subst}
-use Rattle.pz_planes.specs.Planes.{IsFor}
-use Rattle.pz_planes.proofs.PlaneLemmas.{covers_all}
+use Rattle.pz_sheet.proofs.Common.{ℕ, length, subst, IsFor, covers_all, small_cell}
 use Rattle.pz_sheet.proofs.PlacedLemmas.{all_known}
-use Rattle.pz_cells.proofs.ListLemmas.{small_cell}
 use Rattle.pz_sheet.proofs.noting.noted.Goals as goal
 
 pub note_all-requires : goal.note_all-requires

@@ -1,5 +1,4 @@
-use Rattle.std.proofs.Common.{ℕ, length, get_or, arith, ◌∙◌, subst}
-use Rattle.pz_sheet.specs.Seen.{IsNoted}
+use Rattle.pz_sheet.proofs.Common.{ℕ, length, get_or, arith, ◌∙◌, subst, IsNoted}
 use Rattle.pz_sheet.proofs.SheetLemmas.{noted_more}
 use Rattle.pz_sheet.proofs.noting.renew_notes.Goals as goal
 

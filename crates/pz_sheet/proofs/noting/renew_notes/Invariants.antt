@@ -1,6 +1,4 @@
-use Rattle.std.proofs.Common.{ℕ, ◌≡◌, ◌<◌, length, get_or}
-use Rattle.pz_cells.specs.declared.cell.Cell.{Cell}
-use Rattle.pz_sheet.specs.Seen.{IsNoted}
+use Rattle.pz_sheet.proofs.Common.{ℕ, ◌≡◌, ◌<◌, length, get_or, Cell, IsNoted}
 use Rattle.pz_sheet.proofs.noting.renew_notes.Given as goal
 
 abbrev pub invariant-loop-index : goal.invariant-loop-index

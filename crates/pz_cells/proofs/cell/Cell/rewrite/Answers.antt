@@ -1,5 +1,5 @@
-use Rattle.pz_cells.proofs.Common.{ℕ, List, ap, sym, ◌∙◌, arith, member, IsProper, AreMasksOf, rewritten_cell, cell_of}
-use Rattle.pz_cells.proofs.HoldLemmas.{masks_of_game, masks_fit}
+use Rattle.pz_cells.proofs.Common.{ℕ, List, ap, sym, ◌∙◌, arith, member, IsProper}
+use Rattle.pz_cells.proofs.HoldLemmas.{masks_fit}
 use Rattle.pz_cells.proofs.RewriteLemmas.{AreRewritten, lawful_rewritten, cell_rewritten, placed_within, mid_proper, changed_by}
 use Rattle.pz_cells.proofs.cell.Cell.rewrite.Given.{Over}
 use Rattle.pz_cells.proofs.cell.Cell.rewrite.Goals.{After-self-3-1}
@@ -7,42 +7,37 @@ use Rattle.pz_cells.proofs.cell.Cell.rewrite.Goals as goal
 
 pub replace-moved-requires : goal.replace-moved-requires
 replace-moved-requires g c number here =
-    let m = masks_of_game g.row.N c.args.layers.now c.args.right.now c.masks-is.result.now c.objects_on.ensures.law c.requires.right_of c.masks-is.ensures in
-    let fit = masks_fit g.row.N c.args.layers.now c.args.right.now c.masks-is.result.now c.objects_on.ensures.law c.requires.right_of m in
+    let fit = masks_fit g.row.N c.args.layers.now c.args.right.now c.masks-is.result.now c.objects_on.ensures.law c.requires.right_of c.masks-is.ensures in
     omega (arith, fit.headed number (ap (λ (ws : List ℕ). member ws number) (sym c.words-2.ensures.words) ∙ here))
 
 pub replace-replaced-requires : goal.replace-replaced-requires
 replace-replaced-requires g c object here =
-    let m = masks_of_game g.row.N c.args.layers.now c.args.right.now c.masks-is.result.now c.objects_on.ensures.law c.requires.right_of c.masks-is.ensures in
-    let within = placed_within c.args.layers.now.layers c.args.right.now c.masks-is.result.now c.requires.right_of m object (ap (λ (ws : List ℕ). member ws object) (sym c.words-4.ensures.words) ∙ here) in
-    omega (arith, within, c.objects_on.ensures.law.room)
+    let fit = masks_fit g.row.N c.args.layers.now c.args.right.now c.masks-is.result.now c.objects_on.ensures.law c.requires.right_of c.masks-is.ensures in
+    omega (arith, placed_within c.args.layers.now.layers c.args.right.now c.masks-is.result.now c.requires.right_of fit.are object (ap (λ (ws : List ℕ). member ws object) (sym c.words-4.ensures.words) ∙ here), c.objects_on.ensures.law.room)
 
-masks_of : (g : Over) (c : After-self-3-1 g) → AreMasksOf c.args.left.now c.masks-was.result.now × AreMasksOf c.args.right.now c.masks-is.result.now
-masks_of g c = (
-  masks_of_game g.row.N c.args.layers.now c.args.left.now c.masks-was.result.now c.objects_on.ensures.law c.requires.left_of c.masks-was.ensures,
-  masks_of_game g.row.N c.args.layers.now c.args.right.now c.masks-is.result.now c.objects_on.ensures.law c.requires.right_of c.masks-is.ensures,
-)
+rewritten : (g : Over) (c : After-self-3-1 g) → AreRewritten c.args.layers.now.layers c.args.left.now c.args.right.now c.masks-was.result.now c.masks-is.result.now c.args.self.now.objects c.args.self.now.movement c.replace-replaced.new.words c.replace-moved.new.words c.end_leaving.new.movement
+rewritten g c =
+    let right = (masks_fit g.row.N c.args.layers.now c.args.right.now c.masks-is.result.now c.objects_on.ensures.law c.requires.right_of c.masks-is.ensures).are in
+    record {
+      are = c.requires.right_of;
+      ml = (masks_fit g.row.N c.args.layers.now c.args.left.now c.masks-was.result.now c.objects_on.ensures.law c.requires.left_of c.masks-was.ensures).are;
+      mr = right;
+      lawful = c.requires.sound;
+      is_new = λ o low. grind (arith, c.replace-replaced.ensures.members o, c.words-3.ensures.words, c.words-4.ensures.words, c.union-gone.ensures o, c.objects_on.ensures.objects o low, c.union-removed.ensures o);
+      of_game = λ o here. grind (arith, c.replace-replaced.ensures.members o, c.words-4.ensures.words, here, c.requires.sound.of_game o, placed_within c.args.layers.now.layers c.args.right.now c.masks-is.result.now c.requires.right_of right o);
+      is_mid = λ n. grind (arith, c.replace-moved.ensures.members n, c.words.ensures.words, c.words-2.ensures.words, c.union-ending.ensures n, c.common.ensures n);
+      ended = λ o dir g. c.end_leaving.ensures.ended o dir (record { here = g.here; removed = c.union-removed.ensures o ∙ g.removed; free = g.free });
+      others = λ layer dir none. c.end_leaving.ensures.others layer dir (λ o g on. none o (record { here = g.here; removed = sym (c.union-removed.ensures o) ∙ g.removed; free = g.free }) on);
+    }
 
-are_rewritten : (g : Over) (c : After-self-3-1 g) → AreRewritten c.args.layers.now.layers c.masks-was.result.now c.masks-is.result.now c.args.self.now.objects c.args.self.now.movement c.replace-replaced.new.words c.replace-moved.new.words c.end_leaving.new.movement
-are_rewritten g c = record {
-  is_new = λ o low. grind (arith, c.replace-replaced.ensures.members o, c.words-3.ensures.words, c.words-4.ensures.words, c.union-gone.ensures o, c.objects_on.ensures.objects o low, c.union-removed.ensures o);
-  of_game = λ o here. grind (arith, c.replace-replaced.ensures.members o, c.words-4.ensures.words, here, c.requires.sound.of_game o, placed_within c.args.layers.now.layers c.args.right.now c.masks-is.result.now c.requires.right_of (masks_of g c).1 o);
-  is_mid = λ n. grind (arith, c.replace-moved.ensures.members n, c.words.ensures.words, c.words-2.ensures.words, c.union-ending.ensures n, c.common.ensures n);
-  ended = λ o dir g. c.end_leaving.ensures.ended o dir (record { here = g.here; removed = c.union-removed.ensures o ∙ g.removed; free = g.free });
-  others = λ layer dir none. c.end_leaving.ensures.others layer dir (λ o g on. none o (record { here = g.here; removed = sym (c.union-removed.ensures o) ∙ g.removed; free = g.free }) on);
-}
-
-proper_mid : (g : Over) (c : After-self-3-1 g) → IsProper c.replace-moved.new.words
-proper_mid g c = mid_proper c.args.layers.now.layers c.args.left.now c.args.right.now c.masks-was.result.now c.masks-is.result.now c.args.self.now.objects c.args.self.now.movement c.replace-replaced.new.words c.replace-moved.new.words c.end_leaving.new.movement c.requires.right_of (masks_of g c).0 (masks_of g c).1 c.requires.sound (are_rewritten g c)
+proper : (g : Over) (c : After-self-3-1 g) → IsProper c.end_leaving.new.movement
+proper g c = c.end_leaving.ensures.proper (mid_proper _ _ _ _ _ _ _ _ _ _ (rewritten g c))
 
 pub returns-clause-sound : goal.returns-clause-sound
-returns-clause-sound g c = lawful_rewritten c.args.layers.now.layers c.args.left.now c.args.right.now c.masks-was.result.now c.masks-is.result.now c.args.self.now.objects c.args.self.now.movement c.replace-replaced.new.words c.replace-moved.new.words c.end_leaving.new.movement c.requires.right_of (masks_of g c).0 (masks_of g c).1 c.requires.sound (are_rewritten g c) (c.end_leaving.ensures.proper (proper_mid g c))
+returns-clause-sound g c = lawful_rewritten _ _ _ _ _ _ _ _ _ _ (rewritten g c) (proper g c)
 
 pub returns-clause-cell : goal.returns-clause-cell
-returns-clause-cell g c = cell_rewritten c.args.layers.now.layers c.args.left.now c.args.right.now c.masks-was.result.now c.masks-is.result.now c.args.self.now.objects c.args.self.now.movement c.replace-replaced.new.words c.replace-moved.new.words c.end_leaving.new.movement c.requires.right_of (masks_of g c).0 (masks_of g c).1 c.requires.sound (are_rewritten g c) c.args.layers.now.depth
+returns-clause-cell g c = cell_rewritten _ _ _ _ _ _ _ _ _ _ (rewritten g c) c.args.layers.now.depth c.objects_on.ensures.law.layered
 
 pub returns-clause-changed : goal.returns-clause-changed
-returns-clause-changed g c =
-    changed_by c.args.layers.now.depth c.args.layers.now.layers c.args.right.now c.masks-was.result.now c.masks-is.result.now c.args.self.now.objects c.args.self.now.movement c.replace-replaced.new.words c.replace-moved.new.words c.end_leaving.new.movement
-    c.replace-moved.result c.replace-replaced.result (rewritten_cell c.args.left.now c.args.right.now (cell_of c.args.layers.now.depth c.args.layers.now.layers c.args.self.now.objects c.args.self.now.movement))
-    c.requires.right_of (masks_of g c).1 c.objects_on.ensures.law.layered c.requires.sound (returns-clause-sound g c) (are_rewritten g c) (proper_mid g c) c.replace-moved.ensures.changed c.replace-replaced.ensures.changed (returns-clause-cell g c)
+returns-clause-changed g c = changed_by _ _ _ _ _ _ _ _ _ _ (rewritten g c) c.args.layers.now.depth c.replace-moved.result c.replace-replaced.result c.objects_on.ensures.law.layered (proper g c) c.replace-moved.ensures.changed c.replace-replaced.ensures.changed
