@@ -1,29 +1,15 @@
 -- A cell that heads nowhere is still. So is each cell of a line or of a level for which no heading is noted.
-use Rattle.pz_cells.specs.Layering.{Layering}
-use Rattle.std.proofs.Common.{inl, inr, ◌≡◌, ◌+◌, ◌*◌, ◌/◌, ◌%◌, ◌<◌, ◌≤◌, ℕ, suc, List, [], ◌∷◌, Option, Some, None, Bool, true, false, map, length, get_or, arith, ap, sym, ◌∙◌, refl, subst}
+use Rattle.pz_sheet.proofs.Common.{Layering, inl, inr, ◌≡◌, ◌+◌, ◌*◌, ◌/◌, ◌%◌, ◌<◌, ◌≤◌, ℕ, suc, List, [], ◌∷◌, Option, Some, None, Bool, true, false, map, length, get_or, arith, ap, sym, ◌∙◌, refl, subst, All, range_with_len, cases_lt, get_or_default, mul-add-lt, mod-mul-add, member, IsWithin, Dir, heads, heading_in, flag, Cell, Piece, still_place, place_of, Grid, cell_at, HeadingSets, column_in, number_of, row_in, seen, IsSound, grid_of, HeadsWithin, AreNoted, IsStored, no_cell, cell_mapped}
 use Rattle.std.specs.Prelude.{find}
-use Rattle.std.specs.List.{All, range_with_len}
 use Rattle.std.specs.Option.{option_map}
 use Rattle.std.proofs.Math.Nat.{mul-le-mul_right}
-use Rattle.std.proofs.lemmas.Bool.{cases_lt}
-use Rattle.std.proofs.lemmas.List.{get_or_default}
 use Rattle.std.proofs.lemmas.List.Elements.{All-map}
-use Rattle.std.proofs.lemmas.Nat.{mul-add-lt, mod-mul-add}
-use Rattle.pz_sets.specs.Sets.{member, IsWithin}
-use Rattle.pz_game.specs.declared.direction.Dir.{Dir}
-use Rattle.pz_game.specs.Headings.{heads, heading_in, flag}
-use Rattle.pz_cells.specs.declared.cell.Cell.{Cell}
-use Rattle.pz_cells.specs.declared.piece.Piece.{Piece}
-use Rattle.pz_cells.specs.Cell.{still_place}
-use Rattle.pz_cells.specs.Shown.{place_of, stands_on, piece_with}
-use Rattle.pz_sheet.specs.Grid.{Grid, cell_at}
+use Rattle.pz_cells.specs.Shown.{stands_on, piece_with}
 use Rattle.pz_sheet.specs.Movement.{IsStillAt, AreColumnsStill}
-use Rattle.pz_planes.specs.Notes.{HeadingSets, HaveNoneBetween}
-use Rattle.pz_planes.proofs.PlaneLemmas.{column_in, number_of, row_in}
-use Rattle.pz_cells.specs.Lists.{seen, IsSound, IsStilled, HeadNowhere}
-use Rattle.pz_sheet.specs.Seen.{grid_of, HeadsWithin, AreNoted, IsStored}
+use Rattle.pz_planes.specs.Notes.{HaveNoneBetween}
+use Rattle.pz_cells.specs.Lists.{IsStilled, HeadNowhere}
 use Rattle.pz_sheet.proofs.SheetLemmas.{only_false, seen_at}
-use Rattle.pz_cells.proofs.ListLemmas.{AreWalked, no_cell, cell_mapped, still_shows}
+use Rattle.pz_cells.proofs.ListLemmas.{AreWalked, still_shows}
 
 pub still_seen : (N : ℕ) (layering : Layering) (cell : Cell N) → IsSound layering cell → ((number : ℕ) → member cell.movement number ≡ false) → seen layering cell ≡ map still_place (seen layering cell)
 still_seen N layering cell sound none =

@@ -1,16 +1,9 @@
-use Rattle.std.proofs.Common.{◌≡◌, ℕ, List, Option, false, length, map, ap, sym, ◌∙◌}
-use Rattle.pz_sets.specs.Sets.{member}
-use Rattle.pz_cells.specs.declared.piece.Piece.{Piece}
-use Rattle.pz_sheet.specs.Grid.{BareState}
-use Rattle.pz_sheet.specs.Seen.{grid_of}
+use Rattle.pz_sheet.proofs.Common.{◌≡◌, ℕ, List, Option, false, length, map, ap, sym, ◌∙◌, member, Piece, BareState, grid_of, still_place}
 use Rattle.pz_sheet.specs.Movement.{stilled}
-use Rattle.pz_sheet.proofs.SheetLemmas.{lawful_here}
-use Rattle.pz_sheet.proofs.StillLemmas.{all_are_still}
-use Rattle.pz_cells.specs.Cell.{still_place}
+use Rattle.pz_sheet.proofs.SheetLemmas.{lawful_here, lawful_seen}
+use Rattle.pz_sheet.proofs.StillLemmas.{all_are_still, noted_nowhere}
 use Rattle.pz_sheet.proofs.PlacedLemmas.{placed_same}
-use Rattle.pz_sheet.proofs.SheetLemmas.{lawful_seen}
 use Rattle.pz_sheet.proofs.MapLemmas.{stored_mapped}
-use Rattle.pz_sheet.proofs.StillLemmas.{noted_nowhere}
 use Rattle.pz_sheet.proofs.Sheet.still_all.Goals as goal
 
 pub returns-then-is_empty-clause-stilled : goal.returns-then-is_empty-clause-stilled

@@ -1,14 +1,8 @@
-use Rattle.std.proofs.Common.{◌≡◌, ◌≤◌, ◌<◌, inl, inr, ℕ, ◌+◌, ◌*◌, List, map, length, get_or, arith, sym, refl, subst}
-use Rattle.std.specs.List.{All}
+use Rattle.pz_sheet.proofs.Common.{◌≡◌, ◌≤◌, ◌<◌, inl, inr, ℕ, ◌+◌, ◌*◌, List, map, length, get_or, arith, sym, refl, subst, All, cases_lt, Cell, still_place, Layering, IsSound, HeadingSets, AreNoted}
 use Rattle.std.proofs.Math.Nat.{mul-le-mul_right}
-use Rattle.std.proofs.lemmas.Bool.{cases_lt}
-use Rattle.pz_cells.specs.declared.cell.Cell.{Cell}
-use Rattle.pz_cells.specs.Cell.{still_place}
-use Rattle.pz_cells.specs.Layering.{Layering}
-use Rattle.pz_cells.specs.Lists.{IsSound, IsStilled}
+use Rattle.pz_cells.specs.Lists.{IsStilled}
 use Rattle.pz_cells.proofs.ListLemmas.{AreWalked, walked_all}
-use Rattle.pz_planes.specs.Notes.{HeadingSets, HaveNoneBetween}
-use Rattle.pz_sheet.specs.Seen.{AreNoted}
+use Rattle.pz_planes.specs.Notes.{HaveNoneBetween}
 use Rattle.pz_sheet.proofs.StillLemmas.{row_within, rows_stay, walked_on}
 use Rattle.pz_sheet.proofs.movement.still_rows.Goals as goal
 
@@ -30,8 +24,7 @@ passed_by {N = N} width height layering old now notes sound covers noted from en
 pub still_cells-requires : goal.still_cells-requires
 still_cells-requires g c =
     let i = c.rows.invariant in
-    let y_in : c.in-Some.y < length c.args.notes.now.rows = c.in-Some.ensures.1 in
-    let within : c.in-Some.y * c.args.width + c.args.width ≤ length c.rows.cells.items = omega (arith, row_within c.in-Some.y c.args.width (length c.args.notes.now.rows) y_in, c.requires.covers, i.walked.long) in
+    let within : c.in-Some.y * c.args.width + c.args.width ≤ length c.rows.cells.items = omega (arith, row_within c.in-Some.y c.args.width (length c.args.notes.now.rows) c.in-Some.ensures.1, c.requires.covers, i.walked.long) in
     (search, (search, (sound_so_far c.args.layers.now c.args.cells.now.items c.rows.cells.items (c.rows.from * c.args.width) c.requires.sound i.walked, (omega arith, within))))
 
 pub rows-preserved : goal.rows-preserved
@@ -42,28 +35,23 @@ rows-preserved g c =
     let width = c.args.width in
     let y = c.in-Some.y in
     let done = c.still_cells.ensures in
-    let y_in : y < length c.args.notes.now.rows = c.in-Some.ensures.1 in
-    let w = passed_by width (length c.args.notes.now.rows) c.args.layers.now old now c.args.notes.now c.requires.sound c.requires.covers c.requires.noted c.rows.from y c.in-Some.ensures.0 (omega (arith, y_in)) c.in-Some.ensures.2 c.rows.invariant.walked in
+    let w = passed_by width (length c.args.notes.now.rows) c.args.layers.now old now c.args.notes.now c.requires.sound c.requires.covers c.requires.noted c.rows.from y c.in-Some.ensures.0 (omega (arith, c.in-Some.ensures.1)) c.in-Some.ensures.2 c.rows.invariant.walked in
     let end : y * width + width ≡ (y + 1) * width = omega arith in
     record {
-      within = omega (arith, y_in);
+      within = omega (arith, c.in-Some.ensures.1);
       walked = subst (AreWalked (IsStilled c.args.layers.now) old next) end (walked_on (IsStilled c.args.layers.now) old now next (y * width) (y * width + width) (omega arith) w done.long
           (λ k cell late below. subst (λ it. IsStilled c.args.layers.now it (get_or next k cell)) (w.rest k cell late) (done.stilled k cell late below)) done.before done.behind);
     }
 
 pub returns-clause-mapped : goal.returns-clause-mapped
 returns-clause-mapped g c =
-    let i = c.rows.invariant in
-    let rows = length c.args.notes.now.rows in
-    let w = passed_by c.args.width rows c.args.layers.now c.args.cells.now.items c.rows.cells.items c.args.notes.now c.requires.sound c.requires.covers c.requires.noted c.rows.from rows i.within (omega arith) c.in_default.ensures i.walked in
+    let w = passed_by c.args.width (length c.args.notes.now.rows) c.args.layers.now c.args.cells.now.items c.rows.cells.items c.args.notes.now c.requires.sound c.requires.covers c.requires.noted c.rows.from (length c.args.notes.now.rows) c.rows.invariant.within (omega arith) c.in_default.ensures c.rows.invariant.walked in
     walked_all c.args.layers.now (map still_place) c.args.cells.now.items c.rows.cells.items (λ k cell within.
-    let below : k < rows * c.args.width = omega (arith, within, c.requires.covers) in
+    let below : k < length c.args.notes.now.rows * c.args.width = omega (arith, within, c.requires.covers) in
     let stilled = w.turned k cell below in
     (stilled.sound, stilled.seen_still)) w.long
 
 pub returns-clause-nowhere : goal.returns-clause-nowhere
 returns-clause-nowhere g c index cell number within =
-    let i = c.rows.invariant in
-    let rows = length c.args.notes.now.rows in
-    let w = passed_by c.args.width rows c.args.layers.now c.args.cells.now.items c.rows.cells.items c.args.notes.now c.requires.sound c.requires.covers c.requires.noted c.rows.from rows i.within (omega arith) c.in_default.ensures i.walked in
+    let w = passed_by c.args.width (length c.args.notes.now.rows) c.args.layers.now c.args.cells.now.items c.rows.cells.items c.args.notes.now c.requires.sound c.requires.covers c.requires.noted c.rows.from (length c.args.notes.now.rows) c.rows.invariant.within (omega arith) c.in_default.ensures c.rows.invariant.walked in
     (w.turned index cell (omega (arith, within, c.requires.covers, w.long))).nowhere number

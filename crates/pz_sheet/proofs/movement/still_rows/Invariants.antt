@@ -1,4 +1,4 @@
-use Rattle.std.proofs.Common.{◌*◌, ◌-◌, ◌≤◌, length}
+use Rattle.pz_sheet.proofs.Common.{◌*◌, ◌-◌, ◌≤◌, length}
 use Rattle.pz_cells.specs.Lists.{IsStilled}
 use Rattle.pz_cells.proofs.ListLemmas.{AreWalked}
 use Rattle.pz_sheet.proofs.movement.still_rows.Given as goal
