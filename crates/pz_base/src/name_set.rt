@@ -1,6 +1,6 @@
 //! Sets of names, in the order of first mention.
 
-ghost use Rattle.std.specs.Prelude.{◌≡◌, ◌<◌, ◌^◌, ◌++◌, ◌∷◌, [], length, OnOk, OnErr, true, false};
+ghost use Rattle.std.specs.Prelude.{◌≡◌, ◌↔◌, ◌<◌, ◌^◌, ◌++◌, ◌∷◌, [], length, IsTrue, OnOk, OnErr, false};
 ghost use Rattle.pz_base.specs.NameSet.{is_name_of, number_in};
 
 use indexmap::IndexSet;
@@ -55,7 +55,7 @@ impl NameSet {
 
     /// Whether another set has the same names in the same order.
     pub fn same(&self, other: &NameSet) -> bool
-        ensures { result ≡ true → self.now ≡ other.now }
+        ensures { IsTrue result ↔ (self.now ≡ other.now) }
     {
         let texts = self.texts.as_slice();
         let others = other.texts.as_slice();

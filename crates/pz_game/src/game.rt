@@ -1,6 +1,6 @@
 //! A game.
 
-ghost use Rattle.std.specs.Prelude.{◌≡◌, true, option_map, option_copied};
+ghost use Rattle.std.specs.Prelude.{◌≡◌, ◌↔◌, IsTrue, option_map, option_copied};
 ghost use Rattle.pz_game.specs.Game.{denotation_in, players_of, IsGame};
 ghost use Rattle.pz_base.specs.NameSet.{number_in};
 
@@ -149,7 +149,7 @@ impl Game {
 
     /// Whether another game has the same names in the same order.
     pub fn has_names_of(&self, other: &Game) -> bool
-        ensures { result ≡ true → self.now.names ≡ other.now.names }
+        ensures { IsTrue result ↔ (self.now.names ≡ other.now.names) }
     {
         self.parts.names.same(&other.parts.names)
     }
