@@ -160,6 +160,23 @@ fn lists_members_in_the_order_of_the_line(rt: HostRuntime) -> Result<(), Fail> {
     Ok(())
 }
 
+/// Whether the small game has the names of the one with line 19 replaced.
+fn has_names_with(alloc: Global, line: &str) -> Result<bool, Fail> {
+    let game = small_game(alloc)?;
+    let text = game_with(alloc, 19, line, "p")?;
+    let other = game_of(alloc, text.as_str())?;
+    Ok(game.has_names_of(&other))
+}
+
+#[test]
+fn compares_the_names_of_two_games(rt: HostRuntime) -> Result<(), Fail> {
+    let alike = has_names_with(rt.alloc(), "Thing = Crate or Wall or Mark")?;
+    let renamed = has_names_with(rt.alloc(), "Stuff = Crate or Wall")?;
+    let fewer = has_names_with(rt.alloc(), "")?;
+    assert_eq!(rt; (alike, renamed, fewer), (true, false, false));
+    Ok(())
+}
+
 #[test]
 fn names_the_first_fault_of_a_changed_line(rt: HostRuntime) -> Result<(), Fail> {
     let changes = [
