@@ -59,6 +59,9 @@ pub fn read_level_text(alloc: Global, text: &str) -> Result<Option<Recorded>, Al
         rest = later;
     }
     if rest.is_empty() {
+        // all recorded levels are kept until the last session is played
+        sets.shrink_to_fit();
+        cells.shrink_to_fit();
         Ok(Some(Recorded::new(sets, cells)))
     } else {
         Ok(None)

@@ -29,7 +29,7 @@ const GAME: [&str; 13] = [
     "p.#",
 ];
 
-fn small_game(alloc: Global) -> Result<Game, Fail> {
+pub(crate) fn small_game(alloc: Global) -> Result<Game, Fail> {
     let text = joined(alloc, &GAME, 0, "")?;
     game_of(alloc, text.as_str())
 }
@@ -44,7 +44,7 @@ fn pushed(alloc: Global, game: &Game) -> Result<Level, Fail>
 }
 
 /// The level after that movement.
-fn moved(alloc: Global, game: &Game) -> Result<Level, Fail> {
+pub(crate) fn moved(alloc: Global, game: &Game) -> Result<Level, Fail> {
     let mut level = pushed(alloc, game)?;
     resolve(game, &mut level);
     Ok(level)

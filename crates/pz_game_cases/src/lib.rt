@@ -1,4 +1,4 @@
-//! Tests of games and their levels, from outside: sources read or refused, levels loaded, pushed and moved, rows found by marks.
+//! Tests of games and their levels, from outside: sources read or refused, levels loaded, pushed, moved and written, rows found by marks.
 #![tactic(auto)]
 
 #[cfg(test)]
@@ -9,3 +9,5 @@ mod levels;
 mod marks;
 #[cfg(test)]
 mod reading;
+#[cfg(test)]
+mod texts;

@@ -334,53 +334,34 @@ fn next_gap<const N: usize>(
     if steps >= line_length(sheet, dir) as usize {
         return None;
     }
+    let ahead = steps as u32;
+    let along_row = line::Line {
+        axis: Axis::Horizontal,
+        number: from.y,
+    };
+    let along_column = line::Line {
+        axis: Axis::Vertical,
+        number: from.x,
+    };
     match dir {
-        Dir::Right => match sheet.next_in_line(
-            line::Line {
-                axis: Axis::Horizontal,
-                number: from.y,
-            },
-            from.x + steps as u32,
-            behind,
-        ) {
+        Dir::Right => match sheet.next_in_line(along_row, from.x + ahead, behind) {
             Some(x) => Some(x - from.x - at),
             None => None,
         },
         Dir::Left => {
-            let end = (from.x + 1).saturating_sub(steps as u32);
-            match sheet.last_in_line(
-                line::Line {
-                    axis: Axis::Horizontal,
-                    number: from.y,
-                },
-                end,
-                behind,
-            ) {
+            let end = (from.x + 1).saturating_sub(ahead);
+            match sheet.last_in_line(along_row, end, behind) {
                 Some(x) => Some(from.x - at - x),
                 None => None,
             }
         }
-        Dir::Down => match sheet.next_in_line(
-            line::Line {
-                axis: Axis::Vertical,
-                number: from.x,
-            },
-            from.y + steps as u32,
-            behind,
-        ) {
+        Dir::Down => match sheet.next_in_line(along_column, from.y + ahead, behind) {
             Some(y) => Some(y - from.y - at),
             None => None,
         },
         Dir::Up => {
-            let end = (from.y + 1).saturating_sub(steps as u32);
-            match sheet.last_in_line(
-                line::Line {
-                    axis: Axis::Vertical,
-                    number: from.x,
-                },
-                end,
-                behind,
-            ) {
+            let end = (from.y + 1).saturating_sub(ahead);
+            match sheet.last_in_line(along_column, end, behind) {
                 Some(y) => Some(from.y - at - y),
                 None => None,
             }

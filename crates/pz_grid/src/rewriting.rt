@@ -1,13 +1,13 @@
 //! The rewriting of cells by the instances of rules.
 
-ghost use Rattle.std.specs.Prelude.{false, ◌≡◌, ◌<◌, ◌^◌};
+ghost use Rattle.std.specs.Prelude.{false, ◌≡◌, IfSome};
 ghost use Rattle.pz_program.specs.Instance.{IsInstanceOf};
 ghost use Rattle.pz_game.specs.Pattern.{AreOf, IsRowOf, AreRowsOf};
 ghost use Rattle.pz_sheet.specs.Grid.{IsOnMap, IsLawful, IsOfGame, SameSize};
 ghost use Rattle.pz_grid.specs.Marks.{IsMarked, IsMarkedAt, IsWidenedBy, row_places, places_object};
 ghost use Rattle.pz_game.specs.Items.{names_object};
 ghost use Rattle.pz_sheet.specs.Rewriting.{with_rewritten, changes};
-ghost use Rattle.pz_grid.specs.Rewriting.{in_rewrite, rewritten_along, rewritten_row, rewritten};
+ghost use Rattle.pz_grid.specs.Rewriting.{in_rewrite, rewritten_at, rewritten_row, rewritten};
 
 use crate::Level;
 use crate::placing::Place;
@@ -46,26 +46,22 @@ impl Level {
         self.rewrite_marked(x, y, left, right)
     }
 
-    /// Rewrites the row's cell of this number, for a row at this place, if it is on the map. True: this or an earlier rewriting changed a
-    /// cell.
-    fn rewrite_along(
+    /// Rewrites the cell at a position, or nothing where that is off the map. True: this or an earlier rewriting changed a cell.
+    fn rewrite_at(
         &mut self,
-        dir: Dir,
-        gap_at: Option<u32>,
-        place: Place,
-        index: usize,
+        at: Option<(u32, u32)>,
         left: &Pattern,
         right: &Pattern,
         changed: bool,
     ) -> bool
-        requires near { index < 2 ^ 32 }
+        requires on_map { IfSome at (λ position. IsOnMap self.old.grid position.0 position.1) }
         requires left_of { AreOf self.old.grid.layers left.now }
         requires right_of { AreOf self.old.grid.layers right.now }
-        ensures rewritten { in_rewrite self.new.grid result ≡ rewritten_along dir gap_at place (in_rewrite self.old.grid changed) (index, (left.now, right.now)) }
+        ensures rewritten { in_rewrite self.new.grid result ≡ rewritten_at (in_rewrite self.old.grid changed) left.now right.now at }
         ensures size { SameSize self.old.grid self.new.grid }
         ensures marks { IsWidenedBy self.old self.new (λ object. names_object object right.now) }
     {
-        match self.position_of(dir, gap_at, place, index) {
+        match at {
             None => changed,
             Some((x, y)) => {
                 let changes = self.rewrite_position(x, y, left, right);
@@ -94,15 +90,8 @@ impl Level {
         let right = right.cells();
         let mut changed = changed_before;
         for index in 0..left.len().min(right.len()) {
-            changed = self.rewrite_along(
-                dir,
-                gap_at,
-                place,
-                index,
-                &left[index],
-                &right[index],
-                changed,
-            );
+            let at = self.position_of(dir, gap_at, place, index);
+            changed = self.rewrite_at(at, &left[index], &right[index], changed);
         }
         changed
     }

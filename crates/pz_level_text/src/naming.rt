@@ -12,7 +12,6 @@ use pz_base::name::Name;
 use pz_record::cell_names::CellNames;
 use pz_record::recorded::Recorded;
 use pz_sets::set::NumberSet;
-use std::collections::BTreeSet;
 use std::marker::Model;
 
 /// How many sets are remembered at most.
@@ -100,8 +99,8 @@ fn is_within(objects: &[Name], standing: &NumberSet, names: &CellNames) -> bool
     true
 }
 
-fn has_each(objects: &[Name], standing: &NumberSet, names: &BTreeSet<Vec<u8>>) -> bool
-    ensures { result ≡ list_all (λ name. has_name (chosen_from (member standing.now) 0 objects.now) name.items) names.now.keys }
+fn has_each(objects: &[Name], standing: &NumberSet, names: &[Vec<u8>]) -> bool
+    ensures { result ≡ list_all (λ name. has_name (chosen_from (member standing.now) 0 objects.now) name.items) names.now }
 {
     names.iter().all(|name| has_named(objects, standing, name))
 }

@@ -1,16 +1,19 @@
 //! The names of a cell's objects.
 
-ghost use Rattle.std.specs.Prelude.{◌≡◌, [], map, OnOk};
-ghost use Rattle.pz_record.specs.CellNames.{with_name, has_name};
+ghost use Rattle.std.specs.Prelude.{◌≡◌, map, IfOk};
+ghost use Rattle.std.specs.List.{list_any};
+ghost use Rattle.std.specs.Str.{bytes_eq};
+ghost use Rattle.pz_record.specs.CellNames.{has_name};
 
 use std::alloc::{AllocError, Global};
 use std::collections::BTreeSet;
 use std::marker::Model;
 
-/// The names of a cell, each once. Contracts see them as a list in the order of their bytes.
+/// The names of a cell, each once. Contracts see them as a list in the order of their bytes. They are kept as a list because a cell has few
+/// names, and a set of one name takes the room of eleven.
 #[derive(Drop)]
 pub struct CellNames {
-    names: BTreeSet<Vec<u8>>,
+    names: Vec<Vec<u8>>,
 }
 
 impl Model for CellNames {
@@ -18,38 +21,36 @@ impl Model for CellNames {
 
     ghost Value = { List (List ℕ) };
 
-    ghost view = { λ c. map (λ name. name.items) c.names.keys };
+    ghost view = { λ c. map (λ name. name.items) c.names.items };
+}
+
+/// Whether a name is among these.
+fn has(names: &[Vec<u8>], name: &[u8]) -> bool
+    ensures { result ≡ list_any (λ held. bytes_eq name.now held.items) names.now }
+{
+    names.iter().any(|held| name == held.as_slice())
 }
 
 impl CellNames {
-    /// No names.
-    pub fn new(alloc: Global) -> CellNames
-        ensures { result ≡ [] }
+    /// The names of a set. Err: memory was refused.
+    pub fn of_set(alloc: Global, set: BTreeSet<Vec<u8>>) -> Result<CellNames, AllocError>
+        ensures { IfOk result (λ names. names ≡ map (λ name. name.items) set.keys) }
     {
-        CellNames {
-            names: BTreeSet::new(alloc),
-        }
+        let names = set.into_iter().collect(alloc)?;
+        Ok(CellNames { names })
     }
 
     /// The names themselves, in the order of their bytes.
-    pub fn names(&self) -> &BTreeSet<Vec<u8>>
-        ensures { map (λ name. name.items) result.now.keys ≡ self.now }
+    pub fn names(&self) -> &[Vec<u8>]
+        ensures { map (λ name. name.items) result.now ≡ self.now }
     {
         &self.names
-    }
-
-    /// Adds a name, unless it is there already. Err: memory was refused.
-    pub fn insert(&mut self, name: Vec<u8>) -> Result<(), AllocError>
-        ensures { OnOk result (self.new ≡ with_name self.old name.items) }
-    {
-        self.names.insert(name)?;
-        Ok(())
     }
 
     /// Whether a name is among them.
     pub fn contains(&self, name: &[u8]) -> bool
         ensures { result ≡ has_name self.now name.now }
     {
-        self.names.contains(name)
+        has(&self.names, name)
     }
 }
