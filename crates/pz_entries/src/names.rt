@@ -27,11 +27,7 @@ fn insert(names: &mut BTreeSet<Vec<u8>>, name: Vec<u8>) -> Result<(), AllocError
 }
 
 #[tactic(auto, unfolding(crate::specs::Names::with_word))]
-fn add_word(
-    alloc: Global,
-    names: &mut BTreeSet<Vec<u8>>,
-    word: &[u8],
-) -> Result<(), AllocError>
+fn add_word(alloc: Global, names: &mut BTreeSet<Vec<u8>>, word: &[u8]) -> Result<(), AllocError>
     ensures { OnOk result (map (λ held. held.items) names.new.keys ≡ with_word (map (λ held. held.items) names.old.keys) word.now) }
 {
     if word.is_empty() {

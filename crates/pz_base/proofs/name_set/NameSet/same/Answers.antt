@@ -23,13 +23,12 @@ returns-then-ne c =
     let n = c.loop-number.number in
     let text = c.index-texts-number.result in
     let other = c.index-others-number.result in
-    let within : n < length others = omega (arith, c.loop-number-test.true, c.loop-number.invariant.0) in
-    (
+    let within : n < length others = omega (arith, c.loop-number-test.true, c.loop-number.invariant.0) in (
       (λ yes. absurd (search rules)),
       (λ same.
           let names : map string_bytes texts ≡ map string_bytes others = search (rules, same) in
           let equal : string_bytes (get_or texts n text) ≡ string_bytes (get_or others n other) =
-            sym (get_or-map string_bytes texts n text [] c.loop-number-test.true) ∙ (ap (λ all. get_or all n []) names ∙ get_or-map string_bytes others n other [] within) in
+          sym (get_or-map string_bytes texts n text [] c.loop-number-test.true) ∙ (ap (λ all. get_or all n []) names ∙ get_or-map string_bytes others n other [] within) in
           let told : c.as_str.result.now ≡ c.as_str-in-loop-number.result.now = cc in
           absurd (search rules)),
     )
