@@ -21,4 +21,4 @@ unpacked kept last (part ∷ parts) = next_line kept last part ++ unpacked kept 
 -- what a packer has: the own bytes of each part, and the last line
 pub record ArePacked (kept : List ℕ) (parts : List Part) (last : List ℕ) : Type 0 where
   pub within : All (λ part. part.from + part.own ≤ length kept) parts
-  pub last : last ≡ fold (next_line kept) [] parts
+  pub at_hand : last ≡ fold (next_line kept) [] parts

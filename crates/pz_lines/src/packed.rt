@@ -1,12 +1,13 @@
 //! Lines that are kept packed until they are written: of each line only what differs from the line before it. The line of a frame has
 //! the whole text of a level, and mostly little of it changed.
 
-ghost use Rattle.std.specs.Prelude.{◌≡◌, ◌++◌, ℕ, ◌+◌, ◌-◌, ◌≤◌, List, [], length, take, drop, IfOk, OnErr, OnOk};
+ghost use Rattle.std.specs.Prelude.{◌≡◌, ◌++◌, ℕ, ◌+◌, ◌-◌, ◌≤◌, List, [], length, take, drop, IfOk, IsTrue, OnErr, OnOk};
 ghost use Rattle.pz_lines.specs.Packed.{line_of, next_line};
 
 use std::alloc::{AllocError, Global};
 use std::marker::Model;
 use std::mem::replace;
+use std::simd::Simd;
 
 /// So many first bytes of a line are its own, since numbers among them change from line to line.
 const HEAD: usize = 64;
@@ -60,19 +61,41 @@ impl Model for Packer {
     ghost invariant = { λ packer. ArePacked packer.kept.items packer.parts.items packer.last.items };
 }
 
+/// Whether two texts begin with the same chunk.
+fn begin_alike(one: &[u8], other: &[u8]) -> bool
+    requires one { CHUNK ≤ length one.now }
+    requires other { CHUNK ≤ length other.now }
+    ensures { IsTrue result → take CHUNK one.now ≡ take CHUNK other.now }
+{
+    let one = Simd::<u8, CHUNK>::from_slice(one);
+    let other = Simd::<u8, CHUNK>::from_slice(other);
+    one.simd_ne(other).to_bitmask() == 0
+}
+
 /// How many bytes two texts have in common at the front, in whole chunks.
 fn shared_front(one: &[u8], other: &[u8]) -> usize
     ensures one { result ≤ length one.now }
     ensures other { result ≤ length other.now }
     ensures shared { take result one.now ≡ take result other.now }
 {
-    let (one, _) = one.as_chunks::<CHUNK>();
-    let (other, _) = other.as_chunks::<CHUNK>();
+    let end = one.len().min(other.len());
     let mut count = 0;
-    while count < one.len() && count < other.len() && one[count] == other[count] {
-        count += 1;
+    while CHUNK <= end - count && begin_alike(&one[count..], &other[count..]) {
+        count += CHUNK;
     }
-    count * CHUNK
+    count
+}
+
+/// Whether two texts have the same chunk before so many bytes at the end.
+fn end_alike(one: &[u8], other: &[u8], count: usize) -> bool
+    requires one { count + CHUNK ≤ length one.now }
+    requires other { count + CHUNK ≤ length other.now }
+    ensures { IsTrue result → take CHUNK (drop (length one.now - count - CHUNK) one.now) ≡ take CHUNK (drop (length other.now - count - CHUNK) other.now) }
+{
+    begin_alike(
+        &one[one.len() - count - CHUNK..],
+        &other[other.len() - count - CHUNK..],
+    )
 }
 
 /// How many bytes two texts have in common at the end, in whole chunks.
@@ -81,17 +104,9 @@ fn shared_back(one: &[u8], other: &[u8]) -> usize
     ensures other { result ≤ length other.now }
     ensures shared { drop (length one.now - result) one.now ≡ drop (length other.now - result) other.now }
 {
-    let (mut one, mut other) = (one, other);
+    let end = one.len().min(other.len());
     let mut count = 0;
-    while let (Some((one_rest, a)), Some((other_rest, b))) = (
-        one.split_last_chunk::<CHUNK>(),
-        other.split_last_chunk::<CHUNK>(),
-    ) {
-        if a != b {
-            return count;
-        }
-        one = one_rest;
-        other = other_rest;
+    while CHUNK <= end - count && end_alike(one, other, count) {
         count += CHUNK;
     }
     count
@@ -106,6 +121,7 @@ fn cut(text: &[u8], place: usize) -> (&[u8], &[u8])
 }
 
 /// Puts the line behind others that the last line and a part's own bytes make.
+#[tactic(auto, unfolding(crate::specs::Packed::line_of))]
 fn add_line(lines: &mut Vec<u8>, last: &[u8], own: &[u8], part: Part) -> Result<(), AllocError>
     ensures { OnOk result (lines.new.items ≡ lines.old.items ++ line_of last.now own.now part.front part.back) }
 {
@@ -116,7 +132,8 @@ fn add_line(lines: &mut Vec<u8>, last: &[u8], own: &[u8], part: Part) -> Result<
     lines.extend_from_slice(head)?;
     lines.extend_from_slice(front)?;
     lines.extend_from_slice(between)?;
-    lines.extend_from_slice(back)
+    lines.extend_from_slice(back)?;
+    Ok(())
 }
 
 /// Puts the line of a part behind others, and makes it the last line.
@@ -133,7 +150,8 @@ pub(crate) fn unpack(
     let (own, _) = cut(cut(kept, part.from).1, part.own);
     add_line(lines, last, own, part)?;
     last.clear();
-    last.extend_from_slice(&lines[start..])
+    last.extend_from_slice(&lines[start..])?;
+    Ok(())
 }
 
 /// Keeps the bytes that a line doesn't share with the last line, and answers what it is made of.
@@ -148,6 +166,7 @@ fn keep(kept: &mut Vec<u8>, last: &[u8], line: &[u8]) -> Result<Part, AllocError
     let front = shared_front(behind, rest);
     let back = shared_back(&behind[front..], &rest[front..]);
     let between = &rest[front..rest.len() - back];
+    kept.reserve(head.len() + between.len())?;
     kept.extend_from_slice(head)?;
     kept.extend_from_slice(between)?;
     Ok(Part {
