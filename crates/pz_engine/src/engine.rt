@@ -36,16 +36,16 @@ pub struct PlayedCase {
     pub passed: bool,
 }
 
-/// What was taken in of a session that is played: the lines of its items so far; how many of these items are frames; and whether they say
-/// that the session passed.
+/// What is written of a session that is played: the lines of its items so far; how many of these items are frames; and whether they
+/// say that the session passed.
 #[derive(Drop)]
-struct Taken {
+struct Written {
     lines: Packer,
     frames: u64,
     passed: bool,
 }
 
-/// Packs the line of an item of a session, whose number of frames the close tells, after the others.
+/// Packs the line of an item of a session, whose name and number of frames the close tells.
 fn add_line(
     alloc: Global,
     lines: &mut Packer,
@@ -71,29 +71,36 @@ fn counted(frames: u64, item: &Item) -> Result<u64, AllocError>
     }
 }
 
-/// Takes in the next item of a session.
-fn take_in(
+/// Takes in the next item of a session. Its line is written if it is shown from an input on.
+fn add_item(
     alloc: Global,
-    taken: &mut Taken,
+    written: &mut Written,
     session: u64,
     name: &str,
     item: &Item,
     from: u64,
 ) -> Result<(), AllocError>
-    ensures lines { OnOk result (taken.new.lines ≡ taken.old.lines ++ line_from from session name.now taken.old.frames item.now) }
-    ensures frames { OnOk result (taken.new.frames ≡ taken.old.frames + frame_count (item.now ∷ [])) }
-    ensures passed { OnOk result (taken.new.passed ≡ (taken.old.passed || is_pass item.now)) }
+    ensures lines { OnOk result (written.new.lines ≡ written.old.lines ++ line_from from session name.now written.old.frames item.now) }
+    ensures frames { OnOk result (written.new.frames ≡ written.old.frames + frame_count (item.now ∷ [])) }
+    ensures passed { OnOk result (written.new.passed ≡ (written.old.passed || is_pass item.now)) }
 {
     if is_from(from, item) {
-        add_line(alloc, &mut taken.lines, session, name, taken.frames, item)?;
+        add_line(
+            alloc,
+            &mut written.lines,
+            session,
+            name,
+            written.frames,
+            item,
+        )?;
     }
-    taken.frames = counted(taken.frames, item)?;
-    taken.passed = taken.passed || is_pass(item);
+    written.frames = counted(written.frames, item)?;
+    written.passed = written.passed || is_pass(item);
     Ok(())
 }
 
-/// Plays the session of a case, and packs the lines of its items from an input on. Each item is dropped before the next is played, so that
-/// only one item is held at a time beside the lines.
+/// Plays the session of a case, and packs the lines of its items from an input on. Each item is dropped before the next is played, so
+/// that only one item is held at a time beside the lines.
 pub fn play_case(
     alloc: Global,
     session: u64,
@@ -106,18 +113,24 @@ pub fn play_case(
     // (brings the proof that the close is the last item, which tells how many frames there were)
     cases_close_once();
     let mut run = Run::new(alloc, case)?;
-    let mut taken = Taken {
+    let mut written = Written {
         lines: Packer::new(alloc),
         frames: 0,
         passed: false,
     };
     'items: while let Some(item) = run.next()? {
-        take_in(alloc, &mut taken, session, case.name.as_str(), &item, from)?;
+        add_item(
+            alloc,
+            &mut written,
+            session,
+            case.name.as_str(),
+            &item,
+            from,
+        )?;
     }
-    let Taken { lines, passed, .. } = taken;
     Ok(PlayedCase {
-        lines: lines.finish(),
-        passed,
+        lines: written.lines.finish(),
+        passed: written.passed,
     })
 }
 
