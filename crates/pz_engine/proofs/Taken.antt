@@ -21,9 +21,9 @@ use Rattle.pz_engine.specs.declared.engine.Written.{Written}
 use Rattle.pz_engine.specs.Engine.{line_from}
 use Rattle.pz_engine.specs.Sessions.{is_pass}
 
--- what is written once these items of a session were taken in, behind the lines before it
-pub record AreTaken (from session : ℕ) (shown : Record) (before : List ℕ) (taken : List Item) (written : Written) : Type 0 where
-  pub lines : written.lines.items ≡ before ++ flat_map (item_line session shown.name (frame_count shown.items)) (filter (is_from from) taken)
+-- what is written once these items of a session were taken in
+pub record AreTaken (from session : ℕ) (shown : Record) (taken : List Item) (written : Written) : Type 0 where
+  pub lines : written.lines ≡ flat_map (item_line session shown.name (frame_count shown.items)) (filter (is_from from) taken)
   pub frames : written.frames ≡ frame_count taken
   pub passed : written.passed ≡ list_any is_pass taken
 
@@ -64,41 +64,40 @@ more_lines f p taken x =
     ap (flat_map f) (filter-append p taken (x ∷ [])) ∙ (flat_map-append f (filter p taken) (filter p (x ∷ [])) ∙ ap (λ t. flat_map f (filter p taken) ++ t) (one_line f p x))
 
 -- one item more
-one_taken : CloseOnce → (from session : ℕ) (case : Case) (before : List ℕ) (taken rest : List Item) (x : Item) (written more : Written) → taken ++ x ∷ rest ≡ items_of case
-    → AreTaken from session (shown_by items_of case) before taken written
-    → more.lines.items ≡ written.lines.items ++ line_from from session case.name written.frames x
+one_taken : CloseOnce → (from session : ℕ) (case : Case) (taken rest : List Item) (x : Item) (written more : Written) → taken ++ x ∷ rest ≡ items_of case
+    → AreTaken from session (shown_by items_of case) taken written
+    → more.lines ≡ written.lines ++ line_from from session case.name written.frames x
     → more.frames ≡ written.frames + frame_count (x ∷ [])
     → more.passed ≡ (written.passed || is_pass x)
-    → AreTaken from session (shown_by items_of case) before (taken ++ x ∷ []) more
-one_taken law from session case before taken rest x written more is so_far lines frames passed =
+    → AreTaken from session (shown_by items_of case) (taken ++ x ∷ []) more
+one_taken law from session case taken rest x written more is so_far lines frames passed =
     let all = frame_count (items_of case) in
     let line = item_line session case.name all in
     let same : item_line session case.name written.frames x ≡ line x =
     same_line session case.name written.frames all x (λ verdict e. so_far.frames ∙ all_frames law case taken rest verdict (ap (λ y. taken ++ y ∷ rest) (sym e) ∙ is)) in
     record {
       lines = lines ∙ (ap (λ l. l ++ line_from from session case.name written.frames x) so_far.lines
-          ∙ (ap (λ l. (before ++ flat_map line (filter (is_from from) taken)) ++ (if is_from from x then l else [])) same
-          ∙ (append_assoc before (flat_map line (filter (is_from from) taken)) (if is_from from x then line x else [])
-          ∙ ap (λ l. before ++ l) (sym (more_lines line (is_from from) taken x)))));
+          ∙ (ap (λ l. flat_map line (filter (is_from from) taken) ++ (if is_from from x then l else [])) same
+          ∙ sym (more_lines line (is_from from) taken x)));
       frames = frames ∙ (ap (λ n. n + frame_count (x ∷ [])) so_far.frames ∙ sym (frames-append taken (x ∷ [])));
       passed = passed ∙ (ap (λ b. b || is_pass x) so_far.passed ∙ (ap (λ b. list_any is_pass taken || b) (sym (or_false (is_pass x))) ∙ sym (list_any-append is_pass taken (x ∷ []))));
     }
 
 -- the items of a case that were taken in, what is written of them, and those that are left
-abbrev pub AreUnderWay : ℕ → ℕ → Case → List ℕ → List Item → Written → Type 0
-AreUnderWay from session case before left written = (taken : List Item) × (taken ++ left ≡ items_of case) × AreTaken from session (shown_by items_of case) before taken written
+abbrev pub AreUnderWay : ℕ → ℕ → Case → List Item → Written → Type 0
+AreUnderWay from session case left written = (taken : List Item) × (taken ++ left ≡ items_of case) × AreTaken from session (shown_by items_of case) taken written
 
 -- the next item is taken in
-pub next_taken : CloseOnce → (from session : ℕ) (case : Case) (before name : List ℕ) (left rest : List Item) (answer : Option Item) (x : Item) (written more : Written)
-    → AreUnderWay from session case before left written → Yields left answer rest → answer ≡ Some x → name ≡ case.name
-    → more.lines.items ≡ written.lines.items ++ line_from from session name written.frames x
+pub next_taken : CloseOnce → (from session : ℕ) (case : Case) (name : List ℕ) (left rest : List Item) (answer : Option Item) (x : Item) (written more : Written)
+    → AreUnderWay from session case left written → Yields left answer rest → answer ≡ Some x → name ≡ case.name
+    → more.lines ≡ written.lines ++ line_from from session name written.frames x
     → more.frames ≡ written.frames + frame_count (x ∷ [])
     → more.passed ≡ (written.passed || is_pass x)
-    → AreUnderWay from session case before rest more
-next_taken law from session case before name left rest answer x written more so_far yields some named lines frames passed =
+    → AreUnderWay from session case rest more
+next_taken law from session case name left rest answer x written more so_far yields some named lines frames passed =
     let next : left ≡ x ∷ rest = subst (λ (o : Option Item). Yields left o rest) some yields in
     let whole : so_far.0 ++ x ∷ rest ≡ items_of case = ap (λ xs. so_far.0 ++ xs) (sym next) ∙ so_far.1 in (
       so_far.0 ++ x ∷ [],
       append_assoc so_far.0 (x ∷ []) rest ∙ whole,
-      one_taken law from session case before so_far.0 rest x written more whole so_far.2 (lines ∙ ap (λ called. written.lines.items ++ line_from from session called written.frames x) named) frames passed,
+      one_taken law from session case so_far.0 rest x written more whole so_far.2 (lines ∙ ap (λ called. written.lines ++ line_from from session called written.frames x) named) frames passed,
     )

@@ -1,5 +1,9 @@
 pub mod Cut
 pub mod From
+pub mod Packing
 pub mod Sent
+pub mod Shared
 pub mod Texts
+pub mod Unpacking
 pub mod WorkedLines
+pub mod WorkedPacked

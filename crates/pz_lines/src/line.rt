@@ -12,6 +12,9 @@ use pz_case::item::{Frame, Item, Verdict};
 use pz_record::quoted::QuotedText;
 use std::alloc::{AllocError, Global};
 
+/// Room for what a line has beside its text.
+const ROOM: usize = 128;
+
 /// Writes a key, with what stands before it, and its value, as it is written.
 fn put_json(lines: &mut Vec<u8>, key: &[u8], value: &[u8]) -> Result<(), AllocError>
     ensures { OnOk result (lines.new.items ≡ lines.old.items ++ (key.now ++ value.now)) }
@@ -57,6 +60,7 @@ fn write_frame(
     ensures { IfOk result (λ written. written.items ≡ lines.items ++ frame_line session number at frame.now) }
 {
     let mut lines = lines;
+    lines.reserve(ROOM + frame.level_text.as_json().len())?;
     put_number(&mut lines, b"{\"at\":", at)?;
     put_number(&mut lines, b",\"frame\":", number)?;
     put_json(&mut lines, b",\"kind\":", quoted_kind(frame.kind))?;

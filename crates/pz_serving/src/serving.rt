@@ -2,9 +2,12 @@
 
 ghost use Rattle.std.specs.Prelude.{◌≡◌, ◌≢◌, ◌≤◌, ◌+◌, Bool, Err, false, None, Result, IfOk, IfErr};
 ghost use Rattle.std.specs.IoError.{error_kind};
+ghost use Rattle.std.specs.List.{concat};
 ghost use Rattle.pz_entries.specs.declared.file.TheConstants.{MOST_BYTES};
 ghost use Rattle.pz_console.specs.declared.options.TheConstants.{MOST_WORKERS};
 ghost use Rattle.pz_console.specs.declared.failure.Failure.{Failure};
+ghost use Rattle.pz_engine.specs.Sessions.{all_passed};
+ghost use Rattle.pz_lines.specs.Lines.{text_of};
 ghost use Rattle.pz_lines.specs.Writing.{Writes};
 ghost use Rattle.pz_session.specs.Recording.{recording};
 ghost use Rattle.pz_serving.specs.Serving.{IsJobOf, Plays, ReadsFor, Reports, Serves, ServesOpened, failure_at, status_of};
@@ -14,14 +17,15 @@ use pz_console::counted::Counted;
 use pz_console::failure::{Failure, fail_with};
 use pz_console::input::{InputFault, read_input};
 use pz_console::options::Options;
-use pz_engine::engine::play;
+use pz_engine::engine::play_case;
 use pz_engine::sessions::{all_passed, decode};
 use pz_entries::fault::FileFault;
 use pz_job::job::prepare_with;
 use pz_lines::output::Output;
-use pz_lines::writing::write_recording;
+use pz_lines::packed::PackedLines;
+use pz_lines::writing::{write_packed, write_recording};
 use pz_replay::{Always, ReplayFault, replay_with};
-use std::alloc::Global;
+use std::alloc::{AllocError, Global};
 use std::io::{self, ErrorKind, Read, Write};
 use std::sync::Wait;
 use std::thread::Threads;
@@ -43,14 +47,36 @@ fn failure_of(fault: ReplayFault) -> Failure
     }
 }
 
-/// Plays a job in the calling thread, and writes its lines; tells whether every session passed. Each item becomes a line before the next is
-/// played.
+/// What was played: the lines of each session, and whether every session passed.
+#[derive(Drop)]
+struct PlayedJob {
+    texts: Vec<PackedLines>,
+    passed: bool,
+}
+
+/// Plays every session of a job in the calling thread. Each item becomes a line before the next is played.
+fn play_all(alloc: Global, job: &Job) -> Result<PlayedJob, AllocError>
+    ensures lines { IfOk result (λ played. concat played.texts.items ≡ text_of (recording job.now)) }
+    ensures passed { IfOk result (λ played. played.passed ≡ all_passed (recording job.now)) }
+{
+    let mut texts = Vec::with_capacity(alloc, job.len())?;
+    let mut passed = true;
+    for number in 0..job.len() {
+        let played = play_case(alloc, number as u64, job.case(number), 0)?;
+        texts.push(played.lines)?;
+        passed = passed && played.passed;
+    }
+    Ok(PlayedJob { texts, passed })
+}
+
+/// Plays a job in the calling thread, and writes its lines; tells whether every session passed. The lines are kept packed until the last
+/// session was played, since nothing is written of a replay that fails.
 fn play_alone<W: Write>(alloc: Global, job: &Job, output: &mut Output<W>) -> Result<bool, Failure>
     requires sound { output.old.failure ≡ None }
     ensures played { Plays (recording job.now) output.old output.new result }
 {
-    let played = play(alloc, job, 0)?;
-    match output.write_whole(&played.lines) {
+    let played = play_all(alloc, job)?;
+    match write_packed(alloc, &played.texts, output) {
         Ok(()) => Ok(played.passed),
         Err(fault) => Err(Failure::WriteFault(fault)),
     }

@@ -1,4 +1,4 @@
-use Rattle.std.proofs.Common.{◌≡◌, ◌≤◌, ◌<◌, ◌&&◌, length, ap, sym, ◌∙◌, arith}
+use Rattle.std.proofs.Common.{◌≡◌, ◌≤◌, ◌<◌, ◌++◌, ◌&&◌, length, ap, sym, ◌∙◌, arith}
 use Rattle.pz_case.specs.Playing.{shown_by}
 use Rattle.pz_lines.specs.Lines.{lines_from, text_from}
 use Rattle.pz_session.specs.Case.{items_of}
@@ -18,7 +18,7 @@ loop-number-preserved c =
       | else-passed w ↦ w.passed-is ∙ (w.if-passed.false ∙ sym (ap (λ so_far. so_far && has_passed (shown_by items_of case)) w.if-passed.false))
     ] in
     record {
-      written = one_more (lines_from c.args.from) (shown_by items_of) job number case c.loop-number.lines.items c.in_ok-played.played.lines.items within c.case.ensures c.loop-number.invariant.written c.in_ok-played.ensures.lines;
+      written = one_more (lines_from c.args.from) (shown_by items_of) job number case c.loop-number.lines.items c.in_ok-lines.lines.items within c.case.ensures c.loop-number.invariant.written (c.in_ok-lines.ensures ∙ ap (λ text. c.loop-number.lines.items ++ text) c.in_ok-played.ensures.lines);
       told = one_passed has_passed (shown_by items_of) job number case c.loop-number.passed c.if-passed.passed within c.case.ensures c.loop-number.invariant.told more;
     }
 

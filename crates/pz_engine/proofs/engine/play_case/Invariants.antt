@@ -6,4 +6,4 @@ abbrev pub decreases-items : goal.decreases-items
 decreases-items l = length l.run.items
 
 abbrev pub invariant-items : goal.invariant-items
-invariant-items l = AreUnderWay l.from l.session l.case l.fn.before.items l.run.items l.written
+invariant-items l = AreUnderWay l.from l.session l.case l.run.items l.written

@@ -8,7 +8,7 @@ use Rattle.pz_lines.proofs.line.write_frame.Goals as goal
 pub returns : goal.returns
 unfolding frame_line
 returns c =
-    let one = c.in_ok-put_number.ensures in
+    let one = c.in_ok-put_number.ensures ∙ ap (λ l. l ++ (codes "{\"at\":" ++ decimal c.args.at)) c.in_ok-reserve.ensures.items in
     let two = c.in_ok-put_number-2.ensures ∙ ap (λ l. l ++ (codes ",\"frame\":" ++ decimal c.args.number)) one in
     let three = c.in_ok-put_json.ensures ∙ ap₂ (λ l k. l ++ (codes ",\"kind\":" ++ k)) two c.quoted_kind.ensures in
     let four = c.in_ok-put_quoted.ensures ∙ ap (λ l. l ++ (codes ",\"level\":" ++ quoted c.args.frame.now.level_text)) three in
