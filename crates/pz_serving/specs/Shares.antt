@@ -1,0 +1,41 @@
+-- What the workers of a job play, each a share of its sessions.
+use Rattle.std.specs.Prelude.{◌≡◌, ◌<◌, ℕ, true, suc, List, [], ◌∷◌, map, length, slice_get, slice_index_or, Some, All}
+use Rattle.std.specs.List.{list_all}
+use Rattle.pz_claims.specs.Holders.{Numbers}
+use Rattle.pz_case.specs.declared.recording.Record.{Record}
+use Rattle.pz_lines.specs.Lines.{lines_from}
+use Rattle.pz_engine.specs.Sessions.{all_passed, has_passed}
+use Rattle.pz_serving.specs.declared.shares.Numbered.{Numbered}
+use Rattle.pz_serving.specs.declared.shares.Played.{Played}
+use Rattle.pz_serving.specs.declared.shares.Share.{Share}
+
+-- all lines of each session, which are numbered from this number on
+abbrev pub texts_from : ℕ → List Record → List (List ℕ)
+texts_from number [] = []
+texts_from number (shown ∷ later) = lines_from 0 number shown ∷ texts_from (suc number) later
+
+-- the session was played: these are its lines, and so it is told whether it passed
+pub record IsPlayed (shown : List Record) (session : Numbered) : Type 0 where
+  pub there : session.number < length shown
+  pub lines : slice_get (texts_from 0 shown) session.number ≡ Some session.played.lines
+  pub told : slice_get (map has_passed shown) session.number ≡ Some session.played.passed
+
+abbrev pub number_of : Numbered → ℕ
+number_of session = session.number
+
+-- the worker's seat at this table has ended, and it played just the sessions that it claimed there
+pub record IsShare (claims : Numbers) (shown : List Record) (share : Share) : Type 0 where
+  pub seat : share.ended.of ≡ claims
+  pub claimed : map number_of share.sessions.items ≡ share.ended.numbers
+  pub played : All (IsPlayed shown) share.sessions.items
+
+-- there is a text for each session; those of the sessions of these numbers are their lines, and it is told whether these all passed
+pub record AreTakenIn (shown : List Record) (numbers : List ℕ) (played : Played) : Type 0 where
+  pub long : length played.texts.items ≡ length shown
+  pub lines : All (λ number. slice_get played.texts.items number ≡ slice_get (texts_from 0 shown) number) numbers
+  pub told : played.passed ≡ list_all (λ number. slice_index_or (map has_passed shown) number true) numbers
+
+-- all lines of all sessions, and whether these all passed
+pub record IsWhole (shown : List Record) (played : Played) : Type 0 where
+  pub lines : played.texts.items ≡ texts_from 0 shown
+  pub told : played.passed ≡ all_passed shown
