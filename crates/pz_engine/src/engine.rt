@@ -1,9 +1,9 @@
 //! The playing of a file's sessions, one after another in the calling thread.
 
-ghost use Rattle.std.specs.Prelude.{◌≡◌, ◌≢◌, ◌≤◌, ◌+◌, ◌++◌, ◌∷◌, [], ◌&&◌, ◌||◌, Ok, Err, IfOk, IfErr, length};
+ghost use Rattle.std.specs.Prelude.{◌≡◌, ◌≢◌, ◌≤◌, ◌+◌, ◌++◌, ◌∷◌, [], ◌&&◌, ◌||◌, Ok, Err, IfOk, IfErr, OnOk, length};
 ghost use Rattle.pz_entries.specs.declared.fault.FileFault.TheVariants as fault;
 ghost use Rattle.pz_case.specs.Playing.{shown_by};
-ghost use Rattle.pz_lines.specs.Lines.{frame_count, lines_from, text_from, text_of};
+ghost use Rattle.pz_lines.specs.Lines.{frame_count, item_line, lines_from, text_from, text_of};
 ghost use Rattle.pz_session.specs.Case.{items_of};
 ghost use Rattle.pz_session.specs.Recording.{recording};
 ghost use Rattle.pz_engine.specs.Engine.{IsPlayed, line_from};
@@ -16,6 +16,7 @@ use pz_case::job::Job;
 use pz_entries::fault::FileFault;
 use pz_job::job::prepare;
 use pz_lines::line::{is_from, write_item};
+use pz_lines::packed::{PackedLines, Packer};
 use pz_record::order::Order;
 use pz_session::laws::cases_close_once;
 use pz_session::run::Run;
@@ -28,31 +29,35 @@ pub struct Played {
     pub passed: bool,
 }
 
-/// What is written: the lines of the sessions before, and of the items so far of the session that is played; how many of these
-/// items are frames; and whether they say that the session passed.
+/// The lines of what a session showed, and whether it passed.
 #[derive(Drop)]
-struct Written {
-    lines: Vec<u8>,
+pub struct PlayedCase {
+    pub lines: PackedLines,
+    pub passed: bool,
+}
+
+/// What was taken in of a session that is played: the lines of its items so far; how many of these items are frames; and whether they say
+/// that the session passed.
+#[derive(Drop)]
+struct Taken {
+    lines: Packer,
     frames: u64,
     passed: bool,
 }
 
-/// Writes the line of the next item of a session after the others, if it is shown from an input on.
+/// Packs the line of an item of a session, whose number of frames the close tells, after the others.
 fn add_line(
     alloc: Global,
-    written: Written,
+    lines: &mut Packer,
     session: u64,
     name: &str,
+    frames: u64,
     item: &Item,
-    from: u64,
-) -> Result<Vec<u8>, AllocError>
-    ensures { IfOk result (λ lines. lines.items ≡ written.lines.items ++ line_from from session name.now written.frames item.now) }
+) -> Result<(), AllocError>
+    ensures { OnOk result (lines.new ≡ lines.old ++ item_line session name.now frames item.now) }
 {
-    if is_from(from, item) {
-        write_item(alloc, written.lines, session, name, written.frames, item)
-    } else {
-        Ok(written.lines)
-    }
+    let line = write_item(alloc, lines.room(), session, name, frames, item)?;
+    lines.push(line)
 }
 
 /// How many frames there are with one more item. If no `u64` holds the count, the answer is want of memory; no session has so
@@ -67,54 +72,52 @@ fn counted(frames: u64, item: &Item) -> Result<u64, AllocError>
 }
 
 /// Takes in the next item of a session.
-fn add_item(
+fn take_in(
     alloc: Global,
-    written: Written,
+    taken: &mut Taken,
     session: u64,
     name: &str,
     item: &Item,
     from: u64,
-) -> Result<Written, AllocError>
-    ensures lines { IfOk result (λ more. more.lines.items ≡ written.lines.items ++ line_from from session name.now written.frames item.now) }
-    ensures frames { IfOk result (λ more. more.frames ≡ written.frames + frame_count (item.now ∷ [])) }
-    ensures passed { IfOk result (λ more. more.passed ≡ (written.passed || is_pass item.now)) }
+) -> Result<(), AllocError>
+    ensures lines { OnOk result (taken.new.lines ≡ taken.old.lines ++ line_from from session name.now taken.old.frames item.now) }
+    ensures frames { OnOk result (taken.new.frames ≡ taken.old.frames + frame_count (item.now ∷ [])) }
+    ensures passed { OnOk result (taken.new.passed ≡ (taken.old.passed || is_pass item.now)) }
 {
-    let frames = counted(written.frames, item)?;
-    let passed = written.passed || is_pass(item);
-    let lines = add_line(alloc, written, session, name, item, from)?;
-    Ok(Written {
-        lines,
-        frames,
-        passed,
-    })
+    if is_from(from, item) {
+        add_line(alloc, &mut taken.lines, session, name, taken.frames, item)?;
+    }
+    taken.frames = counted(taken.frames, item)?;
+    taken.passed = taken.passed || is_pass(item);
+    Ok(())
 }
 
-/// Plays the session of a case, and writes the lines of its items from an input on after those of the sessions before it. Each
-/// item is dropped before the next is played, so that only one item is held at a time beside the lines.
-fn play_case(
+/// Plays the session of a case, and packs the lines of its items from an input on. Each item is dropped before the next is played, so that
+/// only one item is held at a time beside the lines.
+pub fn play_case(
     alloc: Global,
-    before: Vec<u8>,
     session: u64,
     case: &Case,
     from: u64,
-) -> Result<Played, AllocError>
-    ensures lines { IfOk result (λ played. played.lines.items ≡ before.items ++ lines_from from session (shown_by items_of case.now)) }
+) -> Result<PlayedCase, AllocError>
+    ensures lines { IfOk result (λ played. played.lines ≡ lines_from from session (shown_by items_of case.now)) }
     ensures passed { IfOk result (λ played. played.passed ≡ has_passed (shown_by items_of case.now)) }
 {
     // (brings the proof that the close is the last item, which tells how many frames there were)
     cases_close_once();
     let mut run = Run::new(alloc, case)?;
-    let mut written = Written {
-        lines: before,
+    let mut taken = Taken {
+        lines: Packer::new(alloc),
         frames: 0,
         passed: false,
     };
     'items: while let Some(item) = run.next()? {
-        written = add_item(alloc, written, session, case.name.as_str(), &item, from)?;
+        take_in(alloc, &mut taken, session, case.name.as_str(), &item, from)?;
     }
-    Ok(Played {
-        lines: written.lines,
-        passed: written.passed,
+    let Taken { lines, passed, .. } = taken;
+    Ok(PlayedCase {
+        lines: lines.finish(),
+        passed,
     })
 }
 
@@ -128,8 +131,8 @@ pub fn play(alloc: Global, job: &Job, from: u64) -> Result<Played, AllocError>
     let mut lines = Vec::new(alloc);
     let mut passed = true;
     for number in 0..job.len() {
-        let played = play_case(alloc, lines, number as u64, job.case(number), from)?;
-        lines = played.lines;
+        let played = play_case(alloc, number as u64, job.case(number), from)?;
+        lines = played.lines.append_to(lines)?;
         passed = passed && played.passed;
     }
     Ok(Played { lines, passed })

@@ -1,3 +1,4 @@
 pub mod Naming
 pub mod Lines
+pub mod Packed
 pub mod Writing

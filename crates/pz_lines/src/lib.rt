@@ -5,4 +5,5 @@ pub mod fault;
 pub mod line;
 mod naming;
 pub mod output;
+pub mod packed;
 pub mod writing;

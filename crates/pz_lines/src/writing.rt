@@ -1,12 +1,14 @@
 //! The writing of a recording.
 
 ghost use Rattle.std.specs.Prelude.{◌≡◌, ◌++◌, ℕ, None, List, OnOk, IfOk, IfErr};
+ghost use Rattle.std.specs.List.{concat};
 ghost use Rattle.pz_lines.specs.Lines.{lines_of, text_of};
 ghost use Rattle.pz_lines.specs.Writing.{EndsFor, HasWritten, IsSent, IsSentInPart};
 
 use crate::fault::{Cause, WriteFault};
 use crate::line::{frame_count, write_item};
 use crate::output::Output;
+use crate::packed::{PackedLines, unpack};
 use pz_case::recording::{Record, Recording};
 use std::alloc::Global;
 use std::io::Write;
@@ -100,6 +102,53 @@ pub fn write_recording<W: Write>(
     let mut lines = Vec::new(alloc);
     for (session, shown) in recording.records().iter().enumerate() {
         match write_session(alloc, lines, session as u64, shown, &mut written, output) {
+            Ok(left) => lines = left,
+            Err(cause) => return Err(WriteFault { written, cause }),
+        }
+    }
+    match write_lines(&lines, &mut written, output) {
+        Ok(()) => Ok(()),
+        Err(cause) => Err(WriteFault { written, cause }),
+    }
+}
+
+/// Puts packed lines after others, writes them whenever there are enough, and answers those that are left.
+fn write_lines_of<W: Write>(
+    before: Vec<u8>,
+    packed: &PackedLines,
+    written: &mut u64,
+    output: &mut Output<W>,
+) -> Result<Vec<u8>, Cause>
+    requires { output.old.failure ≡ None }
+    ensures ok { IfOk result (λ left. (sent : List ℕ) × (before.items ++ packed.now ≡ sent ++ left.items) × IsSent sent written.old written.new output.old output.new) }
+    ensures err { IfErr result (IsSentInPart (before.items ++ packed.now) written.old written.new output.old output.new) }
+{
+    let mut lines = before;
+    let mut last = Vec::new(*lines.allocator());
+    for part in &packed.parts {
+        let Ok(()) = unpack(&packed.kept, *part, &mut last, &mut lines) else {
+            return Err(Cause::Memory);
+        };
+        lines = write_full(lines, written, output)?;
+    }
+    Ok(lines)
+}
+
+/// Writes packed lines, those of one text after those of another: all of them, or as many first bytes as the fault tells. After a
+/// failed write nothing more is written.
+pub fn write_packed<W: Write>(
+    alloc: Global,
+    texts: &[PackedLines],
+    output: &mut Output<W>,
+) -> Result<(), WriteFault>
+    requires { output.old.failure ≡ None }
+    ensures ok { OnOk result (HasWritten (concat texts.now) output.old output.new) }
+    ensures err { IfErr result (λ fault. EndsFor fault (concat texts.now) output.old output.new) }
+{
+    let mut written = 0;
+    let mut lines = Vec::new(alloc);
+    for packed in texts {
+        match write_lines_of(lines, packed, &mut written, output) {
             Ok(left) => lines = left,
             Err(cause) => return Err(WriteFault { written, cause }),
         }

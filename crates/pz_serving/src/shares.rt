@@ -8,7 +8,7 @@ ghost use Rattle.pz_serving.specs.Shares.{AreTakenIn, IsPlayed, IsShare, IsWhole
 use pz_case::job::Job;
 use pz_claims::{Claimed, Claims, Ended, Maker, Seat};
 use pz_engine::engine::{PlayedCase, play_case};
-use pz_lines::packed::PackedLines;
+use pz_lines::packed::{PackedLines, Packer};
 use std::alloc::{AllocError, Global};
 use std::thread;
 use std::thread::Threads;
@@ -42,7 +42,7 @@ impl Played {
     {
         let mut texts = Vec::with_capacity(alloc, count)?;
         for _ in 0..count {
-            texts.push(PackedLines::new(alloc))?;
+            texts.push(Packer::new(alloc).finish())?;
         }
         Ok(Played {
             texts,
