@@ -1,3 +1,3 @@
-pub mod Cutting
 pub mod Deciding
 pub mod Obeying
+pub mod Sharing
