@@ -1,2 +1,3 @@
 pub mod Deciding
 pub mod Obeying
+pub mod Sharing

@@ -39,7 +39,6 @@ abbrev pub Plays : List Record → Writes → Writes → Result Bool Failure →
 Plays shown old new (Ok passed) = (passed ≡ all_passed shown) × HasWritten (text_of shown) old new
 Plays shown old new (Err (failure.WriteFault cut)) = EndsFor cut (text_of shown) old new
 Plays shown old new (Err failure.Memory) = new ≡ old
-Plays shown old new (Err failure.LaneLost) = new ≡ old
 Plays shown old new (Err other) = ⊥
 
 -- these are the bytes of the input, if its bytes are known

@@ -4,6 +4,7 @@
 
 pub mod command_line;
 pub mod serving;
+mod shares;
 
 pub use command_line::serve_words;
 pub use pz_console::counted::Counted;

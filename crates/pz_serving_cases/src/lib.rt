@@ -6,3 +6,5 @@
 mod engine;
 #[cfg(test)]
 mod serving;
+#[cfg(test)]
+mod workers;
