@@ -226,11 +226,17 @@ impl Packer {
         Ok(())
     }
 
-    /// The lines. What only a packer needs is let go of.
+    /// The lines. What only a packer needs is let go of, and so is room for more lines.
     pub fn finish(self) -> PackedLines
         ensures { result ≡ self }
     {
-        let Packer { kept, parts, .. } = self;
+        let Packer {
+            mut kept,
+            mut parts,
+            ..
+        } = self;
+        kept.shrink_to_fit();
+        parts.shrink_to_fit();
         PackedLines { kept, parts }
     }
 }

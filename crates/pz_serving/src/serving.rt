@@ -68,6 +68,8 @@ fn read_job<T: Threads + Sync, R: Read>(
         Ok(entries) => entries,
         Err(fault) => return Err(Failure::File(fault)),
     };
+    // (the entries hold all that is played, and games take much room)
+    drop(bytes);
     Ok(prepare_with(rt, alloc, entries, options.order, options.workers)?)
 }
 
