@@ -2,4 +2,6 @@
 #![tactic(auto)]
 
 #[cfg(test)]
+mod packed;
+#[cfg(test)]
 mod writing;

@@ -15,9 +15,9 @@ use std::test::Fail;
 
 /// Takes seven bytes a call, except for the fourth call, which fails. It counts its calls, those after the fourth too.
 #[derive(Drop)]
-struct Failing {
-    bytes: Vec<u8>,
-    calls: u32,
+pub(crate) struct Failing {
+    pub(crate) bytes: Vec<u8>,
+    pub(crate) calls: u32,
 }
 
 impl Write for Failing {
