@@ -170,9 +170,9 @@ impl<const N: usize> Sheet<N> {
         ensures known { TellsOf (differ_in self.now.grid other.now.grid) (length self.now.grid.cells) known.new }
     {
         if are_empty(&self.notes, &other.notes) && self.is_told_by_planes() {
-            let rows = self.planes.lines(Axis::Horizontal);
-            let others = other.planes.lines(Axis::Horizontal);
-            let Some(row) = rows.next_differing(others, self.width, from) else {
+            let here = self.planes.lines(Axis::Horizontal);
+            let there = other.planes.lines(Axis::Horizontal);
+            let Some(row) = here.next_differing(there, self.width, from) else {
                 return None;
             };
             *known = KnownChanges {

@@ -12,7 +12,7 @@ returns-in_default-clause-next g c =
     let short : a.width ≤ 128 = subst (λ (grid : Grid). grid.width ≤ 128) (sym both.is) (c.if-is_told_by_planes.ensures refl) in
     let still = all_head_nowhere g.row.N a.width a.height a.layers a.cells.items a.notes c.self.invariant.stored (c.if-are_empty.ensures.first refl) in
     let other_still = all_head_nowhere g.row.N b.width b.height b.layers b.cells.items b.notes c.other.invariant.stored (c.if-are_empty.ensures.second refl) in
-    no_row g.row.N a.width a.height a.layers a.cells.items a.planes b.width b.height b.layers b.cells.items b.planes _ _ both short c.self.invariant.placed c.other.invariant.placed still other_still c.lines-rows.result.now c.lines-others.result.now c.args.from c.lines-rows.ensures c.lines-others.ensures c.in_default.ensures
+    no_row g.row.N a.width a.height a.layers a.cells.items a.planes b.width b.height b.layers b.cells.items b.planes _ _ both short c.self.invariant.placed c.other.invariant.placed still other_still c.lines-here.result.now c.lines-there.result.now c.args.from c.lines-here.ensures c.lines-there.ensures c.in_default.ensures
 
 pub returns-then-is_told_by_planes-clause-next : goal.returns-then-is_told_by_planes-clause-next
 returns-then-is_told_by_planes-clause-next g c =
@@ -22,7 +22,7 @@ returns-then-is_told_by_planes-clause-next g c =
     let short : a.width ≤ 128 = subst (λ (grid : Grid). grid.width ≤ 128) (sym both.is) (c.if-is_told_by_planes.ensures refl) in
     let still = all_head_nowhere g.row.N a.width a.height a.layers a.cells.items a.notes c.self.invariant.stored (c.if-are_empty.ensures.first refl) in
     let other_still = all_head_nowhere g.row.N b.width b.height b.layers b.cells.items b.notes c.other.invariant.stored (c.if-are_empty.ensures.second refl) in
-    (found_row g.row.N a.width a.height a.layers a.cells.items a.planes b.width b.height b.layers b.cells.items b.planes _ _ both short c.self.invariant.placed c.other.invariant.placed still other_still c.lines-rows.result.now c.lines-others.result.now c.args.from c.in-Some.row c.lines-rows.ensures c.lines-others.ensures c.in-Some.ensures).0
+    (found_row g.row.N a.width a.height a.layers a.cells.items a.planes b.width b.height b.layers b.cells.items b.planes _ _ both short c.self.invariant.placed c.other.invariant.placed still other_still c.lines-here.result.now c.lines-there.result.now c.args.from c.in-Some.row c.lines-here.ensures c.lines-there.ensures c.in-Some.ensures).0
 
 pub returns-then-is_told_by_planes-clause-known : goal.returns-then-is_told_by_planes-clause-known
 returns-then-is_told_by_planes-clause-known g c =
@@ -32,4 +32,4 @@ returns-then-is_told_by_planes-clause-known g c =
     let short : a.width ≤ 128 = subst (λ (grid : Grid). grid.width ≤ 128) (sym both.is) (c.if-is_told_by_planes.ensures refl) in
     let still = all_head_nowhere g.row.N a.width a.height a.layers a.cells.items a.notes c.self.invariant.stored (c.if-are_empty.ensures.first refl) in
     let other_still = all_head_nowhere g.row.N b.width b.height b.layers b.cells.items b.notes c.other.invariant.stored (c.if-are_empty.ensures.second refl) in
-    (found_row g.row.N a.width a.height a.layers a.cells.items a.planes b.width b.height b.layers b.cells.items b.planes _ _ both short c.self.invariant.placed c.other.invariant.placed still other_still c.lines-rows.result.now c.lines-others.result.now c.args.from c.in-Some.row c.lines-rows.ensures c.lines-others.ensures c.in-Some.ensures).1
+    (found_row g.row.N a.width a.height a.layers a.cells.items a.planes b.width b.height b.layers b.cells.items b.planes _ _ both short c.self.invariant.placed c.other.invariant.placed still other_still c.lines-here.result.now c.lines-there.result.now c.args.from c.in-Some.row c.lines-here.ensures c.lines-there.ensures c.in-Some.ensures).1
