@@ -1,11 +1,12 @@
 //! The cells in which another level of the same size differs.
 
 ghost use Rattle.std.specs.Prelude.{◌↔◌, IsTrue, length};
-ghost use Rattle.pz_sheet.specs.Changes.{differ_in};
+ghost use Rattle.pz_sheet.specs.Changes.{differ_in, TellsOf};
 ghost use Rattle.pz_sheet.specs.Grid.{IsLawful, SameSize};
 ghost use Rattle.pz_sets.specs.Next.{IsNext};
 
 use crate::{AnySheet, BareLevel};
+use pz_sheet::changes::KnownChanges;
 
 impl BareLevel {
     /// Whether both have the same size and the same layers.
@@ -30,6 +31,33 @@ impl BareLevel {
             (AnySheet::Small(sheet), AnySheet::Small(other)) => sheet.next_change(other, from),
             (AnySheet::Middle(sheet), AnySheet::Middle(other)) => sheet.next_change(other, from),
             (AnySheet::Large(sheet), AnySheet::Large(other)) => sheet.next_change(other, from),
+            _ => unreachable!(),
+        }
+    }
+
+    /// The same, where some changes are known already. More may be known then.
+    pub fn next_change_after(
+        &self,
+        other: &BareLevel,
+        known: &mut KnownChanges,
+        from: usize,
+    ) -> Option<usize>
+        requires size { SameSize self.now.grid other.now.grid }
+        requires known { TellsOf (differ_in self.now.grid other.now.grid) (length self.now.grid.cells) known.old }
+        ensures lawful { IsLawful self.now.grid }
+        ensures next { IsNext (differ_in self.now.grid other.now.grid) from (length self.now.grid.cells) result }
+        ensures known { TellsOf (differ_in self.now.grid other.now.grid) (length self.now.grid.cells) known.new }
+    {
+        match (&*self.sheet, &*other.sheet) {
+            (AnySheet::Small(sheet), AnySheet::Small(other)) => sheet.next_change_after(
+                other, known, from,
+            ),
+            (AnySheet::Middle(sheet), AnySheet::Middle(other)) => sheet.next_change_after(
+                other, known, from,
+            ),
+            (AnySheet::Large(sheet), AnySheet::Large(other)) => sheet.next_change_after(
+                other, known, from,
+            ),
             _ => unreachable!(),
         }
     }

@@ -9,7 +9,7 @@ ghost use Rattle.pz_game.specs.declared.pattern.Item.{Item};
 ghost use Rattle.pz_game.specs.Pattern.{AreOf, AsksAmong, IsRowOf};
 ghost use Rattle.pz_cells.specs.Cell.{IsOnLayer};
 ghost use Rattle.pz_sheet.specs.Grid.{IsLawful, place_at, with_place};
-ghost use Rattle.pz_sheet.specs.Movement.{stilled, AreStill, AreColumnsStill};
+ghost use Rattle.pz_sheet.specs.Movement.{stilled, IsStillAt, AreStill, AreColumnsStill};
 ghost use Rattle.pz_sheet.specs.Presence.{is_in, cell_of, holds_both, holds_if};
 ghost use Rattle.pz_sheet.specs.Line.{line_count};
 ghost use Rattle.pz_sheet.specs.Marks.{AreMarksOf};
@@ -294,6 +294,19 @@ impl BareLevel {
             AnySheet::Small(sheet) => sheet.next_heading(x, from),
             AnySheet::Middle(sheet) => sheet.next_heading(x, from),
             AnySheet::Large(sheet) => sheet.next_heading(x, from),
+        }
+    }
+
+    /// Whether nothing at a position of the map heads anywhere.
+    pub fn is_still(&self, x: u32, y: u32) -> bool
+        requires x_in { x < self.now.grid.width }
+        requires y_in { y < self.now.grid.height }
+        ensures { result ≡ true → IsStillAt self.now.grid x y }
+    {
+        match &*self.sheet {
+            AnySheet::Small(sheet) => sheet.is_still(x, y),
+            AnySheet::Middle(sheet) => sheet.is_still(x, y),
+            AnySheet::Large(sheet) => sheet.is_still(x, y),
         }
     }
 

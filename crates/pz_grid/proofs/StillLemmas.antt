@@ -1,5 +1,7 @@
 -- A cell in which nothing heads anywhere is left as it is by a pass, and so are rows of such cells, and columns of such rows.
-use Rattle.pz_grid.proofs.Common.{◌≡◌, ℕ, zero, suc, ◌+◌, ◌-◌, ◌≤◌, ◌<◌, List, [], ◌∷◌, Bool, Option, Some, None, map, get_or, arith, refl, ap, sym, ◌∙◌, range_with_len, fold, Dir, Piece, still_piece, still_place, Grid, cell_at, place_at, AreStill, AreColumnsStill, Pass, Spot, spot, in_pass, heading_goal, moved_to, move_place, move_at, spots_at, spots_in}
+use Rattle.pz_grid.proofs.Common.{◌≡◌, inl, inr, ℕ, zero, suc, ◌+◌, ◌-◌, ◌*◌, ◌≤◌, ◌<◌, List, [], ◌∷◌, Bool, false, Option, Some, None, length, map, set, get_or, get_or-set_other, get_or-set_same, set_past, cases_eq, cases_lt, arith, refl, ap, sym, subst, ◌∙◌, range_with_len, fold, Dir, Piece, still_piece, still_place, Grid, cell_at, place_at, with_place, AreStill, AreColumnsStill, Pass, Spot, spot, in_pass, heading_goal, moved_to, move_place, move_at, pass_of, spots_at, spots_in}
+use Rattle.std.proofs.lemmas.List.{map-set}
+use Rattle.pz_sheet.specs.Movement.{IsStillAt}
 use Rattle.pz_grid.proofs.GatherLemmas.{gather}
 use Rattle.pz_grid.proofs.MovementLemmas.{fold_gather_more}
 
@@ -49,3 +51,44 @@ pub columns_stay : (start : Pass) (grid : Grid) (moved : Bool) (depth height fro
     → AreColumnsStill grid from end → fold move_at start (gather (spots_in depth height) end) ≡ in_pass grid moved
 columns_stay start grid moved depth height from end high low so_far still = parts_stay start (in_pass grid moved) (spots_in depth height) from end low so_far
     (λ x late below. rows_stay (in_pass grid moved) grid moved x depth 0 height (omega arith) refl (λ y from_top y_in. still x late below y from_top (omega (arith, y_in, high))))
+
+-- a cell in which nothing heads anywhere stays so where a still piece or nothing is put
+put_still : (grid : Grid) (px py layer : ℕ) (place : Option Piece) (x y : ℕ) → place ≡ still_place place → IsStillAt grid x y → IsStillAt (with_place grid px py layer place) x y
+put_still grid px py layer place x y is still =
+    let at = y * grid.width + x in
+    let put = py * grid.width + px in
+    let cell = set (cell_at grid px py) layer place in
+    let here : get_or grid.cells at [] ≡ map still_place (get_or grid.cells at []) = still in
+    let whole : (c : List (Option Piece)) → get_or (set grid.cells put cell) at [] ≡ c → c ≡ map still_place c → IsStillAt (with_place grid px py layer place) x y = λ c e m. e ∙ m ∙ ap (map still_place) (sym e) in
+    elim (cases_eq at put) [
+      | inl same ↦ (
+          let there : cell_at grid px py ≡ map still_place (cell_at grid px py) = subst (λ (k : ℕ). get_or grid.cells k [] ≡ map still_place (get_or grid.cells k [])) same here in
+          let stays : cell ≡ map still_place cell = (λ i. set (there i) layer (is i)) ∙ sym (map-set still_place (cell_at grid px py) layer place) in
+          elim (cases_lt put (length grid.cells)) [
+            | inl within ↦ whole cell (ap (λ (k : ℕ). get_or (set grid.cells put cell) k []) same ∙ get_or-set_same grid.cells put cell [] within) stays
+            | inr past ↦ whole (get_or grid.cells at []) (ap (λ (cells : List (List (Option Piece))). get_or cells at []) (set_past grid.cells put cell past)) here
+          ])
+      | inr apart ↦ whole (get_or grid.cells at []) (get_or-set_other grid.cells put at cell [] apart) here
+    ]
+
+still_moved_to : (pass : Pass) (at : Spot) (piece : Piece) (goal : Option (ℕ × ℕ)) (x y : ℕ) → IsStillAt pass.grid x y → IsStillAt (moved_to pass at piece goal).grid x y
+still_moved_to pass at piece None x y still = still
+still_moved_to pass at piece (Some (gx, gy)) x y still =
+    put_still (with_place pass.grid at.x at.y at.layer None) gx gy at.layer (Some (still_piece piece.object)) x y refl (put_still pass.grid at.x at.y at.layer None x y refl still)
+
+still_move_place : (pass : Pass) (at : Spot) (place : Option Piece) (x y : ℕ) → IsStillAt pass.grid x y → IsStillAt (move_place pass at place).grid x y
+still_move_place pass at None x y still = still
+still_move_place pass at (Some piece) x y still = still_moved_to pass at piece (heading_goal pass.grid at piece.heading) x y still
+
+still_fold : (ats : List Spot) (pass : Pass) (x y : ℕ) → IsStillAt pass.grid x y → IsStillAt (fold move_at pass ats).grid x y
+still_fold [] pass x y still = still
+still_fold (at ∷ ats) pass x y still = still_fold ats (move_at pass at) x y (still_move_place pass at (place_at pass.grid at.x at.y at.layer) x y still)
+
+-- so do rows of a column, and columns, in a part of a pass
+pub still_on : (old new : Grid) (before after : Bool) (ats : List Spot) → in_pass new after ≡ fold move_at (in_pass old before) ats → (x from end : ℕ) → AreStill old x from end → AreStill new x from end
+still_on old new before after ats part x from end still y low high =
+    subst (λ (pass : Pass). IsStillAt pass.grid x y) (sym part) (still_fold ats (in_pass old before) x y (still y low high))
+
+-- a level in which nothing heads anywhere is left as it is
+pub pass_rests : (grid : Grid) → AreColumnsStill grid 0 grid.width → pass_of grid ≡ in_pass grid false
+pass_rests grid still = columns_stay (in_pass grid false) grid false grid.depth grid.height 0 grid.width refl (omega arith) refl still

@@ -1,13 +1,13 @@
 //! The movement of a step.
 
-ghost use Rattle.std.specs.Prelude.{◌≡◌, ◌<◌, ◌≤◌, IfSome, MatchOption, fold, map, nat_eq, true};
+ghost use Rattle.std.specs.Prelude.{◌≡◌, ◌<◌, ◌≤◌, ◌&&◌, IfSome, MatchOption, fold, map, nat_eq, true, false};
 ghost use Rattle.pz_cells.specs.Cell.{IsOnLayer};
 ghost use Rattle.pz_sheet.specs.Grid.{IsOnMap, IsLawful, IsOfGame, SameSize, place_at, with_place};
 ghost use Rattle.pz_sheet.specs.Presence.{in_row, in_column};
 ghost use Rattle.pz_grid.specs.Marks.{IsMarked, IsMarkedAt, IsWidened};
 ghost use Rattle.pz_grid.specs.Staying.{IsMove};
 ghost use Rattle.pz_grid.specs.Movement.{neighbour, heading_goal, spot, in_pass, move_at, spots_at, spots_in, pass_of, moving, settle, resolved, Stays, Leaves};
-ghost use Rattle.pz_sheet.specs.Movement.{stilled, AreStill, AreColumnsStill};
+ghost use Rattle.pz_sheet.specs.Movement.{stilled, IsStillAt, AreStill, AreColumnsStill};
 
 use crate::Level;
 use pz_bare::AnySheet;
@@ -27,6 +27,22 @@ pub fn resolve(game: &Game, level: &mut Level)
 {
     level.settle();
     level.still_all();
+}
+
+/// What a pass has done so far: whether a piece has moved, and whether something that was looked at may head somewhere still.
+#[derive(Clone, Copy)]
+struct Passed {
+    moved: bool,
+    left: bool,
+}
+
+impl Passed {
+    /// Whether another pass may move something.
+    fn goes_on(self) -> bool
+        ensures { result ≡ (self.moved && self.left) }
+    {
+        self.moved && self.left
+    }
 }
 
 /// The next position in a direction, if it is on the map. The action leads nowhere.
@@ -187,44 +203,63 @@ impl Level {
         moved
     }
 
-    fn pass_in(&mut self, x: u32, moved_before: bool) -> bool
-        requires x_in { x < self.old.grid.width }
-        ensures pass { in_pass self.new.grid result ≡ fold move_at (in_pass self.old.grid moved_before) (spots_in self.old.grid.depth self.old.grid.height x) }
+    /// Goes on with a pass at a position.
+    fn pass_over(&mut self, x: u32, y: u32, before: Passed) -> Passed
+        requires on_map { IsOnMap self.old.grid x y }
+        ensures pass { in_pass self.new.grid result.moved ≡ fold move_at (in_pass self.old.grid before.moved) (spots_at self.old.grid.depth x y) }
+        ensures left { result.left ≡ false → (before.left ≡ false) × IsStillAt self.new.grid x y }
         ensures size { SameSize self.old.grid self.new.grid }
         ensures marks { IsMove self.old self.new }
     {
-        let mut moved = moved_before;
+        let moved = self.pass_at(x, y, before.moved);
+        let left = before.left || !self.bare.is_still(x, y);
+        Passed { moved, left }
+    }
+
+    fn pass_in(&mut self, x: u32, before: Passed) -> Passed
+        requires x_in { x < self.old.grid.width }
+        ensures pass { in_pass self.new.grid result.moved ≡ fold move_at (in_pass self.old.grid before.moved) (spots_in self.old.grid.depth self.old.grid.height x) }
+        ensures left { result.left ≡ false → (before.left ≡ false) × AreStill self.new.grid x 0 self.new.grid.height }
+        ensures size { SameSize self.old.grid self.new.grid }
+        ensures marks { IsMove self.old self.new }
+    {
+        let mut passed = before;
         let mut from = 0;
         'rows: while let Some(y) = self.next_heading(x, from) {
-            moved = self.pass_at(x, y, moved);
+            passed = self.pass_over(x, y, passed);
             from = y + 1;
         }
-        moved
+        passed
     }
 
-    /// Makes one pass, column by column, and says whether a piece moved. Columns for which no heading is noted are left out.
-    fn pass(&mut self) -> bool
-        ensures pass { in_pass self.new.grid result ≡ pass_of self.old.grid }
+    /// Makes one pass, column by column. Columns for which no heading is noted are left out.
+    fn pass(&mut self) -> Passed
+        ensures pass { in_pass self.new.grid result.moved ≡ pass_of self.old.grid }
+        ensures left { result.left ≡ false → AreColumnsStill self.new.grid 0 self.new.grid.width }
         ensures size { SameSize self.old.grid self.new.grid }
         ensures marks { IsMove self.old self.new }
     {
-        let mut moved = false;
+        let mut passed = Passed {
+            moved: false,
+            left: false,
+        };
         let mut from = 0;
         'columns: while let Some(x) = self.next_column(from) {
-            moved = self.pass_in(x, moved);
+            passed = self.pass_in(x, passed);
             from = x + 1;
         }
-        moved
+        passed
     }
 
-    /// Repeats passes up to the first that moves nothing.
+    /// Repeats passes up to the first that moves nothing. The one behind a pass that leaves nothing heading would move nothing, and isn't
+    /// made.
     fn settle(&mut self)
         ensures settled { self.new.grid ≡ settle (moving self.old.grid) self.old.grid }
         ensures size { SameSize self.old.grid self.new.grid }
         ensures marks { IsMove self.old self.new }
     {
         loop {
-            if !self.pass() {
+            if !self.pass().goes_on() {
                 break;
             }
         }

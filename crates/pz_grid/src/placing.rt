@@ -1,12 +1,13 @@
 //! The places of a row of a rule. A row holds at a place if all its cells are on the map and fit there.
 
 ghost use Rattle.std.specs.List.{list_all, enumerate_from, count_by, range_with_len};
-ghost use Rattle.std.specs.Prelude.{◌≡◌, ◌≢◌, All, take, true, ◌+◌, ◌*◌, ◌<◌, ◌≤◌, cond, [], ◌∷◌, ◌++◌, ◌^◌, filter, length, OnOk, IfOk, IfErr, IfSome, Ok, Err};
+ghost use Rattle.std.specs.Prelude.{◌≡◌, ◌≢◌, ℕ, All, take, true, ◌+◌, ◌*◌, ◌<◌, ◌≤◌, cond, [], ◌∷◌, ◌++◌, ◌^◌, filter, length, OnOk, IfOk, IfErr, IfSome, Ok, Err};
 ghost use Rattle.pz_game.specs.declared.limits.TheConstants.{MAX_SIDE};
 ghost use Rattle.pz_game.specs.Pattern.{AreOf, IsRowOf, AreRowsOf};
 ghost use Rattle.pz_grid.specs.Admitted.{admitted, searches_line, starts_in, start_count};
 ghost use Rattle.pz_grid.specs.Places.{on_map, along, position_of, distance, cell_holds, row_holds, line_count, line_length, place_in, holds_behind, pairs_at, head_of, pairs_in, places, searched, starts_with, still_holds, still_matches};
 ghost use Rattle.pz_sets.specs.Next.{IsNext};
+ghost use Rattle.pz_sets.specs.Sets.{in_word};
 ghost use Rattle.pz_sheet.specs.Grid.{IsOnMap, IsLawful};
 
 use crate::Level;
@@ -199,17 +200,36 @@ fn head_of(row: &Row) -> &[Pattern]
     }
 }
 
+/// The starts of a line, of the first 128, from which the cells in `head` may hold one after another. They are a row's cells before its gap.
+fn possible_starts<const N: usize>(sheet: &Sheet<N>, line: Line, head: &[Pattern]) -> u128
+    requires some { 0 < length head.now }
+    requires line_in { line.number < line_count sheet.now.grid line.dir }
+    requires of_game { All (AreOf sheet.now.grid.layers) head.now }
+    ensures { (at : ℕ) → at < line_length sheet.now.grid line.dir → at < 128 → starts_with sheet.now.grid line.dir line.number head.now at ≡ true → in_word result at ≡ true }
+{
+    let number = line.number;
+    match line.dir {
+        Dir::Right => sheet.starts_in(row(number), Way::Ahead, head),
+        Dir::Left => sheet.starts_in(row(number), Way::Back, head),
+        Dir::Down => sheet.starts_in(column(number), Way::Ahead, head),
+        Dir::Up => sheet.starts_in(column(number), Way::Back, head),
+        Dir::Action => 0,
+    }
+}
+
 /// The first start in a line, not before `from`, from which the cells in `head` hold one after another. They are a row's cells before its
-/// gap.
+/// gap, and `starts` has where they may.
 fn next_start<const N: usize>(
     sheet: &Sheet<N>,
     line: Line,
+    starts: u128,
     from: u32,
     head: &[Pattern],
 ) -> Option<u32>
     requires some { 0 < length head.now }
     requires line_in { line.number < line_count sheet.now.grid line.dir }
     requires of_game { All (AreOf sheet.now.grid.layers) head.now }
+    requires starts { (at : ℕ) → at < line_length sheet.now.grid line.dir → at < 128 → starts_with sheet.now.grid line.dir line.number head.now at ≡ true → in_word starts at ≡ true }
     ensures { IsNext (starts_with sheet.now.grid line.dir line.number head.now) from (line_length sheet.now.grid line.dir) result }
 {
     match line.dir {
@@ -219,6 +239,7 @@ fn next_start<const N: usize>(
                 number: line.number,
             },
             Way::Ahead,
+            starts,
             from,
             head,
         ),
@@ -228,6 +249,7 @@ fn next_start<const N: usize>(
                 number: line.number,
             },
             Way::Back,
+            starts,
             from,
             head,
         ),
@@ -237,6 +259,7 @@ fn next_start<const N: usize>(
                 number: line.number,
             },
             Way::Ahead,
+            starts,
             from,
             head,
         ),
@@ -246,6 +269,7 @@ fn next_start<const N: usize>(
                 number: line.number,
             },
             Way::Back,
+            starts,
             from,
             head,
         ),
@@ -440,8 +464,9 @@ fn add_places_in<const N: usize>(
     // (brings the proof how short a line is)
     let _ = line_length(sheet, line.dir);
     let head = head_of(row);
+    let starts = possible_starts(sheet, line, head);
     let mut from = 0;
-    'starts: while let Some(start) = next_start(sheet, line, from, head) {
+    'starts: while let Some(start) = next_start(sheet, line, starts, from, head) {
         add_places_at(sheet, row, line, start, found)?;
         from = start + 1;
     }

@@ -18,6 +18,7 @@ use pz_grid::Level;
 use pz_record::changed::Changed;
 use pz_record::labels::KnownTexts;
 use pz_record::order::Order;
+use pz_sheet::changes::KnownChanges;
 use std::alloc::{AllocError, Global};
 use std::marker::Model;
 
@@ -184,8 +185,9 @@ impl<'a> CellLabels<'a> {
         // (brings the proof the law of the level)
         let _ = level.width();
         let mut changed = Changed::none();
+        let mut known = KnownChanges::none();
         let mut from = 0;
-        'changes: while let Some(index) = seen.next_change(level.bare(), from) {
+        'changes: while let Some(index) = seen.next_change_after(level.bare(), &mut known, from) {
             let next = self.look(level, index)?;
             changed = changed.and(next);
             from = index + 1;

@@ -1,13 +1,14 @@
 -- At which positions of each row and each column the objects of a level stand. The planes have exactly the positions below 128,
 -- and no others.
-use Rattle.std.specs.Prelude.{◌≡◌, ◌≢◌, ℕ, ◌+◌, ◌*◌, ◌/◌, ◌%◌, ◌<◌, ◌≤◌, List, Bool, true, false, not, Option, Some, None, length, slice_index_or, All}
-use Rattle.pz_sets.specs.Sets.{member}
+use Rattle.std.specs.Prelude.{◌≡◌, ◌≢◌, ◌↔◌, ℕ, ◌+◌, ◌*◌, ◌/◌, ◌%◌, ◌<◌, ◌≤◌, List, Bool, true, false, not, Option, Some, None, length, slice_index_or, All}
+use Rattle.pz_sets.specs.Sets.{in_word, member}
 use Rattle.pz_game.specs.declared.limits.TheConstants.{MAX_OBJECTS, MAX_SIDE}
 use Rattle.pz_game.specs.declared.pattern.Item.{Item}
 use Rattle.pz_game.specs.Items.{names}
 use Rattle.pz_planes.specs.declared.line.Axis.{Axis}
 use Rattle.pz_planes.specs.declared.line.Axis.TheVariants.{Horizontal, Vertical}
 use Rattle.pz_planes.specs.declared.line.Way.{Way}
+use Rattle.pz_planes.specs.declared.planes.Differing.{Differing}
 use Rattle.pz_planes.specs.Line.{step_to, room_from}
 
 -- for each object and each line the positions at which the object stands, all as one set of numbers: 128 numbers for each pair
@@ -54,6 +55,16 @@ abbrev pub IsNextDifferingPosition : LineSets → LineSets → ℕ → ℕ → O
 IsNextDifferingPosition sets other long from None = AreSameBetween sets other long from (sets.count * long)
 IsNextDifferingPosition sets other long from (Some found) =
     (from ≤ found) × (found < sets.count * long) × (AreSameAt sets other (found / long) (found % long) → ⊥) × AreSameBetween sets other long from found
+
+-- a word has exactly the positions of a line at which other objects are noted
+abbrev pub AreDiffering : LineSets → LineSets → ℕ → ℕ → Type 0
+AreDiffering sets other line places = (at : ℕ) → at < 128 → (in_word places at ≡ false) ↔ AreSameAt sets other line at
+
+-- the same, with all such positions of its line
+abbrev pub IsNextDifferingLine : LineSets → LineSets → ℕ → ℕ → Option Differing → Type 0
+IsNextDifferingLine sets other long from None = IsNextDifferingPosition sets other long from None
+IsNextDifferingLine sets other long from (Some row) =
+    IsNextDifferingPosition sets other long from (Some row.found) × (row.line ≡ row.found / long) × AreDiffering sets other row.line row.places
 
 -- a note after a toggle: if it is toggled, it comes if it wasn't there and goes if it was; else it stays
 abbrev pub toggled : Bool → Bool → Bool

@@ -7,7 +7,7 @@ ghost use Rattle.pz_game.specs.Items.{names};
 ghost use Rattle.pz_sets.specs.Sets.{in_word, member};
 ghost use Rattle.pz_sets.specs.declared.set.TheConstants.{CAPACITY};
 ghost use Rattle.pz_planes.specs.Marks.{AreMarks};
-ghost use Rattle.pz_planes.specs.Planes.{stands_in, AreSameAt, IsMissingIn, IsEmpty, IsChanged, AreChanged, IsInside, IsKnown, AreKnown, AreThere, HaveSameLines, HasRoomOf, IsFor, AreItemsOf, MayHold, MayRun, IsNextDifferingPosition, lines_of, toggled};
+ghost use Rattle.pz_planes.specs.Planes.{stands_in, AreSameAt, IsMissingIn, IsEmpty, IsChanged, AreChanged, IsInside, IsKnown, AreKnown, AreThere, HaveSameLines, HasRoomOf, IsFor, AreItemsOf, MayHold, MayRun, AreDiffering, IsNextDifferingLine, lines_of, toggled};
 
 use crate::line::{Axis, Way};
 use crate::{bits, notes};
@@ -34,6 +34,14 @@ impl Model for LinePlanes {
     ghost view = { λ p. record { objects = p.objects; count = p.count; words = p.words.items } };
 
     ghost invariant = { λ p. HasLines p.objects p.count p.words.items };
+}
+
+/// A line in which two levels differ, all positions at which they do, and the number of one of these. Positions are numbered line by line.
+#[derive(Clone, Copy)]
+pub struct Differing {
+    pub line: usize,
+    pub places: u128,
+    pub found: usize,
 }
 
 /// The same by rows and by columns. They are exact, so a search can look for cells that have some objects and lack others.
@@ -180,7 +188,7 @@ impl LinePlanes {
     fn differing(&self, other: &LinePlanes, line: usize) -> u128
         requires room { HasRoomOf self.now other.now }
         requires line_in { line < self.now.count }
-        ensures { (at : ℕ) → at < 128 → (in_word result at ≡ false) ↔ AreSameAt self.now other.now line at }
+        ensures { AreDiffering self.now other.now line result }
     {
         let mut places = 0;
         for object in 0..self.objects {
@@ -195,11 +203,11 @@ impl LinePlanes {
 
     /// The first position, from number `from` on, at which other objects are noted than in other planes of as many objects and lines. Each
     /// line has `long` positions, and they are numbered line by line.
-    pub fn next_differing(&self, other: &LinePlanes, long: u32, from: usize) -> Option<usize>
+    pub fn next_differing(&self, other: &LinePlanes, long: u32, from: usize) -> Option<Differing>
         requires room { HasRoomOf self.now other.now }
         requires some { 0 < long }
         requires short { long ≤ 128 }
-        ensures { IsNextDifferingPosition self.now other.now long from result }
+        ensures { IsNextDifferingLine self.now other.now long from result }
     {
         let wide = long as usize;
         for line in from / wide..self.count {
@@ -207,8 +215,13 @@ impl LinePlanes {
                 continue;
             }
             let start = from.saturating_sub(line * wide) as u32;
-            if let Some(at) = bits::next(self.differing(other, line), start, long) {
-                return Some(line * wide + at as usize);
+            let places = self.differing(other, line);
+            if let Some(at) = bits::next(places, start, long) {
+                return Some(Differing {
+                    line,
+                    places,
+                    found: line * wide + at as usize,
+                });
             }
         }
         None

@@ -40,7 +40,7 @@ way_back_by grid older changes size long e = ap (λ (l : List CellChange). resto
 abbrev pub left_from : Grid → Grid → ℕ → List CellChange
 left_from grid older index = changed_from index (drop index grid.cells) (drop index older.cells)
 
-are_other : (b : Bool) → not b ≡ true → b ≡ false
+pub are_other : (b : Bool) → not b ≡ true → b ≡ false
 are_other true h = cc
 are_other false h = refl
 
@@ -107,7 +107,7 @@ both_of a b size is is_other stored stored_other =
     record { size = size; is = ap (λ (s : BareState). s.grid) is; is_other = ap (λ (s : BareState). s.grid) is_other; notes = a.notes; notes_other = b.notes; stored = stored; stored_other = stored_other }
 
 module _ (N wa ha : ℕ) (la : Layering) (ca : List (Cell N)) (wb hb : ℕ) (lb : Layering) (cb : List (Cell N)) (grid other : Grid) (a : AreBoth N wa ha la ca wb hb lb cb grid other) where
-  many : length grid.cells ≡ length ca
+  pub many : length grid.cells ≡ length ca
   many = ap (λ (g : Grid). length g.cells) (sym a.is) ∙ length-map ca (seen la)
 
   pub same_width : wa ≡ wb
@@ -138,7 +138,7 @@ module _ (N wa ha : ℕ) (la : Layering) (ca : List (Cell N)) (wb hb : ℕ) (lb 
       ap (λ (l : Layering). seen l y) over_layers ∙ seen_at N wb hb lb cb other index y a.is_other within is_y
 
   -- the words tell whether the cells of a number are the same
-  same_there : (index : ℕ) (r : Bool) → index < length ca → (IsTrue r ↔ AreAlike (get_or ca index (no_cell N)) (get_or cb index (no_cell N))) → r ≡ same_cell (cell_of grid index) (cell_of other index)
+  pub same_there : (index : ℕ) (r : Bool) → index < length ca → (IsTrue r ↔ AreAlike (get_or ca index (no_cell N)) (get_or cb index (no_cell N))) → r ≡ same_cell (cell_of grid index) (cell_of other index)
   same_there index r within decides =
       let x = get_or ca index (no_cell N) in
       let y = get_or cb index (no_cell N) in

@@ -1,8 +1,10 @@
 -- The cells in which an older level differs from another of its size, and a level with cells replaced.
-use Rattle.std.specs.Prelude.{ℕ, ◌+◌, ◌<◌, List, [], ◌∷◌, Option, Bool, not, length, map, fold, slice_set, if◌then◌else◌}
+use Rattle.std.specs.Prelude.{◌≡◌, ℕ, ◌+◌, ◌<◌, ◌≤◌, List, [], ◌∷◌, Option, Bool, not, length, map, fold, slice_set, if◌then◌else◌}
 use Rattle.pz_cells.specs.declared.piece.Piece.{Piece}
 use Rattle.pz_cells.specs.Sameness.{same_cell}
+use Rattle.pz_sets.specs.Sets.{in_word}
 use Rattle.pz_sheet.specs.declared.changes.Change.{Change}
+use Rattle.pz_sheet.specs.declared.changes.KnownChanges.{KnownChanges}
 use Rattle.pz_sheet.specs.Grid.{Grid, layers_in}
 use Rattle.pz_cells.specs.Layering.{Layering}
 use Rattle.pz_sheet.specs.Presence.{cell_of}
@@ -51,3 +53,9 @@ differ_in grid other number = not (same_cell (cell_of grid number) (cell_of othe
 -- what stands in the cell of this number
 abbrev pub cell_there : Grid → ℕ → CellChange
 cell_there grid number = record { number = number; cell = cell_of grid number }
+
+-- of some cells, all of them before a number, it is known which pass a test
+pub record TellsOf (test : ℕ → Bool) (end : ℕ) (known : KnownChanges) : Type 0 where
+  pub short : known.count ≤ 128
+  pub within : known.first + known.count ≤ end
+  pub each : (at : ℕ) → at < known.count → in_word known.places at ≡ test (known.first + at)

@@ -4,7 +4,9 @@ use Rattle.pz_game.specs.declared.pattern.Item.{Item}
 use Rattle.pz_cells.specs.Pattern.{pattern_holds}
 use Rattle.pz_sheet.specs.declared.line.Line.{Line}
 use Rattle.pz_sheet.specs.Grid.{Grid, cell_at}
-use Rattle.pz_sheet.specs.Line.{line_length, holds_in}
+use Rattle.pz_planes.specs.declared.line.Way.{Way}
+use Rattle.pz_sets.specs.Sets.{in_word}
+use Rattle.pz_sheet.specs.Line.{line_length, holds_in, runs_in}
 
 -- the greatest number below `end` that passes a test, if there is one
 abbrev pub IsLast : (ℕ → Bool) → ℕ → Option ℕ → Type 0
@@ -25,3 +27,7 @@ pub record HoldsInLine (grid : Grid) (line : Line) (pattern : List Item) : Type 
   pub at : ℕ
   pub at_in : at < line_length grid line.axis
   pub holds : holds_in grid line pattern at ≡ true
+
+-- rules' cells may hold from these positions of a line, of the first 128, and from no other of these
+abbrev pub MayStartAt : Grid → Line → Way → List (List Item) → ℕ → Type 0
+MayStartAt grid line way patterns starts = (at : ℕ) → at < line_length grid line.axis → at < 128 → runs_in grid line way patterns at ≡ true → in_word starts at ≡ true

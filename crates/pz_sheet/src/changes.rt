@@ -1,7 +1,7 @@
 //! The cells in which a level differs from an older one, and the way back to that.
 
-ghost use Rattle.std.specs.Prelude.{◌≡◌, true, ◌<◌, ◌≤◌, ◌+◌, All, IfOk, OnOk, OnErr, length};
-ghost use Rattle.pz_sheet.specs.Changes.{changed_cells, changes_seen, IsChangeOf, with_cell, restored, differ_in, cell_there};
+ghost use Rattle.std.specs.Prelude.{◌≡◌, ℕ, Bool, true, ◌<◌, ◌≤◌, ◌+◌, ◌^◌, All, IfOk, OnOk, OnErr, length, max};
+ghost use Rattle.pz_sheet.specs.Changes.{changed_cells, changes_seen, IsChangeOf, with_cell, restored, differ_in, cell_there, TellsOf};
 ghost use Rattle.pz_sheet.specs.Grid.{IsLawful, SameSize};
 ghost use Rattle.pz_sets.specs.Next.{IsNext};
 
@@ -18,6 +18,56 @@ use std::alloc::AllocError;
 pub struct Change<const N: usize> {
     index: usize,
     cell: Cell<N>,
+}
+
+/// Which of `count` cells from the number `first` on differ in two levels: those whose bits `places` has.
+#[derive(Clone, Copy)]
+pub struct KnownChanges {
+    first: usize,
+    count: u32,
+    places: u128,
+}
+
+impl KnownChanges {
+    /// Nothing is known of any cell.
+    pub fn none() -> KnownChanges
+        ensures { (test : ℕ → Bool) (end : ℕ) → TellsOf test end result }
+    {
+        KnownChanges {
+            first: 0,
+            count: 0,
+            places: 0,
+        }
+    }
+
+    /// Whether the cell of this number is one of these.
+    fn has(&self, index: usize) -> bool
+        ensures { result ≡ true → (self.now.first ≤ index) × (index < self.now.first + self.now.count) }
+    {
+        self.first <= index && index - self.first < self.count as usize
+    }
+
+    /// The number behind these cells.
+    fn end(&self) -> usize
+        requires { self.now.first + self.now.count < 2 ^ 64 }
+        ensures { result ≡ self.now.first + self.now.count }
+    {
+        self.first + self.count as usize
+    }
+
+    /// The first of these cells, from number `from` on, that differs.
+    fn next(&self, from: usize) -> Option<usize>
+        requires short { self.now.count ≤ 128 }
+        requires small { self.now.first + self.now.count < 2 ^ 64 }
+        requires from { (self.now.first ≤ from) × (from < self.now.first + self.now.count) }
+        ensures { (test : ℕ → Bool) (end : ℕ) → TellsOf test end self.now → IsNext test from (self.now.first + self.now.count) result }
+    {
+        let at = (from - self.first) as u32;
+        match bits::next(self.places, at, self.count) {
+            None => None,
+            Some(place) => Some(self.first + place as usize),
+        }
+    }
 }
 
 impl<const N: usize> Sheet<N> {
@@ -79,10 +129,60 @@ impl<const N: usize> Sheet<N> {
         if are_still && self.is_told_by_planes() {
             let rows = self.planes.lines(Axis::Horizontal);
             let others = other.planes.lines(Axis::Horizontal);
-            rows.next_differing(others, self.width, from)
+            let Some(row) = rows.next_differing(others, self.width, from) else {
+                return None;
+            };
+            Some(row.found)
         } else {
             next_differing(&self.cells, &other.cells, are_still, from)
         }
+    }
+
+    /// The same, where some changes are known already. Then those of the found cell's row are known, if that is little work.
+    pub fn next_change_after(
+        &self,
+        other: &Sheet<N>,
+        known: &mut KnownChanges,
+        from: usize,
+    ) -> Option<usize>
+        requires size { SameSize self.now.grid other.now.grid }
+        requires known { TellsOf (differ_in self.now.grid other.now.grid) (length self.now.grid.cells) known.old }
+        ensures next { IsNext (differ_in self.now.grid other.now.grid) from (length self.now.grid.cells) result }
+        ensures known { TellsOf (differ_in self.now.grid other.now.grid) (length self.now.grid.cells) known.new }
+        ensures lawful { IsLawful self.now.grid }
+    {
+        // (brings the proof the law of the level)
+        let _ = self.width();
+        if !known.has(from) {
+            return self.learn_next(other, known, from);
+        }
+        match known.next(from) {
+            Some(index) => Some(index),
+            None => self.learn_next(other, known, known.end()),
+        }
+    }
+
+    /// The first cell, from number `from` on, in which another level of the same size differs. Then the changes in its row are known.
+    fn learn_next(&self, other: &Sheet<N>, known: &mut KnownChanges, from: usize) -> Option<usize>
+        requires size { SameSize self.now.grid other.now.grid }
+        requires known { TellsOf (differ_in self.now.grid other.now.grid) (length self.now.grid.cells) known.old }
+        ensures next { IsNext (differ_in self.now.grid other.now.grid) from (length self.now.grid.cells) result }
+        ensures known { TellsOf (differ_in self.now.grid other.now.grid) (length self.now.grid.cells) known.new }
+    {
+        if are_empty(&self.notes, &other.notes) && self.is_told_by_planes() {
+            let here = self.planes.lines(Axis::Horizontal);
+            let there = other.planes.lines(Axis::Horizontal);
+            let Some(row) = here.next_differing(there, self.width, from) else {
+                return None;
+            };
+            *known = KnownChanges {
+                first: row.line * self.width as usize,
+                count: self.width,
+                places: row.places,
+            };
+            return Some(row.found);
+        }
+        self.next_change(other, from)
     }
 
     /// Makes this level equal to another of the same size. Only the cells in which they differ are copied.

@@ -16,7 +16,7 @@ use pz_planes::notes::{Notes, is_empty};
 
 impl<const N: usize> Sheet<N> {
     /// Whether nothing at a position of the map heads anywhere.
-    fn is_still(&self, x: u32, y: u32) -> bool
+    pub fn is_still(&self, x: u32, y: u32) -> bool
         requires x_in { x < self.now.grid.width }
         requires y_in { y < self.now.grid.height }
         ensures { result ≡ true → IsStillAt self.now.grid x y }

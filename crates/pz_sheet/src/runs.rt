@@ -6,6 +6,7 @@ ghost use Rattle.pz_sets.specs.Sets.{in_word};
 ghost use Rattle.pz_game.specs.Pattern.{AreOf};
 ghost use Rattle.pz_sheet.specs.Grid.{IsOnMap};
 ghost use Rattle.pz_sheet.specs.Line.{IsOnLine, line_length, line_count, holds_in, runs_in};
+ghost use Rattle.pz_sheet.specs.Searching.{MayStartAt};
 ghost use Rattle.pz_sheet.specs.Runs.{IsRunOf, on_map, along, holds_at, run_holds};
 ghost use Rattle.pz_sets.specs.Next.{IsNext};
 
@@ -107,30 +108,39 @@ impl<const N: usize> Sheet<N> {
         }
     }
 
-    /// The positions of a line from which rules' cells may hold, as the planes show for the objects that they name. They do hold from no
-    /// other.
-    fn starts_in(&self, line: Line, way: Way, patterns: &[Pattern]) -> u128
-        requires short { line_length self.now.grid line.axis ≤ 128 }
+    /// The positions of a line, of the first 128, from which rules' cells may hold, as the planes show for the objects that they name. They
+    /// do hold from no other. A search for all positions asks this once.
+    pub fn starts_in(&self, line: Line, way: Way, patterns: &[Pattern]) -> u128
         requires line_in { line.number < line_count self.now.grid line.axis }
         requires run { IsRunOf self.now.grid.layers patterns.now }
-        ensures { (at : ℕ) → at < line_length self.now.grid line.axis → runs_in self.now.grid line way patterns.now at ≡ true → in_word result at ≡ true }
+        ensures { MayStartAt self.now.grid line way patterns.now result }
     {
+        if self.line_length(line.axis) > bits::ROOM {
+            return bits::all();
+        }
         self.planes
             .lines(line.axis)
             .starts(line.number as usize, way, patterns)
     }
 
-    /// The first position of a line, from `from` on, from which rules' cells hold.
-    pub fn next_run(&self, line: Line, way: Way, from: u32, patterns: &[Pattern]) -> Option<u32>
+    /// The first position of a line, from `from` on, from which rules' cells hold. `starts` has where they may, as `starts_in` gives it.
+    pub fn next_run(
+        &self,
+        line: Line,
+        way: Way,
+        starts: u128,
+        from: u32,
+        patterns: &[Pattern],
+    ) -> Option<u32>
         requires line_in { line.number < line_count self.now.grid line.axis }
         requires run { IsRunOf self.now.grid.layers patterns.now }
+        requires starts { MayStartAt self.now.grid line way patterns.now starts }
         ensures { IsNext (runs_in self.now.grid line way patterns.now) from (line_length self.now.grid line.axis) result }
     {
         let end = self.line_length(line.axis);
         if end > bits::ROOM {
             return self.next_run_in_long_line(line, way, from, patterns);
         }
-        let starts = self.starts_in(line, way, patterns);
         let mut at = from;
         'starts: while let Some(start) = bits::next(starts, at, end) {
             if self.runs_from(line, way, start, patterns) {

@@ -1,11 +1,12 @@
-use Rattle.pz_grid.proofs.Common.{◌≡◌, ◌≤◌, ◌-◌, false, fold, in_pass, move_at, spots_in, SameSize, IsMove}
+use Rattle.pz_grid.proofs.Common.{◌≡◌, ◌≤◌, ◌-◌, false, AreColumnsStill, fold, in_pass, move_at, spots_in, SameSize, IsMove}
 use Rattle.pz_grid.proofs.GatherLemmas.{gather}
 use Rattle.pz_grid.proofs.Level.pass.Given as goal
 
 abbrev pub invariant-columns : goal.invariant-columns
 invariant-columns l = record {
   within : l.from ≤ l.initial.self.grid.width;
-  so_far : in_pass l.self.grid l.moved ≡ fold move_at (in_pass l.initial.self.grid false) (gather (spots_in l.initial.self.grid.depth l.initial.self.grid.height) l.from);
+  so_far : in_pass l.self.grid l.passed.moved ≡ fold move_at (in_pass l.initial.self.grid false) (gather (spots_in l.initial.self.grid.depth l.initial.self.grid.height) l.from);
+  left : l.passed.left ≡ false → AreColumnsStill l.self.grid 0 l.from;
   size : SameSize l.initial.self.grid l.self.grid;
   marks : IsMove l.initial.self l.self;
 }

@@ -1,26 +1,35 @@
-use Rattle.pz_sheet.proofs.Common.{◌≤◌, List, length, ap, sym, ◌∙◌, refl, subst, Cell, IsNextDiffering, LineSets, Grid, small_cell}
-use Rattle.pz_planes.specs.Planes.{IsNextDifferingPosition as IsNextPosition}
+use Rattle.pz_sheet.proofs.Common.{◌≤◌, List, length, ap, sym, ◌∙◌, refl, subst, Cell, IsNextDiffering, Grid, small_cell}
 use Rattle.pz_sheet.proofs.SheetLemmas.{lawful_here}
 use Rattle.pz_sheet.proofs.ChangeLemmas.{both_of, as_many, as_many_seen, next_is}
 use Rattle.pz_sheet.proofs.StillLemmas.{nowhere_read, all_head_nowhere}
-use Rattle.pz_sheet.proofs.TellLemmas.{next_by_planes}
+use Rattle.pz_sheet.proofs.TellLemmas.{found_row, no_row}
 use Rattle.pz_sheet.proofs.Sheet.next_change.Goals as goal
 
-pub returns-then-is_told_by_planes : goal.returns-then-is_told_by_planes
-returns-then-is_told_by_planes g c =
+pub returns-in_default-clause-next : goal.returns-in_default-clause-next
+returns-in_default-clause-next g c =
     let a = c.self.inside in
     let b = c.other.inside in
     let both = both_of a b c.requires.size c.self.view_is c.other.view_is c.self.invariant.stored c.other.invariant.stored in
     let short : a.width ≤ 128 = subst (λ (grid : Grid). grid.width ≤ 128) (sym both.is) (c.if-is_told_by_planes.ensures refl) in
-    let next : IsNextPosition a.planes.rows b.planes.rows a.width c.args.from c.next_differing.result =
-    subst (λ (sets : LineSets). IsNextPosition a.planes.rows sets a.width c.args.from c.next_differing.result) c.lines-others.ensures
-    (subst (λ (sets : LineSets). IsNextPosition sets c.lines-others.result.now a.width c.args.from c.next_differing.result) c.lines-rows.ensures c.next_differing.ensures) in
-    record {
-      next = next_by_planes g.row.N a.width a.height a.layers a.cells.items a.planes b.width b.height b.layers b.cells.items b.planes _ _ both short c.self.invariant.placed c.other.invariant.placed
-          (all_head_nowhere g.row.N a.width a.height a.layers a.cells.items a.notes c.self.invariant.stored (c.if-are_still.ensures.first refl)) (all_head_nowhere g.row.N b.width b.height b.layers b.cells.items b.notes c.other.invariant.stored (c.if-are_still.ensures.second refl)) c.args.from c.next_differing.result next;
-      as_many = as_many_seen _ _ _ _ _ _ _ _ _ _ _ both;
-      lawful = lawful_here _ _ _ _ _ _ _ c.self.invariant.stored c.self.view_is;
-    }
+    let still = all_head_nowhere g.row.N a.width a.height a.layers a.cells.items a.notes c.self.invariant.stored (c.if-are_still.ensures.first refl) in
+    let other_still = all_head_nowhere g.row.N b.width b.height b.layers b.cells.items b.notes c.other.invariant.stored (c.if-are_still.ensures.second refl) in
+    no_row g.row.N a.width a.height a.layers a.cells.items a.planes b.width b.height b.layers b.cells.items b.planes _ _ both short c.self.invariant.placed c.other.invariant.placed still other_still c.lines-rows.result.now c.lines-others.result.now c.args.from c.lines-rows.ensures c.lines-others.ensures c.in_default.ensures
+
+pub returns-in_default-clause-lawful : goal.returns-in_default-clause-lawful
+returns-in_default-clause-lawful g c = lawful_here _ _ _ _ _ _ _ c.self.invariant.stored c.self.view_is
+
+pub returns-in-Some-clause-next : goal.returns-in-Some-clause-next
+returns-in-Some-clause-next g c =
+    let a = c.self.inside in
+    let b = c.other.inside in
+    let both = both_of a b c.requires.size c.self.view_is c.other.view_is c.self.invariant.stored c.other.invariant.stored in
+    let short : a.width ≤ 128 = subst (λ (grid : Grid). grid.width ≤ 128) (sym both.is) (c.if-is_told_by_planes.ensures refl) in
+    let still = all_head_nowhere g.row.N a.width a.height a.layers a.cells.items a.notes c.self.invariant.stored (c.if-are_still.ensures.first refl) in
+    let other_still = all_head_nowhere g.row.N b.width b.height b.layers b.cells.items b.notes c.other.invariant.stored (c.if-are_still.ensures.second refl) in
+    (found_row g.row.N a.width a.height a.layers a.cells.items a.planes b.width b.height b.layers b.cells.items b.planes _ _ both short c.self.invariant.placed c.other.invariant.placed still other_still c.lines-rows.result.now c.lines-others.result.now c.args.from c.in-Some.row c.lines-rows.ensures c.lines-others.ensures c.in-Some.ensures).0
+
+pub returns-in-Some-clause-lawful : goal.returns-in-Some-clause-lawful
+returns-in-Some-clause-lawful g c = lawful_here _ _ _ _ _ _ _ c.self.invariant.stored c.self.view_is
 
 pub next_differing-requires-else-are_still : goal.next_differing-requires-else-are_still
 next_differing-requires-else-are_still g c =

@@ -1,6 +1,6 @@
-use Rattle.std.proofs.Common.{◌≡◌, ℕ, ◌+◌, ◌-◌, ◌*◌, ◌<◌, false, refl, arith, subst}
+use Rattle.std.proofs.Common.{◌≡◌, ℕ, ◌+◌, ◌-◌, ◌*◌, ◌<◌, false, refl, arith, subst, sym}
 use Rattle.std.specs.Prelude.{◌↔◌}
-use Rattle.std.proofs.lemmas.Nat.{mul-add-lt}
+use Rattle.std.proofs.lemmas.Nat.{div-mul-add, mul-add-lt}
 use Rattle.pz_sets.specs.Sets.{in_word}
 use Rattle.pz_sets.proofs.WordLemmas.{in_word-zero}
 use Rattle.pz_planes.specs.Planes.{LineSets, AreSameAt, AreSameBetween}
@@ -14,10 +14,14 @@ returns-in-Some c =
     let found = c.in-Some.ensures in
     let start = c.saturating_sub-start.ensures in
     let line_in = subst (λ (sets : LineSets). line < sets.count) c.self.view_is c.loop-line-test.true in (
-      omega (arith, found.0, start),
-      omega (arith, mul-add-lt line c.args.long at c.args.self.now.count line_in found.1),
-      differ_there c.args.self.now c.args.other.now c.args.long line c.differing.result c.requires.short c.differing.ensures at found.1 found.2,
-      same_to c.args.self.now c.args.other.now c.args.long line c.differing.result c.requires.short c.differing.ensures c.args.from c.saturating_sub-start.result at start (omega (arith, found.1)) found.3 c.loop-line.invariant,
+      (
+        omega (arith, found.0, start),
+        omega (arith, mul-add-lt line c.args.long at c.args.self.now.count line_in found.1),
+        differ_there c.args.self.now c.args.other.now c.args.long line c.differing-places.result c.requires.short c.differing-places.ensures at found.1 found.2,
+        same_to c.args.self.now c.args.other.now c.args.long line c.differing-places.result c.requires.short c.differing-places.ensures c.args.from c.saturating_sub-start.result at start (omega (arith, found.1)) found.3 c.loop-line.invariant,
+      ),
+      sym (div-mul-add line c.args.long at found.1),
+      c.differing-places.ensures,
     )
 
 pub loop-line-preserved : goal.loop-line-preserved
@@ -26,7 +30,7 @@ loop-line-preserved c =
     let long = c.args.long in
     let next : line * long + long ≡ (line + 1) * long = omega arith in
     subst (AreSameBetween c.args.self.now c.args.other.now long c.args.from) next
-    (same_to c.args.self.now c.args.other.now long line c.differing.result c.requires.short c.differing.ensures c.args.from c.saturating_sub-start.result long c.saturating_sub-start.ensures (omega arith) c.in_default.ensures c.loop-line.invariant)
+    (same_to c.args.self.now c.args.other.now long line c.differing-places.result c.requires.short c.differing-places.ensures c.args.from c.saturating_sub-start.result long c.saturating_sub-start.ensures (omega arith) c.in_default.ensures c.loop-line.invariant)
 
 pub loop-line-preserved-then-is_same_in : goal.loop-line-preserved-then-is_same_in
 loop-line-preserved-then-is_same_in c =
