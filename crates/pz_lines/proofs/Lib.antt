@@ -1,8 +1,8 @@
+pub mod Blocks
 pub mod Cut
 pub mod From
 pub mod Packing
 pub mod Sent
-pub mod Shared
 pub mod Texts
 pub mod Unpacking
 pub mod WorkedLines

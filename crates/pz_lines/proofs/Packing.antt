@@ -1,116 +1,168 @@
 -- A line, packed: what is kept of it makes it again.
-use Rattle.std.proofs.Common.{◌≡◌, ℕ, ◌+◌, ◌-◌, ◌≤◌, zero, suc, List, [], ◌∷◌, ◌++◌, length, take, drop, refl, sym, ap, ap₂, ◌∙◌, arith}
+use Rattle.std.proofs.Common.{◌≡◌, ℕ, ◌+◌, ◌*◌, ◌<◌, ◌≤◌, suc, List, [], ◌∷◌, ◌++◌, length, take, drop, refl, sym, ap, ap₂, subst, ◌∙◌, inl, inr, arith}
+use borrow.Rule.Slice.PartMut.{put_mid}
 use Rattle.std.specs.List.{All, fold}
-use Rattle.std.proofs.lemmas.List.{append_assoc, append-nil, drop-append-le, drop_at, length-append, length-drop, length-take, take-append-drop, take-append-le, take_all}
+use Rattle.std.specs.Prelude.{nat_le}
+use Rattle.std.proofs.lemmas.Bool.{cases_Bool, leb-true, le-leb, lt-leb}
+use Rattle.std.proofs.lemmas.List.{append_assoc, append-nil, drop-append-le, drop-drop, drop_all, length-append, length-drop, length-take, take-append-drop, take-append-le, take_all}
+use Rattle.std.proofs.Math.Seq.{take-append_seam}
 use Rattle.std.proofs.lemmas.List.Elements.{All-push}
 use Rattle.std.proofs.lemmas.List.Sums.{fold_push}
 use Rattle.pz_lines.specs.declared.packed.Part.{Part}
-use Rattle.pz_lines.specs.Packed.{ArePacked, line_of, next_line, unpacked}
+use Rattle.pz_lines.specs.declared.packed.TheConstants.{CHUNK}
+use Rattle.pz_lines.specs.Packed.{ArePacked, AreChanges, HaveGrown, IsPartOf, changed, line_of, next_line, replaced, tail_of, unpacked}
+use Rattle.pz_lines.proofs.Cut.{take_more_of}
 
--- the last elements of a list are those of its rest, if there are so many
-ends_alike : (n back : ℕ) (xs : List ℕ) → back ≤ length (drop n xs) → drop (length xs - back) xs ≡ drop (length (drop n xs) - back) (drop n xs)
-ends_alike zero back xs within = refl
-ends_alike (suc n) back [] within = refl
-ends_alike (suc n) back (x ∷ xs) within =
-    let one_more : suc (length xs) - back ≡ suc (length xs - back) = omega (arith, length-drop n xs) in
-    rw one_more (ends_alike n back xs within)
+-- other bytes from a place on, if so many are there
+pub replaced_at : (line : List ℕ) (place : ℕ) (own : List ℕ) → place + length own ≤ length line → replaced line place own ≡ take place line ++ own ++ drop (place + length own) line
+unfolding replaced
+replaced_at line place own within = rw (le-leb (place + length own) (length line) within) refl
 
--- the head of a line, and the rest; a rest of which some was left out comes behind a whole head
-before_rest : (h : ℕ) (line between : List ℕ) → length between ≤ length (drop h line) → (take h (take h line ++ between) ≡ take h line) × (drop h (take h line ++ between) ≡ between)
-before_rest zero line between few = (refl, refl)
-before_rest (suc h) [] [] few = (refl, refl)
-before_rest (suc h) [] (b ∷ between) few = absurd (omega arith)
-before_rest (suc h) (x ∷ line) between few = let e = before_rest h line between few in (ap (λ xs. x ∷ xs) e.0, e.1)
+-- bytes that were copied over a part of a line
+pub replaced_by : (line own new : List ℕ) (place count : ℕ) → place + length own ≤ length line → count ≡ length own → new ≡ own → put_mid place count line new ≡ replaced line place own
+replaced_by line own new place count within many is =
+    rw (replaced_at line place own within, is, many) (ap (λ rest. take place line ++ (own ++ rest)) (drop-drop (length own) place line) ∙ sym (append_assoc (take place line) own (drop (place + length own) line)))
 
--- a text is cut in three, if so much of it stands at the front and at the end
-in_three : (front back : ℕ) (xs : List ℕ) → take front xs ++ (take (length xs - back - front) (drop front xs) ++ drop (length (drop front xs) - back) (drop front xs)) ≡ xs
-in_three front back xs =
-    let here : length xs - back - front ≡ length (drop front xs) - back = omega (arith, length-drop front xs) in
-    rw here (ap (λ ys. take front xs ++ ys) (take-append-drop (length (drop front xs) - back) (drop front xs)) ∙ take-append-drop front xs)
+pub replaced_past : (line : List ℕ) (place : ℕ) (own : List ℕ) → length line < place + length own → line ≡ replaced line place own
+unfolding replaced
+replaced_past line place own past = rw (lt-leb (place + length own) (length line) past) refl
 
--- what is between the front and the end is no more than the rest
-pub between_within : (front back : ℕ) (xs : List ℕ) → length (take (length xs - back - front) (drop front xs)) ≤ length xs
-between_within front back xs = omega (arith, length-take (length xs - back - front) (drop front xs), length-drop front xs)
+-- a line is as long with other bytes
+length-replaced : (line : List ℕ) (place : ℕ) (own : List ℕ) → length (replaced line place own) ≡ length line
+unfolding replaced
+length-replaced line place own = elim (cases_Bool (nat_le (place + length own) (length line))) [
+  | inl is ↦ rw is (let h = leb-true _ _ is in simp (length-append, length-take, length-drop) (omega arith))
+  | inr is ↦ rw is refl
+]
 
--- the line of what is kept of a line, if the last line has so much in common with it
-line_made : (h front back : ℕ) (last line : List ℕ) → take front (drop h last) ≡ take front (drop h line)
-    → back ≤ length (drop front (drop h last))
-    → drop (length (drop front (drop h last)) - back) (drop front (drop h last)) ≡ drop (length (drop front (drop h line)) - back) (drop front (drop h line))
-    → (between : List ℕ) → between ≡ take (length (drop h line) - back - front) (drop front (drop h line))
-    → take h (take h line ++ between) ++ take front (drop h last) ++ drop h (take h line ++ between) ++ drop (length last - back) last ≡ line
-line_made h front back last line p within q between is =
-    let rest = drop h line in
-    let few : length between ≤ length rest = rw is (between_within front back rest) in
-    let cut = before_rest h line between few in
-    let end : drop (length last - back) last ≡ drop (length (drop front rest) - back) (drop front rest) = ends_alike h back last (omega (arith, within, length-drop front (drop h last))) ∙ (ends_alike front back (drop h last) within ∙ q) in
-    rw (cut.0, cut.1, p, end, is) (append_assoc (take h line ++ take front rest) (take (length rest - back - front) (drop front rest)) (drop (length (drop front rest) - back) (drop front rest))
-    ∙ (append_assoc (take h line) (take front rest) _ ∙ (ap (λ xs. take h line ++ xs) (in_three front back rest) ∙ take-append-drop h line)))
+-- what is replaced stands before what follows
+replaced_before : (line more : List ℕ) (place : ℕ) (own : List ℕ) → place + length own ≤ length line → replaced (line ++ more) place own ≡ replaced line place own ++ more
+replaced_before line more place own within =
+    let here : place ≤ length line = omega arith in
+    let wider : place + length own ≤ length (line ++ more) = omega (arith, length-append line more) in
+    replaced_at (line ++ more) place own wider
+    ∙ rw (take-append-le place line more here, drop-append-le (place + length own) line more within, replaced_at line place own within)
+    (sym (append_assoc (take place line ++ own) (drop (place + length own) line) more))
 
--- the own bytes of a part, behind those that were kept before
-own_of : (from : ℕ) (kept head between : List ℕ) → from ≡ length kept → take (length head + length between) (drop from ((kept ++ head) ++ between)) ≡ head ++ between
-own_of from kept head between is =
-    rw (append_assoc kept head between, drop_at kept (head ++ between) from (sym is)) (take_all (length head + length between) (head ++ between) (omega (arith, length-append head between)))
+-- what is replaced stands behind a front
+replaced_behind : (front old own : List ℕ) → length old ≡ length own → replaced (front ++ old) (length front) own ≡ front ++ own
+replaced_behind front old own long =
+    let within : length front + length own ≤ length (front ++ old) = omega (arith, length-append front old) in
+    replaced_at (front ++ old) (length front) own within
+    ∙ rw (take-append_seam front old, drop_all (length front + length own) (front ++ old) (omega (arith, length-append front old))) (append-nil (front ++ own))
 
--- what was kept of a line makes it again
-pub made : (from front back : ℕ) (kept new last line head rest behind between : List ℕ) → from ≡ length kept
-    → head ≡ take 64 line → rest ≡ drop 64 line → behind ≡ drop 64 last → between ≡ take (length rest - back - front) (drop front rest)
-    → new ≡ (kept ++ head) ++ between
-    → take front behind ≡ take front rest
-    → back ≤ length (drop front behind)
-    → drop (length (drop front behind) - back) (drop front behind) ≡ drop (length (drop front rest) - back) (drop front rest)
-    → next_line new last (record { from = from; own = length head + length between; front = front; back = back }) ≡ line
-unfolding line_of
-made from front back kept new last line head rest behind between at h r b m n p within q =
-    let own : take (length head + length between) (drop from new) ≡ take 64 line ++ between = rw n (own_of from kept head between at ∙ ap (λ xs. xs ++ between) h) in
-    let front_of : take front (drop 64 last) ≡ take front (drop 64 line) = rw (← b, ← r) p in
-    let within_of : back ≤ length (drop front (drop 64 last)) = rw (← b) within in
-    let back_of : drop (length (drop front (drop 64 last)) - back) (drop front (drop 64 last)) ≡ drop (length (drop front (drop 64 line)) - back) (drop front (drop 64 line)) = rw (← b, ← r) q in
-    rw own (line_made 64 front back last line front_of within_of back_of between (rw (← r) m))
+module _ (size : ℕ) where
+  changed_before : (line more places own : List ℕ) → All (λ place. place + size ≤ length line) places → changed size (line ++ more) places own ≡ changed size line places own ++ more
+  changed_before line more [] own within = refl
+  changed_before line more (place ∷ places) own within =
+      let chunk = take size own in
+      let here : place + length chunk ≤ length line = omega (arith, within 0 place (omega arith), length-take size own) in
+      rw (replaced_before line more place chunk here)
+      (changed_before (replaced line place chunk) more places (drop size own) (λ k d l. omega (arith, within (suc k) d (omega arith), length-replaced line place chunk)))
 
--- the bytes that a part has of its own stay the same where more are kept behind them
-own_stays : (kept more : List ℕ) (part : Part) → part.from + part.own ≤ length kept → take part.own (drop part.from (kept ++ more)) ≡ take part.own (drop part.from kept)
-own_stays kept more part within =
-    rw (drop-append-le part.from kept more (omega arith)) (take-append-le part.own (drop part.from kept) more (omega (arith, length-drop part.from kept)))
+  -- a change more
+  changed_more : (line places own chunk : List ℕ) (place : ℕ) → length own ≡ length places * size → length chunk ≡ size → changed size line (places ++ place ∷ []) (own ++ chunk) ≡ replaced (changed size line places own) place chunk
+  changed_more line [] [] chunk place long whole = rw (take_all size chunk (omega arith)) refl
+  changed_more line [] (b ∷ own) chunk place long whole = absurd (omega arith)
+  changed_more line (first ∷ places) own chunk place long whole =
+      let enough : size ≤ length own = omega arith in
+      ap₂ (λ one rest. changed size (replaced line first one) (places ++ place ∷ []) rest) (take-append-le size own chunk enough) (drop-append-le size own chunk enough)
+      ∙ changed_more (replaced line first (take size own)) places (drop size own) chunk place (omega (arith, length-drop size own)) whole
 
-line_stays : (kept more last : List ℕ) (part : Part) → part.from + part.own ≤ length kept → next_line (kept ++ more) last part ≡ next_line kept last part
-line_stays kept more last part within = ap (λ own. line_of last own part.front part.back) (own_stays kept more part within)
+  -- a tail behind the chunks
+  changed_still : (line places own tail : List ℕ) → length own ≡ length places * size → (changed size line places (own ++ tail) ≡ changed size line places own) × (tail_of size places (own ++ tail) ≡ tail)
+  changed_still line [] [] tail long = (refl, refl)
+  changed_still line [] (b ∷ own) tail long = absurd (omega arith)
+  changed_still line (place ∷ places) own tail long =
+      let enough : size ≤ length own = omega arith in
+      let rest = changed_still (replaced line place (take size own)) places (drop size own) tail (omega (arith, length-drop size own)) in
+      (rw (take-append-le size own tail enough, drop-append-le size own tail enough) rest.0, rw (drop-append-le size own tail enough) rest.1)
 
-lines_stay : (kept more last : List ℕ) (parts : List Part) → All (λ part. part.from + part.own ≤ length kept) parts → unpacked (kept ++ more) last parts ≡ unpacked kept last parts
-lines_stay kept more last [] within = refl
-lines_stay kept more last (part ∷ parts) within =
-    rw (line_stays kept more last part (within 0 part (omega arith))) (ap (λ xs. next_line kept last part ++ xs) (lines_stay kept more (next_line kept last part) parts (λ k d l. within (suc k) d (omega arith))))
-
-last_stays : (kept more last : List ℕ) (parts : List Part) → All (λ part. part.from + part.own ≤ length kept) parts → fold (next_line (kept ++ more)) last parts ≡ fold (next_line kept) last parts
-last_stays kept more last [] within = refl
-last_stays kept more last (part ∷ parts) within =
-    rw (line_stays kept more last part (within 0 part (omega arith))) (last_stays kept more (next_line kept last part) parts (λ k d l. within (suc k) d (omega arith)))
-
--- more is kept, but for no part yet
-pub packed_still : (kept more new last : List ℕ) (parts : List Part) → new ≡ kept ++ more → ArePacked kept parts last → ArePacked new parts last
-packed_still kept more new last parts n are = record {
-  within = λ k d l. omega (arith, are.within k d l, ap length n, length-append kept more);
-  at_hand = are.at_hand ∙ (sym (last_stays kept more [] parts are.within) ∙ ap (λ xs. fold (next_line xs) [] parts) (sym n));
-}
-
-pub same_lines : (kept more new last : List ℕ) (parts : List Part) → new ≡ kept ++ more → ArePacked kept parts last → unpacked new [] parts ≡ unpacked kept [] parts
-same_lines kept more new last parts n are = rw n (lines_stay kept more [] parts are.within)
-
-lines_more : (kept last : List ℕ) (parts : List Part) (part : Part) → unpacked kept last (parts ++ part ∷ []) ≡ unpacked kept last parts ++ next_line kept (fold (next_line kept) last parts) part
-lines_more kept last [] part = append-nil (next_line kept last part)
-lines_more kept last (first ∷ parts) part =
-    ap (λ xs. next_line kept last first ++ xs) (lines_more kept (next_line kept last first) parts part)
-    ∙ sym (append_assoc (next_line kept last first) (unpacked kept (next_line kept last first) parts) (next_line kept (fold (next_line kept) (next_line kept last first) parts) part))
-
--- a part more
-pub one_packed : (kept more new last line : List ℕ) (parts : List Part) (part : Part) → new ≡ kept ++ more → part.from + part.own ≤ length new → next_line new last part ≡ line → ArePacked kept parts last → ArePacked new (parts ++ part ∷ []) line
-one_packed kept more new last line parts part n here made are =
-    let still = packed_still kept more new last parts n are in
+-- up to here the line has these changes, and so many bytes more are the same
+pub alike_more : (last line places bytes : List ℕ) (at n : ℕ) → AreChanges last line at places bytes → at + n ≤ length last → take n (drop at last) ≡ take n (drop at line) → AreChanges last line (at + n) places bytes
+alike_more last line places bytes at n are here same =
+    let long : length (take at last) ≡ at = omega (arith, length-take at last) in
     record {
-      within = All-push (λ part. part.from + part.own ≤ length new) parts part still.within here;
-      at_hand = sym made ∙ (ap (λ xs. next_line new xs part) still.at_hand ∙ sym (fold_push (next_line new) [] parts part));
+      same = rw (take_more_of at n last, take_more_of at n line)
+          (changed_before CHUNK (take at last) (take n (drop at last)) places bytes (λ k d l. omega (arith, are.before k d l)) ∙ ap₂ (λ xs ys. xs ++ ys) are.same same);
+      before = λ k d l. omega (arith, are.before k d l);
+      chunks = are.chunks;
+      few = omega (arith, are.few);
     }
 
-pub one_line_more : (kept more new last line : List ℕ) (parts : List Part) (part : Part) → new ≡ kept ++ more → next_line new last part ≡ line → ArePacked kept parts last → unpacked new [] (parts ++ part ∷ []) ≡ unpacked kept [] parts ++ line
-one_line_more kept more new last line parts part n made are =
-    let still = packed_still kept more new last parts n are in
-    lines_more new [] parts part ∙ ap₂ (λ xs ys. xs ++ ys) (same_lines kept more new last parts n are) (ap (λ xs. next_line new xs part) (sym still.at_hand) ∙ made)
+-- and the next chunk is another
+pub chunk_more : (last line places bytes chunk : List ℕ) (at : ℕ) → AreChanges last line at places bytes → at + CHUNK ≤ length last → at + CHUNK ≤ length line → chunk ≡ take CHUNK (drop at line) → AreChanges last line (at + CHUNK) (places ++ at ∷ []) (bytes ++ chunk)
+chunk_more last line places bytes chunk at are here there is =
+    let long : length chunk ≡ CHUNK = omega (arith, ap length is, length-take CHUNK (drop at line), length-drop at line) in
+    let front : length (take at line) ≡ at = omega (arith, length-take at line) in
+    let old : length (take CHUNK (drop at last)) ≡ length chunk = omega (arith, length-take CHUNK (drop at last), length-drop at last) in
+    let placed : replaced (take at line ++ take CHUNK (drop at last)) at chunk ≡ take at line ++ chunk = subst (λ n. replaced (take at line ++ take CHUNK (drop at last)) n chunk ≡ take at line ++ chunk) front (replaced_behind (take at line) (take CHUNK (drop at last)) chunk old) in
+    let before : changed CHUNK (take (at + CHUNK) last) places bytes ≡ take at line ++ take CHUNK (drop at last) =
+    ap (λ xs. changed CHUNK xs places bytes) (take_more_of at CHUNK last)
+    ∙ (changed_before CHUNK (take at last) (take CHUNK (drop at last)) places bytes (λ k d l. omega (arith, are.before k d l, length-take at last)) ∙ ap (λ xs. xs ++ take CHUNK (drop at last)) are.same) in
+    record {
+      same = changed_more CHUNK (take (at + CHUNK) last) places bytes chunk at are.chunks long
+          ∙ (ap (λ xs. replaced xs at chunk) before ∙ (placed ∙ (ap (λ xs. take at line ++ xs) is ∙ sym (take_more_of at CHUNK line))));
+      before = All-push (λ place. place + CHUNK ≤ at + CHUNK) places at (λ k d l. omega (arith, are.before k d l)) (omega arith);
+      chunks = omega (arith, are.chunks, length-append bytes chunk, length-append places (at ∷ []));
+      few = omega (arith, are.few, length-append bytes chunk);
+    }
+
+-- what was kept of a line makes it again
+pub line_made : (last line places bytes : List ℕ) (front : ℕ) → AreChanges last line front places bytes → line_of last places (bytes ++ drop front line) front ≡ line
+unfolding line_of
+line_made last line places bytes front are =
+    let still = changed_still CHUNK (take front last) places bytes (drop front line) are.chunks in
+    ap₂ (λ xs ys. xs ++ ys) (still.0 ∙ are.same) still.1 ∙ take-append-drop front line
+
+-- what a part has of its own stays the same where more is kept behind it
+part_stays : {X : Type 0} (from count : ℕ) (kept more : List X) → from + count ≤ length kept → take count (drop from (kept ++ more)) ≡ take count (drop from kept)
+part_stays from count kept more within = rw (drop-append-le from kept more (omega arith)) (take-append-le count (drop from kept) more (omega (arith, length-drop from kept)))
+
+module _ (places kept more bytes : List ℕ) where
+  line_stays : (last : List ℕ) (part : Part) → part.place + part.changes ≤ length places → part.from + part.own ≤ length kept → next_line (places ++ more) (kept ++ bytes) last part ≡ next_line places kept last part
+  line_stays last part placed within = ap₂ (λ here own. line_of last here own part.front) (part_stays part.place part.changes places more placed) (part_stays part.from part.own kept bytes within)
+
+  lines_stay : (last : List ℕ) (parts : List Part) → All (λ part. part.place + part.changes ≤ length places) parts → All (λ part. part.from + part.own ≤ length kept) parts
+      → (unpacked (places ++ more) (kept ++ bytes) last parts ≡ unpacked places kept last parts) × (fold (next_line (places ++ more) (kept ++ bytes)) last parts ≡ fold (next_line places kept) last parts)
+  lines_stay last [] placed within = (refl, refl)
+  lines_stay last (part ∷ parts) placed within =
+      let here = line_stays last part (placed 0 part (omega arith)) (within 0 part (omega arith)) in
+      let rest = lines_stay (next_line places kept last part) parts (λ k d l. placed (suc k) d (omega arith)) (λ k d l. within (suc k) d (omega arith)) in
+      (rw here (ap (λ xs. next_line places kept last part ++ xs) rest.0), rw here rest.1)
+
+lines_more : (places kept last : List ℕ) (parts : List Part) (part : Part) → unpacked places kept last (parts ++ part ∷ []) ≡ unpacked places kept last parts ++ next_line places kept (fold (next_line places kept) last parts) part
+lines_more places kept last [] part = append-nil (next_line places kept last part)
+lines_more places kept last (first ∷ parts) part =
+    ap (λ xs. next_line places kept last first ++ xs) (lines_more places kept (next_line places kept last first) parts part)
+    ∙ sym (append_assoc (next_line places kept last first) (unpacked places kept (next_line places kept last first) parts) (next_line places kept (fold (next_line places kept) (next_line places kept last first) parts) part))
+
+module _ (places kept places_now kept_now last : List ℕ) (parts : List Part) (grown : HaveGrown places kept places_now kept_now) (are : ArePacked places kept parts last) where
+  stay : (unpacked places_now kept_now [] parts ≡ unpacked places kept [] parts) × (fold (next_line places_now kept_now) [] parts ≡ fold (next_line places kept) [] parts)
+  stay = rw (grown.placed, grown.grown) (lines_stay places kept grown.more_places grown.more_bytes [] parts are.placed are.within)
+
+  -- more is kept, but for no part yet
+  pub packed_still : ArePacked places_now kept_now parts last
+  packed_still = record {
+    placed = λ k d l. omega (arith, are.placed k d l, ap length grown.placed, length-append places grown.more_places);
+    within = λ k d l. omega (arith, are.within k d l, ap length grown.grown, length-append kept grown.more_bytes);
+    at_hand = are.at_hand ∙ sym stay.1;
+  }
+
+  pub same_lines : unpacked places_now kept_now [] parts ≡ unpacked places kept [] parts
+  same_lines = stay.0
+
+  module _ (line found bytes : List ℕ) (front : ℕ) (part : Part) (changes : AreChanges last line front found bytes) (is : IsPartOf places_now kept_now found (bytes ++ drop front line) front part) where
+    made : next_line places_now kept_now last part ≡ line
+    made = rw (is.changes, is.own, is.front) (line_made last line found bytes front changes)
+
+    -- a part more
+    pub one_packed : ArePacked places_now kept_now (parts ++ part ∷ []) line
+    one_packed = record {
+      placed = All-push (λ part. part.place + part.changes ≤ length places_now) parts part packed_still.placed is.placed;
+      within = All-push (λ part. part.from + part.own ≤ length kept_now) parts part packed_still.within is.within;
+      at_hand = sym made ∙ (ap (λ xs. next_line places_now kept_now xs part) packed_still.at_hand ∙ sym (fold_push (next_line places_now kept_now) [] parts part));
+    }
+
+    pub one_line_more : unpacked places_now kept_now [] (parts ++ part ∷ []) ≡ unpacked places kept [] parts ++ line
+    one_line_more = lines_more places_now kept_now [] parts part ∙ ap₂ (λ xs ys. xs ++ ys) same_lines (ap (λ xs. next_line places_now kept_now xs part) (sym packed_still.at_hand) ∙ made)

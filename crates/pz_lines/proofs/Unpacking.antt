@@ -6,14 +6,14 @@ use Rattle.pz_lines.specs.declared.packed.Part.{Part}
 use Rattle.pz_lines.specs.Packed.{next_line, unpacked}
 
 -- the next line is put behind those that are kept back
-pub next_unpacked : (kept bytes last line held more : List ℕ) (parts items : List Part) (i : ℕ) (none : Part) → bytes ≡ kept → items ≡ parts → i < length items
-    → more ≡ held ++ next_line bytes last (get_or items i none) → line ≡ next_line bytes last (get_or items i none)
-    → held ++ unpacked kept last (drop i parts) ≡ more ++ unpacked kept line (drop (i + 1) parts)
-next_unpacked kept bytes last line held more parts items i none b p within m l =
-    let next = next_line kept last (get_or parts i none) in
+pub next_unpacked : (places kept last line held more : List ℕ) (parts items : List Part) (i : ℕ) (none : Part) → items ≡ parts → i < length items
+    → more ≡ held ++ next_line places kept last (get_or items i none) → line ≡ next_line places kept last (get_or items i none)
+    → held ++ unpacked places kept last (drop i parts) ≡ more ++ unpacked places kept line (drop (i + 1) parts)
+next_unpacked places kept last line held more parts items i none p within m l =
+    let next = next_line places kept last (get_or parts i none) in
     let rest = drop (i + 1) parts in
     let here : i < length parts = rw p at within in
-    rw (m, l, b, p) (ap (λ xs. held ++ xs) (at_drop_more (unpacked kept last) parts i none here) ∙ sym (append_assoc held next (unpacked kept next rest)))
+    rw (m, l, p) (ap (λ xs. held ++ xs) (at_drop_more (unpacked places kept last) parts i none here) ∙ sym (append_assoc held next (unpacked places kept next rest)))
 
 -- some of what is kept back goes out
 pub more_out : (whole sent now held left rest : List ℕ) → whole ≡ sent ++ (held ++ rest) → held ≡ now ++ left → whole ≡ (sent ++ now) ++ (left ++ rest)

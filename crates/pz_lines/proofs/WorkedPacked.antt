@@ -1,25 +1,31 @@
 -- Worked lines that are kept packed.
-use Rattle.std.proofs.Common.{◌≡◌, ℕ, List, [], ◌∷◌, ◌++◌, refl}
-use Rattle.std.specs.Prelude.{codes, replicate}
+use Rattle.std.proofs.Common.{◌≡◌, ℕ, [], ◌∷◌, ◌++◌, refl}
+use Rattle.std.specs.Prelude.{codes}
 use Rattle.pz_lines.specs.declared.packed.Part.{Part}
-use Rattle.pz_lines.specs.Packed.{line_of, unpacked}
+use Rattle.pz_lines.specs.Packed.{line_of, replaced, unpacked}
 
-abbrev part : ℕ → ℕ → ℕ → ℕ → Part
-part from own front back = record { from = from; own = own; front = front; back = back }
+abbrev part : ℕ → ℕ → ℕ → ℕ → ℕ → Part
+part place changes from own front = record { place = place; changes = changes; from = from; own = own; front = front }
 
--- a first line has nothing to take over
-first_line : unpacked (codes "ab") [] (part 0 2 0 0 ∷ []) ≡ codes "ab"
+-- a first line is its own
+first_line : unpacked [] (codes "ab") [] (part 0 0 0 2 0 ∷ []) ≡ codes "ab"
 unfolding line_of
 first_line = refl
 
--- the second line has its own head and one byte more, and takes over what stands before and behind that byte
-second_line : unpacked (replicate 64 97 ++ codes "one two six" ++ replicate 64 98 ++ codes "W") [] (part 0 75 0 0 ∷ part 75 65 5 5 ∷ [])
-    ≡ replicate 64 97 ++ codes "one two six" ++ (replicate 64 98 ++ codes "one tWo six")
-unfolding line_of
+-- the second line changes a chunk of the first eight bytes, and has its own tail
+second_line : unpacked (0 ∷ []) (codes "one two six" ++ codes "one tWo six") [] (part 0 0 0 11 0 ∷ part 0 1 11 11 8 ∷ []) ≡ codes "one two six" ++ codes "one tWo six"
+unfolding line_of replaced
 second_line = refl
 
--- a line may be shorter than the line before it, or longer
-shorter_line : unpacked (replicate 64 97 ++ codes "one two six" ++ replicate 64 98) [] (part 0 75 0 0 ∷ part 75 64 3 4 ∷ [])
-    ≡ replicate 64 97 ++ codes "one two six" ++ (replicate 64 98 ++ codes "one six")
+-- a line may be longer than the line before it, or shorter, or change its second chunk
+longer_line : unpacked [] (codes "one two six" ++ codes "seven") [] (part 0 0 0 11 0 ∷ part 0 0 11 5 8 ∷ []) ≡ codes "one two six" ++ codes "one two seven"
+unfolding line_of
+longer_line = refl
+
+shorter_line : unpacked [] (codes "one two six") [] (part 0 0 0 11 0 ∷ part 0 0 11 0 3 ∷ []) ≡ codes "one two six" ++ codes "one"
 unfolding line_of
 shorter_line = refl
+
+second_chunk : unpacked (8 ∷ []) (codes "0123456789abcdef" ++ codes "89ABCDEF!") [] (part 0 0 0 16 0 ∷ part 0 1 16 9 16 ∷ []) ≡ codes "0123456789abcdef" ++ codes "0123456789ABCDEF!"
+unfolding line_of replaced
+second_chunk = refl

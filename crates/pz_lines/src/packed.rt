@@ -1,34 +1,46 @@
 //! Lines that are kept packed until they are written: of each line only what differs from the line before it. The line of a frame has
 //! the whole text of a level, and mostly little of it changed.
 
-ghost use Rattle.std.specs.Prelude.{◌≡◌, ◌++◌, ℕ, ◌+◌, ◌-◌, ◌≤◌, List, [], length, take, drop, IfOk, IsTrue, OnErr, OnOk};
-ghost use Rattle.pz_lines.specs.Packed.{line_of, next_line};
+ghost use Rattle.std.specs.Prelude.{◌≡◌, ◌++◌, ◌+◌, ◌≤◌, [], length, take, drop, IfOk, IsTrue, OnErr, OnOk};
+ghost use Rattle.pz_lines.specs.Packed.{AreChanges, HaveGrown, IsPartOf, changed, line_of, next_line, replaced, tail_of};
+ghost use Rattle.pz_lines.specs.declared.packed.TheConstants.{BLOCK, CHUNK, MOST};
 
 use std::alloc::{AllocError, Global};
 use std::marker::Model;
 use std::mem::replace;
 use std::simd::Simd;
 
-/// So many first bytes of a line are its own, since numbers among them change from line to line.
-const HEAD: usize = 64;
+/// Lines are compared in blocks of so many bytes.
+const BLOCK: usize = 32;
 
-/// What two lines share is found in chunks of so many bytes.
-const CHUNK: usize = 32;
+/// Of a block that changed, chunks of so many bytes are kept.
+const CHUNK: usize = 8;
 
-/// What a line is made of: its own bytes, which are kept from a place on; and how many bytes it takes over from the line before it, behind
-/// the head and at the end.
+/// So many first bytes of two lines are compared. Whatever stands behind them is kept as it is.
+const MOST: usize = 4_294_967_295;
+
+/// What a line is made of: how many first bytes of the last line; at how many of these a chunk is changed, by the places that are kept from
+/// one on; and how many bytes of its own, which are kept from a byte on: the changed chunks and then the tail.
 #[derive(Clone, Copy)]
 pub(crate) struct Part {
+    place: usize,
     from: usize,
     own: usize,
-    front: usize,
-    back: usize,
+    front: u32,
+    changes: u32,
+}
+
+/// Places in lines, and bytes, one after another: those of a line's changes, or those that are kept of all lines.
+#[derive(Drop)]
+pub(crate) struct Pieces {
+    pub(crate) places: Vec<u32>,
+    pub(crate) bytes: Vec<u8>,
 }
 
 /// Lines, kept packed. A contract sees the bytes of all of them, one after another.
 #[derive(Drop)]
 pub struct PackedLines {
-    pub(crate) kept: Vec<u8>,
+    pub(crate) kept: Pieces,
     pub(crate) parts: Vec<Part>,
 }
 
@@ -38,16 +50,17 @@ impl Model for PackedLines {
 
     ghost Value = { List ℕ };
 
-    ghost view = { λ lines. unpacked lines.kept.items [] lines.parts.items };
+    ghost view = { λ lines. unpacked lines.kept.places.items lines.kept.bytes.items [] lines.parts.items };
 }
 
-/// Packs lines, one after another. It has the last line at hand, and room for the next.
+/// Packs lines, one after another. It has the last line at hand, and room for the next and its changes.
 #[derive(Drop)]
 pub struct Packer {
-    kept: Vec<u8>,
+    kept: Pieces,
     parts: Vec<Part>,
     last: Vec<u8>,
     spare: Vec<u8>,
+    changes: Pieces,
 }
 
 impl Model for Packer {
@@ -56,60 +69,106 @@ impl Model for Packer {
 
     ghost Value = { List ℕ };
 
-    ghost view = { λ packer. unpacked packer.kept.items [] packer.parts.items };
+    ghost view = { λ packer. unpacked packer.kept.places.items packer.kept.bytes.items [] packer.parts.items };
 
-    ghost invariant = { λ packer. ArePacked packer.kept.items packer.parts.items packer.last.items };
+    ghost invariant = { λ packer. ArePacked packer.kept.places.items packer.kept.bytes.items packer.parts.items packer.last.items };
 }
 
-/// Whether two texts begin with the same chunk.
+/// Whether two texts begin with the same block.
 fn begin_alike(one: &[u8], other: &[u8]) -> bool
-    requires one { CHUNK ≤ length one.now }
-    requires other { CHUNK ≤ length other.now }
-    ensures { IsTrue result → take CHUNK one.now ≡ take CHUNK other.now }
+    requires one { BLOCK ≤ length one.now }
+    requires other { BLOCK ≤ length other.now }
+    ensures { IsTrue result → take BLOCK one.now ≡ take BLOCK other.now }
 {
-    let one = Simd::<u8, CHUNK>::from_slice(one);
-    let other = Simd::<u8, CHUNK>::from_slice(other);
+    let one = Simd::<u8, BLOCK>::from_slice(one);
+    let other = Simd::<u8, BLOCK>::from_slice(other);
     one.simd_ne(other).to_bitmask() == 0
 }
 
-/// How many bytes two texts have in common at the front, in whole chunks.
-fn shared_front(one: &[u8], other: &[u8]) -> usize
-    ensures one { result ≤ length one.now }
-    ensures other { result ≤ length other.now }
-    ensures shared { take result one.now ≡ take result other.now }
-{
-    let end = one.len().min(other.len());
-    let mut count = 0;
-    while CHUNK <= end - count && begin_alike(&one[count..], &other[count..]) {
-        count += CHUNK;
+impl Pieces {
+    fn none(alloc: Global) -> Pieces
+        ensures places { result.places.items ≡ [] }
+        ensures bytes { result.bytes.items ≡ [] }
+    {
+        Pieces {
+            places: Vec::new(alloc),
+            bytes: Vec::new(alloc),
+        }
     }
-    count
-}
 
-/// Whether two texts have the same chunk before so many bytes at the end.
-fn end_alike(one: &[u8], other: &[u8], count: usize) -> bool
-    requires one { count + CHUNK ≤ length one.now }
-    requires other { count + CHUNK ≤ length other.now }
-    ensures { IsTrue result → take CHUNK (drop (length one.now - count - CHUNK) one.now) ≡ take CHUNK (drop (length other.now - count - CHUNK) other.now) }
-{
-    begin_alike(
-        &one[one.len() - count - CHUNK..],
-        &other[other.len() - count - CHUNK..],
-    )
-}
-
-/// How many bytes two texts have in common at the end, in whole chunks.
-fn shared_back(one: &[u8], other: &[u8]) -> usize
-    ensures one { result ≤ length one.now }
-    ensures other { result ≤ length other.now }
-    ensures shared { drop (length one.now - result) one.now ≡ drop (length other.now - result) other.now }
-{
-    let end = one.len().min(other.len());
-    let mut count = 0;
-    while CHUNK <= end - count && end_alike(one, other, count) {
-        count += CHUNK;
+    /// Adds the chunk of a line at a place, if it differs from that of the last line. Those before it were added.
+    fn add_chunk(&mut self, last: &[u8], line: &[u8], at: usize) -> Result<(), AllocError>
+        requires before { AreChanges last.now line.now at self.old.places.items self.old.bytes.items }
+        requires last { at + CHUNK ≤ length last.now }
+        requires line { at + CHUNK ≤ length line.now }
+        requires few { at + CHUNK ≤ MOST }
+        ensures { OnOk result (AreChanges last.now line.now (at + CHUNK) self.new.places.items self.new.bytes.items) }
+    {
+        let chunk = &line[at..at + CHUNK];
+        if chunk != &last[at..at + CHUNK] {
+            self.places.push(at as u32)?;
+            self.bytes.extend_from_slice(chunk)?;
+        }
+        Ok(())
     }
-    count
+
+    /// Adds the chunks of the block at a place that differ. Those before it were added.
+    fn add_block(&mut self, last: &[u8], line: &[u8], at: usize) -> Result<(), AllocError>
+        requires before { AreChanges last.now line.now at self.old.places.items self.old.bytes.items }
+        requires last { at + BLOCK ≤ length last.now }
+        requires line { at + BLOCK ≤ length line.now }
+        requires few { at + BLOCK ≤ MOST }
+        ensures { OnOk result (AreChanges last.now line.now (at + BLOCK) self.new.places.items self.new.bytes.items) }
+    {
+        if begin_alike(&last[at..], &line[at..]) {
+            return Ok(());
+        }
+        for chunk in 0..BLOCK / CHUNK {
+            self.add_chunk(last, line, at + chunk * CHUNK)?;
+        }
+        Ok(())
+    }
+
+    /// Finds the changes of a line, block by block, in place of those of another. Answers how many first bytes were compared.
+    fn find(&mut self, last: &[u8], line: &[u8]) -> Result<usize, AllocError>
+        ensures changes { IfOk result (λ front. AreChanges last.now line.now front self.new.places.items self.new.bytes.items) }
+        ensures last { IfOk result (λ front. front ≤ length last.now) }
+        ensures line { IfOk result (λ front. front ≤ length line.now) }
+        ensures few { IfOk result (λ front. front ≤ MOST) }
+    {
+        self.places.clear();
+        self.bytes.clear();
+        let end = last.len().min(line.len()).min(MOST);
+        let mut at = 0;
+        while BLOCK <= end - at {
+            self.add_block(last, line, at)?;
+            at += BLOCK;
+        }
+        Ok(at)
+    }
+
+    /// Keeps the changes of a line and its tail behind so many first bytes, and answers what the line is made of.
+    fn keep(&mut self, changes: &Pieces, line: &[u8], front: usize) -> Result<Part, AllocError>
+        requires front { front ≤ length line.now }
+        requires few { front ≤ MOST }
+        requires places { length changes.now.places.items ≤ MOST }
+        ensures part { IfOk result (IsPartOf self.new.places.items self.new.bytes.items changes.now.places.items (changes.now.bytes.items ++ drop front line.now) front) }
+        ensures grown { HaveGrown self.old.places.items self.old.bytes.items self.new.places.items self.new.bytes.items }
+    {
+        let (_, tail) = line.split_at(front);
+        let place = self.places.len();
+        let from = self.bytes.len();
+        self.places.extend_from_slice(&changes.places)?;
+        self.bytes.extend_from_slice(&changes.bytes)?;
+        self.bytes.extend_from_slice(tail)?;
+        Ok(Part {
+            place,
+            from,
+            own: changes.bytes.len() + tail.len(),
+            front: front as u32,
+            changes: changes.places.len() as u32,
+        })
+    }
 }
 
 /// What a text has before a place and from there on. If it ends before the place, it has nothing there.
@@ -120,61 +179,63 @@ fn cut(text: &[u8], place: usize) -> (&[u8], &[u8])
     text.split_at(place.min(text.len()))
 }
 
-/// Puts the line behind others that the last line and a part's own bytes make.
-#[tactic(auto, unfolding(crate::specs::Packed::line_of))]
-fn add_line(lines: &mut Vec<u8>, last: &[u8], own: &[u8], part: Part) -> Result<(), AllocError>
-    ensures { OnOk result (lines.new.items ≡ lines.old.items ++ line_of last.now own.now part.front part.back) }
+/// Replaces bytes of a line from a place on, if so many are there.
+fn put(line: &mut [u8], place: u32, own: &[u8])
+    ensures { line.new ≡ replaced line.old place own.now }
 {
-    let (head, between) = cut(own, HEAD);
-    let (_, behind) = cut(last, HEAD);
-    let (front, _) = cut(behind, part.front);
-    let (_, back) = cut(last, last.len().saturating_sub(part.back));
-    lines.extend_from_slice(head)?;
-    lines.extend_from_slice(front)?;
-    lines.extend_from_slice(between)?;
-    lines.extend_from_slice(back)?;
-    Ok(())
+    let place = place as usize;
+    if own.len() <= line.len() && place <= line.len() - own.len() {
+        line[place..place + own.len()].copy_from_slice(own);
+    }
+}
+
+/// Changes a chunk of a line at each place, by the bytes that are kept, and answers those that are left.
+fn change<'a>(line: &mut [u8], places: &[u32], own: &'a [u8]) -> &'a [u8]
+    ensures changed { line.new ≡ changed CHUNK line.old places.now own.now }
+    ensures tail { result.now ≡ tail_of CHUNK places.now own.now }
+{
+    let mut rest = own;
+    for place in places {
+        let (chunk, later) = cut(rest, CHUNK);
+        put(line, *place, chunk);
+        rest = later;
+    }
+    rest
+}
+
+/// Makes the last line the next one.
+#[tactic(auto, unfolding(crate::specs::Packed::line_of))]
+fn advance(last: &mut Vec<u8>, places: &[u32], own: &[u8], front: u32) -> Result<(), AllocError>
+    ensures { OnOk result (last.new.items ≡ line_of last.old.items places.now own.now front) }
+{
+    last.truncate(front as usize);
+    let tail = change(last.as_mut_slice(), places, own);
+    last.extend_from_slice(tail)
+}
+
+/// The places at which a part changes the last line.
+fn places_of(places: &[u32], part: Part) -> &[u32]
+    ensures { result.now ≡ take part.changes (drop part.place places.now) }
+{
+    let (_, behind) = places.split_at(part.place.min(places.len()));
+    let (here, _) = behind.split_at((part.changes as usize).min(behind.len()));
+    here
 }
 
 /// Puts the line of a part behind others, and makes it the last line.
 pub(crate) fn unpack(
-    kept: &[u8],
+    kept: &Pieces,
     part: Part,
     last: &mut Vec<u8>,
     lines: &mut Vec<u8>,
 ) -> Result<(), AllocError>
-    ensures added { OnOk result (lines.new.items ≡ lines.old.items ++ next_line kept.now last.old.items part) }
-    ensures last { OnOk result (last.new.items ≡ next_line kept.now last.old.items part) }
+    ensures added { OnOk result (lines.new.items ≡ lines.old.items ++ next_line kept.now.places.items kept.now.bytes.items last.old.items part) }
+    ensures last { OnOk result (last.new.items ≡ next_line kept.now.places.items kept.now.bytes.items last.old.items part) }
 {
-    let start = lines.len();
-    let (own, _) = cut(cut(kept, part.from).1, part.own);
-    add_line(lines, last, own, part)?;
-    last.clear();
-    last.extend_from_slice(&lines[start..])?;
+    let (own, _) = cut(cut(&kept.bytes, part.from).1, part.own);
+    advance(last, places_of(&kept.places, part), own, part.front)?;
+    lines.extend_from_slice(&*last)?;
     Ok(())
-}
-
-/// Keeps the bytes that a line doesn't share with the last line, and answers what it is made of.
-fn keep(kept: &mut Vec<u8>, last: &[u8], line: &[u8]) -> Result<Part, AllocError>
-    ensures made { IfOk result (λ part. next_line kept.new.items last.now part ≡ line.now) }
-    ensures within { IfOk result (λ part. part.from + part.own ≤ length kept.new.items) }
-    ensures more { (more : List ℕ) × (kept.new.items ≡ kept.old.items ++ more) }
-{
-    let from = kept.len();
-    let (head, rest) = cut(line, HEAD);
-    let (_, behind) = cut(last, HEAD);
-    let front = shared_front(behind, rest);
-    let back = shared_back(&behind[front..], &rest[front..]);
-    let between = &rest[front..rest.len() - back];
-    kept.reserve(head.len() + between.len())?;
-    kept.extend_from_slice(head)?;
-    kept.extend_from_slice(between)?;
-    Ok(Part {
-        from,
-        own: head.len() + between.len(),
-        front,
-        back,
-    })
 }
 
 impl PackedLines {
@@ -197,10 +258,11 @@ impl Packer {
         ensures { result ≡ [] }
     {
         Packer {
-            kept: Vec::new(alloc),
+            kept: Pieces::none(alloc),
             parts: Vec::new(alloc),
             last: Vec::new(alloc),
             spare: Vec::new(alloc),
+            changes: Pieces::none(alloc),
         }
     }
 
@@ -220,7 +282,8 @@ impl Packer {
         ensures ok { OnOk result (self.new ≡ self.old ++ line.items) }
         ensures err { OnErr result (self.new ≡ self.old) }
     {
-        let part = keep(&mut self.kept, &self.last, &line)?;
+        let front = self.changes.find(&self.last, &line)?;
+        let part = self.kept.keep(&self.changes, &line, front)?;
         self.parts.push(part)?;
         self.spare = replace(&mut self.last, line);
         Ok(())
@@ -235,7 +298,8 @@ impl Packer {
             mut parts,
             ..
         } = self;
-        kept.shrink_to_fit();
+        kept.places.shrink_to_fit();
+        kept.bytes.shrink_to_fit();
         parts.shrink_to_fit();
         PackedLines { kept, parts }
     }

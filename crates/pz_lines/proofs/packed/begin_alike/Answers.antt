@@ -3,7 +3,7 @@ use Rattle.std.specs.Simd.Lanes.{mask_l, zip2}
 use Rattle.std.proofs.lemmas.Bool.{eqb-true}
 use Rattle.std.proofs.lemmas.List.{length-take-le}
 use Rattle.std.proofs.lemmas.Simd.{length-zip2, mask_l-mod, tops_compared}
-use Rattle.pz_lines.proofs.Shared.{alike}
+use Rattle.pz_lines.proofs.Blocks.{alike}
 use Rattle.pz_lines.proofs.packed.begin_alike.Goals as goal
 
 pub returns : goal.returns

@@ -12,7 +12,7 @@ returns-in_default-clause-err g c =
 pub returns-in_err-lines-clause-err : goal.returns-in_err-lines-clause-err
 returns-in_err-lines-clause-err g c =
     let i = c.loop-part.invariant in
-    let next = next_unpacked c.packed.inside.kept.items _ _ _ _ _ _ _ _ _ c.deref.ensures.value c.deref-part-items.ensures.value c.loop-part-test.true c.in-Ok.ensures.added c.in-Ok.ensures.last in
+    let next = next_unpacked c.packed.inside.kept.places.items c.packed.inside.kept.bytes.items _ _ _ _ _ _ _ _ c.deref-part-items.ensures.value c.loop-part-test.true c.in-Ok.ensures.added c.in-Ok.ensures.last in
     let p = err_from_is_err_and c.from_residual.result c.from_residual.ensures.1 in
     rw (p.1, p.2) (part_is _ _ _ _ _ _ _ (ap (λ text. c.args.before.items ++ text) (sym c.packed.view_is) ∙ (i.1 ∙ ap (λ text. i.0 ++ text) next)) (part_behind i.0 _ _ _ _ _ _ _ _ _ i.2 c.in_err-lines.ensures.err))
 
@@ -20,7 +20,7 @@ pub loop-part-preserved : goal.loop-part-preserved
 loop-part-preserved g c =
     let i = c.loop-part.invariant in
     let n = c.in_ok-lines.ensures.ok in
-    let next = next_unpacked c.packed.inside.kept.items _ _ _ _ _ _ _ _ _ c.deref.ensures.value c.deref-part-items.ensures.value c.loop-part-test.true c.in-Ok.ensures.added c.in-Ok.ensures.last in (
+    let next = next_unpacked c.packed.inside.kept.places.items c.packed.inside.kept.bytes.items _ _ _ _ _ _ _ _ c.deref-part-items.ensures.value c.loop-part-test.true c.in-Ok.ensures.added c.in-Ok.ensures.last in (
       i.0 ++ n.0,
       more_out _ i.0 n.0 _ _ _ (i.1 ∙ ap (λ text. i.0 ++ text) next) n.1,
       sent_more i.0 n.0 _ _ _ _ _ _ i.2 n.2,

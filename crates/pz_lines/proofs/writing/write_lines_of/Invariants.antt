@@ -5,6 +5,6 @@ use Rattle.pz_lines.proofs.writing.write_lines_of.Given as goal
 
 abbrev pub invariant-loop-part : goal.invariant-loop-part
 invariant-loop-part g l =
-    let kept = l.packed-inside.kept.items in
+    let kept = l.packed-inside.kept in
     let parts = l.packed-inside.parts.items in
-    (sent : List ℕ) × (l.fn.before.items ++ unpacked kept [] parts ≡ sent ++ (l.lines.items ++ unpacked kept l.last.items (drop l.part-index parts))) × IsSent sent l.fn.written l.written l.fn.output l.output
+    (sent : List ℕ) × (l.fn.before.items ++ unpacked kept.places.items kept.bytes.items [] parts ≡ sent ++ (l.lines.items ++ unpacked kept.places.items kept.bytes.items l.last.items (drop l.part-index parts))) × IsSent sent l.fn.written l.written l.fn.output l.output

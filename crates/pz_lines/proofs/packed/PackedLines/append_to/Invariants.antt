@@ -4,6 +4,6 @@ use Rattle.pz_lines.proofs.packed.PackedLines.append_to.Given as goal
 
 abbrev pub invariant-loop-part : goal.invariant-loop-part
 invariant-loop-part l =
-    let kept = l.self-inside.kept.items in
+    let kept = l.self-inside.kept in
     let parts = l.self-inside.parts.items in
-    l.lines.items ++ unpacked kept l.last.items (drop l.part-index parts) ≡ l.fn.lines.items ++ unpacked kept [] parts
+    l.lines.items ++ unpacked kept.places.items kept.bytes.items l.last.items (drop l.part-index parts) ≡ l.fn.lines.items ++ unpacked kept.places.items kept.bytes.items [] parts
