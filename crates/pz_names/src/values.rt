@@ -26,7 +26,10 @@ fn known_values(
 ) -> Result<Vec<Denotation>, AllocError>
     ensures { IfOk result (λ values. values.items ≡ filter_map (λ entry. entry) known.items) }
 {
-    known.into_iter().filter_map(|entry| entry).collect(alloc)
+    let mut values: Vec<Denotation> = known.into_iter().filter_map(|entry| entry).collect(alloc)?;
+    // all games are kept until the last session is played
+    values.shrink_to_fit();
+    Ok(values)
 }
 
 /// What each name denotes, or the first fault of the definitions: `Unknown`, then `BadLegend` (a name that reaches itself), then `Mixed`.

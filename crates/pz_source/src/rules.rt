@@ -118,5 +118,7 @@ pub fn rule_words(alloc: Global, text: &[char]) -> Result<Listed<Name>, AllocErr
     let mut words = Vec::new(alloc);
     let mut cursor = Cursor::new(alloc);
     push_words(alloc, &mut words, &mut cursor, text)?;
+    // all games are kept until the last session is played
+    words.shrink_to_fit();
     Ok(Listed::new(words))
 }
