@@ -1,6 +1,6 @@
 //! Reads the text of a level.
 
-ghost use Rattle.std.specs.Prelude.{◌≡◌, ◌<◌, [], filter, length, take, IfOk, IfSome, MatchOption, Some, None, slice_index_or};
+ghost use Rattle.std.specs.Prelude.{◌≡◌, ◌<◌, ◌++◌, ◌∷◌, [], filter, length, take, IfOk, IfSome, OnOk, MatchOption, Some, None, slice_index_or};
 ghost use Rattle.pz_entries.specs.Reading.{no_line_end, read_piece, reading};
 
 use crate::cutting::{cut_first, cut_last, number_below, writes_number};
@@ -43,6 +43,17 @@ fn read_piece(
     }
 }
 
+/// Adds the place of a cell's names. If no `u32` holds it, the answer is want of memory; no text has so many sets of names.
+fn add_cell(cells: &mut Vec<u32>, place: usize) -> Result<(), AllocError>
+    ensures { OnOk result (cells.new.items ≡ cells.old.items ++ place ∷ []) }
+{
+    let Ok(place) = u32::try_from(place) else {
+        return Err(AllocError);
+    };
+    cells.push(place)?;
+    Ok(())
+}
+
 /// The names of the cells that a level text gives; None: it is no level text.
 pub fn read_level_text(alloc: Global, text: &str) -> Result<Option<Recorded>, AllocError>
     ensures { IfOk result (λ recorded. recorded ≡ reading text.now) }
@@ -55,7 +66,7 @@ pub fn read_level_text(alloc: Global, text: &str) -> Result<Option<Recorded>, Al
         let Some(place) = read_piece(alloc, &mut sets, piece)? else {
             return Ok(None);
         };
-        cells.push(place)?;
+        add_cell(&mut cells, place)?;
         rest = later;
     }
     if rest.is_empty() {

@@ -10,7 +10,7 @@ use std::marker::Model;
 #[derive(Drop)]
 pub struct Recorded {
     sets: Vec<CellNames>,
-    cells: Vec<usize>,
+    cells: Vec<u32>,
 }
 
 impl Model for Recorded {
@@ -25,7 +25,7 @@ impl Model for Recorded {
 
 impl Recorded {
     /// The level in which each cell has the set of this number.
-    pub fn new(sets: Vec<CellNames>, cells: Vec<usize>) -> Recorded
+    pub fn new(sets: Vec<CellNames>, cells: Vec<u32>) -> Recorded
         requires { All (λ set. set < length sets.items) cells.items }
         ensures { result ≡ map (λ set. slice_index_or sets.items set []) cells.items }
     {
@@ -53,6 +53,6 @@ impl Recorded {
         requires { number < length self.now }
         ensures { result.now ≡ slice_index_or self.now number [] }
     {
-        &self.sets[self.cells[number]]
+        &self.sets[self.cells[number] as usize]
     }
 }

@@ -22,8 +22,8 @@ pieces-preserved c =
     let k = c.in-Some-2.place in
     let kept = rw c.in-Some-2.is at c.in_ok-place.ensures.kept in
     record {
-      within = within_so sets more c.pieces.cells.items k c.push.new.self.items c.pieces.invariant.within kept c.in_ok-push.ensures.items (rw c.in-Some-2.is at c.in_ok-place.ensures.within);
-      whole = goes_on_so sets more c.pieces.cells.items c.pieces.rest.now c.in-Some.piece.now c.in-Some.later.now k c.push.new.self.items c.pieces.invariant.within kept c.in_ok-push.ensures.items
+      within = within_so sets more c.pieces.cells.items k c.add_cell.new.cells.items c.pieces.invariant.within kept c.in_ok-add_cell.ensures (rw c.in-Some-2.is at c.in_ok-place.ensures.within);
+      whole = goes_on_so sets more c.pieces.cells.items c.pieces.rest.now c.in-Some.piece.now c.in-Some.later.now k c.add_cell.new.cells.items c.pieces.invariant.within kept c.in_ok-add_cell.ensures
           c.in-Some.ensures.parts (rw c.in-Some-2.is at c.in_ok-place.ensures.reads)
           ∙ c.pieces.invariant.whole;
     }
