@@ -21,8 +21,8 @@ use Rattle.pz_lines.specs.Lines.{lines_from, numbered, text_from, text_of}
 use Rattle.pz_lines.proofs.From.{all_from_0}
 use Rattle.pz_engine.specs.Sessions.{all_passed, has_passed}
 use Rattle.pz_serving.specs.Shares.{AreTakenIn, IsPlayed, IsShare, IsWhole, number_of, passed_at, text_at, texts_from}
-use Rattle.pz_serving.specs.declared.shares.Numbered.{Numbered}
-use Rattle.pz_serving.specs.declared.shares.Played.{Played}
+use Rattle.pz_serving.specs.declared.shares.PlayedSession.{PlayedSession}
+use Rattle.pz_serving.specs.declared.shares.PlayedJob.{PlayedJob}
 use Rattle.pz_serving.specs.declared.shares.Share.{Share}
 
 -- the first number behind the last of these
@@ -50,13 +50,13 @@ fewer_left total old same number of claim =
     omega arith
 
 -- a seat at this table, and what was played of the sessions that it claimed there
-pub record AreClaimed (claims : Numbers) (shown : List Record) (seat : Holding) (sessions : List Numbered) : Type 0 where
+pub record AreClaimed (claims : Numbers) (shown : List Record) (seat : Holding) (sessions : List PlayedSession) : Type 0 where
   pub seat_of : seat.of ≡ claims
   pub claimed : map number_of sessions ≡ seat.numbers
   pub played : All (IsPlayed shown) sessions
 
 -- one more
-pub one_claimed : (claims : Numbers) (shown : List Record) (old same : Holding) (number : ℕ) (session : Numbered) (before after : List Numbered) → AreClaimed claims shown old before → IsClaim old (Got same number)
+pub one_claimed : (claims : Numbers) (shown : List Record) (old same : Holding) (number : ℕ) (session : PlayedSession) (before after : List PlayedSession) → AreClaimed claims shown old before → IsClaim old (Got same number)
     → session.number ≡ number → IsPlayed shown session → after ≡ before ++ session ∷ [] → AreClaimed claims shown same after
 one_claimed claims shown old same number session before after so_far claim here played more = record {
   seat_of = ap (λ (h : Holding). h.of) claim.2 ∙ so_far.seat_of;
@@ -65,7 +65,7 @@ one_claimed claims shown old same number session before after so_far claim here 
 }
 
 -- one share more is joined: the maker has its numbers behind those of the shares before
-pub one_joined : (claims : Numbers) (shown : List Record) (maker before after : Makes) (share : Share) (many next : ℕ) (all more : List Numbered) → before ≡ record maker { numbers = map number_of all; joined = maker.joined + many } → IsShare claims shown share
+pub one_joined : (claims : Numbers) (shown : List Record) (maker before after : Makes) (share : Share) (many next : ℕ) (all more : List PlayedSession) → before ≡ record maker { numbers = map number_of all; joined = maker.joined + many } → IsShare claims shown share
     → after ≡ record before { numbers = before.numbers ++ share.ended.numbers; joined = before.joined + 1 } → more ≡ all ++ share.sessions.items → next ≡ many + 1
     → after ≡ record maker { numbers = map number_of more; joined = maker.joined + next }
 one_joined claims shown maker before after share many next all more so_far is joined longer counted =
@@ -87,8 +87,8 @@ passed-at f (x ∷ job) zero case e = let same : x ≡ case = cc in ap (λ (c : 
 passed-at f (x ∷ job) (suc n) case e = passed-at f job n case e
 
 -- the session of a case was played
-pub is_played : (f : Case → Record) (job : List Case) (session : Numbered) (case : Case) → slice_get job session.number ≡ Some case
-    → session.played.lines ≡ lines_from 0 session.number (f case) → session.played.passed ≡ has_passed (f case) → IsPlayed (map f job) session
+pub is_played : (f : Case → Record) (job : List Case) (session : PlayedSession) (case : Case) → slice_get job session.number ≡ Some case
+    → session.lines ≡ lines_from 0 session.number (f case) → session.passed ≡ has_passed (f case) → IsPlayed (map f job) session
 is_played f job session case at lines passed = record {
   there = let within : session.number < length job = slice_get_within job session.number case at in let many : length (map f job) ≡ length job = length-map job f in omega arith;
   lines = lines ∙ sym (texts-at 0 session.number f job session.number case at (omega arith));
@@ -107,8 +107,8 @@ text_put shown texts n x within so_far =
     (λ other. get_or-set_other texts n x (text_at shown n) [] other ∙ so_far)
 
 -- one session more is taken in
-pub one_taken_in : (shown : List Record) (front : List Numbered) (session : Numbered) (old new : Played) → AreTakenIn shown (map number_of front) old → IsPlayed shown session
-    → new.texts.items ≡ set old.texts.items session.number session.played.lines → new.passed ≡ (old.passed && session.played.passed) → AreTakenIn shown (map number_of (front ++ session ∷ [])) new
+pub one_taken_in : (shown : List Record) (front : List PlayedSession) (session : PlayedSession) (old new : PlayedJob) → AreTakenIn shown (map number_of front) old → IsPlayed shown session
+    → new.texts.items ≡ set old.texts.items session.number session.lines → new.passed ≡ (old.passed && session.passed) → AreTakenIn shown (map number_of (front ++ session ∷ [])) new
 one_taken_in shown front session old new so_far played texts passed =
     let n : ℕ = session.number in
     let more : map number_of (front ++ session ∷ []) ≡ map number_of front ++ n ∷ [] = map-append number_of front (session ∷ []) in
@@ -117,10 +117,10 @@ one_taken_in shown front session old new so_far played texts passed =
     let step : (x : ℕ) → get_or old.texts.items x [] ≡ text_at shown x → get_or new.texts.items x [] ≡ text_at shown x = λ x h. ap (λ (ts : List (List ℕ)). get_or ts x []) put ∙ text_put shown old.texts.items n x within h in
     let mine : get_or new.texts.items n [] ≡ text_at shown n = ap (λ (ts : List (List ℕ)). get_or ts n []) put ∙ get_or-set_same old.texts.items n (text_at shown n) [] within in
     record {
-      long = ap length texts ∙ length-set old.texts.items n session.played.lines ∙ so_far.long;
+      long = ap length texts ∙ length-set old.texts.items n session.lines ∙ so_far.long;
       lines = subst (All (λ x. get_or new.texts.items x [] ≡ text_at shown x)) (sym more)
           (All-push (λ x. get_or new.texts.items x [] ≡ text_at shown x) (map number_of front) n (All-weaker (λ x. get_or old.texts.items x [] ≡ text_at shown x) (λ x. get_or new.texts.items x [] ≡ text_at shown x) step (map number_of front) so_far.lines) mine);
-      told = passed ∙ ap (λ (b : Bool). b && session.played.passed) so_far.told ∙ ap (λ (b : Bool). list_all (passed_at shown) (map number_of front) && b) (played.told ∙ sym (and_true (passed_at shown n)))
+      told = passed ∙ ap (λ (b : Bool). b && session.passed) so_far.told ∙ ap (λ (b : Bool). list_all (passed_at shown) (map number_of front) && b) (played.told ∙ sym (and_true (passed_at shown n)))
           ∙ sym (list_all-append (passed_at shown) (map number_of front) (n ∷ [])) ∙ ap (list_all (passed_at shown)) (sym more);
     }
 
@@ -146,7 +146,7 @@ same_bool false true f g = absurd (true≢false (sym (g refl)))
 same_bool false false f g = refl
 
 -- if each session is taken in, all are
-pub all_taken_in : (shown : List Record) (numbers : List ℕ) (played : Played) → AreTakenIn shown numbers played → Once (length shown) numbers → IsWhole shown played
+pub all_taken_in : (shown : List Record) (numbers : List ℕ) (played : PlayedJob) → AreTakenIn shown numbers played → Once (length shown) numbers → IsWhole shown played
 all_taken_in shown numbers played taken once = record {
   lines = ext_get_or [] played.texts.items (texts_from 0 shown) (taken.long ∙ sym (long 0 shown)) (λ x h.
       holds_of (λ n. get_or played.texts.items n [] ≡ text_at shown n) numbers x taken.lines (once x ∙ once-within x (length shown) (omega (arith, h, taken.long))));

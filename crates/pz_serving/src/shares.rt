@@ -15,28 +15,29 @@ use std::thread::Threads;
 
 /// A session that was played: its number, its lines, and whether it passed.
 #[derive(Drop)]
-struct Numbered {
+struct PlayedSession {
     number: usize,
-    played: PlayedCase,
+    lines: PackedLines,
+    passed: bool,
 }
 
 /// A worker's share: its seat, which has ended, and the sessions that it claimed there, played.
 #[derive(Drop)]
 struct Share {
     ended: Ended,
-    sessions: Vec<Numbered>,
+    sessions: Vec<PlayedSession>,
 }
 
 /// The lines of the sessions of a job that were played, each in the place of its number, and whether all of these passed.
 #[derive(Drop)]
-pub(crate) struct Played {
+pub(crate) struct PlayedJob {
     pub texts: Vec<PackedLines>,
     pub passed: bool,
 }
 
-impl Played {
+impl PlayedJob {
     /// So many sessions, none of which was played yet.
-    fn blank(alloc: Global, count: usize) -> Result<Played, AllocError>
+    fn blank(alloc: Global, count: usize) -> Result<PlayedJob, AllocError>
         ensures texts { IfOk result (λ played. played.texts.items ≡ replicate count []) }
         ensures passed { IfOk result (λ played. played.passed ≡ true) }
     {
@@ -44,21 +45,20 @@ impl Played {
         for _ in 0..count {
             texts.push(Packer::new(alloc).finish())?;
         }
-        Ok(Played {
+        Ok(PlayedJob {
             texts,
             passed: true,
         })
     }
 
     /// Takes in a session that was played.
-    fn take_in(&mut self, session: Numbered)
+    fn take_in(&mut self, session: PlayedSession)
         requires { session.number < length self.old.texts.items }
-        ensures texts { self.new.texts.items ≡ slice_set self.old.texts.items session.number session.played.lines }
-        ensures passed { self.new.passed ≡ (self.old.passed && session.played.passed) }
+        ensures texts { self.new.texts.items ≡ slice_set self.old.texts.items session.number session.lines }
+        ensures passed { self.new.passed ≡ (self.old.passed && session.passed) }
     {
-        let Numbered { number, played } = session;
-        self.texts[number] = played.lines;
-        self.passed = self.passed && played.passed;
+        self.texts[session.number] = session.lines;
+        self.passed = self.passed && session.passed;
     }
 }
 
@@ -88,17 +88,21 @@ impl<'a> Work<'a> {
     }
 
     /// Plays the session of a number.
-    fn play(&self, number: usize) -> Result<Numbered, AllocError>
+    fn play_session(&self, number: usize) -> Result<PlayedSession, AllocError>
         requires { number < length self.now.job.now }
         ensures number { IfOk result (λ session. session.number ≡ number) }
         ensures played { IfOk result (IsPlayed (recording self.now.job.now)) }
     {
         let played = play_case(self.alloc, number as u64, self.job.case(number), 0)?;
-        Ok(Numbered { number, played })
+        Ok(PlayedSession {
+            number,
+            lines: played.lines,
+            passed: played.passed,
+        })
     }
 
     /// A worker's whole run, on a seat that holds nothing: it claims a session, plays it, and claims again, until none is left.
-    fn share(&self, seat: Seat) -> Result<Share, AllocError>
+    fn play_share(&self, seat: Seat) -> Result<Share, AllocError>
         requires seat { (seat.of ≡ self.now.claims.now) × (seat.numbers ≡ []) }
         requires job { self.now.claims.now.total ≡ length self.now.job.now }
         ensures { IfOk result (IsShare self.now.claims.now (recording self.now.job.now)) }
@@ -109,7 +113,7 @@ impl<'a> Work<'a> {
             match self.claims.claim(seat) {
                 Claimed::Got(same, number) => {
                     seat = same;
-                    sessions.push(self.play(number)?)?;
+                    sessions.push(self.play_session(number)?)?;
                 }
                 Claimed::Done(ended) => return Ok(Share { ended, sessions }),
             }
@@ -118,7 +122,7 @@ impl<'a> Work<'a> {
 
     /// The shares of all workers. Each runs in a thread of its own if one can be made, the calling thread among them; else they run one
     /// after another.
-    fn shares<T: Threads + Sync>(
+    fn play_shares<T: Threads + Sync>(
         &self,
         rt: &T,
         seats: Vec<Seat>,
@@ -134,7 +138,7 @@ impl<'a> Work<'a> {
             &|seat| -> Result<Share, AllocError>
                 requires { (seat.of ≡ self.now.claims.now) × (seat.numbers ≡ []) × (self.now.claims.now.total ≡ length self.now.job.now) }
                 ensures { IfOk result (IsShare self.entry.now.claims.now (recording self.entry.now.job.now)) }
-            { self.share(seat) },
+            { self.play_share(seat) },
         )
     }
 
@@ -143,7 +147,7 @@ impl<'a> Work<'a> {
         &self,
         maker: Maker,
         shares: Vec<Result<Share, AllocError>>,
-    ) -> Result<(Maker, Vec<Numbered>), AllocError>
+    ) -> Result<(Maker, Vec<PlayedSession>), AllocError>
         requires maker { (maker.of ≡ self.now.claims.now) × (maker.numbers ≡ []) }
         requires shares { All (λ share. IfOk share (IsShare self.now.claims.now (recording self.now.job.now))) shares.items }
         ensures maker { IfOk result (λ joined. joined.0 ≡ record maker { numbers = map number_of joined.1.items; joined = maker.joined + length shares.items }) }
@@ -163,11 +167,11 @@ impl<'a> Work<'a> {
     }
 
     /// Takes in sessions that were played, in any order.
-    fn take_in(&self, sessions: Vec<Numbered>) -> Result<Played, AllocError>
+    fn take_in(&self, sessions: Vec<PlayedSession>) -> Result<PlayedJob, AllocError>
         requires { All (IsPlayed (recording self.now.job.now)) sessions.items }
         ensures { IfOk result (AreTakenIn (recording self.now.job.now) (map number_of sessions.items)) }
     {
-        let mut played = Played::blank(self.alloc, self.job.len())?;
+        let mut played = PlayedJob::blank(self.alloc, self.job.len())?;
         for session in sessions {
             played.take_in(session);
         }
@@ -181,9 +185,8 @@ pub(crate) fn play_shared<T: Threads + Sync>(
     alloc: Global,
     job: &Job,
     workers: usize,
-) -> Result<Played, AllocError>
-    requires some { 1 ≤ workers }
-    requires few { workers ≤ MOST_SEATS }
+) -> Result<PlayedJob, AllocError>
+    requires { workers ≤ MOST_SEATS }
     ensures { IfOk result (IsWhole (recording job.now)) }
 {
     let (claims, maker) = Claims::new(alloc, job.len())?;
@@ -193,7 +196,7 @@ pub(crate) fn play_shared<T: Threads + Sync>(
         job,
     };
     let (maker, seats) = work.seats(maker, workers.min(job.len()).max(1))?;
-    let shares = work.shares(rt, seats)?;
+    let shares = work.play_shares(rt, seats)?;
     let (maker, sessions) = work.join(maker, shares)?;
     let played = work.take_in(sessions)?;
     claims.close(maker);

@@ -9,7 +9,6 @@ use pz_session::Order;
 use std::alloc::Global;
 use std::io;
 use std::io::{Read, Write};
-use std::sync::Wait;
 use std::test::Fail;
 use std::thread::Threads;
 
@@ -295,7 +294,7 @@ const WALK: &str =
     r#"[["walk",["OBJECTS\nBackground .\nblack\nPlayer p\nwhite\nWall #\ngrey\nLEGEND\nCOLLISIONLAYERS\nBackground\nPlayer, Wall\nLEVELS\n#p.#\n",[3,3],"background wall:0,background:1,background player:2,0,\n"]]]"#;
 
 /// Serves the walk to a writer that fails at its fourth call: the status, and the bytes that the writer took.
-fn served_to_a_failing_writer<T: Threads + Wait + Sync, E: Write>(
+fn served_to_a_failing_writer<T: Threads + Sync, E: Write>(
     rt: &T,
     alloc: Global,
     errors: &mut Output<E>,

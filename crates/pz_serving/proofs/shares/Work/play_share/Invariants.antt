@@ -1,7 +1,7 @@
 use Rattle.std.proofs.Common.{◌-◌}
 use Rattle.pz_session.specs.Recording.{recording}
 use Rattle.pz_serving.proofs.Sharing.{AreClaimed, behind}
-use Rattle.pz_serving.proofs.shares.Work.share.Given as goal
+use Rattle.pz_serving.proofs.shares.Work.play_share.Given as goal
 
 -- (each claim gives a greater number)
 abbrev pub decreases-claims : goal.decreases-claims
