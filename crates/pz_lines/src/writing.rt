@@ -134,8 +134,27 @@ fn write_lines_of<W: Write>(
     Ok(lines)
 }
 
-/// Writes packed lines, those of one text after those of another: all of them, or as many first bytes as the fault tells. After a
-/// failed write nothing more is written.
+/// Writes the packed lines of texts, one text after another, and counts their bytes, those written before them included.
+fn write_texts<W: Write>(
+    alloc: Global,
+    texts: &[PackedLines],
+    written: &mut u64,
+    output: &mut Output<W>,
+) -> Result<(), Cause>
+    requires { output.old.failure ≡ None }
+    ensures ok { OnOk result (IsSent (concat texts.now) written.old written.new output.old output.new) }
+    ensures err { IfErr result (IsSentInPart (concat texts.now) written.old written.new output.old output.new) }
+{
+    let mut lines = Vec::new(alloc);
+    for packed in texts {
+        lines = write_lines_of(lines, packed, written, output)?;
+    }
+    write_lines(&lines, written, output)?;
+    Ok(())
+}
+
+/// Writes the packed lines of texts, one text after another: all of them, or as many first bytes as the fault tells. After a failed
+/// write nothing more is written.
 pub fn write_packed<W: Write>(
     alloc: Global,
     texts: &[PackedLines],
@@ -146,14 +165,7 @@ pub fn write_packed<W: Write>(
     ensures err { IfErr result (λ fault. EndsFor fault (concat texts.now) output.old output.new) }
 {
     let mut written = 0;
-    let mut lines = Vec::new(alloc);
-    for packed in texts {
-        match write_lines_of(lines, packed, &mut written, output) {
-            Ok(left) => lines = left,
-            Err(cause) => return Err(WriteFault { written, cause }),
-        }
-    }
-    match write_lines(&lines, &mut written, output) {
+    match write_texts(alloc, texts, &mut written, output) {
         Ok(()) => Ok(()),
         Err(cause) => Err(WriteFault { written, cause }),
     }
