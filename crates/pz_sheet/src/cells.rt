@@ -1,12 +1,12 @@
 //! One cell of a level: lent, or replaced.
 
-ghost use Rattle.std.specs.Prelude.{◌≡◌, ◌<◌, ◌≤◌, ◌*◌, ◌/◌, ◌%◌, ℕ, length};
+ghost use Rattle.std.specs.Prelude.{◌≡◌, ◌<◌, ◌≤◌, ◌+◌, ◌*◌, ◌/◌, ◌%◌, ℕ, nat_eq, length};
 ghost use Rattle.pz_sets.specs.Sets.{member};
 ghost use Rattle.pz_cells.specs.Layering.{IsLayering};
 ghost use Rattle.pz_cells.specs.Lists.{seen, IsSound};
-ghost use Rattle.pz_planes.specs.Planes.{AreChanged, AreKnown, AreThere};
+ghost use Rattle.pz_planes.specs.Planes.{AreChanged, AreKnown, AreThere, toggled};
 ghost use Rattle.pz_sheet.specs.Changes.{with_cell};
-ghost use Rattle.pz_sheet.specs.Grid.{layers_in};
+ghost use Rattle.pz_sheet.specs.Grid.{IsOnMap, cell_at, layers_in};
 ghost use Rattle.pz_sheet.specs.Presence.{cell_of, is_in};
 
 use crate::Sheet;
@@ -53,6 +53,20 @@ impl<const N: usize> Sheet<N> {
         self.cells[index] = cell;
         note_heading(&mut self.notes, &self.layers, index, &cell);
         note_objects(&mut self.planes, index, &before, &cell);
+    }
+
+    /// The same at a position, where exactly this object comes or goes.
+    pub(crate) fn set_toggled(&mut self, x: u32, y: u32, object: usize, cell: Cell<N>)
+        requires on_map { IsOnMap self.old.grid x y }
+        requires sound { IsSound (layers_in self.old.grid) cell }
+        requires known { object < length self.old.grid.layers }
+        requires toggled { (other : ℕ) → member cell.objects other ≡ toggled (nat_eq other object) (is_in (cell_at self.old.grid x y) other) }
+        ensures { self.new.grid ≡ with_cell self.old.grid (record { number = y * self.old.grid.width + x; cell = seen (layers_in self.old.grid) cell.entry }) }
+    {
+        let index = self.index(x, y);
+        self.cells[index] = cell;
+        note_heading(&mut self.notes, &self.layers, index, &cell);
+        self.planes.toggle(object, x as usize, y as usize);
     }
 }
 
