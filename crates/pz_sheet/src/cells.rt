@@ -63,9 +63,9 @@ impl<const N: usize> Sheet<N> {
         requires toggled { (other : ℕ) → member cell.objects other ≡ toggled (nat_eq other object) (is_in (cell_at self.old.grid x y) other) }
         ensures { self.new.grid ≡ with_cell self.old.grid (record { number = y * self.old.grid.width + x; cell = seen (layers_in self.old.grid) cell.entry }) }
     {
-        let index = self.index(x, y);
-        self.cells[index] = cell;
-        note_heading(&mut self.notes, &self.layers, index, &cell);
+        let number = self.index(x, y);
+        self.cells[number] = cell;
+        note_heading(&mut self.notes, &self.layers, number, &cell);
         self.planes.toggle(object, x as usize, y as usize);
     }
 }
