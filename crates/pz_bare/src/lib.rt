@@ -17,6 +17,7 @@ ghost use Rattle.pz_sheet.specs.Pushing.{pushed};
 ghost use Rattle.pz_sheet.specs.Rewriting.{with_rewritten, changes};
 ghost use Rattle.pz_sheet.specs.Searching.{HoldsSomewhere};
 ghost use Rattle.pz_sheet.specs.Standing.{standing_at, stands};
+ghost use Rattle.pz_sheet.specs.Toggle.{IsToggle};
 ghost use Rattle.pz_bare.specs.AnySheet.{state_in};
 
 use pz_cells::piece::Piece;
@@ -204,19 +205,20 @@ impl BareLevel {
         }
     }
 
-    /// Puts a piece, or nothing, on a layer of a position of the map.
-    pub fn put(&mut self, x: u32, y: u32, layer: usize, place: Option<Piece>)
+    /// Puts a piece on a layer of a position where nothing stands, or takes away the piece that stands there. `object` is the piece's.
+    pub fn toggle(&mut self, x: u32, y: u32, layer: usize, object: usize, place: Option<Piece>)
         requires x_in { x < self.old.grid.width }
         requires y_in { y < self.old.grid.height }
         requires layer_in { layer < self.old.grid.depth }
         requires on_layer { IsOnLayer self.old.grid.layers layer place }
+        requires one { IsToggle object (place_at self.old.grid x y layer) place }
         ensures put { self.new.grid ≡ with_place self.old.grid x y layer place }
         ensures there { place_at self.new.grid x y layer ≡ place }
     {
         match &mut *self.sheet {
-            AnySheet::Small(sheet) => sheet.put(x, y, layer, place),
-            AnySheet::Middle(sheet) => sheet.put(x, y, layer, place),
-            AnySheet::Large(sheet) => sheet.put(x, y, layer, place),
+            AnySheet::Small(sheet) => sheet.toggle(x, y, layer, object, place),
+            AnySheet::Middle(sheet) => sheet.toggle(x, y, layer, object, place),
+            AnySheet::Large(sheet) => sheet.toggle(x, y, layer, object, place),
         }
     }
 

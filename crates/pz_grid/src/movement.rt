@@ -8,6 +8,7 @@ ghost use Rattle.pz_grid.specs.Marks.{IsMarked, IsMarkedAt, IsWidened};
 ghost use Rattle.pz_grid.specs.Staying.{IsMove};
 ghost use Rattle.pz_grid.specs.Movement.{neighbour, heading_goal, spot, in_pass, move_at, spots_at, spots_in, pass_of, moving, settle, resolved, Stays, Leaves};
 ghost use Rattle.pz_sheet.specs.Movement.{stilled, IsStillAt, AreStill, AreColumnsStill};
+ghost use Rattle.pz_sheet.specs.Toggle.{IsToggle};
 
 use crate::Level;
 use pz_bare::AnySheet;
@@ -146,18 +147,20 @@ impl Level {
         self.bare.next_heading(x, from)
     }
 
-    /// Puts a piece, or nothing, on a layer of a position of the map. The piece's object must be marked there.
-    fn put(&mut self, x: u32, y: u32, layer: usize, place: Option<Piece>)
+    /// Puts a piece on a layer of a position where nothing stands, or takes away the piece that stands there. `object` is the piece's. A piece
+    /// that is put there must be marked.
+    fn toggle(&mut self, x: u32, y: u32, layer: usize, object: usize, place: Option<Piece>)
         requires on_map { IsOnMap self.old.grid x y }
         requires layer_in { layer < self.old.grid.depth }
         requires on_layer { IsOnLayer self.old.grid.layers layer place }
+        requires one { IsToggle object (place_at self.old.grid x y layer) place }
         requires marked { IfSome place (λ piece. IsMarkedAt self.old x y (nat_eq piece.object)) }
         ensures put { self.new.grid ≡ with_place self.old.grid x y layer place }
         ensures there { place_at self.new.grid x y layer ≡ place }
         ensures row_marks { self.new.row_marks ≡ self.old.row_marks }
         ensures column_marks { self.new.column_marks ≡ self.old.column_marks }
     {
-        self.bare.put(x, y, layer, place);
+        self.bare.toggle(x, y, layer, object, place);
     }
 
     /// Stills every piece.
@@ -182,9 +185,16 @@ impl Level {
         match self.leaving(x, y, layer) {
             None => moved,
             Some((piece, (next_x, next_y))) => {
-                self.put(x, y, layer, None);
-                self.mark(next_x, next_y, piece.object as usize);
-                self.put(next_x, next_y, layer, Some(Piece::still(piece.object)));
+                let object = piece.object as usize;
+                self.toggle(x, y, layer, object, None);
+                self.mark(next_x, next_y, object);
+                self.toggle(
+                    next_x,
+                    next_y,
+                    layer,
+                    object,
+                    Some(Piece::still(piece.object)),
+                );
                 true
             }
         }

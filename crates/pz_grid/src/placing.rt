@@ -23,6 +23,9 @@ use std::marker::Model;
 /// The most places that a row may have.
 pub const MATCH_LIMIT: usize = 1_048_576;
 
+/// For how many places memory is asked at the first.
+const SOME_PLACES: usize = 16;
+
 /// Where a row starts, and how many cells its gap spans. A row without a gap has the gap 0.
 #[derive(Clone, Copy, Debug, PartialEq, Eq)]
 pub struct Place {
@@ -303,6 +306,9 @@ impl Found {
     {
         if self.places.len() == MATCH_LIMIT {
             return Err(GridFault::MatchLimit);
+        }
+        if self.places.is_empty() && self.places.reserve(SOME_PLACES).is_err() {
+            return Err(GridFault::Memory);
         }
         if self.places.push(place).is_err() {
             return Err(GridFault::Memory);

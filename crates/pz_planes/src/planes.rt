@@ -322,7 +322,7 @@ impl Planes {
     }
 
     /// Toggles the note of an object at a position of the map.
-    fn toggle(&mut self, object: usize, x: usize, y: usize)
+    pub fn toggle(&mut self, object: usize, x: usize, y: usize)
         requires inside { IsInside self.old x y }
         requires known { IsKnown self.old object }
         ensures { AreChanged self.old self.new x y (λ other was. toggled (nat_eq other object) was) }

@@ -13,5 +13,6 @@ pub mod StartLemmas
 pub mod NewerLemmas
 pub mod CountLemmas
 pub mod TellLemmas
+pub mod ToggleLemmas
 pub mod EndLemmas
 pub mod MarkLemmas

@@ -1,5 +1,5 @@
 -- The objects of the cells of a level, noted where they stand.
-use Rattle.pz_sheet.proofs.Common.{Layering, ◌≡◌, inl, inr, ℕ, ◌+◌, ◌*◌, ◌/◌, ◌%◌, ◌<◌, ◌≤◌, List, false, set, length, get_or, arith, ap, sym, ◌∙◌, subst, get_or-set_same, get_or-set_other, All, cases_eq, get_or_default, mul-add-lt, div-mul-add, mod-mul-add, member, PlaneSets, AreChanged, AreThere, HaveSameLines, AreKnown, IsFor, AreThereAt, still_there_at, number_of, column_in, row_in, known_of, Cell, AreAllThere, ArePlaced, EndWithin, IsSound, no_number}
+use Rattle.pz_sheet.proofs.Common.{Layering, ◌≡◌, inl, inr, ℕ, ◌+◌, ◌*◌, ◌/◌, ◌%◌, ◌<◌, ◌≤◌, List, false, set, length, get_or, arith, refl, ap, sym, ◌∙◌, subst, get_or-set_same, get_or-set_other, All, cases_eq, get_or_default, mul-add-lt, div-mul-add, mod-mul-add, member, PlaneSets, AreChanged, AreThere, HaveSameLines, AreKnown, IsFor, AreThereAt, still_there_at, number_of, column_in, row_in, known_of, Cell, AreAllThere, ArePlaced, EndWithin, IsSound, no_number}
 use Rattle.std.proofs.Common.{replicate}
 use Rattle.std.proofs.lemmas.Nat.{same_from_place}
 use Rattle.pz_planes.proofs.PlaneLemmas.{still_there}
@@ -102,3 +102,10 @@ placed_all N objects width height planes next cells fits size there ends = recor
 
 pub all_known : (N : ℕ) (layering : Layering) (width height : ℕ) (planes : PlaneSets) (cells : List (Cell N)) → IsFor (length layering.layers) width height planes → All (IsSound layering) cells → All (λ cell. AreKnown planes cell.objects) cells
 all_known N layering width height planes cells fits sound k cell within = known_of layering.layers width height planes (get_or cells k cell).objects fits (sound k cell within).of_game
+
+-- where the same objects stand, the notes stay
+pub unchanged : (planes : PlaneSets) (x y : ℕ) (before new : List ℕ) → AreThere planes x y (member before) → ((object : ℕ) → member before object ≡ member new object) → AreChanged planes planes x y (λ object was. member new object)
+unchanged planes x y before new there same = record {
+  rows = record { objects = refl; count = refl; here = λ object low. there.row object low ∙ same object; others = λ object other place line_in low apart. refl };
+  columns = record { objects = refl; count = refl; here = λ object low. there.column object low ∙ same object; others = λ object other place line_in low apart. refl };
+}

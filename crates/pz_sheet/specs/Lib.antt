@@ -11,6 +11,7 @@ pub mod Holding
 pub mod Loading
 pub mod Rewriting
 pub mod Searching
+pub mod Toggle
 pub mod Runs
 pub mod Line
 pub mod Marks

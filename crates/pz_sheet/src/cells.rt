@@ -1,17 +1,20 @@
 //! One cell of a level: lent, or replaced.
 
-ghost use Rattle.std.specs.Prelude.{◌≡◌, ◌<◌, ◌≤◌, ℕ, length};
+ghost use Rattle.std.specs.Prelude.{◌≡◌, ◌<◌, ◌≤◌, ◌+◌, ◌*◌, ◌/◌, ◌%◌, ℕ, nat_eq, length};
 ghost use Rattle.pz_sets.specs.Sets.{member};
 ghost use Rattle.pz_cells.specs.Layering.{IsLayering};
 ghost use Rattle.pz_cells.specs.Lists.{seen, IsSound};
+ghost use Rattle.pz_planes.specs.Planes.{AreChanged, AreKnown, AreThere, toggled};
 ghost use Rattle.pz_sheet.specs.Changes.{with_cell};
-ghost use Rattle.pz_sheet.specs.Grid.{layers_in};
+ghost use Rattle.pz_sheet.specs.Grid.{IsOnMap, cell_at, layers_in};
 ghost use Rattle.pz_sheet.specs.Presence.{cell_of, is_in};
 
 use crate::Sheet;
 use crate::noting::note_heading;
 use pz_cells::cell::Cell;
 use pz_cells::layers::Layers;
+use pz_planes::planes::Planes;
+use pz_sets::words::same;
 
 impl<const N: usize> Sheet<N> {
     /// The layers of the game.
@@ -49,9 +52,37 @@ impl<const N: usize> Sheet<N> {
         let before = self.cells[index];
         self.cells[index] = cell;
         note_heading(&mut self.notes, &self.layers, index, &cell);
-        self.planes
-            .note_at(index, objects_of(&before), objects_of(&cell));
+        note_objects(&mut self.planes, index, &before, &cell);
     }
+
+    /// The same at a position, where exactly this object comes or goes.
+    pub(crate) fn set_toggled(&mut self, x: u32, y: u32, object: usize, cell: Cell<N>)
+        requires on_map { IsOnMap self.old.grid x y }
+        requires sound { IsSound (layers_in self.old.grid) cell }
+        requires known { object < length self.old.grid.layers }
+        requires toggled { (other : ℕ) → member cell.objects other ≡ toggled (nat_eq other object) (is_in (cell_at self.old.grid x y) other) }
+        ensures { self.new.grid ≡ with_cell self.old.grid (record { number = y * self.old.grid.width + x; cell = seen (layers_in self.old.grid) cell.entry }) }
+    {
+        let number = self.index(x, y);
+        self.cells[number] = cell;
+        note_heading(&mut self.notes, &self.layers, number, &cell);
+        self.planes.toggle(object, x as usize, y as usize);
+    }
+}
+
+/// Notes what stands in the cell of this number, instead of what stood there before. Mostly only a heading changes.
+fn note_objects<const N: usize>(planes: &mut Planes, index: usize, before: &Cell<N>, cell: &Cell<N>)
+    requires short { N ≤ 4 }
+    requires within { index < planes.old.columns.count * planes.old.rows.count }
+    requires known_before { AreKnown planes.old before.now.objects }
+    requires known { AreKnown planes.old cell.now.objects }
+    requires there { AreThere planes.old (index % planes.old.columns.count) (index / planes.old.columns.count) (member before.now.objects) }
+    ensures { AreChanged planes.old planes.new (index % planes.old.columns.count) (index / planes.old.columns.count) (λ object was. member cell.now.objects object) }
+{
+    if same(&before.objects, &cell.objects) {
+        return;
+    }
+    planes.note_at(index, objects_of(before), objects_of(cell));
 }
 
 /// The words of the objects that stand in a cell.

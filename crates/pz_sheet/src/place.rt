@@ -7,6 +7,7 @@ ghost use Rattle.pz_cells.specs.Cell.{IsOnLayer};
 ghost use Rattle.pz_cells.specs.Pattern.{pattern_holds};
 ghost use Rattle.pz_sheet.specs.Grid.{IsOnMap, cell_at, place_at, with_place};
 ghost use Rattle.pz_sheet.specs.Rewriting.{with_rewritten, changes};
+ghost use Rattle.pz_sheet.specs.Toggle.{IsToggle};
 
 use crate::Sheet;
 use pz_cells::piece::Piece;
@@ -25,11 +26,12 @@ impl<const N: usize> Sheet<N> {
         self.cell(self.index(x, y)).place(layers, layer)
     }
 
-    /// Puts a piece, or nothing, on a layer of a position of the map.
-    pub fn put(&mut self, x: u32, y: u32, layer: usize, place: Option<Piece>)
+    /// Puts a piece on a layer of a position where nothing stands, or takes away the piece that stands there. `object` is the piece's.
+    pub fn toggle(&mut self, x: u32, y: u32, layer: usize, object: usize, place: Option<Piece>)
         requires on_map { IsOnMap self.old.grid x y }
         requires layer_in { layer < self.old.grid.depth }
         requires on_layer { IsOnLayer self.old.grid.layers layer place }
+        requires one { IsToggle object (place_at self.old.grid x y layer) place }
         ensures put { self.new.grid ≡ with_place self.old.grid x y layer place }
         ensures there { place_at self.new.grid x y layer ≡ place }
     {
@@ -37,7 +39,7 @@ impl<const N: usize> Sheet<N> {
         let layers = self.layers();
         let mut cell = *self.cell(index);
         cell.put(layers, layer, place);
-        self.set_cell(index, cell);
+        self.set_toggled(x, y, object, cell);
     }
 
     /// Whether a rule's cell holds at a position of the map.

@@ -9,9 +9,9 @@ returns-in-Some-clause-marks c =
     let y = c.in-Some.next_y in
     let leaves = c.in-Some.ensures in
     let still : Some c.still.result ≡ Some (still_piece piece.object) = ap Some c.still.ensures in
-    moves_piece c.args.self.now c.put.new.self c.mark.new.self c.put-in-Some.new.self c.args.x c.args.y c.args.layer piece x y
+    moves_piece c.args.self.now c.toggle.new.self c.mark.new.self c.toggle-in-Some.new.self c.args.x c.args.y c.args.layer piece x y
     leaves.there leaves.goes leaves.on_map.0 leaves.on_map.1
-    c.put.ensures.put c.put.ensures.row_marks c.put.ensures.column_marks
+    c.toggle.ensures.put c.toggle.ensures.row_marks c.toggle.ensures.column_marks
     c.mark.ensures.grid c.mark.ensures.rows c.mark.ensures.columns
-    (c.put-in-Some.ensures.put ∙ ap (λ (p : Option Piece). with_place c.mark.new.self.grid x y c.args.layer p) still) c.put-in-Some.ensures.row_marks c.put-in-Some.ensures.column_marks
-    (c.put-in-Some.ensures.there ∙ still)
+    (c.toggle-in-Some.ensures.put ∙ ap (λ (p : Option Piece). with_place c.mark.new.self.grid x y c.args.layer p) still) c.toggle-in-Some.ensures.row_marks c.toggle-in-Some.ensures.column_marks
+    (c.toggle-in-Some.ensures.there ∙ still)

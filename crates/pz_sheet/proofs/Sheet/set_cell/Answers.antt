@@ -12,23 +12,30 @@ index_mut-requires g c = omega (arith, c.self.inside.cells.ok.0, seen_within _ _
 pub note_heading-requires : goal.note_heading-requires
 note_heading-requires g c = (let s = c.self.invariant.stored in (omega arith, (small_cell _ s.law.short, within_lines _ _ c.self.inside.width c.self.inside.height _ _ s.noted.column_count s.noted.row_count s.covers (seen_within _ _ _ c.self.inside.layers c.self.inside.cells.items _ c.args.index (ap (λ (s : BareState). s.grid) c.self.view_is) c.requires.within))))
 
-pub note_at-requires-clause-within : goal.note_at-requires-clause-within
-note_at-requires-clause-within g c = (let fits = c.self.invariant.placed.fits in within_lines _ _ c.self.inside.width c.self.inside.height _ _ fits.column_count fits.row_count c.self.invariant.stored.covers (seen_within _ _ _ c.self.inside.layers c.self.inside.cells.items _ c.args.index (ap (λ (s : BareState). s.grid) c.self.view_is) c.requires.within))
-
-pub note_at-requires-clause-known_before : goal.note_at-requires-clause-known_before
-note_at-requires-clause-known_before g c =
+pub note_objects-requires : goal.note_objects-requires
+note_objects-requires g c =
     let a = c.self.inside in
-    let within = seen_within _ _ _ a.layers a.cells.items _ c.args.index (ap (λ (s : BareState). s.grid) c.self.view_is) c.requires.within in
-    let sound = sound_at a.layers a.cells.items c.args.index c.index.result.now c.self.invariant.stored.sound within c.index.ensures in
-    subst (AreKnown a.planes) (sym c.objects_of.ensures.objects) (known_of a.layers.layers a.width a.height a.planes c.index.result.now.objects c.self.invariant.placed.fits sound.of_game)
-
-pub note_at-requires-clause-there : goal.note_at-requires-clause-there
-note_at-requires-clause-there g c =
-    let a = c.self.inside in
-    let at = c.args.index in
-    let within = seen_within _ _ _ a.layers a.cells.items _ at (ap (λ (s : BareState). s.grid) c.self.view_is) c.requires.within in
-    subst (λ (words : List ℕ). AreThere a.planes (at % a.planes.columns.count) (at / a.planes.columns.count) (member words)) (sym c.objects_of.ensures.objects)
-    (there_at _ _ a.width a.height at a.planes a.cells.items c.index.result.now c.self.invariant.placed within c.self.invariant.stored.covers c.index.ensures)
+    let s = c.self.invariant.stored in
+    let fits = c.self.invariant.placed.fits in
+    let e = ap (λ (s : BareState). s.grid) c.self.view_is in
+    let within = seen_within _ _ _ a.layers a.cells.items _ c.args.index e c.requires.within in
+    let before = sound_at a.layers a.cells.items c.args.index c.index.result.now s.sound within c.index.ensures in
+    let new = subst (λ (grid : Grid). IsSound (layers_in grid) c.args.cell) (sym e) c.requires.sound in (
+      small_cell _ s.law.short,
+      (
+        s.law.short,
+        (
+          within_lines _ _ a.width a.height _ _ fits.column_count fits.row_count s.covers within,
+          (
+            known_of a.layers.layers a.width a.height a.planes c.index.result.now.objects fits before.of_game,
+            (
+              known_of a.layers.layers a.width a.height a.planes c.args.cell.objects fits new.of_game,
+              there_at _ _ a.width a.height c.args.index a.planes a.cells.items c.index.result.now c.self.invariant.placed within s.covers c.index.ensures,
+            ),
+          ),
+        ),
+      ),
+    )
 
 pub invariant_of-self : goal.invariant_of-self
 invariant_of-self g c =
@@ -40,8 +47,7 @@ invariant_of-self g c =
     record {
       stored = stored_set _ a.width a.height a.layers a.cells.items at new a.notes c.note_heading.new.notes c.self.invariant.stored
           (subst (λ (grid : Grid). IsSound (layers_in grid) new) (sym e) c.requires.sound) c.note_heading.ensures.noted c.note_heading.ensures.wider;
-      placed = placed_at _ (length a.layers.layers) a.width a.height a.planes c.note_at.new.self a.cells.items at new c.self.invariant.placed within c.self.invariant.stored.covers
-          (subst (λ (words : List ℕ). AreChanged a.planes c.note_at.new.self (at % a.planes.columns.count) (at / a.planes.columns.count) (λ object was. member words object)) c.objects_of-2.ensures.objects c.note_at.ensures);
+      placed = placed_at _ (length a.layers.layers) a.width a.height a.planes c.note_objects.new.planes a.cells.items at new c.self.invariant.placed within c.self.invariant.stored.covers c.note_objects.ensures;
     }
 
 pub returns : goal.returns
