@@ -21,21 +21,8 @@ impl BareLevel {
         }
     }
 
-    /// The first cell, from number `from` on, in which a level of the same size differs. Cells are numbered row by row.
-    pub fn next_change(&self, other: &BareLevel, from: usize) -> Option<usize>
-        requires size { SameSize self.now.grid other.now.grid }
-        ensures lawful { IsLawful self.now.grid }
-        ensures next { IsNext (differ_in self.now.grid other.now.grid) from (length self.now.grid.cells) result }
-    {
-        match (&*self.sheet, &*other.sheet) {
-            (AnySheet::Small(sheet), AnySheet::Small(other)) => sheet.next_change(other, from),
-            (AnySheet::Middle(sheet), AnySheet::Middle(other)) => sheet.next_change(other, from),
-            (AnySheet::Large(sheet), AnySheet::Large(other)) => sheet.next_change(other, from),
-            _ => unreachable!(),
-        }
-    }
-
-    /// The same, where some changes are known already. More may be known then.
+    /// The first cell, from number `from` on, in which a level of the same size differs. Cells are numbered row by row. Some changes may be
+    /// known already, and more may be known then.
     pub fn next_change_after(
         &self,
         other: &BareLevel,
