@@ -24,8 +24,8 @@ use std::alloc::Global;
 use std::io::{self, ErrorKind, Read, Write};
 use std::thread::Threads;
 
-/// Plays a job by several workers, and writes the lines of its sessions; tells whether every session passed. A single worker, or a single session,
-/// is played in the calling thread.
+/// Plays a job by several workers, and writes the lines of its sessions; tells whether every session passed. A single worker plays in the
+/// calling thread.
 fn play_job<T: Threads + Sync, W: Write>(
     rt: &T,
     alloc: Global,
@@ -112,11 +112,11 @@ pub(crate) fn serve_and_keep<T: Threads + Sync, R: Read, W: Write, E: Write>(
     }
 }
 
-/// Reads a file of sessions to its end, replays them by so many workers (in the calling thread if there is one worker or at most one
-/// session), writes the lines of their recording, and answers the exit status: 0 if every session passed, 1 if some didn't, 2 if there is no whole recording. At 2
-/// one line says why, and nothing is written to the output. Only if the writing itself failed does the output have the first
-/// bytes of the recording. The reader was not called yet, and is called at most 16,777,217 times. The run ends with a failed read
-/// exactly if a call of the reader answered an error.
+/// Reads a file of sessions to its end, replays them by so many workers (one of them in the calling thread), writes the lines of their
+/// recording, and answers the exit status: 0 if every session passed, 1 if some didn't, 2 if there is no whole recording. At 2 one line
+/// says why, and nothing is written to the output. Only if the writing itself failed does the output have the first bytes of the
+/// recording. The reader was not called yet, and is called at most 16,777,217 times. The run ends with a failed read exactly if a call of
+/// the reader answered an error.
 pub fn serve<T: Threads + Sync, R: Read, W: Write, E: Write>(
     rt: &T,
     alloc: Global,
