@@ -9,11 +9,11 @@ use std::alloc::{AllocError, Global};
 use std::test::Fail;
 
 /// Lines, one after another: how long each is, and from which byte up to which it has dashes in place of letters.
-const LINES: [(usize, usize, usize); 20] = [
+const LINES: [(usize, usize, usize); 21] = [
     // the same twice
     (200, 0, 0),
     (200, 0, 0),
-    // in the head, behind it, inside a chunk, over several, at the end
+    // in the first block, at the start of another, inside a chunk, over several, at the end
     (200, 0, 1),
     (200, 64, 65),
     (200, 70, 76),
@@ -27,10 +27,11 @@ const LINES: [(usize, usize, usize); 20] = [
     (130, 0, 0),
     (400, 0, 0),
     (400, 150, 151),
-    // about as long as the head
+    // about as long as one block or two
     (64, 0, 0),
-    (65, 0, 0),
-    (63, 0, 0),
+    (33, 0, 0),
+    (32, 0, 0),
+    (31, 0, 0),
     (1, 0, 0),
     (0, 0, 0),
     (0, 0, 0),
@@ -50,52 +51,64 @@ fn line(alloc: Global, length: usize, from: usize, to: usize) -> Result<Vec<u8>,
     Ok(line)
 }
 
-/// The lines as they are.
-fn plain(alloc: Global) -> Result<Vec<u8>, AllocError> {
+/// The lines as they are, so many times.
+fn plain(alloc: Global, times: usize) -> Result<Vec<u8>, AllocError> {
     let mut lines = Vec::new(alloc);
-    for (length, from, to) in LINES {
-        lines.extend_from_slice(&line(alloc, length, from, to)?)?;
+    for _ in 0..times {
+        for (length, from, to) in LINES {
+            lines.extend_from_slice(&line(alloc, length, from, to)?)?;
+        }
     }
     Ok(lines)
 }
 
 /// The same, packed.
-fn packed(alloc: Global) -> Result<PackedLines, AllocError> {
+fn packed(alloc: Global, times: usize) -> Result<PackedLines, AllocError> {
     let mut packer = Packer::new(alloc);
-    for (length, from, to) in LINES {
-        let mut room = packer.room();
-        room.extend_from_slice(&line(alloc, length, from, to)?)?;
-        packer.push(room)?;
+    for _ in 0..times {
+        for (length, from, to) in LINES {
+            let mut room = packer.room();
+            room.extend_from_slice(&line(alloc, length, from, to)?)?;
+            packer.push(room)?;
+        }
     }
     Ok(packer.finish())
 }
 
 #[test]
-fn gives_the_lines_back(rt: HostRuntime) -> Result<(), Fail> {
+fn gives_the_lines_back_behind_others(rt: HostRuntime) -> Result<(), Fail> {
     let none = Packer::new(rt.alloc()).finish();
-    let lines = none.append_to(packed(rt.alloc())?.append_to(Vec::new(rt.alloc()))?)?;
-    assert!(rt; lines.as_slice() == plain(rt.alloc())?.as_slice());
+    let lines = none.append_to(packed(rt.alloc(), 1)?.append_to(plain(rt.alloc(), 1)?)?)?;
+    assert!(rt; lines.as_slice() == plain(rt.alloc(), 2)?.as_slice());
     Ok(())
 }
 
 #[test]
+fn has_empty_room(rt: HostRuntime) -> Result<(), Fail> {
+    let mut packer = Packer::new(rt.alloc());
+    packer.push(line(rt.alloc(), 9, 0, 0)?)?;
+    packer.push(line(rt.alloc(), 8, 0, 0)?)?;
+    assert!(rt; packer.room().is_empty());
+    Ok(())
+}
+
+/// The lines go out in pieces of 64 KiB, which these are longer than.
+#[test]
 fn writes_the_lines_of_several_texts(rt: HostRuntime) -> Result<(), Fail> {
     let texts = vec![in rt.alloc();
-        packed(rt.alloc())?,
+        packed(rt.alloc(), 1)?,
         Packer::new(rt.alloc()).finish(),
-        packed(rt.alloc())?,
+        packed(rt.alloc(), 30)?,
     ]?;
     let mut output = Output::new(Vec::new(rt.alloc()));
     assert!(rt; write_packed(rt.alloc(), &texts, &mut output).is_ok());
-    let mut twice = plain(rt.alloc())?;
-    twice.extend_from_slice(&plain(rt.alloc())?)?;
-    assert!(rt; output.into_writer().as_slice() == twice.as_slice());
+    assert!(rt; output.into_writer().as_slice() == plain(rt.alloc(), 31)?.as_slice());
     Ok(())
 }
 
 #[test]
 fn counts_what_went_out_of_packed_lines(rt: HostRuntime) -> Result<(), Fail> {
-    let texts = vec![in rt.alloc(); packed(rt.alloc())?]?;
+    let texts = vec![in rt.alloc(); packed(rt.alloc(), 1)?]?;
     let mut output = Output::new(Failing {
         bytes: Vec::new(rt.alloc()),
         calls: 0,
