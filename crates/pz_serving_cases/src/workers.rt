@@ -71,7 +71,7 @@ fn writes_the_lines_in_the_order_of_the_sessions(rt: HostRuntime) -> Result<(), 
 }
 
 #[test]
-fn passes_where_each_worker_s_sessions_pass(rt: HostRuntime) -> Result<(), Fail> {
+fn passes_if_the_sessions_of_each_worker_pass(rt: HostRuntime) -> Result<(), Fail> {
     for workers in [2, 64] {
         let (status, lines, errors) = served(&rt, rt.alloc(), PASSING, workers);
         assert_eq!(rt; status, 0);
