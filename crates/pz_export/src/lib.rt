@@ -1,5 +1,5 @@
-//! The engine for a host that isn't written in Rattle: functions with the calling convention of C, from the bytes of a file of sessions to the
-//! lines of their recording.
+//! The engine for a host that isn't written in Rattle: functions with the calling convention of C, from the bytes of a file of sessions to
+//! the lines of their recording.
 #![tactic(auto)]
 
 pub mod lines;

@@ -34,6 +34,12 @@ pub(crate) fn small_game(alloc: Global) -> Result<Game, Fail> {
     game_of(alloc, text.as_str())
 }
 
+/// The same game with a level of three rows and two players, of which the lower one can't move to the right.
+pub(crate) fn square_game(alloc: Global) -> Result<Game, Fail> {
+    let text = joined(alloc, &GAME, 13, "p.#\n...\n#.p")?;
+    game_of(alloc, text.as_str())
+}
+
 /// The level after the player was pushed to the right.
 fn pushed(alloc: Global, game: &Game) -> Result<Level, Fail>
     ensures { IfOk result (λ level. IsOfGame game.now level.grid) }

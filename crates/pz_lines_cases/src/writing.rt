@@ -53,7 +53,7 @@ impl Write for Full {
     }
 }
 
-/// Takes one byte a call, up to the call of a number, counted from 0, which fails or takes nothing. It counts its calls, those after it too.
+/// Takes one byte a call, up to the call of a number, counted from 0, which fails or takes nothing. It counts all its calls.
 #[derive(Drop)]
 struct Cut {
     bytes: Vec<u8>,

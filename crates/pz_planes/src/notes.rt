@@ -13,8 +13,8 @@ use pz_sets::set::NumberSet;
 use std::alloc::{AllocError, Global};
 use std::marker::Model;
 
-/// Sets of at least the headings in the whole level, in each row and in each column. Of the first 128 rows and columns those outside a word of
-/// bits have empty sets, so a map of up to 128 lines is searched by that word.
+/// Sets of at least the headings in the whole level, in each row and in each column. Of the first 128 rows and columns those outside a word
+/// of bits have empty sets, so a map of up to 128 lines is searched by that word.
 pub struct Notes {
     whole: NumberSet,
     rows: Vec<NumberSet>,

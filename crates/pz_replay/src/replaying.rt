@@ -59,8 +59,8 @@ pub fn replay<'a, R: Threads + Wait + Sync, G: Gate + Sync>(
     replay_with(rt, alloc, job, workers, CAPACITY, gate)
 }
 
-/// A worker's whole run, on a seat that holds nothing and a lane on which nothing was sent: it claims a session, plays it, sends its items, and
-/// claims again. A full lane is tried again until it has room.
+/// A worker's whole run, on a seat that holds nothing and a lane on which nothing was sent: it claims a session, plays it, sends its items,
+/// and claims again. A full lane is tried again until it has room.
 pub fn work<R: Wait, G: Gate>(
     rt: &R,
     alloc: Global,

@@ -1,8 +1,11 @@
 //! The engine as a library: from the bytes of a file to its lines.
 
-use pz_engine::engine::{lines, lines_from};
+use pz_engine::engine::{lines, lines_from, play, play_case};
+use pz_engine::sessions::decode;
 use pz_entries::fault::FileFault;
+use pz_job::job::prepare;
 use pz_record::order::Order;
+use std::alloc::Global;
 use std::test::Fail;
 
 /// A walk of two steps against a wall, which passes by rows, and a source that is refused.
@@ -63,5 +66,48 @@ fn says_what_is_wrong_with_a_file(rt: HostRuntime) -> Result<(), Fail> {
         let answer = lines(rt.alloc(), bytes, Order::Rows);
         assert!(rt; answer.is_err_and(|cause| cause == fault));
     }
+    Ok(())
+}
+
+/// The lines of the first case of the file from an input on, played as the session of this number, and whether it passed.
+fn played_case(alloc: Global, session: u64, from: u64) -> Result<(Vec<u8>, bool), Fail> {
+    let entries = decode(alloc, SESSIONS.as_bytes()).map_err(|_| "no entries")?;
+    let job = prepare(alloc, entries, Order::Rows)?;
+    match job.len() {
+        0 => Err(Fail::new("no case")),
+        _ => {
+            let played = play_case(alloc, session, job.case(0), from)?;
+            Ok((played.lines.append_to(Vec::new(alloc))?, played.passed))
+        }
+    }
+}
+
+/// The last two lines of the walk, played as session 7.
+const LINES_OF_7: &str = concat!(
+    "{\"at\":2,\"frame\":2,\"kind\":\"move\",\"level\":\"background wall:0,background:1,background player:2,0,\\n\",\"session\":7}\n",
+    "{\"close\":\"passed\",\"frames\":3,\"name\":\"walk\",\"session\":7}\n",
+);
+
+#[test]
+fn plays_one_case(rt: HostRuntime) -> Result<(), Fail> {
+    let (lines, passed) = played_case(rt.alloc(), 7, 2)?;
+    assert!(rt; lines.as_slice() == LINES_OF_7.as_bytes());
+    assert!(rt; passed);
+    Ok(())
+}
+
+/// The lines of all cases of the file, and whether all passed.
+fn played_job(alloc: Global) -> Result<(Vec<u8>, bool), Fail> {
+    let entries = decode(alloc, SESSIONS.as_bytes()).map_err(|_| "no entries")?;
+    let job = prepare(alloc, entries, Order::Rows)?;
+    let played = play(alloc, &job, 1)?;
+    Ok((played.lines, played.passed))
+}
+
+#[test]
+fn plays_a_job(rt: HostRuntime) -> Result<(), Fail> {
+    let (lines, passed) = played_job(rt.alloc())?;
+    assert!(rt; lines.as_slice() == LINES_FROM_1.as_bytes());
+    assert!(rt; !passed);
     Ok(())
 }

@@ -1,5 +1,5 @@
-//! Tests of the serving of a command line and of the engine as a library, from outside: what the words choose, reads that fail, what is said
-//! of a failure.
+//! Tests of the serving of a command line and of the engine as a library, from outside: what the words choose, reads that fail, what is
+//! said of a failure.
 #![tactic(auto)]
 
 #[cfg(test)]

@@ -39,8 +39,8 @@ use std::alloc::{AllocError, Global};
 use std::marker::Model;
 
 /// A session between two links: the entry of LEVELS that is played, its level, the target of a restart, the past, and whether play is over.
-/// `before` has the level before an input until that input's chain is over, and `differs` says whether the level differs from it, where that
-/// is known. `spare` is memory for the next step. `labelled` says which of these levels has the labels that `texts` keeps.
+/// `before` has the level before an input until that input's chain is over, and `differs` says whether the level differs from it, where
+/// that is known. `spare` is memory for the next step. `labelled` says which of these levels has the labels that `texts` keeps.
 pub struct Board<'a> {
     alloc: Global,
     game: &'a Game,
