@@ -1,11 +1,11 @@
 -- A cell that heads nowhere is still. So is each cell of a line or of a level for which no heading is noted.
-use Rattle.pz_sheet.proofs.Common.{Layering, inl, inr, ◌≡◌, ◌+◌, ◌*◌, ◌/◌, ◌%◌, ◌<◌, ◌≤◌, ℕ, suc, List, [], ◌∷◌, Option, Some, None, Bool, true, false, map, length, get_or, arith, ap, sym, ◌∙◌, refl, subst, All, range_with_len, cases_lt, get_or_default, mul-add-lt, mod-mul-add, member, IsWithin, Dir, heads, heading_in, flag, Cell, Piece, still_place, place_of, Grid, cell_at, HeadingSets, column_in, number_of, row_in, seen, IsSound, grid_of, HeadsWithin, AreNoted, IsStored, no_cell, cell_mapped}
+use Rattle.pz_sheet.proofs.Common.{Layering, inl, inr, ◌≡◌, ◌+◌, ◌*◌, ◌/◌, ◌%◌, ◌<◌, ◌≤◌, ℕ, suc, List, [], ◌∷◌, Option, Some, None, Bool, true, false, map, length, get_or, arith, ap, sym, ◌∙◌, refl, subst, All, range_with_len, cases_lt, get_or_default, mul-add-lt, mod-mul-add, div-mul-add, member, IsWithin, Dir, heads, heading_in, flag, Cell, Piece, still_place, place_of, Grid, cell_at, HeadingSets, column_in, number_of, row_in, seen, IsSound, grid_of, HeadsWithin, IsNoted, AreNoted, IsStored, no_cell, cell_mapped}
 use Rattle.std.specs.Prelude.{find}
 use Rattle.std.specs.Option.{option_map}
 use Rattle.std.proofs.Math.Nat.{mul-le-mul_right}
 use Rattle.std.proofs.lemmas.List.Elements.{All-map}
 use Rattle.pz_cells.specs.Shown.{stands_on, piece_with}
-use Rattle.pz_sheet.specs.Movement.{IsStillAt, AreColumnsStill}
+use Rattle.pz_sheet.specs.Movement.{IsStillAt, AreStill, AreColumnsStill}
 use Rattle.pz_planes.specs.Notes.{HaveNoneBetween}
 use Rattle.pz_cells.specs.Lists.{IsStilled, HeadNowhere}
 use Rattle.pz_sheet.proofs.SheetLemmas.{only_false, seen_at}
@@ -67,15 +67,14 @@ walked_on Turns old now next from end order w long between before behind = recor
 }
 
 module _ (N width height : ℕ) (layering : Layering) (cells : List (Cell N)) (notes : HeadingSets) (s : IsStored N width height layering cells notes) where
-  -- no heading is noted for a column
-  column_is_still : (x y : ℕ) → x < width → y < height → ((number : ℕ) → member (get_or notes.columns x []) number ≡ false)
-      → cell_at (grid_of width height layering cells) x y ≡ map still_place (cell_at (grid_of width height layering cells) x y)
-  column_is_still x y x_in y_in none =
+  -- a cell that heads nowhere is still where it stands
+  still_there : (x y : ℕ) → x < width → y < height → (IsNoted N width notes (y * width + x) (get_or cells (y * width + x) (no_cell N)) → (number : ℕ) → member (get_or cells (y * width + x) (no_cell N)).movement number ≡ false)
+      → IsStillAt (grid_of width height layering cells) x y
+  still_there x y x_in y_in nowhere =
       let at = y * width + x in
       let within : at < length cells = omega (arith, mul-add-lt y width x height y_in x_in, s.covers) in
       let cell = get_or cells at (no_cell N) in
-      let noted : HeadsWithin N (get_or notes.columns x []) cell = subst (λ (line : ℕ). HeadsWithin N (get_or notes.columns line []) cell) (mod-mul-add y width x x_in) (s.noted.each at (no_cell N) within).column in
-      let still = still_seen N layering cell (s.sound at (no_cell N) within) (none_within cell.movement (get_or notes.columns x []) noted none) in
+      let still = still_seen N layering cell (s.sound at (no_cell N) within) (nowhere (s.noted.each at (no_cell N) within)) in
       let here = seen_at N width height layering cells (grid_of width height layering cells) at cell refl within (get_or_default cells at (no_cell N) cell within) in
       sym here ∙ still ∙ ap (λ (places : List (Option Piece)). map still_place places) here
 
@@ -83,7 +82,14 @@ module _ (N width height : ℕ) (layering : Layering) (cells : List (Cell N)) (n
   pub columns_are_still : (grid : Grid) → grid_of width height layering cells ≡ grid → (from end : ℕ) → end ≤ width → HaveNoneBetween notes.columns from end → AreColumnsStill grid from end
   columns_are_still grid e from end within none x late below y low y_in =
       let high : y < height = omega (arith, y_in, ap (λ (g : Grid). g.height) e) in
-      subst (λ (g : Grid). IsStillAt g x y) e (column_is_still x y (omega (arith, below, within)) high (λ number. none x number late below))
+      let x_in : x < width = omega (arith, below, within) in
+      subst (λ (g : Grid). IsStillAt g x y) e (still_there x y x_in high (λ noted. none_within _ (get_or notes.columns x []) (subst (λ (line : ℕ). HeadsWithin N (get_or notes.columns line []) (get_or cells (y * width + x) (no_cell N))) (mod-mul-add y width x x_in) noted.column) (λ number. none x number late below)))
+
+  -- no heading is noted for the rows from one on and before another
+  pub rows_are_still : (grid : Grid) → grid_of width height layering cells ≡ grid → (x from end : ℕ) → x < grid.width → end ≤ height → HaveNoneBetween notes.rows from end → AreStill grid x from end
+  rows_are_still grid e x from end inside within none y late below =
+      let x_in : x < width = omega (arith, inside, ap (λ (g : Grid). g.width) e) in
+      subst (λ (g : Grid). IsStillAt g x y) e (still_there x y x_in (omega (arith, below, within)) (λ noted. none_within _ (get_or notes.rows y []) (subst (λ (line : ℕ). HeadsWithin N (get_or notes.rows line []) (get_or cells (y * width + x) (no_cell N))) (div-mul-add y width x x_in) noted.row) (λ number. none y number late below)))
 
   -- no heading is noted at all
   pub all_are_still : ((number : ℕ) → member notes.whole number ≡ false) → map (seen layering) cells ≡ map (map still_place) (map (seen layering) cells)

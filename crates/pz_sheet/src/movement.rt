@@ -47,17 +47,31 @@ impl<const N: usize> Sheet<N> {
         }
     }
 
+    /// The first row, from `from` on, for which a heading is noted. In those before it nothing heads anywhere in a column of the map.
+    #[inline(always)]
+    fn next_noted(&self, x: u32, from: u32) -> Option<u32>
+        requires { x < self.now.grid.width }
+        ensures next { MatchOption result (AreStill self.now.grid x from self.now.grid.height) (λ y. (from ≤ y) × (y < self.now.grid.height) × AreStill self.now.grid x from y) }
+        ensures lawful { IsLawful self.now.grid }
+    {
+        match self.notes.next_row(from as usize) {
+            None => None,
+            Some(y) => Some(y as u32),
+        }
+    }
+
     /// The first row, from `from` on, in which something in a column of the map may head somewhere.
     pub fn next_heading(&self, x: u32, from: u32) -> Option<u32>
         requires { x < self.now.grid.width }
         ensures next { MatchOption result (AreStill self.now.grid x from self.now.grid.height) (λ y. (from ≤ y) × (y < self.now.grid.height) × AreStill self.now.grid x from y) }
         ensures lawful { IsLawful self.now.grid }
     {
-        let end = self.height();
-        for y in from..end {
+        let mut start = from;
+        'rows: while let Some(y) = self.next_noted(x, start) {
             if !self.is_still(x, y) {
                 return Some(y);
             }
+            start = y + 1;
         }
         None
     }
