@@ -1,5 +1,5 @@
 -- Rules' cells one after another in a direction, and along a row or a column.
-use Rattle.pz_sheet.proofs.Common.{◌≡◌, ◌⊎◌, inl, inr, ℕ, ◌+◌, ◌-◌, ◌<◌, ◌≤◌, List, [], ◌∷◌, Option, Some, None, Bool, true, false, ◌&&◌, cond, length, get_or, take, arith, ap, sym, ◌∙◌, refl, nat_lt, nat_le, list_all, enumerate_from, and_right, lt-ltb, le-ltb, le-leb, lt-leb, take_all, get_or_default, length-enumerate_from, get_or-enumerate_from, list_all_more, list_all_at, Dir, Item, pattern_holds, Axis, Horizontal, Vertical, Way, Ahead, Back, step_to, room_from, Line, Grid, cell_at, line_length, line_count, x_at, y_at, holds_in, starts_at, dir_of, on_map, holds_at, holds_along, run_holds}
+use Rattle.pz_sheet.proofs.Common.{◌≡◌, ◌⊎◌, inl, inr, ℕ, ◌+◌, ◌-◌, ◌<◌, ◌≤◌, List, [], ◌∷◌, Option, Some, None, Bool, true, false, ◌&&◌, cond, length, get_or, take, arith, ap, sym, ◌∙◌, refl, nat_lt, nat_le, list_all, enumerate_from, and_right, lt-ltb, le-ltb, le-leb, lt-leb, take_all, get_or_default, length-enumerate_from, get_or-enumerate_from, list_all_more, list_all_at, Dir, Item, pattern_holds, Axis, Horizontal, Vertical, Way, Ahead, Back, step_to, room_from, Grid, cell_at, line_length, line_count, x_at, y_at, holds_in, starts_at, dir_of, on_map, holds_at, holds_along, run_holds}
 use Rattle.pz_sheet.specs.Searching.{SoughtRun}
 use Rattle.pz_game.specs.declared.direction.Dir.TheVariants.{Up, Down, Left, Right, Action}
 

@@ -1,5 +1,5 @@
 -- Where nothing heads, the planes of the rows tell in which cells two levels differ.
-use Rattle.pz_sheet.proofs.Common.{◌≡◌, inl, inr, ℕ, ◌+◌, ◌-◌, ◌*◌, ◌/◌, ◌%◌, ◌<◌, ◌≤◌, List, Option, Some, None, false, not, IsTrue, ◌↔◌, length, get_or, arith, ap, sym, ◌∙◌, subst, All, cases_lt, get_or_default, div-mul-add, mod-mul-add, mul-add-lt, no_cell, in_word, member, LineSets, PlaneSets, stands_in, number_of, column_in, row_in, Cell, Layering, AreAlike, IsSound, IsNext, differ_in, Grid, BareState, SameSize, grid_of, ArePlaced}
+use Rattle.pz_sheet.proofs.Common.{◌≡◌, inl, inr, ℕ, ◌+◌, ◌*◌, ◌/◌, ◌%◌, ◌<◌, ◌≤◌, List, Option, Some, None, false, not, IsTrue, ◌↔◌, length, get_or, arith, ap, sym, ◌∙◌, subst, All, cases_lt, get_or_default, div-mul-add, mod-mul-add, mul-add-lt, no_cell, in_word, member, LineSets, PlaneSets, stands_in, number_of, column_in, row_in, Cell, Layering, AreAlike, IsSound, IsNext, differ_in, Grid, BareState, SameSize, grid_of, ArePlaced}
 use Rattle.pz_planes.specs.Planes.{AreDiffering, AreSameAt, IsNextDifferingLine, IsNextDifferingPosition}
 use Rattle.pz_planes.specs.declared.planes.Differing.{Differing}
 use Rattle.pz_cells.specs.Differing.{IsNextDiffering as IsNextCell}

@@ -1,4 +1,4 @@
-use Rattle.pz_sheet.proofs.Common.{◌≡◌, inl, inr, ℕ, ◌+◌, ◌<◌, ◌≤◌, Bool, false, Option, Some, None, length, arith, subst, cases_lt, differ_in, IsNext}
+use Rattle.pz_sheet.proofs.Common.{◌≡◌, inl, inr, ℕ, ◌<◌, ◌≤◌, Bool, false, Option, Some, None, arith, cases_lt, IsNext}
 use Rattle.pz_sheet.proofs.Sheet.next_change_after.Goals as goal
 
 -- where none passes up to a number, the next one from there on is the next
