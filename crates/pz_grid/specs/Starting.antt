@@ -4,7 +4,7 @@ use Rattle.pz_game.specs.declared.direction.Dir.{Dir}
 use Rattle.pz_game.specs.Pattern.{RuleRow}
 use Rattle.pz_sheet.specs.Grid.{Grid}
 use Rattle.pz_sheet.specs.Line as sheet
-use Rattle.pz_sheet.specs.Searching.{SoughtRun, starts_at}
+use Rattle.pz_sheet.specs.Searching.{SoughtRun, run_holds_from}
 use Rattle.pz_grid.specs.Places.{head_of, line_length, starts_with}
 
 -- a row has no start in a line
@@ -14,4 +14,4 @@ StartsNowhere grid row dir line = (start : ℕ) → starts_with grid dir line (h
 -- the run that is looked for starts where the row does
 pub record IsSearchFor (grid : Grid) (row : RuleRow) (dir : Dir) (line : ℕ) (run : SoughtRun) : Type 0 where
   pub long : sheet.line_length run.grid run.line.axis ≡ line_length grid dir
-  pub starts : (start : ℕ) → starts_at run start ≡ starts_with grid dir line (head_of row) start
+  pub starts : (start : ℕ) → run_holds_from run start ≡ starts_with grid dir line (head_of row) start

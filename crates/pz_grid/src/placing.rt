@@ -1,13 +1,13 @@
 //! The places of a row of a rule. A row holds at a place if all its cells are on the map and fit there.
 
-ghost use Rattle.std.specs.List.{list_all, enumerate_from, count_by, range_with_len};
-ghost use Rattle.std.specs.Prelude.{◌≡◌, ◌≢◌, ℕ, All, take, true, ◌+◌, ◌*◌, ◌<◌, ◌≤◌, cond, [], ◌∷◌, ◌++◌, ◌^◌, filter, length, OnOk, IfOk, IfErr, IfSome, Ok, Err};
+ghost use Rattle.std.specs.List.{list_all, enumerate_from};
+ghost use Rattle.std.specs.Prelude.{◌≡◌, ◌≢◌, take, true, ◌+◌, ◌*◌, ◌<◌, ◌≤◌, cond, [], ◌∷◌, ◌++◌, ◌^◌, filter, length, OnOk, IfOk, IfErr, IfSome, MatchOption, Ok, Err};
 ghost use Rattle.pz_game.specs.declared.limits.TheConstants.{MAX_SIDE};
 ghost use Rattle.pz_game.specs.Pattern.{AreOf, IsRowOf, AreRowsOf};
 ghost use Rattle.pz_grid.specs.Admitted.{admitted, searches_line, starts_in, start_count};
 ghost use Rattle.pz_grid.specs.Places.{on_map, along, position_of, distance, cell_holds, row_holds, line_count, line_length, place_in, holds_behind, pairs_at, head_of, pairs_in, places, searched, starts_with, still_holds, still_matches};
+ghost use Rattle.pz_grid.specs.Starting.{StartsNowhere, IsSearchFor};
 ghost use Rattle.pz_sets.specs.Next.{IsNext};
-ghost use Rattle.pz_sets.specs.Sets.{in_word};
 ghost use Rattle.pz_sheet.specs.Grid.{IsOnMap, IsLawful};
 
 use crate::Level;

@@ -1,5 +1,5 @@
 -- Rules' cells one after another in a direction, and along a row or a column.
-use Rattle.pz_sheet.proofs.Common.{◌≡◌, ◌⊎◌, inl, inr, ℕ, ◌+◌, ◌-◌, ◌<◌, ◌≤◌, List, [], ◌∷◌, Option, Some, None, Bool, true, false, ◌&&◌, cond, length, get_or, take, arith, ap, sym, ◌∙◌, refl, nat_lt, nat_le, list_all, enumerate_from, and_right, lt-ltb, le-ltb, le-leb, lt-leb, take_all, get_or_default, length-enumerate_from, get_or-enumerate_from, list_all_more, list_all_at, Dir, Item, pattern_holds, Axis, Horizontal, Vertical, Way, Ahead, Back, step_to, room_from, Grid, cell_at, line_length, line_count, x_at, y_at, holds_in, starts_at, dir_of, on_map, holds_at, holds_along, run_holds}
+use Rattle.pz_sheet.proofs.Common.{◌≡◌, ◌⊎◌, inl, inr, ℕ, ◌+◌, ◌-◌, ◌<◌, ◌≤◌, List, [], ◌∷◌, Option, Some, None, Bool, true, false, ◌&&◌, cond, length, get_or, take, arith, ap, sym, ◌∙◌, refl, nat_lt, nat_le, list_all, enumerate_from, and_right, lt-ltb, le-ltb, le-leb, lt-leb, take_all, get_or_default, length-enumerate_from, get_or-enumerate_from, list_all_more, list_all_at, Dir, Item, pattern_holds, Axis, Horizontal, Vertical, Way, Ahead, Back, step_to, room_from, Grid, cell_at, line_length, line_count, x_at, y_at, holds_in, run_holds_from, dir_of, on_map, holds_at, holds_along, run_holds}
 use Rattle.pz_sheet.specs.Searching.{SoughtRun}
 use Rattle.pz_game.specs.declared.direction.Dir.TheVariants.{Up, Down, Left, Right, Action}
 
@@ -53,10 +53,6 @@ along_in grid Vertical number Back pattern at k line_in at_in room = if_within g
 abbrev pub along : SoughtRun → ℕ → ℕ × List Item → Bool
 along run at = holds_along run.grid (dir_of run.line.axis run.way) (x_at run.line.axis run.line.number at) (y_at run.line.axis run.line.number at)
 
--- what was found at a position is what the run asks there
-pub found_along : (run : SoughtRun) (at k there : ℕ) (pattern : List Item) (holds : Bool) → run.line.number < line_count run.grid run.line.axis → at < line_length run.grid run.line.axis → k < room_from (line_length run.grid run.line.axis) run.way at → there ≡ step_to run.way at k → holds ≡ holds_in run.grid run.line pattern there → along run at (k, pattern) ≡ holds
-found_along run at k there pattern holds line_in at_in room is e = along_in run.grid run.line.axis run.line.number run.way pattern at k line_in at_in room ∙ ap (holds_in run.grid run.line pattern) (sym is) ∙ sym e
-
 -- ---- a run whose last cell is off the map
 last_fails : (p : ℕ × List Item → Bool) (patterns : List (List Item)) → 0 < length patterns → ((pattern : List Item) → p (length patterns - 1, pattern) ≡ false) → list_all p (enumerate_from 0 patterns) ≡ false
 last_fails p patterns some off =
@@ -66,7 +62,7 @@ last_fails p patterns some off =
     enumerate_fails p patterns last pattern within (get_or_default patterns last [] pattern within) (off pattern)
 
 -- a run for which there is no room
-pub run_past : (run : SoughtRun) (at : ℕ) → 0 < length run.patterns → at < line_length run.grid run.line.axis → room_from (line_length run.grid run.line.axis) run.way at < length run.patterns → starts_at run at ≡ false
+pub run_past : (run : SoughtRun) (at : ℕ) → 0 < length run.patterns → at < line_length run.grid run.line.axis → room_from (line_length run.grid run.line.axis) run.way at < length run.patterns → run_holds_from run at ≡ false
 run_past run at some at_in past = last_fails _ run.patterns some (λ pattern. by_axis run.line.axis run.way at_in past pattern) where
   last : ℕ
   last = length run.patterns - 1

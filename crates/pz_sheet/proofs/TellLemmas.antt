@@ -72,8 +72,8 @@ module _ (N width height : ℕ) (layering : Layering) (cells others : List (Cell
 
 -- two levels of one size in which nothing heads, and whose rows fit in a word
 module _ {N : ℕ} {here there : BareState} (a b : Inside N) (size : SameSize here.grid there.grid) (is : record { grid = grid_of a.width a.height a.layers a.cells.items } ≡ here) (is_other : record { grid = grid_of b.width b.height b.layers b.cells.items } ≡ there)
-  (sheet : IsSheet N a.width a.height a.layers a.cells.items a.notes a.planes) (sheet_other : IsSheet N b.width b.height b.layers b.cells.items b.notes b.planes) (short : here.grid.width ≤ 128)
-  (none : (number : ℕ) → member a.notes.whole number ≡ false) (none_other : (number : ℕ) → member b.notes.whole number ≡ false) where
+    (sheet : IsSheet N a.width a.height a.layers a.cells.items a.notes a.planes) (sheet_other : IsSheet N b.width b.height b.layers b.cells.items b.notes b.planes) (short : here.grid.width ≤ 128)
+    (none : (number : ℕ) → member a.notes.whole number ≡ false) (none_other : (number : ℕ) → member b.notes.whole number ≡ false) where
   both : AreBoth N a.width a.height a.layers a.cells.items b.width b.height b.layers b.cells.items here.grid there.grid
   both = both_of a b size is is_other sheet.stored sheet_other.stored
 

@@ -42,8 +42,8 @@ pub record SoughtRun : Type 0 where
   pub patterns : List (List Item)
 
 -- the run holds from a position of its line on
-abbrev pub starts_at : SoughtRun → ℕ → Bool
-starts_at run at = runs_in run.grid run.line run.way run.patterns at
+abbrev pub run_holds_from : SoughtRun → ℕ → Bool
+run_holds_from run at = runs_in run.grid run.line run.way run.patterns at
 
 -- the line is on the map, and the run is of the level's game; it starts, in the first 128 positions, only at those of a set
 pub record IsRunSearch (run : SoughtRun) (starts : ℕ) : Type 0 where
@@ -58,8 +58,8 @@ pub record SoughtCell : Type 0 where
   pub pattern : List Item
 
 -- the cell holds at a position of its line
-abbrev pub holds_sought : SoughtCell → ℕ → Bool
-holds_sought cell at = holds_in cell.grid cell.line cell.pattern at
+abbrev pub cell_holds_at : SoughtCell → ℕ → Bool
+cell_holds_at cell at = holds_in cell.grid cell.line cell.pattern at
 
 -- the line is on the map, and the cell is of the level's game
 pub record IsCellSearch (cell : SoughtCell) : Type 0 where

@@ -6,7 +6,7 @@ ghost use Rattle.pz_sets.specs.Sets.{in_word};
 ghost use Rattle.pz_game.specs.Pattern.{AreOf};
 ghost use Rattle.pz_sheet.specs.Grid.{IsOnMap};
 ghost use Rattle.pz_sheet.specs.Line.{line_length, line_count, holds_in};
-ghost use Rattle.pz_sheet.specs.Searching.{MayStartAt, starts_at};
+ghost use Rattle.pz_sheet.specs.Searching.{MayStartAt, run_holds_from};
 ghost use Rattle.pz_sheet.specs.Runs.{IsRunOf, on_map, along, holds_at, run_holds};
 ghost use Rattle.pz_sets.specs.Next.{IsNext};
 
@@ -56,10 +56,19 @@ impl<const N: usize> Sheet<N> {
         ensures { result ≡ run_holds self.now.grid dir x y patterns.now }
     {
         match dir {
-            Dir::Right => RunSearch::without_planes(self, row(y), Way::Ahead, patterns).holds_from(x),
+            Dir::Right => RunSearch::without_planes(self, row(y), Way::Ahead, patterns).holds_from(
+                x,
+            ),
             Dir::Left => RunSearch::without_planes(self, row(y), Way::Back, patterns).holds_from(x),
-            Dir::Down => RunSearch::without_planes(self, column(x), Way::Ahead, patterns).holds_from(y),
-            Dir::Up => RunSearch::without_planes(self, column(x), Way::Back, patterns).holds_from(y),
+            Dir::Down => RunSearch::without_planes(
+                self,
+                column(x),
+                Way::Ahead,
+                patterns,
+            ).holds_from(y),
+            Dir::Up => RunSearch::without_planes(self, column(x), Way::Back, patterns).holds_from(
+                y,
+            ),
             Dir::Action => false,
         }
     }
@@ -170,7 +179,7 @@ impl<'a, const N: usize> RunSearch<'a, N> {
     fn rest_holds(&self, at: u32) -> bool
         requires at_in { at < line_length self.now.grid self.now.line.axis }
         requires first { holds_in self.now.grid self.now.line (slice_index_or self.now.patterns 0 []) at ≡ true }
-        ensures { result ≡ starts_at self.now at }
+        ensures { result ≡ run_holds_from self.now at }
     {
         let room = self.sheet.room_from(self.line.axis, self.way, at);
         if self.patterns.len() > room {
@@ -189,14 +198,14 @@ impl<'a, const N: usize> RunSearch<'a, N> {
     #[inline(always)]
     fn holds_from(&self, at: u32) -> bool
         requires { at < line_length self.now.grid self.now.line.axis }
-        ensures { result ≡ starts_at self.now at }
+        ensures { result ≡ run_holds_from self.now at }
     {
         self.sheet.holds_in(self.line, at, &self.patterns[0]) && self.rest_holds(at)
     }
 
     /// The first position, from `from` on, from which the run holds.
     pub fn next(&self, from: u32) -> Option<u32>
-        ensures { IsNext (starts_at self.now) from (line_length self.now.grid self.now.line.axis) result }
+        ensures { IsNext (run_holds_from self.now) from (line_length self.now.grid self.now.line.axis) result }
     {
         let end = self.end();
         if end > bits::ROOM {
@@ -214,7 +223,7 @@ impl<'a, const N: usize> RunSearch<'a, N> {
 
     /// The same, cell by cell.
     fn next_in_long_line(&self, from: u32) -> Option<u32>
-        ensures { IsNext (starts_at self.now) from (line_length self.now.grid self.now.line.axis) result }
+        ensures { IsNext (run_holds_from self.now) from (line_length self.now.grid self.now.line.axis) result }
     {
         for at in from..self.end() {
             if self.holds_from(at) {
@@ -228,7 +237,7 @@ impl<'a, const N: usize> RunSearch<'a, N> {
     /// planes leave, in a longer line all.
     #[tactic(auto, using(crate::proofs::CountLemmas::count_fewer, crate::proofs::CountLemmas::count_within))]
     pub fn tested(&self) -> u32
-        ensures low { count_by (starts_at self.now) (range_with_len 0 (line_length self.now.grid self.now.line.axis)) ≤ result }
+        ensures low { count_by (run_holds_from self.now) (range_with_len 0 (line_length self.now.grid self.now.line.axis)) ≤ result }
         ensures high { result ≤ line_length self.now.grid self.now.line.axis }
     {
         let end = self.end();

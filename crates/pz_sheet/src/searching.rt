@@ -5,7 +5,7 @@ ghost use Rattle.pz_sets.specs.Sets.{in_word};
 ghost use Rattle.pz_game.specs.Pattern.{AreOf};
 ghost use Rattle.pz_sets.specs.Next.{IsNext};
 ghost use Rattle.pz_sheet.specs.Line.{line_length, line_count};
-ghost use Rattle.pz_sheet.specs.Searching.{IsLast, holds_sought};
+ghost use Rattle.pz_sheet.specs.Searching.{IsLast, cell_holds_at};
 
 use crate::Sheet;
 use crate::line::Line;
@@ -54,7 +54,7 @@ impl<'a, const N: usize> CellSearch<'a, N> {
     /// Whether the cell holds at a position of the line.
     fn holds_at(&self, at: u32) -> bool
         requires { at < line_length self.now.grid self.now.line.axis }
-        ensures { result ≡ holds_sought self.now at }
+        ensures { result ≡ cell_holds_at self.now at }
     {
         self.sheet.holds_in(self.line, at, self.pattern)
     }
@@ -62,17 +62,18 @@ impl<'a, const N: usize> CellSearch<'a, N> {
     /// The positions at which the cell may hold, as the planes show for the objects that it names. It holds at no other.
     fn places(&self) -> u128
         requires { line_length self.now.grid self.now.line.axis ≤ 128 }
-        ensures { (at : ℕ) → at < line_length self.now.grid self.now.line.axis → holds_sought self.now at ≡ true → in_word result at ≡ true }
+        ensures { (at : ℕ) → at < line_length self.now.grid self.now.line.axis → cell_holds_at self.now at ≡ true → in_word result at ≡ true }
     {
         let sheet = self.sheet;
-        sheet.planes
+        sheet
+            .planes
             .lines(self.line.axis)
             .places(self.line.number as usize, self.pattern)
     }
 
     /// The first position, from `from` on, at which the cell holds.
     pub fn next(&self, from: u32) -> Option<u32>
-        ensures { IsNext (holds_sought self.now) from (line_length self.now.grid self.now.line.axis) result }
+        ensures { IsNext (cell_holds_at self.now) from (line_length self.now.grid self.now.line.axis) result }
     {
         let end = self.end();
         if end > bits::ROOM {
@@ -91,7 +92,7 @@ impl<'a, const N: usize> CellSearch<'a, N> {
 
     /// The same, cell by cell.
     fn next_in_long_line(&self, from: u32) -> Option<u32>
-        ensures { IsNext (holds_sought self.now) from (line_length self.now.grid self.now.line.axis) result }
+        ensures { IsNext (cell_holds_at self.now) from (line_length self.now.grid self.now.line.axis) result }
     {
         for at in from..self.end() {
             if self.holds_at(at) {
@@ -104,7 +105,7 @@ impl<'a, const N: usize> CellSearch<'a, N> {
     /// The last position, before `end`, at which the cell holds.
     pub fn last(&self, end: u32) -> Option<u32>
         requires { end ≤ line_length self.now.grid self.now.line.axis }
-        ensures { IsLast (holds_sought self.now) end result }
+        ensures { IsLast (cell_holds_at self.now) end result }
     {
         if self.end() > bits::ROOM {
             return self.last_in_long_line(end);
@@ -123,7 +124,7 @@ impl<'a, const N: usize> CellSearch<'a, N> {
     /// The same, cell by cell.
     fn last_in_long_line(&self, end: u32) -> Option<u32>
         requires { end ≤ line_length self.now.grid self.now.line.axis }
-        ensures { IsLast (holds_sought self.now) end result }
+        ensures { IsLast (cell_holds_at self.now) end result }
     {
         let mut at = end;
         'cells: while at > 0 {

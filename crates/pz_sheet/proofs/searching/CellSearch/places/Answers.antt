@@ -1,4 +1,4 @@
-use Rattle.pz_sheet.proofs.Common.{◌≡◌, ◌<◌, ◌≤◌, arith, true, ap, sym, subst, line_length, holds_sought, LineSets, MayHold, BareState}
+use Rattle.pz_sheet.proofs.Common.{◌≡◌, ◌<◌, ◌≤◌, arith, true, ap, sym, subst, line_length, cell_holds_at, LineSets, MayHold, BareState}
 use Rattle.pz_sheet.specs.Searching.{SoughtCell}
 use Rattle.pz_sheet.proofs.StartLemmas.{Admits, admits}
 use Rattle.pz_sheet.proofs.searching.CellSearch.places.Goals as goal
@@ -13,4 +13,4 @@ returns g c at at_in holds =
     let short = subst (λ (cell : SoughtCell). line_length cell.grid cell.line.axis ≤ 128) back c.requires in
     let within = subst (λ (cell : SoughtCell). at < line_length cell.grid cell.line.axis) back at_in in
     c.places.ensures at (omega (arith, within, short)) (subst (λ (sets : LineSets). MayHold sets line.number at pattern) (sym c.lines.ensures)
-    (all c.self.invariant.line_in short c.self.invariant.of_game at within (subst (λ (cell : SoughtCell). holds_sought cell at ≡ true) back holds)))
+    (all c.self.invariant.line_in short c.self.invariant.of_game at within (subst (λ (cell : SoughtCell). cell_holds_at cell at ≡ true) back holds)))
