@@ -1,6 +1,5 @@
 -- Rules' cells one after another in a direction, and along a row or a column.
-use Rattle.pz_sheet.proofs.Common.{◌≡◌, ◌⊎◌, inl, inr, ℕ, ◌+◌, ◌-◌, ◌<◌, ◌≤◌, List, [], ◌∷◌, Option, Some, None, Bool, true, false, ◌&&◌, cond, length, get_or, take, arith, ap, sym, ◌∙◌, refl, nat_lt, nat_le, list_all, enumerate_from, and_right, lt-ltb, le-ltb, le-leb, lt-leb, take_all, get_or_default, length-enumerate_from, get_or-enumerate_from, list_all_more, list_all_at, Dir, Item, pattern_holds, Axis, Horizontal, Vertical, Way, Ahead, Back, step_to, room_from, Grid, cell_at, line_length, line_count, x_at, y_at, holds_in, run_holds_from, dir_of, on_map, holds_at, holds_along, run_holds}
-use Rattle.pz_sheet.specs.Searching.{SoughtRun}
+use Rattle.pz_sheet.proofs.Common.{◌≡◌, ◌⊎◌, inl, inr, ℕ, ◌+◌, ◌-◌, ◌<◌, ◌≤◌, List, [], ◌∷◌, Option, Some, None, Bool, true, false, ◌&&◌, cond, length, get_or, take, arith, ap, sym, ◌∙◌, refl, nat_lt, nat_le, list_all, enumerate_from, and_right, lt-ltb, le-ltb, le-leb, lt-leb, take_all, get_or_default, length-enumerate_from, get_or-enumerate_from, list_all_more, list_all_at, Dir, Item, pattern_holds, Axis, Horizontal, Vertical, Way, Ahead, Back, step_to, room_from, Line, Grid, cell_at, line_length, line_count, x_at, y_at, holds_in, dir_of, runs_in, on_map, holds_at, holds_along, run_holds}
 use Rattle.pz_game.specs.declared.direction.Dir.TheVariants.{Up, Down, Left, Right, Action}
 
 -- ---- tests of a list with its numbers
@@ -49,10 +48,6 @@ along_in grid Horizontal number Back pattern at k line_in at_in room = if_within
 along_in grid Vertical number Ahead pattern at k line_in at_in room = on_map_in grid pattern number (at + k) line_in (omega (arith, room))
 along_in grid Vertical number Back pattern at k line_in at_in room = if_within grid pattern k at _ (omega (arith, room)) ∙ on_map_in grid pattern number (at - k) line_in (omega (arith, at_in))
 
--- whether a cell of a run holds, some cells on from a position of its line
-abbrev pub along : SoughtRun → ℕ → ℕ × List Item → Bool
-along run at = holds_along run.grid (dir_of run.line.axis run.way) (x_at run.line.axis run.line.number at) (y_at run.line.axis run.line.number at)
-
 -- ---- a run whose last cell is off the map
 last_fails : (p : ℕ × List Item → Bool) (patterns : List (List Item)) → 0 < length patterns → ((pattern : List Item) → p (length patterns - 1, pattern) ≡ false) → list_all p (enumerate_from 0 patterns) ≡ false
 last_fails p patterns some off =
@@ -62,16 +57,16 @@ last_fails p patterns some off =
     enumerate_fails p patterns last pattern within (get_or_default patterns last [] pattern within) (off pattern)
 
 -- a run for which there is no room
-pub run_past : (run : SoughtRun) (at : ℕ) → 0 < length run.patterns → at < line_length run.grid run.line.axis → room_from (line_length run.grid run.line.axis) run.way at < length run.patterns → run_holds_from run at ≡ false
-run_past run at some at_in past = last_fails _ run.patterns some (λ pattern. by_axis run.line.axis run.way at_in past pattern) where
+pub run_past : (grid : Grid) (line : Line) (way : Way) (at : ℕ) (patterns : List (List Item)) → 0 < length patterns → at < line_length grid line.axis → room_from (line_length grid line.axis) way at < length patterns → runs_in grid line way patterns at ≡ false
+run_past grid line way at patterns some at_in past = last_fails _ patterns some (λ pattern. by_axis line.axis way at_in past pattern) where
   last : ℕ
-  last = length run.patterns - 1
+  last = length patterns - 1
 
-  by_axis : (axis : Axis) (way : Way) → at < line_length run.grid axis → room_from (line_length run.grid axis) way at < length run.patterns → (pattern : List Item) → holds_along run.grid (dir_of axis way) (x_at axis run.line.number at) (y_at axis run.line.number at) (last, pattern) ≡ false
-  by_axis Horizontal Ahead at_in past pattern = off_map run.grid pattern (at + last) run.line.number (inl (omega (arith, at_in, past)))
-  by_axis Horizontal Back at_in past pattern = if_past run.grid pattern last at _ (omega (arith, past))
-  by_axis Vertical Ahead at_in past pattern = off_map run.grid pattern run.line.number (at + last) (inr (omega (arith, at_in, past)))
-  by_axis Vertical Back at_in past pattern = if_past run.grid pattern last at _ (omega (arith, past))
+  by_axis : (axis : Axis) (way : Way) → at < line_length grid axis → room_from (line_length grid axis) way at < length patterns → (pattern : List Item) → holds_along grid (dir_of axis way) (x_at axis line.number at) (y_at axis line.number at) (last, pattern) ≡ false
+  by_axis Horizontal Ahead at_in past pattern = off_map grid pattern (at + last) line.number (inl (omega (arith, at_in, past)))
+  by_axis Horizontal Back at_in past pattern = if_past grid pattern last at _ (omega (arith, past))
+  by_axis Vertical Ahead at_in past pattern = off_map grid pattern line.number (at + last) (inr (omega (arith, at_in, past)))
+  by_axis Vertical Back at_in past pattern = if_past grid pattern last at _ (omega (arith, past))
 
 -- ---- a start off the map
 start_off : (grid : Grid) (dir : Dir) (pattern : List Item) (x y : ℕ) → (grid.width ≤ x) ⊎ (grid.height ≤ y) → holds_along grid dir x y (0, pattern) ≡ false

@@ -49,7 +49,7 @@ module _ (N width height : ℕ) (layering : Layering) (cells : List (Cell N)) (n
   admits_run line way patterns line_in short some are at at_in holds =
       let long = line_length grid line.axis in
       let inside : length patterns ≤ room_from long way at = (elim (cases_lt (room_from long way at) (length patterns)) [
-        | inl past ↦ absurd (false≢true (sym (run_past (record { grid = grid; line = line; way = way; patterns = patterns }) at some at_in past) ∙ holds))
+        | inl past ↦ absurd (false≢true (sym (run_past grid line way at patterns some at_in past) ∙ holds))
         | inr fits ↦ fits
       ]) in
       record {

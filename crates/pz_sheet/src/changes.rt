@@ -108,12 +108,13 @@ impl<const N: usize> Sheet<N> {
         }
     }
 
-    /// The first cell, from number `from` on, in which another level of the same size differs, and the changes that are known then: those
-    /// of its row, if that is little work.
-    fn find_change(&self, other: &Sheet<N>, from: usize) -> (Option<usize>, KnownChanges)
+    /// The first cell, from number `from` on, in which another level of the same size differs. Then the changes in its row are known, if that
+    /// is little work.
+    fn learn_next(&self, other: &Sheet<N>, known: &mut KnownChanges, from: usize) -> Option<usize>
         requires size { SameSize self.now.grid other.now.grid }
-        ensures next { IsNext (differ_in self.now.grid other.now.grid) from (length self.now.grid.cells) result.0 }
-        ensures known { TellsOf (differ_in self.now.grid other.now.grid) (length self.now.grid.cells) result.1 }
+        requires known { TellsOf (differ_in self.now.grid other.now.grid) (length self.now.grid.cells) known.old }
+        ensures next { IsNext (differ_in self.now.grid other.now.grid) from (length self.now.grid.cells) result }
+        ensures known { TellsOf (differ_in self.now.grid other.now.grid) (length self.now.grid.cells) known.new }
         ensures as_many { length self.now.grid.cells ≡ length other.now.grid.cells }
         ensures lawful { IsLawful self.now.grid }
     {
@@ -122,17 +123,17 @@ impl<const N: usize> Sheet<N> {
             let rows = self.planes.lines(Axis::Horizontal);
             let others = other.planes.lines(Axis::Horizontal);
             let Some(row) = rows.next_differing(others, self.width, from) else {
-                return (None, KnownChanges::none());
+                return None;
             };
-            let known = KnownChanges {
+            *known = KnownChanges {
                 first: row.line * self.width as usize,
                 count: self.width,
                 places: row.places,
             };
-            return (Some(row.found), known);
+            return Some(row.found);
         }
         let found = next_differing(&self.cells, &other.cells, are_still, from);
-        (found, KnownChanges::none())
+        found
     }
 
     /// The first cell, from number `from` on, in which another level of the same size differs.
@@ -142,8 +143,7 @@ impl<const N: usize> Sheet<N> {
         ensures as_many { length self.now.grid.cells ≡ length other.now.grid.cells }
         ensures lawful { IsLawful self.now.grid }
     {
-        let (found, _) = self.find_change(other, from);
-        found
+        self.learn_next(other, &mut KnownChanges::none(), from)
     }
 
     /// The same, where some changes are known already. Then those of the found cell's row are known, if that is little work.
@@ -163,11 +163,7 @@ impl<const N: usize> Sheet<N> {
         let _ = self.width();
         match known.next(from) {
             Ok(index) => Some(index),
-            Err(behind) => {
-                let (found, more) = self.find_change(other, behind);
-                *known = more;
-                found
-            }
+            Err(behind) => self.learn_next(other, known, behind),
         }
     }
 

@@ -1,11 +1,11 @@
 //! Rules' cells one after another in a direction: whether they hold from a position on, and from which position of a line they hold next.
 
-ghost use Rattle.std.specs.Prelude.{◌≡◌, ◌<◌, ◌≤◌, ◌^◌, true, slice_index_or, []};
+ghost use Rattle.std.specs.Prelude.{◌≡◌, ◌<◌, ◌≤◌, ◌^◌, All, true, slice_index_or, []};
 ghost use Rattle.std.specs.List.{count_by, range_with_len};
 ghost use Rattle.pz_sets.specs.Sets.{in_word};
 ghost use Rattle.pz_game.specs.Pattern.{AreOf};
 ghost use Rattle.pz_sheet.specs.Grid.{IsOnMap};
-ghost use Rattle.pz_sheet.specs.Line.{line_length, line_count, holds_in};
+ghost use Rattle.pz_sheet.specs.Line.{IsOnLine, line_length, line_count, holds_in, runs_in};
 ghost use Rattle.pz_sheet.specs.Searching.{MayStartAt, run_holds_from};
 ghost use Rattle.pz_sheet.specs.Runs.{IsRunOf, on_map, along, holds_at, run_holds};
 ghost use Rattle.pz_sets.specs.Next.{IsNext};
@@ -48,6 +48,38 @@ impl<const N: usize> Sheet<N> {
         }
     }
 
+    /// Whether rules' cells hold from a position of a line on, when the first does. (Not inlined: few positions of a search come here.)
+    #[tactic(auto, using(crate::proofs::RunLemmas::enumerate_more, crate::proofs::RunLemmas::enumerate_fails, crate::proofs::RunLemmas::enumerate_all, crate::proofs::RunLemmas::along_in, crate::proofs::RunLemmas::run_past))]
+    #[inline(never)]
+    fn rest_holds(&self, line: Line, way: Way, at: u32, patterns: &[Pattern]) -> bool
+        requires on_line { IsOnLine self.now.grid line at }
+        requires of_game { All (AreOf self.now.grid.layers) patterns.now }
+        requires first { holds_in self.now.grid line (slice_index_or patterns.now 0 []) at ≡ true }
+        ensures { result ≡ runs_in self.now.grid line way patterns.now at }
+    {
+        let room = self.room_from(line.axis, way, at);
+        if patterns.len() > room {
+            return false;
+        }
+        for index in 1..patterns.len() {
+            let there = step_to(way, at, index);
+            if !self.holds_in(line, there, &patterns[index]) {
+                return false;
+            }
+        }
+        true
+    }
+
+    /// Whether rules' cells hold from a position of a line on. (Inlined: most positions of a search fail at the first cell.)
+    #[inline(always)]
+    fn runs_from(&self, line: Line, way: Way, at: u32, patterns: &[Pattern]) -> bool
+        requires on_line { IsOnLine self.now.grid line at }
+        requires run { IsRunOf self.now.grid.layers patterns.now }
+        ensures { result ≡ runs_in self.now.grid line way patterns.now at }
+    {
+        self.holds_in(line, at, &patterns[0]) && self.rest_holds(line, way, at, patterns)
+    }
+
     /// Whether rules' cells hold from a position of the map on. The action leads nowhere.
     #[tactic(auto, using(crate::proofs::RunLemmas::action_leads_nowhere))]
     fn runs_on_map(&self, dir: Dir, x: u32, y: u32, patterns: &[Pattern]) -> bool
@@ -56,19 +88,10 @@ impl<const N: usize> Sheet<N> {
         ensures { result ≡ run_holds self.now.grid dir x y patterns.now }
     {
         match dir {
-            Dir::Right => RunSearch::without_planes(self, row(y), Way::Ahead, patterns).holds_from(
-                x,
-            ),
-            Dir::Left => RunSearch::without_planes(self, row(y), Way::Back, patterns).holds_from(x),
-            Dir::Down => RunSearch::without_planes(
-                self,
-                column(x),
-                Way::Ahead,
-                patterns,
-            ).holds_from(y),
-            Dir::Up => RunSearch::without_planes(self, column(x), Way::Back, patterns).holds_from(
-                y,
-            ),
+            Dir::Right => self.runs_from(row(y), Way::Ahead, x, patterns),
+            Dir::Left => self.runs_from(row(y), Way::Back, x, patterns),
+            Dir::Down => self.runs_from(column(x), Way::Ahead, y, patterns),
+            Dir::Up => self.runs_from(column(x), Way::Back, y, patterns),
             Dir::Action => false,
         }
     }
@@ -146,61 +169,11 @@ impl<'a, const N: usize> RunSearch<'a, N> {
         }
     }
 
-    /// The search of a line in which the planes aren't looked at.
-    fn without_planes(
-        sheet: &'a Sheet<N>,
-        line: Line,
-        way: Way,
-        patterns: &'a [Pattern],
-    ) -> RunSearch<'a, N>
-        requires line_in { line.number < line_count sheet.now.grid line.axis }
-        requires run { IsRunOf sheet.now.grid.layers patterns.now }
-        ensures { result ≡ record { grid = sheet.now.grid; line = line; way = way; patterns = patterns.now } }
-    {
-        RunSearch {
-            sheet,
-            line,
-            way,
-            patterns,
-            starts: bits::all(),
-        }
-    }
-
     /// How many positions the line has.
     fn end(&self) -> u32
         ensures { result ≡ line_length self.now.grid self.now.line.axis }
     {
         self.sheet.line_length(self.line.axis)
-    }
-
-    /// Whether the run holds from a position of the line on, when its first cell does. (Not inlined: few positions of a search come here.)
-    #[tactic(auto, using(crate::proofs::RunLemmas::enumerate_more, crate::proofs::RunLemmas::enumerate_fails, crate::proofs::RunLemmas::enumerate_all, crate::proofs::RunLemmas::along_in, crate::proofs::RunLemmas::run_past))]
-    #[inline(never)]
-    fn rest_holds(&self, at: u32) -> bool
-        requires at_in { at < line_length self.now.grid self.now.line.axis }
-        requires first { holds_in self.now.grid self.now.line (slice_index_or self.now.patterns 0 []) at ≡ true }
-        ensures { result ≡ run_holds_from self.now at }
-    {
-        let room = self.sheet.room_from(self.line.axis, self.way, at);
-        if self.patterns.len() > room {
-            return false;
-        }
-        for index in 1..self.patterns.len() {
-            let there = step_to(self.way, at, index);
-            if !self.sheet.holds_in(self.line, there, &self.patterns[index]) {
-                return false;
-            }
-        }
-        true
-    }
-
-    /// Whether the run holds from a position of the line on. (Inlined: most positions of a search fail at the first cell.)
-    #[inline(always)]
-    fn holds_from(&self, at: u32) -> bool
-        requires { at < line_length self.now.grid self.now.line.axis }
-        ensures { result ≡ run_holds_from self.now at }
-    {
-        self.sheet.holds_in(self.line, at, &self.patterns[0]) && self.rest_holds(at)
     }
 
     /// The first position, from `from` on, from which the run holds.
@@ -213,7 +186,10 @@ impl<'a, const N: usize> RunSearch<'a, N> {
         }
         let mut at = from;
         'starts: while let Some(start) = bits::next(self.starts, at, end) {
-            if self.holds_from(start) {
+            if self
+                .sheet
+                .runs_from(self.line, self.way, start, self.patterns)
+            {
                 return Some(start);
             }
             at = start + 1;
@@ -226,7 +202,7 @@ impl<'a, const N: usize> RunSearch<'a, N> {
         ensures { IsNext (run_holds_from self.now) from (line_length self.now.grid self.now.line.axis) result }
     {
         for at in from..self.end() {
-            if self.holds_from(at) {
+            if self.sheet.runs_from(self.line, self.way, at, self.patterns) {
                 return Some(at);
             }
         }

@@ -20,4 +20,4 @@ next_behind test from mid end (Some found) low none next = (
 pub returns-in-Err-clause-next : goal.returns-in-Err-clause-next
 returns-in-Err-clause-next g c =
     let clear = c.in-Err.ensures _ _ c.requires.known in
-    next_behind _ c.args.from c.in-Err.behind _ c.find_change-found.result.0 clear.0 clear.1 c.find_change-found.ensures.next
+    next_behind _ c.args.from c.in-Err.behind _ c.learn_next.result clear.0 clear.1 c.learn_next.ensures.next

@@ -3,12 +3,12 @@ use Rattle.pz_sheet.proofs.SheetLemmas.{lawful_here}
 use Rattle.pz_sheet.proofs.ChangeLemmas.{both_of, as_many, as_many_seen, next_is}
 use Rattle.pz_sheet.proofs.StillLemmas.{nowhere_read}
 use Rattle.pz_sheet.proofs.TellLemmas.{no_row, found_row, known_row}
-use Rattle.pz_sheet.proofs.Sheet.find_change.Goals as goal
+use Rattle.pz_sheet.proofs.Sheet.learn_next.Goals as goal
 
 pub returns-in_default : goal.returns-in_default
 returns-in_default g c = record {
   next = no_row c.self.inside c.other.inside c.requires.size c.self.view_is c.other.view_is c.self.invariant c.other.invariant (c.if-is_told_by_planes.ensures refl) (c.if-are_still.ensures.first refl) (c.if-are_still.ensures.second refl) c.args.from c.lines-rows.ensures c.lines-others.ensures c.in_default.ensures;
-  known = c.none.ensures _ _;
+  known = c.requires.known;
   as_many = as_many_seen (both_of c.self.inside c.other.inside c.requires.size c.self.view_is c.other.view_is c.self.invariant.stored c.other.invariant.stored);
   lawful = lawful_here _ _ _ _ _ _ _ c.self.invariant.stored c.self.view_is;
 }
@@ -40,7 +40,7 @@ returns g c =
     (subst (λ (here : List (Cell g.row.N)). IsNextDiffering here c.deref-2.result.now c.args.from found) c.deref.ensures.value c.next_differing-found.ensures) in
     record {
       next = next_is both c.args.from found next;
-      known = c.none-2.ensures _ _;
+      known = c.requires.known;
       as_many = as_many_seen both;
       lawful = lawful_here _ _ _ _ _ _ _ c.self.invariant.stored c.self.view_is;
     }
