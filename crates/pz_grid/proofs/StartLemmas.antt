@@ -1,5 +1,9 @@
 -- Starts that are left out since the row's cells before its gap don't hold there.
-use Rattle.pz_grid.proofs.Common.{◌≡◌, ℕ, zero, suc, ◌+◌, ◌-◌, ◌<◌, ◌≤◌, List, [], ◌∷◌, ◌++◌, map, filter, Bool, true, false, cond, arith, ap, sym, ◌∙◌, refl, range_with_len, append-nil, false_from_ne_true, Dir, Item, RuleRow, Grid, run_holds, row_holds, place_in, gap_count, head_of, starts_with}
+use Rattle.pz_grid.proofs.Common.{◌≡◌, ℕ, zero, suc, ◌+◌, ◌-◌, ◌<◌, ◌≤◌, List, [], ◌∷◌, ◌++◌, map, filter, Option, Some, None, Bool, true, false, cond, arith, ap, sym, ◌∙◌, refl, range_with_len, append-nil, false_from_ne_true, Dir, Item, RuleRow, Grid, run_holds, row_holds, place_in, gap_count, head_of, line_length, starts_with}
+use Rattle.pz_sheet.specs.Line as lines
+use Rattle.pz_sheet.specs.Searching.{SoughtRun, run_holds_from}
+use Rattle.pz_sets.specs.Next.{IsNext}
+use Rattle.pz_grid.specs.Starting.{IsSearchFor}
 use Rattle.pz_game.specs.declared.direction.Dir.TheVariants.{Up, Down, Left, Right, Action}
 use Rattle.pz_grid.proofs.FoundLemmas.{found_at}
 use Rattle.pz_grid.proofs.GatherLemmas.{gather, gather_more}
@@ -12,6 +16,12 @@ starts_at grid Left line start gap head = refl
 starts_at grid Down line start gap head = refl
 starts_at grid Up line start gap head = refl
 starts_at grid Action line start gap head = refl
+
+-- what a search finds next in a line is the next start of the row
+pub next_in : (grid : Grid) (row : RuleRow) (dir : Dir) (line : ℕ) (run : SoughtRun) (from : ℕ) (found : Option ℕ) → IsSearchFor grid row dir line run → IsNext (run_holds_from run) from (lines.line_length run.grid run.line.axis) found → IsNext (starts_with grid dir line (head_of row)) from (line_length grid dir) found
+next_in grid row dir line run from None s none = λ start low high. sym (s.starts start) ∙ none start low (omega (arith, high, s.long))
+next_in grid row dir line run from (Some found) s next =
+    (next.0, omega (arith, next.1, s.long), sym (s.starts found) ∙ next.2, λ start low high. sym (s.starts start) ∙ next.3 start low high)
 
 row_fails : (grid : Grid) (row : RuleRow) (dir : Dir) (line start gap : ℕ) → starts_with grid dir line (head_of row) start ≡ false → row_holds grid row dir (place_in dir line start gap) ≡ false
 row_fails grid row dir line start gap e = false_from_ne_true (row_holds grid row dir (place_in dir line start gap)) (λ h. absurd (let f : false ≡ true = sym e ∙ starts_at grid dir line start gap (head_of row) ∙ head_from_row grid row dir (place_in dir line start gap) h in cc))

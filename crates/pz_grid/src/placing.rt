@@ -1,13 +1,13 @@
 //! The places of a row of a rule. A row holds at a place if all its cells are on the map and fit there.
 
-ghost use Rattle.std.specs.List.{list_all, enumerate_from, count_by, range_with_len};
-ghost use Rattle.std.specs.Prelude.{◌≡◌, ◌≢◌, ℕ, All, take, true, ◌+◌, ◌*◌, ◌<◌, ◌≤◌, cond, [], ◌∷◌, ◌++◌, ◌^◌, filter, length, OnOk, IfOk, IfErr, IfSome, Ok, Err};
+ghost use Rattle.std.specs.List.{list_all, enumerate_from};
+ghost use Rattle.std.specs.Prelude.{◌≡◌, ◌≢◌, take, true, ◌+◌, ◌*◌, ◌<◌, ◌≤◌, cond, [], ◌∷◌, ◌++◌, ◌^◌, filter, length, OnOk, IfOk, IfErr, IfSome, MatchOption, Ok, Err};
 ghost use Rattle.pz_game.specs.declared.limits.TheConstants.{MAX_SIDE};
 ghost use Rattle.pz_game.specs.Pattern.{AreOf, IsRowOf, AreRowsOf};
 ghost use Rattle.pz_grid.specs.Admitted.{admitted, searches_line, starts_in, start_count};
 ghost use Rattle.pz_grid.specs.Places.{on_map, along, position_of, distance, cell_holds, row_holds, line_count, line_length, place_in, holds_behind, pairs_at, head_of, pairs_in, places, searched, starts_with, still_holds, still_matches};
+ghost use Rattle.pz_grid.specs.Starting.{StartsNowhere, IsSearchFor};
 ghost use Rattle.pz_sets.specs.Next.{IsNext};
-ghost use Rattle.pz_sets.specs.Sets.{in_word};
 ghost use Rattle.pz_sheet.specs.Grid.{IsOnMap, IsLawful};
 
 use crate::Level;
@@ -16,7 +16,9 @@ use pz_game::direction::Dir;
 use pz_game::pattern::{Pattern, Row};
 use pz_program::instance::Instance;
 use pz_sheet::Sheet;
-use pz_sheet::line::{self, Axis, Way, column, row};
+use pz_sheet::line::{self, Way};
+use pz_sheet::runs::RunSearch;
+use pz_sheet::searching::CellSearch;
 use std::alloc::Global;
 use std::marker::Model;
 
@@ -203,98 +205,25 @@ fn head_of(row: &Row) -> &[Pattern]
     }
 }
 
-/// The starts of a line, of the first 128, from which the cells in `head` may hold one after another. They are a row's cells before its gap.
-fn possible_starts<const N: usize>(sheet: &Sheet<N>, line: Line, head: &[Pattern]) -> u128
-    requires some { 0 < length head.now }
-    requires line_in { line.number < line_count sheet.now.grid line.dir }
-    requires of_game { All (AreOf sheet.now.grid.layers) head.now }
-    ensures { (at : ℕ) → at < line_length sheet.now.grid line.dir → at < 128 → starts_with sheet.now.grid line.dir line.number head.now at ≡ true → in_word result at ≡ true }
-{
-    let number = line.number;
-    match line.dir {
-        Dir::Right => sheet.starts_in(row(number), Way::Ahead, head),
-        Dir::Left => sheet.starts_in(row(number), Way::Back, head),
-        Dir::Down => sheet.starts_in(column(number), Way::Ahead, head),
-        Dir::Up => sheet.starts_in(column(number), Way::Back, head),
-        Dir::Action => 0,
-    }
-}
-
-/// The first start in a line, not before `from`, from which the cells in `head` hold one after another. They are a row's cells before its
-/// gap, and `starts` has where they may.
-fn next_start<const N: usize>(
-    sheet: &Sheet<N>,
+/// The search of a line for the starts of a row: those from which its cells before its gap hold one after another. `None`: there are none,
+/// since the action leads nowhere.
+fn search_in<'a, const N: usize>(
+    sheet: &'a Sheet<N>,
+    row: &'a Row,
     line: Line,
-    starts: u128,
-    from: u32,
-    head: &[Pattern],
-) -> Option<u32>
-    requires some { 0 < length head.now }
+) -> Option<RunSearch<'a, N>>
+    requires of_game { IsRowOf sheet.now.grid.layers row.now }
     requires line_in { line.number < line_count sheet.now.grid line.dir }
-    requires of_game { All (AreOf sheet.now.grid.layers) head.now }
-    requires starts { (at : ℕ) → at < line_length sheet.now.grid line.dir → at < 128 → starts_with sheet.now.grid line.dir line.number head.now at ≡ true → in_word starts at ≡ true }
-    ensures { IsNext (starts_with sheet.now.grid line.dir line.number head.now) from (line_length sheet.now.grid line.dir) result }
+    ensures { MatchOption result (StartsNowhere sheet.now.grid row.now line.dir line.number) (IsSearchFor sheet.now.grid row.now line.dir line.number) }
 {
-    match line.dir {
-        Dir::Right => sheet.next_run(
-            line::Line {
-                axis: Axis::Horizontal,
-                number: line.number,
-            },
-            Way::Ahead,
-            starts,
-            from,
-            head,
-        ),
-        Dir::Left => sheet.next_run(
-            line::Line {
-                axis: Axis::Horizontal,
-                number: line.number,
-            },
-            Way::Back,
-            starts,
-            from,
-            head,
-        ),
-        Dir::Down => sheet.next_run(
-            line::Line {
-                axis: Axis::Vertical,
-                number: line.number,
-            },
-            Way::Ahead,
-            starts,
-            from,
-            head,
-        ),
-        Dir::Up => sheet.next_run(
-            line::Line {
-                axis: Axis::Vertical,
-                number: line.number,
-            },
-            Way::Back,
-            starts,
-            from,
-            head,
-        ),
-        Dir::Action => None,
-    }
-}
-
-/// In how many cells of a line the search tests whether the cells in `head` hold from there on. They are a row's cells before its gap.
-fn tested_in<const N: usize>(sheet: &Sheet<N>, line: Line, head: &[Pattern]) -> u32
-    requires some { 0 < length head.now }
-    requires line_in { line.number < line_count sheet.now.grid line.dir }
-    requires of_game { All (AreOf sheet.now.grid.layers) head.now }
-    ensures low { count_by (starts_with sheet.now.grid line.dir line.number head.now) (range_with_len 0 (line_length sheet.now.grid line.dir)) ≤ result }
-    ensures high { result ≤ line_length sheet.now.grid line.dir }
-{
+    let head = head_of(row);
     let number = line.number;
     match line.dir {
-        Dir::Right => sheet.tested_in(row(number), Way::Ahead, head),
-        Dir::Left => sheet.tested_in(row(number), Way::Back, head),
-        Dir::Down => sheet.tested_in(column(number), Way::Ahead, head),
-        Dir::Up => sheet.tested_in(column(number), Way::Back, head),
-        Dir::Action => 0,
+        Dir::Right => Some(RunSearch::new(sheet, line::row(number), Way::Ahead, head)),
+        Dir::Left => Some(RunSearch::new(sheet, line::row(number), Way::Back, head)),
+        Dir::Down => Some(RunSearch::new(sheet, line::column(number), Way::Ahead, head)),
+        Dir::Up => Some(RunSearch::new(sheet, line::column(number), Way::Back, head)),
+        Dir::Action => None,
     }
 }
 
@@ -365,37 +294,25 @@ fn next_gap<const N: usize>(
         return None;
     }
     let ahead = steps as u32;
-    let along_row = line::Line {
-        axis: Axis::Horizontal,
-        number: from.y,
-    };
-    let along_column = line::Line {
-        axis: Axis::Vertical,
-        number: from.x,
-    };
+    let in_row = CellSearch::new(sheet, line::row(from.y), behind);
+    let in_column = CellSearch::new(sheet, line::column(from.x), behind);
     match dir {
-        Dir::Right => match sheet.next_in_line(along_row, from.x + ahead, behind) {
+        Dir::Right => match in_row.next(from.x + ahead) {
             Some(x) => Some(x - from.x - at),
             None => None,
         },
-        Dir::Left => {
-            let end = (from.x + 1).saturating_sub(ahead);
-            match sheet.last_in_line(along_row, end, behind) {
-                Some(x) => Some(from.x - at - x),
-                None => None,
-            }
-        }
-        Dir::Down => match sheet.next_in_line(along_column, from.y + ahead, behind) {
+        Dir::Left => match in_row.last((from.x + 1).saturating_sub(ahead)) {
+            Some(x) => Some(from.x - at - x),
+            None => None,
+        },
+        Dir::Down => match in_column.next(from.y + ahead) {
             Some(y) => Some(y - from.y - at),
             None => None,
         },
-        Dir::Up => {
-            let end = (from.y + 1).saturating_sub(ahead);
-            match sheet.last_in_line(along_column, end, behind) {
-                Some(y) => Some(from.y - at - y),
-                None => None,
-            }
-        }
+        Dir::Up => match in_column.last((from.y + 1).saturating_sub(ahead)) {
+            Some(y) => Some(from.y - at - y),
+            None => None,
+        },
         Dir::Action => None,
     }
 }
@@ -469,10 +386,11 @@ fn add_places_in<const N: usize>(
 {
     // (brings the proof how short a line is)
     let _ = line_length(sheet, line.dir);
-    let head = head_of(row);
-    let starts = possible_starts(sheet, line, head);
+    let Some(search) = search_in(sheet, row, line) else {
+        return Ok(());
+    };
     let mut from = 0;
-    'starts: while let Some(start) = next_start(sheet, line, starts, from, head) {
+    'starts: while let Some(start) = search.next(from) {
         add_places_at(sheet, row, line, start, found)?;
         from = start + 1;
     }
@@ -486,7 +404,10 @@ fn tested_for<const N: usize>(sheet: &Sheet<N>, row: &Row, line: Line) -> u32
     ensures low { starts_in line.dir (places sheet.now.grid row.now line.dir) (line_length sheet.now.grid line.dir) line.number ≤ result }
     ensures high { result ≤ line_length sheet.now.grid line.dir }
 {
-    tested_in(sheet, line, head_of(row))
+    match search_in(sheet, row, line) {
+        Some(search) => search.tested(),
+        None => 0,
+    }
 }
 
 impl Level {

@@ -106,7 +106,7 @@ pub both_of : {N : ℕ} {grid other : BareState} (a b : Inside N) → SameSize g
 both_of a b size is is_other stored stored_other =
     record { size = size; is = ap (λ (s : BareState). s.grid) is; is_other = ap (λ (s : BareState). s.grid) is_other; notes = a.notes; notes_other = b.notes; stored = stored; stored_other = stored_other }
 
-module _ (N wa ha : ℕ) (la : Layering) (ca : List (Cell N)) (wb hb : ℕ) (lb : Layering) (cb : List (Cell N)) (grid other : Grid) (a : AreBoth N wa ha la ca wb hb lb cb grid other) where
+module _ {N wa ha : ℕ} {la : Layering} {ca : List (Cell N)} {wb hb : ℕ} {lb : Layering} {cb : List (Cell N)} {grid other : Grid} (a : AreBoth N wa ha la ca wb hb lb cb grid other) where
   pub many : length grid.cells ≡ length ca
   many = ap (λ (g : Grid). length g.cells) (sym a.is) ∙ length-map ca (seen la)
 

@@ -1,14 +1,18 @@
 -- Where nothing heads, the planes of the rows tell in which cells two levels differ.
-use Rattle.pz_sheet.proofs.Common.{◌≡◌, inl, inr, ℕ, ◌+◌, ◌-◌, ◌*◌, ◌/◌, ◌%◌, ◌<◌, ◌≤◌, List, Option, Some, None, false, not, IsTrue, ◌↔◌, length, get_or, arith, ap, sym, ◌∙◌, subst, All, cases_lt, get_or_default, div-mul-add, mod-mul-add, mul-add-lt, no_cell, in_word, member, LineSets, PlaneSets, stands_in, number_of, column_in, row_in, Cell, Layering, AreAlike, IsSound, IsNext, differ_in, Grid, ArePlaced}
+use Rattle.pz_sheet.proofs.Common.{◌≡◌, inl, inr, ℕ, ◌+◌, ◌*◌, ◌/◌, ◌%◌, ◌<◌, ◌≤◌, List, Option, Some, None, false, not, IsTrue, ◌↔◌, length, get_or, arith, ap, sym, ◌∙◌, subst, All, cases_lt, get_or_default, div-mul-add, mod-mul-add, mul-add-lt, no_cell, in_word, member, LineSets, PlaneSets, stands_in, number_of, column_in, row_in, Cell, Layering, AreAlike, IsSound, IsNext, differ_in, Grid, BareState, SameSize, grid_of, ArePlaced}
 use Rattle.pz_planes.specs.Planes.{AreDiffering, AreSameAt, IsNextDifferingLine, IsNextDifferingPosition}
 use Rattle.pz_planes.specs.declared.planes.Differing.{Differing}
 use Rattle.pz_cells.specs.Differing.{IsNextDiffering as IsNextCell}
 use Rattle.pz_cells.specs.Lists.{HeadNowhere}
 use Rattle.std.proofs.Math.Bool.{not-not}
 use Rattle.pz_sheet.specs.Changes.{TellsOf}
-use Rattle.pz_sheet.proofs.ChangeLemmas.{AreBoth, are_other, many, over_layers, same_width, same_height, same_there as same_cells, next_is}
+use Rattle.pz_sheet.specs.Seen.{IsSheet}
+use Rattle.pz_sheet.specs.declared.changes.KnownChanges.{KnownChanges}
+use Rattle.pz_sheet.specs.declared.Sheet.TheInside.{Inside}
+use Rattle.pz_sheet.proofs.ChangeLemmas.{AreBoth, both_of, are_other, many, over_layers, same_width, same_height, same_there as same_cells, next_is}
 use Rattle.pz_sheet.proofs.PlacedLemmas.{there_of}
 use Rattle.pz_sheet.proofs.SheetLemmas.{only_false}
+use Rattle.pz_sheet.proofs.StillLemmas.{all_head_nowhere, row_within}
 
 -- cells of a level whose rows fit in a word, with its planes; nothing heads anywhere
 pub record AreTold (N width height : ℕ) (layering : Layering) (cells : List (Cell N)) (planes : PlaneSets) : Type 0 where
@@ -66,74 +70,76 @@ module _ (N width height : ℕ) (layering : Layering) (cells others : List (Cell
         λ number cell other low high. alike_there number cell other (omega (arith, high, within)) (next.3 number low high),
       )
 
--- two levels of one size in which nothing heads
-module _ (N wa ha : ℕ) (la : Layering) (ca : List (Cell N)) (pa : PlaneSets) (wb hb : ℕ) (lb : Layering) (cb : List (Cell N)) (pb : PlaneSets) (grid other : Grid) (both : AreBoth N wa ha la ca wb hb lb cb grid other) (short : wa ≤ 128) (placed : ArePlaced N (length la.layers) wa ha pa ca) (placed_other : ArePlaced N (length lb.layers) wb hb pb cb) where
-  is_told : HeadNowhere ca → AreTold N wa ha la ca pa
-  is_told still = record { short = short; covers = both.stored.covers; sound = both.stored.sound; still = still; placed = placed }
+-- two levels of one size in which nothing heads, and whose rows fit in a word
+module _ {N : ℕ} {here there : BareState} (a b : Inside N) (size : SameSize here.grid there.grid) (is : record { grid = grid_of a.width a.height a.layers a.cells.items } ≡ here) (is_other : record { grid = grid_of b.width b.height b.layers b.cells.items } ≡ there)
+    (sheet : IsSheet N a.width a.height a.layers a.cells.items a.notes a.planes) (sheet_other : IsSheet N b.width b.height b.layers b.cells.items b.notes b.planes) (short : here.grid.width ≤ 128)
+    (none : (number : ℕ) → member a.notes.whole number ≡ false) (none_other : (number : ℕ) → member b.notes.whole number ≡ false) where
+  both : AreBoth N a.width a.height a.layers a.cells.items b.width b.height b.layers b.cells.items here.grid there.grid
+  both = both_of a b size is is_other sheet.stored sheet_other.stored
 
-  other_told : HeadNowhere cb → AreTold N wa ha la cb pb
-  other_told still =
-      let over = sym (over_layers N wa ha la ca wb hb lb cb grid other both) in
-      let width = sym (same_width N wa ha la ca wb hb lb cb grid other both) in
-      let height = sym (same_height N wa ha la ca wb hb lb cb grid other both) in
-      record {
-        short = short;
-        covers = both.stored_other.covers ∙ ap (λ (w : ℕ). w * hb) width ∙ ap (λ (h : ℕ). wa * h) height;
-        sound = subst (λ (l : Layering). All (IsSound l) cb) over both.stored_other.sound;
-        still = still;
-        placed = subst (λ (l : Layering). ArePlaced N (length l.layers) wa ha pb cb) over (subst (λ (w : ℕ). ArePlaced N (length lb.layers) w ha pb cb) width (subst (λ (h : ℕ). ArePlaced N (length lb.layers) wb h pb cb) height placed_other));
-      }
+  told : AreTold N a.width a.height a.layers a.cells.items a.planes
+  told = record {
+    short = subst (λ (grid : Grid). grid.width ≤ 128) (sym both.is) short;
+    covers = sheet.stored.covers;
+    sound = sheet.stored.sound;
+    still = all_head_nowhere N a.width a.height a.layers a.cells.items a.notes sheet.stored none;
+    placed = sheet.placed;
+  }
 
-  pub next_by_planes : HeadNowhere ca → HeadNowhere cb → (from : ℕ) (found : Option ℕ) → IsNextDifferingPosition pa.rows pb.rows wa from found → IsNext (differ_in grid other) from (length grid.cells) found
-  next_by_planes still other_still from found next =
-      next_is N wa ha la ca wb hb lb cb grid other both from found (next_told N wa ha la ca cb pa pb (is_told still) (other_told other_still) from found next)
+  told_other : AreTold N a.width a.height a.layers b.cells.items b.planes
+  told_other =
+      let width = sym (same_width both) in
+      let height = sym (same_height both) in
+      subst (λ (l : Layering). AreTold N a.width a.height l b.cells.items b.planes) (sym (over_layers both)) (record {
+        short = told.short;
+        covers = sheet_other.stored.covers ∙ ap (λ (w : ℕ). w * b.height) width ∙ ap (λ (h : ℕ). a.width * h) height;
+        sound = sheet_other.stored.sound;
+        still = all_head_nowhere N b.width b.height b.layers b.cells.items b.notes sheet_other.stored none_other;
+        placed = subst (λ (w : ℕ). ArePlaced N (length b.layers.layers) w a.height b.planes b.cells.items) width (subst (λ (h : ℕ). ArePlaced N (length b.layers.layers) b.width h b.planes b.cells.items) height sheet_other.placed);
+      })
+
+  next_by_planes : (from : ℕ) (found : Option ℕ) → IsNextDifferingPosition a.planes.rows b.planes.rows a.width from found → IsNext (differ_in here.grid there.grid) from (length here.grid.cells) found
+  next_by_planes from found next = next_is both from found (next_told N a.width a.height a.layers a.cells.items b.cells.items a.planes b.planes told told_other from found next)
 
   -- the word in which the planes of a row differ tells in which of its cells the levels do
-  pub row_told : HeadNowhere ca → HeadNowhere cb → (index places : ℕ) → index < length grid.cells → ((at : ℕ) → at < 128 → (in_word places at ≡ false) ↔ AreSameAt pa.rows pb.rows (index / wa) at)
-      → TellsOf (differ_in grid other) (length grid.cells) (record { first = index / wa * wa; count = wa; places = places })
-  row_told still other_still index places within tells =
-      let line = index / wa in
-      let cells : length grid.cells ≡ length ca = many N wa ha la ca wb hb lb cb grid other both in
-      let inside : index < wa * ha = omega (arith, within, cells, both.stored.covers) in
-      let line_in : line < ha = row_in index wa ha inside in
-      let told = is_told still in
-      let told_other = other_told other_still in
-      let each : (at : ℕ) → at < wa → in_word places at ≡ differ_in grid other (line * wa + at) = λ at at_in.
-      let number = line * wa + at in
-      let number_in : number < length ca = omega (arith, mul-add-lt line wa at ha line_in at_in, both.stored.covers) in
-      let low : at < 128 = omega (arith, at_in, short) in
-      let row : number / wa ≡ line = div-mul-add line wa at at_in in
-      let column : number % wa ≡ at = mod-mul-add line wa at at_in in
-      let decides : IsTrue (not (in_word places at)) ↔ AreAlike (get_or ca number (no_cell N)) (get_or cb number (no_cell N)) = (
-        λ no.
-            let same : AreSameAt pa.rows pb.rows line at = (tells at low).0 (are_other _ no) in
-            alike_there N wa ha la ca cb pa pb told told_other number (no_cell N) (no_cell N) number_in
-            (subst (λ (y : ℕ). AreSameAt pa.rows pb.rows y (number % wa)) (sym row) (subst (λ (x : ℕ). AreSameAt pa.rows pb.rows line x) (sym column) same)),
-        λ alike.
-            let same = same_there N wa ha la ca cb pa pb told told_other number (no_cell N) (no_cell N) number_in alike in
-            ap not ((tells at low).1 (subst (λ (x : ℕ). AreSameAt pa.rows pb.rows line x) column (subst (λ (y : ℕ). AreSameAt pa.rows pb.rows y (number % wa)) row same))),
-      ) in
-      sym (not-not (in_word places at)) ∙ ap not (same_cells N wa ha la ca wb hb lb cb grid other both number (not (in_word places at)) number_in decides) in
+  row_told : (line : ℕ) (known : KnownChanges) → line < a.height → AreDiffering a.planes.rows b.planes.rows line known.places → known.first ≡ line * a.width → known.count ≡ a.width → TellsOf (differ_in here.grid there.grid) (length here.grid.cells) known
+  row_told line known line_in tells first count =
+      let cells : length here.grid.cells ≡ a.width * a.height = many both ∙ sheet.stored.covers in
       record {
-        short = short;
-        within = omega (arith, mul-add-lt line wa (wa - 1) ha line_in (omega (arith, inside)), cells, both.stored.covers, inside);
-        each = each;
+        within = omega (arith, row_within line a.width a.height line_in, cells, first, count);
+        each = λ at at_in.
+            let x_in : at < a.width = omega (arith, at_in, count) in
+            let number = line * a.width + at in
+            let inside : number < length a.cells.items = omega (arith, mul-add-lt line a.width at a.height line_in x_in, sheet.stored.covers) in
+            let low : at < 128 = omega (arith, x_in, told.short) in
+            let row : number / a.width ≡ line = div-mul-add line a.width at x_in in
+            let column : number % a.width ≡ at = mod-mul-add line a.width at x_in in
+            let decides : IsTrue (not (in_word known.places at)) ↔ AreAlike (get_or a.cells.items number (no_cell N)) (get_or b.cells.items number (no_cell N)) = (
+              λ no.
+                  alike_there N a.width a.height a.layers a.cells.items b.cells.items a.planes b.planes told told_other number (no_cell N) (no_cell N) inside
+                  (subst (λ (y : ℕ). AreSameAt a.planes.rows b.planes.rows y (number % a.width)) (sym row) (subst (λ (x : ℕ). AreSameAt a.planes.rows b.planes.rows line x) (sym column) ((tells at low).0 (are_other _ no)))),
+              λ alike.
+                  let same = same_there N a.width a.height a.layers a.cells.items b.cells.items a.planes b.planes told told_other number (no_cell N) (no_cell N) inside alike in
+                  ap not ((tells at low).1 (subst (λ (x : ℕ). AreSameAt a.planes.rows b.planes.rows line x) column (subst (λ (y : ℕ). AreSameAt a.planes.rows b.planes.rows y (number % a.width)) row same))),
+            ) in
+            sym (not-not (in_word known.places at)) ∙ ap not (same_cells both number (not (in_word known.places at)) inside decides) ∙ ap (λ (k : ℕ). differ_in here.grid there.grid (k + at)) (sym first);
       }
 
   -- what the planes of the rows find
-  read_rows : (rows others : LineSets) (from : ℕ) (found : Option Differing) → rows ≡ pa.rows → others ≡ pb.rows → IsNextDifferingLine rows others wa from found → IsNextDifferingLine pa.rows pb.rows wa from found
-  read_rows rows others from found is is_other next =
-      subst (λ (sets : LineSets). IsNextDifferingLine pa.rows sets wa from found) is_other (subst (λ (sets : LineSets). IsNextDifferingLine sets others wa from found) is next)
+  read_rows : {rows others : LineSets} (from : ℕ) (found : Option Differing) → rows ≡ a.planes.rows → others ≡ b.planes.rows → IsNextDifferingLine rows others a.width from found → IsNextDifferingLine a.planes.rows b.planes.rows a.width from found
+  read_rows {others = others} from found mine theirs next =
+      subst (λ (sets : LineSets). IsNextDifferingLine a.planes.rows sets a.width from found) theirs (subst (λ (sets : LineSets). IsNextDifferingLine sets others a.width from found) mine next)
 
-  pub no_row : HeadNowhere ca → HeadNowhere cb → (rows others : LineSets) (from : ℕ) → rows ≡ pa.rows → others ≡ pb.rows → IsNextDifferingLine rows others wa from None → IsNext (differ_in grid other) from (length grid.cells) None
-  no_row still other_still rows others from is is_other next = next_by_planes still other_still from None (read_rows rows others from None is is_other next)
+  pub no_row : {rows others : LineSets} (from : ℕ) → rows ≡ a.planes.rows → others ≡ b.planes.rows → IsNextDifferingLine rows others a.width from None → IsNext (differ_in here.grid there.grid) from (length here.grid.cells) None
+  no_row from mine theirs next = next_by_planes from None (read_rows from None mine theirs next)
 
-  pub found_row : HeadNowhere ca → HeadNowhere cb → (rows others : LineSets) (from : ℕ) (row : Differing) → rows ≡ pa.rows → others ≡ pb.rows → IsNextDifferingLine rows others wa from (Some row)
-      → IsNext (differ_in grid other) from (length grid.cells) (Some row.found) × TellsOf (differ_in grid other) (length grid.cells) (record { first = row.line * wa; count = wa; places = row.places })
-  found_row still other_still rows others from row is is_other next =
-      let read = read_rows rows others from (Some row) is is_other next in
-      let found = next_by_planes still other_still from (Some row.found) read.0 in
-      let tells : AreDiffering pa.rows pb.rows (row.found / wa) row.places = subst (λ (line : ℕ). AreDiffering pa.rows pb.rows line row.places) read.1 read.2 in (
-        found,
-        subst (λ (line : ℕ). TellsOf (differ_in grid other) (length grid.cells) (record { first = line * wa; count = wa; places = row.places })) (sym read.1) (row_told still other_still row.found row.places found.1 tells),
-      )
+  pub found_row : {rows others : LineSets} (from : ℕ) (row : Differing) → rows ≡ a.planes.rows → others ≡ b.planes.rows → IsNextDifferingLine rows others a.width from (Some row) → IsNext (differ_in here.grid there.grid) from (length here.grid.cells) (Some row.found)
+  found_row from row mine theirs next = next_by_planes from (Some row.found) (read_rows from (Some row) mine theirs next).0
+
+  pub known_row : {rows others : LineSets} (from : ℕ) (row : Differing) (known : KnownChanges) → rows ≡ a.planes.rows → others ≡ b.planes.rows → IsNextDifferingLine rows others a.width from (Some row) → known.first ≡ row.line * a.width → known.count ≡ a.width → known.places ≡ row.places
+      → TellsOf (differ_in here.grid there.grid) (length here.grid.cells) known
+  known_row from row known mine theirs next first count places =
+      let read = read_rows from (Some row) mine theirs next in
+      let inside : row.found < a.width * a.height = omega (arith, (found_row from row mine theirs next).1, many both, sheet.stored.covers) in
+      let line_in : row.line < a.height = omega (arith, read.1, row_in row.found a.width a.height inside) in
+      row_told row.line known line_in (subst (AreDiffering a.planes.rows b.planes.rows row.line) (sym places) read.2) first count

@@ -1,5 +1,5 @@
 -- A cell in which exactly one object comes or goes.
-use Rattle.pz_sheet.proofs.Common.{Layering, ◌≡◌, ◌≢◌, inl, inr, ℕ, ◌<◌, ◌≤◌, ◌+◌, ◌*◌, List, Option, Some, None, Bool, true, false, not, nat_eq, set, length, get_or, arith, refl, ap, sym, ◌∙◌, subst, cases_eq, eq-eqb, eqb-true, get_or-set_same, get_or-set_other, All, Cell, Piece, member, seen, IsOnLayer, IsSound, PlaneSets, AreChanged, AreThere}
+use Rattle.pz_sheet.proofs.Common.{Layering, ◌≡◌, ◌≢◌, inl, inr, ℕ, ◌<◌, List, Option, Some, None, Bool, true, false, not, nat_eq, set, length, get_or, refl, ap, sym, ◌∙◌, subst, cases_eq, eq-eqb, eqb-true, get_or-set_same, get_or-set_other, All, Cell, Piece, member, seen, IsOnLayer, IsSound, PlaneSets, AreChanged, AreThere}
 use Rattle.pz_game.specs.declared.direction.Dir.{Dir}
 use Rattle.pz_planes.specs.Planes.{toggled}
 use Rattle.pz_cells.specs.Shown.{Shows}

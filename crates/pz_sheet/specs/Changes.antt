@@ -1,5 +1,5 @@
 -- The cells in which an older level differs from another of its size, and a level with cells replaced.
-use Rattle.std.specs.Prelude.{◌≡◌, ℕ, ◌+◌, ◌<◌, ◌≤◌, List, [], ◌∷◌, Option, Bool, not, length, map, fold, slice_set, if◌then◌else◌}
+use Rattle.std.specs.Prelude.{◌≡◌, ℕ, ◌+◌, ◌<◌, ◌≤◌, List, [], ◌∷◌, Option, Bool, false, not, length, map, fold, slice_set, if◌then◌else◌}
 use Rattle.pz_cells.specs.declared.piece.Piece.{Piece}
 use Rattle.pz_cells.specs.Sameness.{same_cell}
 use Rattle.pz_sets.specs.Sets.{in_word}
@@ -56,6 +56,9 @@ cell_there grid number = record { number = number; cell = cell_of grid number }
 
 -- of some cells, all of them before a number, it is known which pass a test
 pub record TellsOf (test : ℕ → Bool) (end : ℕ) (known : KnownChanges) : Type 0 where
-  pub short : known.count ≤ 128
   pub within : known.first + known.count ≤ end
   pub each : (at : ℕ) → at < known.count → in_word known.places at ≡ test (known.first + at)
+
+-- none of the numbers from one on and before another passes a test
+abbrev pub IsClear : (ℕ → Bool) → ℕ → ℕ → Type 0
+IsClear test from behind = (from ≤ behind) × ((number : ℕ) → from ≤ number → number < behind → test number ≡ false)

@@ -1,12 +1,14 @@
 -- The last position of a line before an end at which a rule's cell holds, and whether it holds somewhere.
 use Rattle.std.specs.Prelude.{◌≡◌, ℕ, ◌<◌, List, Bool, true, false, Option, Some, None}
 use Rattle.pz_game.specs.declared.pattern.Item.{Item}
+use Rattle.pz_game.specs.Pattern.{AreOf}
 use Rattle.pz_cells.specs.Pattern.{pattern_holds}
 use Rattle.pz_sheet.specs.declared.line.Line.{Line}
 use Rattle.pz_sheet.specs.Grid.{Grid, cell_at}
 use Rattle.pz_planes.specs.declared.line.Way.{Way}
 use Rattle.pz_sets.specs.Sets.{in_word}
-use Rattle.pz_sheet.specs.Line.{line_length, holds_in, runs_in}
+use Rattle.pz_sheet.specs.Line.{line_length, line_count, holds_in, runs_in}
+use Rattle.pz_sheet.specs.Runs.{IsRunOf}
 
 -- the greatest number below `end` that passes a test, if there is one
 abbrev pub IsLast : (ℕ → Bool) → ℕ → Option ℕ → Type 0
@@ -31,3 +33,35 @@ pub record HoldsInLine (grid : Grid) (line : Line) (pattern : List Item) : Type 
 -- rules' cells may hold from these positions of a line, of the first 128, and from no other of these
 abbrev pub MayStartAt : Grid → Line → Way → List (List Item) → ℕ → Type 0
 MayStartAt grid line way patterns starts = (at : ℕ) → at < line_length grid line.axis → at < 128 → runs_in grid line way patterns at ≡ true → in_word starts at ≡ true
+
+-- a run that is looked for along a line of a level
+pub record SoughtRun : Type 0 where
+  pub grid : Grid
+  pub line : Line
+  pub way : Way
+  pub patterns : List (List Item)
+
+-- the run holds from a position of its line on
+abbrev pub run_holds_from : SoughtRun → ℕ → Bool
+run_holds_from run at = runs_in run.grid run.line run.way run.patterns at
+
+-- the line is on the map, and the run is of the level's game; it starts, in the first 128 positions, only at those of a set
+pub record IsRunSearch (run : SoughtRun) (starts : ℕ) : Type 0 where
+  pub line_in : run.line.number < line_count run.grid run.line.axis
+  pub of_game : IsRunOf run.grid.layers run.patterns
+  pub nowhere_else : MayStartAt run.grid run.line run.way run.patterns starts
+
+-- a rule's cell that is looked for in a line of a level
+pub record SoughtCell : Type 0 where
+  pub grid : Grid
+  pub line : Line
+  pub pattern : List Item
+
+-- the cell holds at a position of its line
+abbrev pub cell_holds_at : SoughtCell → ℕ → Bool
+cell_holds_at cell at = holds_in cell.grid cell.line cell.pattern at
+
+-- the line is on the map, and the cell is of the level's game
+pub record IsCellSearch (cell : SoughtCell) : Type 0 where
+  pub line_in : cell.line.number < line_count cell.grid cell.line.axis
+  pub of_game : AreOf cell.grid.layers cell.pattern

@@ -1,7 +1,6 @@
 //! The cells in which a level differs from an older one, and the way back to that.
 
-ghost use Rattle.std.specs.Prelude.{◌≡◌, ℕ, Bool, true, ◌<◌, ◌≤◌, ◌+◌, ◌^◌, All, IfOk, OnOk, OnErr, length, max};
-ghost use Rattle.pz_sheet.specs.Changes.{changed_cells, changes_seen, IsChangeOf, with_cell, restored, differ_in, cell_there, TellsOf};
+ghost use Rattle.std.specs.Prelude.{◌≡◌, ℕ, Bool, true, ◌<◌, ◌≤◌, ◌+◌, ◌^◌, All, Some, IfOk, OnOk, OnErr, MatchResult, length};
 ghost use Rattle.pz_sheet.specs.Grid.{IsLawful, SameSize};
 ghost use Rattle.pz_sets.specs.Next.{IsNext};
 
@@ -26,9 +25,13 @@ pub struct KnownChanges {
     first: usize,
     count: u32,
     places: u128,
+    ghost short: { count ≤ 128 },
+    ghost small: { first + count < 2 ^ 64 },
 }
 
 impl KnownChanges {
+    ghost use Rattle.pz_sheet.specs.Changes.{TellsOf, IsClear};
+
     /// Nothing is known of any cell.
     pub fn none() -> KnownChanges
         ensures { (test : ℕ → Bool) (end : ℕ) → TellsOf test end result }
@@ -40,37 +43,24 @@ impl KnownChanges {
         }
     }
 
-    /// Whether the cell of this number is one of these.
-    fn has(&self, index: usize) -> bool
-        ensures { result ≡ true → (self.now.first ≤ index) × (index < self.now.first + self.now.count) }
+    /// The first cell, from number `from` on, that differs, if it is one of these. Err: up to this number none differs.
+    fn next(&self, from: usize) -> Result<usize, usize>
+        ensures { (test : ℕ → Bool) (end : ℕ) → TellsOf test end self.now → MatchResult result (λ index. IsNext test from end (Some index)) (λ behind. IsClear test from behind) }
     {
-        self.first <= index && index - self.first < self.count as usize
-    }
-
-    /// The number behind these cells.
-    fn end(&self) -> usize
-        requires { self.now.first + self.now.count < 2 ^ 64 }
-        ensures { result ≡ self.now.first + self.now.count }
-    {
-        self.first + self.count as usize
-    }
-
-    /// The first of these cells, from number `from` on, that differs.
-    fn next(&self, from: usize) -> Option<usize>
-        requires short { self.now.count ≤ 128 }
-        requires small { self.now.first + self.now.count < 2 ^ 64 }
-        requires from { (self.now.first ≤ from) × (from < self.now.first + self.now.count) }
-        ensures { (test : ℕ → Bool) (end : ℕ) → TellsOf test end self.now → IsNext test from (self.now.first + self.now.count) result }
-    {
+        if from < self.first || from - self.first >= self.count as usize {
+            return Err(from);
+        }
         let at = (from - self.first) as u32;
         match bits::next(self.places, at, self.count) {
-            None => None,
-            Some(place) => Some(self.first + place as usize),
+            None => Err(self.first + self.count as usize),
+            Some(place) => Ok(self.first + place as usize),
         }
     }
 }
 
 impl<const N: usize> Sheet<N> {
+    ghost use Rattle.pz_sheet.specs.Changes.{changed_cells, changes_seen, IsChangeOf, with_cell, restored, differ_in, cell_there, TellsOf};
+
     /// Makes this level equal to a newer one of the same size, and gives the way back: exactly the cells in which they differed, as they
     /// were. Err: memory was refused, and the level is unchanged.
     #[tactic(auto, using(crate::proofs::NewerLemmas::all_taken, crate::proofs::NewerLemmas::size_back))]
@@ -118,10 +108,13 @@ impl<const N: usize> Sheet<N> {
         }
     }
 
-    /// The first cell, from number `from` on, in which another level of the same size differs.
-    pub fn next_change(&self, other: &Sheet<N>, from: usize) -> Option<usize>
+    /// The first cell, from number `from` on, in which another level of the same size differs. Then the changes in its row are known, if that
+    /// is little work.
+    fn learn_next(&self, other: &Sheet<N>, known: &mut KnownChanges, from: usize) -> Option<usize>
         requires size { SameSize self.now.grid other.now.grid }
+        requires known { TellsOf (differ_in self.now.grid other.now.grid) (length self.now.grid.cells) known.old }
         ensures next { IsNext (differ_in self.now.grid other.now.grid) from (length self.now.grid.cells) result }
+        ensures known { TellsOf (differ_in self.now.grid other.now.grid) (length self.now.grid.cells) known.new }
         ensures as_many { length self.now.grid.cells ≡ length other.now.grid.cells }
         ensures lawful { IsLawful self.now.grid }
     {
@@ -132,10 +125,25 @@ impl<const N: usize> Sheet<N> {
             let Some(row) = rows.next_differing(others, self.width, from) else {
                 return None;
             };
-            Some(row.found)
-        } else {
-            next_differing(&self.cells, &other.cells, are_still, from)
+            *known = KnownChanges {
+                first: row.line * self.width as usize,
+                count: self.width,
+                places: row.places,
+            };
+            return Some(row.found);
         }
+        let found = next_differing(&self.cells, &other.cells, are_still, from);
+        found
+    }
+
+    /// The first cell, from number `from` on, in which another level of the same size differs.
+    pub fn next_change(&self, other: &Sheet<N>, from: usize) -> Option<usize>
+        requires size { SameSize self.now.grid other.now.grid }
+        ensures next { IsNext (differ_in self.now.grid other.now.grid) from (length self.now.grid.cells) result }
+        ensures as_many { length self.now.grid.cells ≡ length other.now.grid.cells }
+        ensures lawful { IsLawful self.now.grid }
+    {
+        self.learn_next(other, &mut KnownChanges::none(), from)
     }
 
     /// The same, where some changes are known already. Then those of the found cell's row are known, if that is little work.
@@ -153,36 +161,10 @@ impl<const N: usize> Sheet<N> {
     {
         // (brings the proof the law of the level)
         let _ = self.width();
-        if !known.has(from) {
-            return self.learn_next(other, known, from);
-        }
         match known.next(from) {
-            Some(index) => Some(index),
-            None => self.learn_next(other, known, known.end()),
+            Ok(index) => Some(index),
+            Err(behind) => self.learn_next(other, known, behind),
         }
-    }
-
-    /// The first cell, from number `from` on, in which another level of the same size differs. Then the changes in its row are known.
-    fn learn_next(&self, other: &Sheet<N>, known: &mut KnownChanges, from: usize) -> Option<usize>
-        requires size { SameSize self.now.grid other.now.grid }
-        requires known { TellsOf (differ_in self.now.grid other.now.grid) (length self.now.grid.cells) known.old }
-        ensures next { IsNext (differ_in self.now.grid other.now.grid) from (length self.now.grid.cells) result }
-        ensures known { TellsOf (differ_in self.now.grid other.now.grid) (length self.now.grid.cells) known.new }
-    {
-        if are_empty(&self.notes, &other.notes) && self.is_told_by_planes() {
-            let here = self.planes.lines(Axis::Horizontal);
-            let there = other.planes.lines(Axis::Horizontal);
-            let Some(row) = here.next_differing(there, self.width, from) else {
-                return None;
-            };
-            *known = KnownChanges {
-                first: row.line * self.width as usize,
-                count: self.width,
-                places: row.places,
-            };
-            return Some(row.found);
-        }
-        self.next_change(other, from)
     }
 
     /// Makes this level equal to another of the same size. Only the cells in which they differ are copied.

@@ -23,9 +23,9 @@ mod noting;
 mod place;
 mod pushing;
 mod reading;
-mod runs;
+pub mod runs;
 mod sameness;
-mod searching;
+pub mod searching;
 
 /// The cells of a level. Each has `N` words for the objects that stand there, and `N` for where its layers head. `notes` has at least where
 /// something heads in each line, and `planes` exactly where the objects stand.

@@ -1,12 +1,12 @@
 //! Rules' cells one after another in a direction: whether they hold from a position on, and from which position of a line they hold next.
 
-ghost use Rattle.std.specs.Prelude.{◌≡◌, ℕ, ◌<◌, ◌≤◌, ◌^◌, All, true, length, slice_index_or, []};
+ghost use Rattle.std.specs.Prelude.{◌≡◌, ◌<◌, ◌≤◌, ◌^◌, All, true, slice_index_or, []};
 ghost use Rattle.std.specs.List.{count_by, range_with_len};
 ghost use Rattle.pz_sets.specs.Sets.{in_word};
 ghost use Rattle.pz_game.specs.Pattern.{AreOf};
 ghost use Rattle.pz_sheet.specs.Grid.{IsOnMap};
 ghost use Rattle.pz_sheet.specs.Line.{IsOnLine, line_length, line_count, holds_in, runs_in};
-ghost use Rattle.pz_sheet.specs.Searching.{MayStartAt};
+ghost use Rattle.pz_sheet.specs.Searching.{MayStartAt, run_holds_from};
 ghost use Rattle.pz_sheet.specs.Runs.{IsRunOf, on_map, along, holds_at, run_holds};
 ghost use Rattle.pz_sets.specs.Next.{IsNext};
 
@@ -16,6 +16,7 @@ use pz_game::direction::Dir;
 use pz_game::pattern::Pattern;
 use pz_planes::bits;
 use pz_planes::line::step_to;
+use std::marker::Model;
 
 impl<const N: usize> Sheet<N> {
     /// Whether a rule's cell holds at a position, on the map or not.
@@ -48,7 +49,7 @@ impl<const N: usize> Sheet<N> {
     }
 
     /// Whether rules' cells hold from a position of a line on, when the first does. (Not inlined: few positions of a search come here.)
-    #[tactic(auto, using(crate::proofs::RunLemmas::enumerate_more, crate::proofs::RunLemmas::along_in))]
+    #[tactic(auto, using(crate::proofs::RunLemmas::enumerate_more, crate::proofs::RunLemmas::enumerate_fails, crate::proofs::RunLemmas::enumerate_all, crate::proofs::RunLemmas::along_in, crate::proofs::RunLemmas::run_past))]
     #[inline(never)]
     fn rest_holds(&self, line: Line, way: Way, at: u32, patterns: &[Pattern]) -> bool
         requires on_line { IsOnLine self.now.grid line at }
@@ -109,8 +110,8 @@ impl<const N: usize> Sheet<N> {
     }
 
     /// The positions of a line, of the first 128, from which rules' cells may hold, as the planes show for the objects that they name. They
-    /// do hold from no other. A search for all positions asks this once.
-    pub fn starts_in(&self, line: Line, way: Way, patterns: &[Pattern]) -> u128
+    /// do hold from no other.
+    fn starts_in(&self, line: Line, way: Way, patterns: &[Pattern]) -> u128
         requires line_in { line.number < line_count self.now.grid line.axis }
         requires run { IsRunOf self.now.grid.layers patterns.now }
         ensures { MayStartAt self.now.grid line way patterns.now result }
@@ -122,28 +123,73 @@ impl<const N: usize> Sheet<N> {
             .lines(line.axis)
             .starts(line.number as usize, way, patterns)
     }
+}
 
-    /// The first position of a line, from `from` on, from which rules' cells hold. `starts` has where they may, as `starts_in` gives it.
-    pub fn next_run(
-        &self,
+/// A search of a line for the positions from which a run holds: rules' cells, one or more, one after another as the line is walked. `starts`
+/// has the positions, of the first 128, from which it may hold.
+#[derive(Drop)]
+pub struct RunSearch<'a, const N: usize> {
+    sheet: &'a Sheet<N>,
+    line: Line,
+    way: Way,
+    patterns: &'a [Pattern],
+    starts: u128,
+}
+
+impl<'a, const N: usize> Model for RunSearch<'a, N> {
+    ghost use Rattle.pz_sheet.specs.Searching.{SoughtRun, IsRunSearch};
+
+    ghost Value = { SoughtRun };
+
+    ghost view = { λ s. record { grid = s.sheet.now.grid; line = s.line; way = s.way; patterns = s.patterns.now } };
+
+    ghost invariant = { λ s. IsRunSearch (record { grid = s.sheet.now.grid; line = s.line; way = s.way; patterns = s.patterns.now }) s.starts };
+}
+
+impl<'a, const N: usize> RunSearch<'a, N> {
+    /// The search of a line. In a line of up to 128 positions the planes show, for the objects that the cells name, where the run may start.
+    /// This is asked once.
+    pub fn new(
+        sheet: &'a Sheet<N>,
         line: Line,
         way: Way,
-        starts: u128,
-        from: u32,
-        patterns: &[Pattern],
-    ) -> Option<u32>
-        requires line_in { line.number < line_count self.now.grid line.axis }
-        requires run { IsRunOf self.now.grid.layers patterns.now }
-        requires starts { MayStartAt self.now.grid line way patterns.now starts }
-        ensures { IsNext (runs_in self.now.grid line way patterns.now) from (line_length self.now.grid line.axis) result }
+        patterns: &'a [Pattern],
+    ) -> RunSearch<'a, N>
+        requires line_in { line.number < line_count sheet.now.grid line.axis }
+        requires run { IsRunOf sheet.now.grid.layers patterns.now }
+        ensures { result ≡ record { grid = sheet.now.grid; line = line; way = way; patterns = patterns.now } }
     {
-        let end = self.line_length(line.axis);
+        let starts = sheet.starts_in(line, way, patterns);
+        RunSearch {
+            sheet,
+            line,
+            way,
+            patterns,
+            starts,
+        }
+    }
+
+    /// How many positions the line has.
+    fn end(&self) -> u32
+        ensures { result ≡ line_length self.now.grid self.now.line.axis }
+    {
+        self.sheet.line_length(self.line.axis)
+    }
+
+    /// The first position, from `from` on, from which the run holds.
+    pub fn next(&self, from: u32) -> Option<u32>
+        ensures { IsNext (run_holds_from self.now) from (line_length self.now.grid self.now.line.axis) result }
+    {
+        let end = self.end();
         if end > bits::ROOM {
-            return self.next_run_in_long_line(line, way, from, patterns);
+            return self.next_in_long_line(from);
         }
         let mut at = from;
-        'starts: while let Some(start) = bits::next(starts, at, end) {
-            if self.runs_from(line, way, start, patterns) {
+        'starts: while let Some(start) = bits::next(self.starts, at, end) {
+            if self
+                .sheet
+                .runs_from(self.line, self.way, start, self.patterns)
+            {
                 return Some(start);
             }
             at = start + 1;
@@ -152,38 +198,29 @@ impl<const N: usize> Sheet<N> {
     }
 
     /// The same, cell by cell.
-    fn next_run_in_long_line(
-        &self,
-        line: Line,
-        way: Way,
-        from: u32,
-        patterns: &[Pattern],
-    ) -> Option<u32>
-        requires line_in { line.number < line_count self.now.grid line.axis }
-        requires run { IsRunOf self.now.grid.layers patterns.now }
-        ensures { IsNext (runs_in self.now.grid line way patterns.now) from (line_length self.now.grid line.axis) result }
+    fn next_in_long_line(&self, from: u32) -> Option<u32>
+        ensures { IsNext (run_holds_from self.now) from (line_length self.now.grid self.now.line.axis) result }
     {
-        for at in from..self.line_length(line.axis) {
-            if self.runs_from(line, way, at, patterns) {
+        for at in from..self.end() {
+            if self.sheet.runs_from(self.line, self.way, at, self.patterns) {
                 return Some(at);
             }
         }
         None
     }
 
-    /// At how many positions of a line a search tests whether rules' cells hold from there on. In a line of up to 128 positions they are
-    /// those that the planes leave, in a longer line all.
-    pub fn tested_in(&self, line: Line, way: Way, patterns: &[Pattern]) -> u32
-        requires line_in { line.number < line_count self.now.grid line.axis }
-        requires run { IsRunOf self.now.grid.layers patterns.now }
-        ensures low { count_by (runs_in self.now.grid line way patterns.now) (range_with_len 0 (line_length self.now.grid line.axis)) ≤ result }
-        ensures high { result ≤ line_length self.now.grid line.axis }
+    /// At how many positions the search tests whether the run holds from there on. In a line of up to 128 positions they are those that the
+    /// planes leave, in a longer line all.
+    #[tactic(auto, using(crate::proofs::CountLemmas::count_fewer, crate::proofs::CountLemmas::count_within))]
+    pub fn tested(&self) -> u32
+        ensures low { count_by (run_holds_from self.now) (range_with_len 0 (line_length self.now.grid self.now.line.axis)) ≤ result }
+        ensures high { result ≤ line_length self.now.grid self.now.line.axis }
     {
-        let end = self.line_length(line.axis);
+        let end = self.end();
         if end > bits::ROOM {
             return end;
         }
-        count_below(self.starts_in(line, way, patterns), end)
+        count_below(self.starts, end)
     }
 }
 

@@ -1,35 +1,46 @@
-use Rattle.pz_sheet.proofs.Common.{◌≤◌, sym, refl, subst, Grid}
-use Rattle.pz_sheet.proofs.ChangeLemmas.{both_of}
-use Rattle.pz_sheet.proofs.StillLemmas.{all_head_nowhere}
-use Rattle.pz_sheet.proofs.TellLemmas.{found_row, no_row}
+use Rattle.pz_sheet.proofs.Common.{List, length, ap, sym, ◌∙◌, refl, subst, Cell, IsNextDiffering, small_cell}
+use Rattle.pz_sheet.proofs.SheetLemmas.{lawful_here}
+use Rattle.pz_sheet.proofs.ChangeLemmas.{both_of, as_many, as_many_seen, next_is}
+use Rattle.pz_sheet.proofs.StillLemmas.{nowhere_read}
+use Rattle.pz_sheet.proofs.TellLemmas.{no_row, found_row, known_row}
 use Rattle.pz_sheet.proofs.Sheet.learn_next.Goals as goal
 
-pub returns-in_default-clause-next : goal.returns-in_default-clause-next
-returns-in_default-clause-next g c =
-    let a = c.self.inside in
-    let b = c.other.inside in
-    let both = both_of a b c.requires.size c.self.view_is c.other.view_is c.self.invariant.stored c.other.invariant.stored in
-    let short : a.width ≤ 128 = subst (λ (grid : Grid). grid.width ≤ 128) (sym both.is) (c.if-is_told_by_planes.ensures refl) in
-    let still = all_head_nowhere g.row.N a.width a.height a.layers a.cells.items a.notes c.self.invariant.stored (c.if-are_empty.ensures.first refl) in
-    let other_still = all_head_nowhere g.row.N b.width b.height b.layers b.cells.items b.notes c.other.invariant.stored (c.if-are_empty.ensures.second refl) in
-    no_row g.row.N a.width a.height a.layers a.cells.items a.planes b.width b.height b.layers b.cells.items b.planes _ _ both short c.self.invariant.placed c.other.invariant.placed still other_still c.lines-here.result.now c.lines-there.result.now c.args.from c.lines-here.ensures c.lines-there.ensures c.in_default.ensures
+pub returns-in_default : goal.returns-in_default
+returns-in_default g c = record {
+  next = no_row c.self.inside c.other.inside c.requires.size c.self.view_is c.other.view_is c.self.invariant c.other.invariant (c.if-is_told_by_planes.ensures refl) (c.if-are_still.ensures.first refl) (c.if-are_still.ensures.second refl) c.args.from c.lines-rows.ensures c.lines-others.ensures c.in_default.ensures;
+  known = c.requires.known;
+  as_many = as_many_seen (both_of c.self.inside c.other.inside c.requires.size c.self.view_is c.other.view_is c.self.invariant.stored c.other.invariant.stored);
+  lawful = lawful_here _ _ _ _ _ _ _ c.self.invariant.stored c.self.view_is;
+}
 
-pub returns-then-is_told_by_planes-clause-next : goal.returns-then-is_told_by_planes-clause-next
-returns-then-is_told_by_planes-clause-next g c =
-    let a = c.self.inside in
-    let b = c.other.inside in
-    let both = both_of a b c.requires.size c.self.view_is c.other.view_is c.self.invariant.stored c.other.invariant.stored in
-    let short : a.width ≤ 128 = subst (λ (grid : Grid). grid.width ≤ 128) (sym both.is) (c.if-is_told_by_planes.ensures refl) in
-    let still = all_head_nowhere g.row.N a.width a.height a.layers a.cells.items a.notes c.self.invariant.stored (c.if-are_empty.ensures.first refl) in
-    let other_still = all_head_nowhere g.row.N b.width b.height b.layers b.cells.items b.notes c.other.invariant.stored (c.if-are_empty.ensures.second refl) in
-    (found_row g.row.N a.width a.height a.layers a.cells.items a.planes b.width b.height b.layers b.cells.items b.planes _ _ both short c.self.invariant.placed c.other.invariant.placed still other_still c.lines-here.result.now c.lines-there.result.now c.args.from c.in-Some.row c.lines-here.ensures c.lines-there.ensures c.in-Some.ensures).0
+pub returns-then-is_told_by_planes : goal.returns-then-is_told_by_planes
+returns-then-is_told_by_planes g c = record {
+  next = found_row c.self.inside c.other.inside c.requires.size c.self.view_is c.other.view_is c.self.invariant c.other.invariant (c.if-is_told_by_planes.ensures refl) (c.if-are_still.ensures.first refl) (c.if-are_still.ensures.second refl) c.args.from c.in-Some.row c.lines-rows.ensures c.lines-others.ensures c.in-Some.ensures;
+  known = known_row c.self.inside c.other.inside c.requires.size c.self.view_is c.other.view_is c.self.invariant c.other.invariant (c.if-is_told_by_planes.ensures refl) (c.if-are_still.ensures.first refl) (c.if-are_still.ensures.second refl) c.args.from c.in-Some.row _ c.lines-rows.ensures c.lines-others.ensures c.in-Some.ensures refl refl refl;
+  as_many = as_many_seen (both_of c.self.inside c.other.inside c.requires.size c.self.view_is c.other.view_is c.self.invariant.stored c.other.invariant.stored);
+  lawful = lawful_here _ _ _ _ _ _ _ c.self.invariant.stored c.self.view_is;
+}
 
-pub returns-then-is_told_by_planes-clause-known : goal.returns-then-is_told_by_planes-clause-known
-returns-then-is_told_by_planes-clause-known g c =
+pub next_differing-found-requires : goal.next_differing-found-requires
+next_differing-found-requires g c =
+    let both = both_of c.self.inside c.other.inside c.requires.size c.self.view_is c.other.view_is c.self.invariant.stored c.other.invariant.stored in
+    let long = ap length c.deref.ensures.value ∙ (as_many both ∙ sym (ap length c.deref-2.ensures.value)) in
+    let nowhere = nowhere_read _ _ _ _ _ _ _ _ c.self.invariant.stored c.deref.ensures.value c.are_empty-are_still.ensures.first in
+    let nowhere_there = nowhere_read _ _ _ _ _ _ _ _ c.other.invariant.stored c.deref-2.ensures.value c.are_empty-are_still.ensures.second in
+    (small_cell _ c.self.invariant.stored.law.short, (c.self.invariant.stored.law.short, (long, λ still. (nowhere still, nowhere_there still))))
+
+pub returns : goal.returns
+returns g c =
     let a = c.self.inside in
     let b = c.other.inside in
     let both = both_of a b c.requires.size c.self.view_is c.other.view_is c.self.invariant.stored c.other.invariant.stored in
-    let short : a.width ≤ 128 = subst (λ (grid : Grid). grid.width ≤ 128) (sym both.is) (c.if-is_told_by_planes.ensures refl) in
-    let still = all_head_nowhere g.row.N a.width a.height a.layers a.cells.items a.notes c.self.invariant.stored (c.if-are_empty.ensures.first refl) in
-    let other_still = all_head_nowhere g.row.N b.width b.height b.layers b.cells.items b.notes c.other.invariant.stored (c.if-are_empty.ensures.second refl) in
-    (found_row g.row.N a.width a.height a.layers a.cells.items a.planes b.width b.height b.layers b.cells.items b.planes _ _ both short c.self.invariant.placed c.other.invariant.placed still other_still c.lines-here.result.now c.lines-there.result.now c.args.from c.in-Some.row c.lines-here.ensures c.lines-there.ensures c.in-Some.ensures).1
+    let found = c.next_differing-found.result in
+    let next : IsNextDiffering a.cells.items b.cells.items c.args.from found =
+    subst (λ (there : List (Cell g.row.N)). IsNextDiffering a.cells.items there c.args.from found) c.deref-2.ensures.value
+    (subst (λ (here : List (Cell g.row.N)). IsNextDiffering here c.deref-2.result.now c.args.from found) c.deref.ensures.value c.next_differing-found.ensures) in
+    record {
+      next = next_is both c.args.from found next;
+      known = c.requires.known;
+      as_many = as_many_seen both;
+      lawful = lawful_here _ _ _ _ _ _ _ c.self.invariant.stored c.self.view_is;
+    }

@@ -1,4 +1,4 @@
-use Rattle.pz_sheet.proofs.Common.{arith, small_cell, ◌/◌, ◌%◌, ℕ, List, length, Option, ap, sym, ◌∙◌, subst, map-set, member, Piece, AreChanged, AreKnown, AreThere, seen, IsSound, with_cell, Grid, BareState, layers_in, grid_of, known_of, sound_at}
+use Rattle.pz_sheet.proofs.Common.{arith, small_cell, List, length, Option, ap, sym, ◌∙◌, subst, map-set, Piece, seen, IsSound, with_cell, Grid, BareState, layers_in, grid_of, known_of, sound_at}
 use Rattle.pz_sheet.proofs.PlacedLemmas.{there_at, placed_at}
 use Rattle.pz_sheet.proofs.SheetLemmas.{seen_within, within_lines, stored_set}
 use Rattle.pz_sheet.proofs.Sheet.set_cell.Goals as goal

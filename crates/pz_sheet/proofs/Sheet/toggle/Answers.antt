@@ -1,4 +1,4 @@
-use Rattle.pz_sheet.proofs.Common.{◌≡◌, ◌+◌, ◌*◌, ◌<◌, ℕ, List, [], None, Option, length, nat_eq, is_some, set, get_or, arith, rules, ap, sym, ◌∙◌, subst, small_cell, IsOnLayer, Layering, Piece, Cell, member, member_seen, standing, seen, IsSound, Grid, layers_in, place_at, cell_at}
+use Rattle.pz_sheet.proofs.Common.{◌≡◌, ◌+◌, ◌*◌, ◌<◌, ℕ, List, [], None, Option, length, nat_eq, is_some, set, get_or, arith, rules, ap, sym, ◌∙◌, subst, small_cell, Layering, Piece, member_seen, standing, seen, IsSound, Grid, layers_in, place_at, cell_at}
 use Rattle.pz_planes.specs.Planes.{toggled}
 use Rattle.pz_sheet.specs.Toggle.{IsToggle}
 use Rattle.pz_sheet.proofs.SheetLemmas.{cell_seen, placed_there}

@@ -10,18 +10,18 @@ told known test end number tells low high none =
     ap test (sym is) ∙ (sym (tells.each (number - known.first) (omega (arith, low, high))) ∙ none)
 
 pub returns-in-None : goal.returns-in-None
-returns-in-None c test end tells number low high =
-    let known = c.args.self.now in
-    let from = c.requires.from in
-    told known test end number tells (omega (arith, from.0, low)) high (c.in-None.ensures (number - known.first) (omega (arith, from.0, low)) (omega (arith, from.0, low, high)))
+returns-in-None c test end tells = (
+  omega (arith, c.if-from-self-2.false),
+  λ number low high. told c.args.self.now test end number tells (omega (arith, c.if-from-self.false, low)) high (c.in-None.ensures (number - c.args.self.now.first) (omega (arith, c.if-from-self.false, low)) (omega (arith, c.if-from-self.false, low, high))),
+)
 
 pub returns-in-Some : goal.returns-in-Some
 returns-in-Some c test end tells =
     let known = c.args.self.now in
-    let from = c.requires.from in
+    let behind = c.if-from-self.false in
     let found = c.in-Some.ensures in (
-      omega (arith, from.0, found.0),
-      omega (arith, found.1),
+      omega (arith, behind, found.0),
+      omega (arith, found.1, tells.within),
       sym (tells.each c.in-Some.place found.1) ∙ found.2,
-      λ number low high. told known test end number tells (omega (arith, from.0, low)) (omega (arith, found.1, high)) (found.3 (number - known.first) (omega (arith, from.0, low)) (omega (arith, from.0, low, high))),
+      λ number low high. told known test end number tells (omega (arith, behind, low)) (omega (arith, found.1, high)) (found.3 (number - known.first) (omega (arith, behind, low)) (omega (arith, behind, low, high))),
     )
