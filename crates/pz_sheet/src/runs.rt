@@ -177,6 +177,7 @@ impl<'a, const N: usize> RunSearch<'a, N> {
     }
 
     /// The first position, from `from` on, from which the run holds.
+    #[tactic(auto, using(crate::proofs::RunLemmas::first_fails))]
     pub fn next(&self, from: u32) -> Option<u32>
         ensures { IsNext (run_holds_from self.now) from (line_length self.now.grid self.now.line.axis) result }
     {
@@ -186,9 +187,10 @@ impl<'a, const N: usize> RunSearch<'a, N> {
         }
         let mut at = from;
         'starts: while let Some(start) = bits::next(self.starts, at, end) {
-            if self
-                .sheet
-                .runs_from(self.line, self.way, start, self.patterns)
+            if self.sheet.holds_in(self.line, start, &self.patterns[0])
+                && self
+                    .sheet
+                    .rest_holds(self.line, self.way, start, self.patterns)
             {
                 return Some(start);
             }
