@@ -48,19 +48,6 @@ along_in grid Horizontal number Back pattern at k line_in at_in room = if_within
 along_in grid Vertical number Ahead pattern at k line_in at_in room = on_map_in grid pattern number (at + k) line_in (omega (arith, room))
 along_in grid Vertical number Back pattern at k line_in at_in room = if_within grid pattern k at _ (omega (arith, room)) ∙ on_map_in grid pattern number (at - k) line_in (omega (arith, at_in))
 
--- a run fails where its first cell does
-pub first_fails : (grid : Grid) (line : Line) (way : Way) (patterns : List (List Item)) (at : ℕ) → line.number < line_count grid line.axis → at < line_length grid line.axis → 0 < length patterns → holds_in grid line (get_or patterns 0 []) at ≡ false → runs_in grid line way patterns at ≡ false
-first_fails grid line way patterns at line_in at_in some fails =
-    let first = get_or patterns 0 [] in
-    enumerate_fails _ patterns 0 first some (get_or_default patterns 0 [] first some) (along_in grid line.axis line.number way first at 0 line_in at_in (room way) ∙ ap (holds_in grid line first) (here way) ∙ fails) where
-      room : (way : Way) → 0 < room_from (line_length grid line.axis) way at
-      room Ahead = omega (arith, at_in)
-      room Back = omega arith
-
-      here : (way : Way) → step_to way at 0 ≡ at
-      here Ahead = omega arith
-      here Back = omega arith
-
 -- ---- a run whose last cell is off the map
 last_fails : (p : ℕ × List Item → Bool) (patterns : List (List Item)) → 0 < length patterns → ((pattern : List Item) → p (length patterns - 1, pattern) ≡ false) → list_all p (enumerate_from 0 patterns) ≡ false
 last_fails p patterns some off =
