@@ -104,7 +104,7 @@ le_cond true false h = let f : false ≡ true = h refl in cc
 le_cond false true h = omega arith
 le_cond false false h = omega arith
 
-count_fewer : {X : Type 0} (p q : X → Bool) (xs : List X) → ((x : X) → p x ≡ true → q x ≡ true) → count_by p xs ≤ count_by q xs
+pub count_fewer : {X : Type 0} (p q : X → Bool) (xs : List X) → ((x : X) → p x ≡ true → q x ≡ true) → count_by p xs ≤ count_by q xs
 count_fewer p q [] h = omega arith
 count_fewer p q (x ∷ xs) h = omega (arith, count_cons p x xs, count_cons q x xs, le_cond (p x) (q x) (h x), count_fewer p q xs h)
 

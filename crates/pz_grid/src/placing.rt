@@ -16,9 +16,8 @@ use pz_game::direction::Dir;
 use pz_game::pattern::{Pattern, Row};
 use pz_program::instance::Instance;
 use pz_sheet::Sheet;
-use pz_sheet::line::{self, Way};
+use pz_sheet::line::{self, Axis, Way};
 use pz_sheet::runs::RunSearch;
-use pz_sheet::searching::CellSearch;
 use std::alloc::Global;
 use std::marker::Model;
 
@@ -294,25 +293,37 @@ fn next_gap<const N: usize>(
         return None;
     }
     let ahead = steps as u32;
-    let in_row = CellSearch::new(sheet, line::row(from.y), behind);
-    let in_column = CellSearch::new(sheet, line::column(from.x), behind);
+    let along_row = line::Line {
+        axis: Axis::Horizontal,
+        number: from.y,
+    };
+    let along_column = line::Line {
+        axis: Axis::Vertical,
+        number: from.x,
+    };
     match dir {
-        Dir::Right => match in_row.next(from.x + ahead) {
+        Dir::Right => match sheet.next_in_line(along_row, from.x + ahead, behind) {
             Some(x) => Some(x - from.x - at),
             None => None,
         },
-        Dir::Left => match in_row.last((from.x + 1).saturating_sub(ahead)) {
-            Some(x) => Some(from.x - at - x),
-            None => None,
-        },
-        Dir::Down => match in_column.next(from.y + ahead) {
+        Dir::Left => {
+            let end = (from.x + 1).saturating_sub(ahead);
+            match sheet.last_in_line(along_row, end, behind) {
+                Some(x) => Some(from.x - at - x),
+                None => None,
+            }
+        }
+        Dir::Down => match sheet.next_in_line(along_column, from.y + ahead, behind) {
             Some(y) => Some(y - from.y - at),
             None => None,
         },
-        Dir::Up => match in_column.last((from.y + 1).saturating_sub(ahead)) {
-            Some(y) => Some(from.y - at - y),
-            None => None,
-        },
+        Dir::Up => {
+            let end = (from.y + 1).saturating_sub(ahead);
+            match sheet.last_in_line(along_column, end, behind) {
+                Some(y) => Some(from.y - at - y),
+                None => None,
+            }
+        }
         Dir::Action => None,
     }
 }

@@ -50,7 +50,7 @@ pub use Rattle.pz_sheet.specs.Noting.{AreAllThere, ArePlaced, EndWithin}
 pub use Rattle.pz_sheet.specs.Presence.{AreMissing, cell_of, holds_both, holds_if, in_line, is_in, stands_in_line}
 pub use Rattle.pz_sheet.specs.Pushing.{is_one_of, pushed_at, pushed_place}
 pub use Rattle.pz_sheet.specs.Runs.{holds_along, holds_at, on_map, run_holds}
-pub use Rattle.pz_sheet.specs.Searching.{HoldsInLine, HoldsSomewhere, cell_holds_at, run_holds_from}
+pub use Rattle.pz_sheet.specs.Searching.{HoldsInLine, HoldsSomewhere, run_holds_from}
 pub use Rattle.pz_sheet.specs.Seen.{AreNoted, HeadsWithin, IsNoted, IsStored, grid_of}
 pub use Rattle.pz_sheet.specs.declared.line.Line.{Line}
 pub use Rattle.pz_sheet.specs.declared.changes.Change.{Change}

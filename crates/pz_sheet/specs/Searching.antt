@@ -1,7 +1,6 @@
 -- The last position of a line before an end at which a rule's cell holds, and whether it holds somewhere.
 use Rattle.std.specs.Prelude.{◌≡◌, ℕ, ◌<◌, List, Bool, true, false, Option, Some, None}
 use Rattle.pz_game.specs.declared.pattern.Item.{Item}
-use Rattle.pz_game.specs.Pattern.{AreOf}
 use Rattle.pz_cells.specs.Pattern.{pattern_holds}
 use Rattle.pz_sheet.specs.declared.line.Line.{Line}
 use Rattle.pz_sheet.specs.Grid.{Grid, cell_at}
@@ -50,18 +49,3 @@ pub record IsRunSearch (run : SoughtRun) (starts : ℕ) : Type 0 where
   pub line_in : run.line.number < line_count run.grid run.line.axis
   pub of_game : IsRunOf run.grid.layers run.patterns
   pub nowhere_else : MayStartAt run.grid run.line run.way run.patterns starts
-
--- a rule's cell that is looked for in a line of a level
-pub record SoughtCell : Type 0 where
-  pub grid : Grid
-  pub line : Line
-  pub pattern : List Item
-
--- the cell holds at a position of its line
-abbrev pub cell_holds_at : SoughtCell → ℕ → Bool
-cell_holds_at cell at = holds_in cell.grid cell.line cell.pattern at
-
--- the line is on the map, and the cell is of the level's game
-pub record IsCellSearch (cell : SoughtCell) : Type 0 where
-  pub line_in : cell.line.number < line_count cell.grid cell.line.axis
-  pub of_game : AreOf cell.grid.layers cell.pattern

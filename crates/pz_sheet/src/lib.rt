@@ -25,7 +25,7 @@ mod pushing;
 mod reading;
 pub mod runs;
 mod sameness;
-pub mod searching;
+mod searching;
 
 /// The cells of a level. Each has `N` words for the objects that stand there, and `N` for where its layers head. `notes` has at least where
 /// something heads in each line, and `planes` exactly where the objects stand.

@@ -11,7 +11,7 @@ ghost use Rattle.pz_sheet.specs.Runs.{IsRunOf, on_map, along, holds_at, run_hold
 ghost use Rattle.pz_sets.specs.Next.{IsNext};
 
 use crate::Sheet;
-use crate::line::{Line, Way, column, row};
+use crate::line::{Axis, Line, Way, column, row};
 use pz_game::direction::Dir;
 use pz_game::pattern::Pattern;
 use pz_planes::bits;
@@ -176,20 +176,35 @@ impl<'a, const N: usize> RunSearch<'a, N> {
         self.sheet.line_length(self.line.axis)
     }
 
-    /// The first position, from `from` on, from which the run holds.
+    /// The first position, from `from` on, from which the run holds. Each way has code of its own, which takes less work.
     pub fn next(&self, from: u32) -> Option<u32>
         ensures { IsNext (run_holds_from self.now) from (line_length self.now.grid self.now.line.axis) result }
     {
-        let end = self.end();
+        let number = self.line.number;
+        match self.line.axis {
+            Axis::Horizontal => match self.way {
+                Way::Ahead => self.next_along(row(number), Way::Ahead, from),
+                Way::Back => self.next_along(row(number), Way::Back, from),
+            },
+            Axis::Vertical => match self.way {
+                Way::Ahead => self.next_along(column(number), Way::Ahead, from),
+                Way::Back => self.next_along(column(number), Way::Back, from),
+            },
+        }
+    }
+
+    /// The same, where the line and the way are this search's.
+    fn next_along(&self, line: Line, way: Way, from: u32) -> Option<u32>
+        requires { (line ≡ self.now.line) × (way ≡ self.now.way) }
+        ensures { IsNext (run_holds_from self.now) from (line_length self.now.grid self.now.line.axis) result }
+    {
+        let end = self.sheet.line_length(line.axis);
         if end > bits::ROOM {
             return self.next_in_long_line(from);
         }
         let mut at = from;
         'starts: while let Some(start) = bits::next(self.starts, at, end) {
-            if self
-                .sheet
-                .runs_from(self.line, self.way, start, self.patterns)
-            {
+            if self.sheet.runs_from(line, way, start, self.patterns) {
                 return Some(start);
             }
             at = start + 1;

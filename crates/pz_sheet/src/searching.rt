@@ -4,85 +4,41 @@ ghost use Rattle.std.specs.Prelude.{◌≡◌, ℕ, ◌<◌, ◌≤◌, true};
 ghost use Rattle.pz_sets.specs.Sets.{in_word};
 ghost use Rattle.pz_game.specs.Pattern.{AreOf};
 ghost use Rattle.pz_sets.specs.Next.{IsNext};
-ghost use Rattle.pz_sheet.specs.Line.{line_length, line_count};
-ghost use Rattle.pz_sheet.specs.Searching.{IsLast, cell_holds_at};
+ghost use Rattle.pz_sheet.specs.Line.{line_length, line_count, holds_in};
+ghost use Rattle.pz_sheet.specs.Searching.{IsLast};
 
 use crate::Sheet;
 use crate::line::Line;
 use pz_game::pattern::Pattern;
 use pz_planes::bits;
-use std::marker::Model;
 
-/// A search of a line for the positions at which a rule's cell holds.
-#[derive(Drop)]
-pub struct CellSearch<'a, const N: usize> {
-    sheet: &'a Sheet<N>,
-    line: Line,
-    pattern: &'a Pattern,
-}
-
-impl<'a, const N: usize> Model for CellSearch<'a, N> {
-    ghost use Rattle.pz_sheet.specs.Searching.{SoughtCell, IsCellSearch};
-
-    ghost Value = { SoughtCell };
-
-    ghost view = { λ s. record { grid = s.sheet.now.grid; line = s.line; pattern = s.pattern.now } };
-
-    ghost invariant = { λ s. IsCellSearch (record { grid = s.sheet.now.grid; line = s.line; pattern = s.pattern.now }) };
-}
-
-impl<'a, const N: usize> CellSearch<'a, N> {
-    pub fn new(sheet: &'a Sheet<N>, line: Line, pattern: &'a Pattern) -> CellSearch<'a, N>
-        requires line_in { line.number < line_count sheet.now.grid line.axis }
-        requires of_game { AreOf sheet.now.grid.layers pattern.now }
-        ensures { result ≡ record { grid = sheet.now.grid; line = line; pattern = pattern.now } }
+impl<const N: usize> Sheet<N> {
+    /// The positions of a line at which a rule's cell may hold, as the planes show for the objects that it names. It holds at no other.
+    fn places_in(&self, line: Line, pattern: &Pattern) -> u128
+        requires short { line_length self.now.grid line.axis ≤ 128 }
+        requires line_in { line.number < line_count self.now.grid line.axis }
+        requires of_game { AreOf self.now.grid.layers pattern.now }
+        ensures { (at : ℕ) → at < line_length self.now.grid line.axis → holds_in self.now.grid line pattern.now at ≡ true → in_word result at ≡ true }
     {
-        CellSearch {
-            sheet,
-            line,
-            pattern,
-        }
+        self.planes
+            .lines(line.axis)
+            .places(line.number as usize, pattern)
     }
 
-    /// How many positions the line has.
-    fn end(&self) -> u32
-        ensures { result ≡ line_length self.now.grid self.now.line.axis }
+    /// The first position of a line, from `from` on, at which a rule's cell holds.
+    pub fn next_in_line(&self, line: Line, from: u32, pattern: &Pattern) -> Option<u32>
+        requires line_in { line.number < line_count self.now.grid line.axis }
+        requires of_game { AreOf self.now.grid.layers pattern.now }
+        ensures { IsNext (holds_in self.now.grid line pattern.now) from (line_length self.now.grid line.axis) result }
     {
-        self.sheet.line_length(self.line.axis)
-    }
-
-    /// Whether the cell holds at a position of the line.
-    fn holds_at(&self, at: u32) -> bool
-        requires { at < line_length self.now.grid self.now.line.axis }
-        ensures { result ≡ cell_holds_at self.now at }
-    {
-        self.sheet.holds_in(self.line, at, self.pattern)
-    }
-
-    /// The positions at which the cell may hold, as the planes show for the objects that it names. It holds at no other.
-    fn places(&self) -> u128
-        requires { line_length self.now.grid self.now.line.axis ≤ 128 }
-        ensures { (at : ℕ) → at < line_length self.now.grid self.now.line.axis → cell_holds_at self.now at ≡ true → in_word result at ≡ true }
-    {
-        let sheet = self.sheet;
-        sheet
-            .planes
-            .lines(self.line.axis)
-            .places(self.line.number as usize, self.pattern)
-    }
-
-    /// The first position, from `from` on, at which the cell holds.
-    pub fn next(&self, from: u32) -> Option<u32>
-        ensures { IsNext (cell_holds_at self.now) from (line_length self.now.grid self.now.line.axis) result }
-    {
-        let end = self.end();
+        let end = self.line_length(line.axis);
         if end > bits::ROOM {
-            return self.next_in_long_line(from);
+            return self.next_in_long_line(line, from, pattern);
         }
-        let places = self.places();
+        let places = self.places_in(line, pattern);
         let mut at = from;
         'places: while let Some(place) = bits::next(places, at, end) {
-            if self.holds_at(place) {
+            if self.holds_in(line, place, pattern) {
                 return Some(place);
             }
             at = place + 1;
@@ -91,30 +47,34 @@ impl<'a, const N: usize> CellSearch<'a, N> {
     }
 
     /// The same, cell by cell.
-    fn next_in_long_line(&self, from: u32) -> Option<u32>
-        ensures { IsNext (cell_holds_at self.now) from (line_length self.now.grid self.now.line.axis) result }
+    fn next_in_long_line(&self, line: Line, from: u32, pattern: &Pattern) -> Option<u32>
+        requires line_in { line.number < line_count self.now.grid line.axis }
+        requires of_game { AreOf self.now.grid.layers pattern.now }
+        ensures { IsNext (holds_in self.now.grid line pattern.now) from (line_length self.now.grid line.axis) result }
     {
-        for at in from..self.end() {
-            if self.holds_at(at) {
+        for at in from..self.line_length(line.axis) {
+            if self.holds_in(line, at, pattern) {
                 return Some(at);
             }
         }
         None
     }
 
-    /// The last position, before `end`, at which the cell holds.
-    pub fn last(&self, end: u32) -> Option<u32>
-        requires { end ≤ line_length self.now.grid self.now.line.axis }
-        ensures { IsLast (cell_holds_at self.now) end result }
+    /// The last position of a line, before `end`, at which a rule's cell holds.
+    pub fn last_in_line(&self, line: Line, end: u32, pattern: &Pattern) -> Option<u32>
+        requires line_in { line.number < line_count self.now.grid line.axis }
+        requires end_in { end ≤ line_length self.now.grid line.axis }
+        requires of_game { AreOf self.now.grid.layers pattern.now }
+        ensures { IsLast (holds_in self.now.grid line pattern.now) end result }
     {
-        if self.end() > bits::ROOM {
-            return self.last_in_long_line(end);
+        if self.line_length(line.axis) > bits::ROOM {
+            return self.last_in_long_line(line, end, pattern);
         }
-        let places = self.places();
+        let places = self.places_in(line, pattern);
         let mut at = end;
         'places: while at > 0 {
             at -= 1;
-            if bits::has(places, at) && self.holds_at(at) {
+            if bits::has(places, at) && self.holds_in(line, at, pattern) {
                 return Some(at);
             }
         }
@@ -122,14 +82,16 @@ impl<'a, const N: usize> CellSearch<'a, N> {
     }
 
     /// The same, cell by cell.
-    fn last_in_long_line(&self, end: u32) -> Option<u32>
-        requires { end ≤ line_length self.now.grid self.now.line.axis }
-        ensures { IsLast (cell_holds_at self.now) end result }
+    fn last_in_long_line(&self, line: Line, end: u32, pattern: &Pattern) -> Option<u32>
+        requires line_in { line.number < line_count self.now.grid line.axis }
+        requires end_in { end ≤ line_length self.now.grid line.axis }
+        requires of_game { AreOf self.now.grid.layers pattern.now }
+        ensures { IsLast (holds_in self.now.grid line pattern.now) end result }
     {
         let mut at = end;
         'cells: while at > 0 {
             at -= 1;
-            if self.holds_at(at) {
+            if self.holds_in(line, at, pattern) {
                 return Some(at);
             }
         }

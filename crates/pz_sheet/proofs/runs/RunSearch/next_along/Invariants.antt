@@ -1,5 +1,5 @@
 use Rattle.pz_sheet.proofs.Common.{ℕ, ◌≡◌, ◌≤◌, ◌<◌, ◌-◌, false, line_length, run_holds_from}
-use Rattle.pz_sheet.proofs.runs.RunSearch.next.Given as goal
+use Rattle.pz_sheet.proofs.runs.RunSearch.next_along.Given as goal
 
 abbrev pub invariant-starts : goal.invariant-starts
 invariant-starts g l = record {
