@@ -1,7 +1,7 @@
 -- The places of a row of a rule: each start cell with each gap for which all cells of the row are on the map and hold. A cell
 -- of a rule *holds* where it fits. Left and right scan row by row from the top, each from the left. Up and down scan column by
 -- column from the left, each from the top. At a start cell gaps ascend. A row without `...` has only the gap 0.
-use Rattle.std.specs.Prelude.{ℕ, ◌+◌, List, take, map, filter, length, Bool, Option, Some, None, Result, Ok, Err, nat_lt, nat_le, nat_eq, ◌&&◌, ◌||◌, if◌then◌else◌, is_some}
+use Rattle.std.specs.Prelude.{ℕ, ◌+◌, List, [], ◌∷◌, take, map, filter, length, Bool, Option, Some, None, Result, Ok, Err, nat_lt, nat_le, nat_eq, ◌&&◌, ◌||◌, if◌then◌else◌, is_some}
 use Rattle.std.specs.List.{list_all, enumerate_from, flat_map, range_with_len, zip}
 use Rattle.pz_game.specs.declared.direction.Dir.{Dir}
 use Rattle.pz_game.specs.declared.direction.Dir.TheVariants.{Up, Down}
@@ -32,6 +32,10 @@ cell_holds grid row dir place (index, pattern) = holds_at grid pattern (position
 -- all cells of a row are on the map and hold
 abbrev pub row_holds : Grid → RuleRow → Dir → Place → Bool
 row_holds grid row dir place = list_all (cell_holds grid row dir place) (enumerate_from 0 row.cells)
+
+-- the row of this one cell
+abbrev pub row_of : List Item → RuleRow
+row_of cell = record { cells = cell ∷ []; gap_at = None }
 
 -- how many lines are scanned: columns for up and down, else rows
 abbrev pub line_count : Grid → Dir → ℕ

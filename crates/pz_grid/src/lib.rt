@@ -20,6 +20,7 @@ mod presence;
 mod pushing;
 pub mod rewriting;
 mod sameness;
+mod single;
 
 pub use movement::resolve;
 pub use placing::{GridFault, MATCH_LIMIT, Place, admitted, places, places_counted, still_matches};

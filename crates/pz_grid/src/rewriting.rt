@@ -47,7 +47,7 @@ impl Level {
     }
 
     /// Rewrites the cell at a position, or nothing where that is off the map. True: this or an earlier rewriting changed a cell.
-    fn rewrite_at(
+    pub(crate) fn rewrite_at(
         &mut self,
         at: Option<(u32, u32)>,
         left: &Pattern,

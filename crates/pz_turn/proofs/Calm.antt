@@ -1,5 +1,5 @@
 -- A pass that leaves calm items out gives what the whole pass gives.
-use Rattle.pz_turn.proofs.Common.{◌≡◌, ℕ, suc, ◌+◌, ◌/◌, ◌<◌, ◌≤◌, Result, Ok, Err, List, [], ◌∷◌, Bool, true, false, cond, ◌||◌, inl, inr, fold, take, drop, length, get_or, refl, ap, sym, ◌∙◌, arith, subst, cases_lt, or_parts, take_more, take_all, take-append-drop, get_or-drop, length-drop, get_or_default, Commands, either, StepFault, Outcome, untouched, followed_by, joined, Runs, pass_of, ends, IsCalm, AreCalmFrom}
+use Rattle.pz_turn.proofs.Common.{◌≡◌, ℕ, suc, ◌+◌, ◌/◌, ◌<◌, ◌≤◌, Result, Ok, Err, List, [], ◌∷◌, Bool, true, false, cond, ◌||◌, ◌⊎◌, inl, inr, fold, take, drop, length, get_or, refl, ap, sym, ◌∙◌, arith, subst, cases_lt, or_parts, take_more, take_all, take-append-drop, get_or-drop, length-drop, get_or_default, Commands, no_commands, either, StepFault, Outcome, untouched, followed_by, joined, Runs, pass_of, ends, IsCalm, AreCalmFrom}
 use Rattle.std.specs.Int.RustNames.{bit_or}
 use Rattle.std.proofs.lemmas.List.Sums.{fold-append}
 use Rattle.std.proofs.lemmas.Nat.{or_comm, or_shr}
@@ -34,6 +34,10 @@ known_still a more c h = either_assoc a more c ∙ (ap (either a) (either_comm m
 known_now : (a more c : Commands) → either more c ≡ more → either (either a more) c ≡ either a more
 known_now a more c h = either_assoc a more c ∙ ap (either a) h
 
+-- what is calm stays so where more commands were given before
+pub calm_known : {L I : Type 0} (runs : I → Runs L) (before given : Commands) (level : L) (item : I) → IsCalm runs given level item → IsCalm runs (either before given) level item
+calm_known runs before given level item calm = record { gives = calm.gives; quiet = calm.quiet; known = known_now before given calm.gives calm.known }
+
 -- ---- a pass so far
 module _ {L I : Type 0} (runs : I → Runs L) (items : List I) where
   abbrev step : Result (Outcome L) StepFault → I → Result (Outcome L) StepFault
@@ -62,16 +66,22 @@ module _ {L I : Type 0} (runs : I → Runs L) (items : List I) where
       ∙ (fold-append step (Ok (untouched start)) (take n items) (get_or items n item ∷ [])
       ∙ (ap (λ (s : Result (Outcome L) StepFault). step s (get_or items n item)) so_far ∙ ap (joined o) at))
 
-  -- where it changed something, only those behind it may be calm
-  pub passing_changed : (start : L) (calm_from n : ℕ) (item : I) (o r : Outcome L) (behind : ℕ) → n < length items → item ≡ get_or items n item → Passing start calm_from n o behind → runs item o.level ≡ Ok r → r.changed ≡ true
-      → Passing start calm_from (n + 1) (record { level = r.level; commands = either o.commands r.commands; changed = o.changed || r.changed }) (n + 1)
-  passing_changed start calm_from n item o r behind within is p gives changes =
+  -- where it changed something, only those behind it may be calm, and the item itself
+  pub passing_changed : (start : L) (calm_from n : ℕ) (item : I) (o r : Outcome L) (behind first : ℕ) → n < length items → item ≡ get_or items n item → Passing start calm_from n o behind → runs item o.level ≡ Ok r → r.changed ≡ true
+      → (first ≡ n + 1) ⊎ ((first ≡ n) × IsCalm runs r.commands r.level item)
+      → Passing start calm_from (n + 1) (record { level = r.level; commands = either o.commands r.commands; changed = o.changed || r.changed }) first
+  passing_changed start calm_from n item o r behind first within is p gives changes calm =
       let never : (o.changed || r.changed) ≡ false → ⊥ = λ none. (let wrong : true ≡ false = sym changes ∙ (or_parts o.changed r.changed none).1 in cc) in
       record {
         so_far = pass_more start n item o r within is p.so_far gives;
         ahead = λ none. absurd (never none);
         kept = λ none. absurd (never none);
-        calm = λ number other from below. absurd (omega (arith, from, below));
+        calm = λ number other from below. elim calm [
+          | inl next ↦ absurd (omega (arith, from, below, next))
+          | inr here ↦ (let at : n ≡ number = omega (arith, from, below, here.0) in
+              let same : item ≡ get_or items number other = is ∙ get_or_default items n item other within ∙ ap (λ (k : ℕ). get_or items k other) at in
+              subst (IsCalm runs (either o.commands r.commands) r.level) same (calm_known runs o.commands r.commands r.level item here.1))
+        ];
       }
 
   -- where it left the level, it is calm itself
@@ -164,8 +174,20 @@ module _ {L I : Type 0} (runs : I → Runs L) (items : List I) where
             ∙ ap (λ (level : L). Ok (record { level = level; commands = either o.commands given; changed = o.changed || false })) (sym keeps)),
       )
 
-  -- what is calm stays so where more commands were given before
   pub calm_more : (before given : Commands) (level : L) (from : ℕ) → AreCalmFrom runs given level items from → AreCalmFrom runs (either before given) level items from
-  calm_more before given level from calm number other at below =
-      let here = calm number other at below in
-      record { gives = here.gives; quiet = here.quiet; known = known_now before given here.gives here.known }
+  calm_more before given level from calm number other at below = calm_known runs before given level _ (calm number other at below)
+
+-- a pass over one item is its run
+after_nothing : {L : Type 0} (level : L) (run : Result (Outcome L) StepFault) → joined (untouched level) run ≡ run
+after_nothing level (Err fault) = refl
+after_nothing level (Ok o) = refl
+
+pub pass_alone : {L I : Type 0} (runs : I → Runs L) (item : I) (level : L) → pass_of runs (item ∷ []) level ≡ runs item level
+pass_alone runs item level = after_nothing level (runs item level)
+
+pub calm_alone : {L I : Type 0} (runs : I → Runs L) (given : Commands) (level : L) (item : I) → IsCalm runs given level item → IsCalm (pass_of runs) given level (item ∷ [])
+calm_alone runs given level item calm = record { gives = calm.gives; quiet = pass_alone runs item level ∙ calm.quiet; known = calm.known }
+
+-- a run that is known to do nothing is calm
+pub calm_untouched : {L I : Type 0} (runs : I → Runs L) (given : Commands) (level : L) (item : I) → runs item level ≡ Ok (untouched level) → IsCalm runs given level item
+calm_untouched runs given level item is = record { gives = no_commands; quiet = is; known = either_comm given no_commands }

@@ -1,15 +1,15 @@
 -- The words of the proofs of this crate: what several of them import.
-pub use Rattle.std.proofs.Common.{Bool, Err, Global, List, None, Ok, Option, Result, Some, Vec, [], add-one, ap, append_assoc, arith, below_more, cond, drop, eqb, false, fold, get_or, inl, inr, is_some, length, map, min, nat_eq, not, refl, rules, set, subst, suc, sym, take, true, zero, ℕ, ◌*◌, ◌++◌, ◌+◌, ◌/◌, ◌<◌, ◌||◌, ◌∙◌, ◌∷◌, ◌≡◌, ◌≢◌, ◌≤◌, ◌⊎◌}
+pub use Rattle.std.proofs.Common.{Bool, Err, Global, List, None, Ok, Option, Result, Some, Vec, [], add-one, ap, append_assoc, arith, below_more, cond, drop, eqb, false, filter, fold, get_or, get_or-set_other, inl, inr, is_some, length, map, min, nat_eq, not, refl, rules, set, subst, suc, sym, take, true, zero, ℕ, ◌*◌, ◌++◌, ◌+◌, ◌/◌, ◌<◌, ◌&&◌, ◌||◌, ◌∙◌, ◌∷◌, ◌≡◌, ◌≢◌, ◌≤◌, ◌⊎◌}
 pub use Rattle.std.proofs.lemmas.Bool.{cases_lt, eqb-true, false_from_ne_true, ltb-false, ltb-true, not-false, not-true, or_parts, true_from_ne_false}
 pub use Rattle.std.proofs.lemmas.List.{append-nil, at_drop_more, drop-drop, drop_all, get_or-drop, get_or_default, length-append, length-drop, length-map, length-set, map-append, nil_from_length, set-get_or, take-append-drop, take_all, take_more}
 pub use Rattle.std.proofs.lemmas.Result.{IfOk-weaker, err_from_is_err_and}
 pub use Rattle.std.specs.List.{All, enumerate_from, find, flat_map, list_all, list_any, range_with_len, zip}
-pub use Rattle.std.specs.Prelude.{IfErr, IfOk, MatchOption, codes, if◌then◌else◌, nat_lt}
+pub use Rattle.std.specs.Prelude.{IfErr, IfOk, IfSome, MatchOption, codes, if◌then◌else◌, nat_lt}
 pub use Rattle.pz_game.specs.Pattern.{AreRowsOf, AsksAmong, IsRowOf, RuleRow}
 pub use Rattle.pz_game.specs.declared.direction.Dir.{Dir}
 pub use Rattle.pz_game.specs.declared.game.GameParts.{GameParts}
 pub use Rattle.pz_grid.proofs.MovementLemmas.{same_size_on}
-pub use Rattle.pz_grid.specs.Places.{places, position_of, still_matches}
+pub use Rattle.pz_grid.specs.Places.{along, holds_at, line_count, line_length, place_in, places, position_of, row_holds, row_of, still_holds, still_matches}
 unfoldable pub use Rattle.pz_grid.specs.Places.{searched}
 pub use Rattle.pz_grid.specs.Rewriting.{Rewriting, in_rewrite, rewritten, rewritten_along, rewritten_at, rewritten_row}
 pub use Rattle.pz_grid.specs.declared.placing.Place.{Place}
@@ -21,7 +21,7 @@ pub use Rattle.pz_program.specs.declared.instance.Program.{Program}
 pub use Rattle.pz_sheet.specs.Grid.{Grid, IsLawful, SameSize, cell_at}
 pub use Rattle.pz_turn.specs.Calm.{AreCalmFrom, IsCalm}
 pub use Rattle.pz_turn.specs.Combinations.{combinations}
-pub use Rattle.pz_turn.specs.Instance.{HasNoEffect, after_row, applied_at, applied_to, applied_with, found_or_stop, given, outcome_of, taken}
+pub use Rattle.pz_turn.specs.Instance.{HasNoEffect, HoldsNowhere, IsOfOneCell, after_row, applied_at, applied_to, applied_with, found_or_stop, given, outcome_of, taken}
 unfoldable pub use Rattle.pz_turn.specs.Instance.{applied}
 pub use Rattle.pz_turn.specs.Outcome.{GivesOutcome, Outcome, followed_by, joined, untouched}
 pub use Rattle.pz_turn.specs.Rest.{Runs, ends, ends_after, group_runs, is_last, pass_of, passes, rests, up_to}

@@ -3,15 +3,17 @@
 -- combination, even if nothing changes. Two things stop it: too many places of a row before the first one without a place, or
 -- too many combinations.
 use Rattle.std.specs.Prelude.{◌≡◌, ◌⊎◌, ◌*◌, ◌≤◌, List, [], ◌∷◌, fold, length, false, None, Result, Ok, Err, nat_lt, if◌then◌else◌}
+use Rattle.std.specs.List.{list_any}
 use Rattle.pz_game.specs.declared.direction.Dir.{Dir}
 use Rattle.pz_program.specs.declared.commands.Commands.{Commands}
 use Rattle.pz_program.specs.declared.instance.Instance.{Instance}
+use Rattle.pz_game.specs.declared.pattern.Item.{Item}
 use Rattle.pz_game.specs.Pattern.{RuleRow}
 use Rattle.pz_grid.specs.declared.placing.GridFault.{GridFault}
 use Rattle.pz_grid.specs.declared.placing.GridFault.TheVariants as grid
 use Rattle.pz_grid.specs.declared.placing.Place.{Place}
 use Rattle.pz_sheet.specs.Grid.{Grid}
-use Rattle.pz_grid.specs.Places.{searched, still_matches}
+use Rattle.pz_grid.specs.Places.{row_of, row_holds, searched, still_matches}
 use Rattle.pz_grid.specs.Rewriting.{Rewriting, in_rewrite, rewritten}
 use Rattle.pz_turn.specs.declared.outcome.StepFault.{StepFault}
 use Rattle.pz_turn.specs.declared.outcome.StepFault.TheVariants.{Memory, MatchLimit}
@@ -79,3 +81,15 @@ pub record HasNoEffect (grid : Grid) (instance : Instance) : Type 0 where
   pub row : RuleRow
   pub left : instance.left ≡ row ∷ []
   pub few : (row.gap_at ≡ None) ⊎ (grid.width * grid.height ≤ FEW_CELLS)
+
+-- an instance of one cell: on the left and on the right it has one row of one cell, without a gap
+pub record IsOfOneCell (instance : Instance) (asked written : List Item) : Type 0 where
+  pub left : instance.left ≡ row_of asked ∷ []
+  pub right : instance.right ≡ row_of written ∷ []
+
+-- an instance of one cell that holds at none of these places
+pub record HoldsNowhere (grid : Grid) (instance : Instance) (places : List Place) : Type 0 where
+  pub left : List Item
+  pub right : List Item
+  pub single : IsOfOneCell instance left right
+  pub nowhere : list_any (row_holds grid (row_of left) instance.scan) places ≡ false

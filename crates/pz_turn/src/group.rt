@@ -51,6 +51,7 @@ pub(crate) fn rest_group(
     requires of_game { IsGroupOf level.old.grid.layers group.now }
     ensures outcome { GivesOutcome (rest_of PASSES (pass_of applied group.now) level.old.grid) level.new.grid result }
     ensures kept { IfOk result (λ given. given.changed ≡ false → level.new.grid ≡ level.old.grid) }
+    ensures calm { IfOk result (λ given. given.calm ≡ false) }
     ensures size { SameSize level.old.grid level.new.grid }
 {
     to_rest(alloc, level, group.segments())

@@ -1,23 +1,25 @@
 //! An instance of a rule, applied at each combination of places of its rows.
 
-ghost use Rattle.std.specs.Prelude.{◌≡◌, ◌≢◌, ◌≤◌, ◌<◌, ◌+◌, ◌*◌, ◌++◌, ◌∷◌, IfOk, IfErr, Ok, Err, MatchOption, true, false, [], length, drop, map, fold, min};
+ghost use Rattle.std.specs.Prelude.{◌≡◌, ◌≢◌, ◌≤◌, ◌<◌, ◌+◌, ◌*◌, ◌++◌, ◌∷◌, IfOk, IfErr, Ok, Err, MatchOption, IfSome, true, false, [], length, drop, map, fold, min};
 ghost use Rattle.pz_game.specs.declared.direction.Dir.{Dir};
 ghost use Rattle.pz_program.specs.Instance.{IsInstanceOf};
 ghost use Rattle.pz_game.specs.Pattern.{IsRowOf, AreRowsOf};
 ghost use Rattle.pz_sheet.specs.Grid.{SameSize};
 ghost use Rattle.pz_grid.specs.Places.{places, searched};
 ghost use Rattle.pz_grid.specs.Rewriting.{in_rewrite};
+ghost use Rattle.pz_turn.specs.Calm.{IsCalm};
 ghost use Rattle.pz_turn.specs.Combinations.{combinations};
-ghost use Rattle.pz_turn.specs.Instance.{found_or_stop, taken, applied_at, applied, given, HasNoEffect};
+ghost use Rattle.pz_turn.specs.Instance.{found_or_stop, taken, applied_at, applied, given, HasNoEffect, IsOfOneCell, HoldsNowhere};
 ghost use Rattle.pz_turn.specs.Outcome.{GivesOutcome, untouched};
 ghost use Rattle.pz_turn.specs.declared.outcome.StepFault.TheVariants.{Memory};
 
 use crate::outcome::{Given, StepFault};
 use crate::resting::Runnable;
+use crate::single::{apply_cell_at, holds_somewhere, single_cell};
 use bitflags::Flags;
 use pz_base::listed::Listed;
 use pz_game::direction::Dir;
-use pz_game::pattern::Row;
+use pz_game::pattern::{Pattern, Row};
 use pz_grid::Level;
 use pz_grid::placing::{GridFault, Place, places, still_matches};
 use pz_program::commands::Commands;
@@ -211,6 +213,7 @@ fn given(lists: &[Listed<Place>], commands: Commands) -> Commands
 fn apply_rows(alloc: Global, level: &mut Level, instance: &Instance) -> Result<Given, StepFault>
     requires of_game { IsInstanceOf level.old.grid.layers instance.now }
     ensures outcome { GivesOutcome (applied instance.now level.old.grid) level.new.grid result }
+    ensures calm { IfOk result (λ given. given.calm ≡ false) }
     ensures size { SameSize level.old.grid level.new.grid }
 {
     let found = take_places(alloc, level, instance)?;
@@ -223,23 +226,70 @@ fn apply_rows(alloc: Global, level: &mut Level, instance: &Instance) -> Result<G
     let mut chosen = room_for(alloc, lists.len())?;
     let changed = apply_all(level, instance, &lists, &mut chosen, false);
     let commands = given(&lists, instance.commands);
-    Ok(Given { commands, changed })
+    Ok(Given {
+        commands,
+        changed,
+        calm: false,
+    })
+}
+
+/// Applies an instance of one row at a place, if it still holds there. `cells`: its left and its right cell, if it is of one cell.
+fn apply_one(
+    level: &mut Level,
+    instance: &Instance,
+    cells: Option<(&Pattern, &Pattern)>,
+    place: &Place,
+    changed: bool,
+) -> bool
+    requires of_game { IsInstanceOf level.old.grid.layers instance.now }
+    requires cells { IfSome cells (λ cells. IsOfOneCell instance.now cells.0.now cells.1.now) }
+    ensures applied { in_rewrite level.new.grid result ≡ applied_at instance.now (in_rewrite level.old.grid changed) (place.now ∷ []) }
+    ensures size { SameSize level.old.grid level.new.grid }
+{
+    match cells {
+        Some((left, right)) => apply_cell_at(level, instance, left, right, *place, changed),
+        None => apply_at(level, instance, slice::from_ref(place), changed),
+    }
 }
 
 /// Applies an instance of one row at each of these places in order.
-fn apply_each(level: &mut Level, instance: &Instance, places: &[Place]) -> bool
+fn apply_each(
+    level: &mut Level,
+    instance: &Instance,
+    cells: Option<(&Pattern, &Pattern)>,
+    places: &[Place],
+) -> bool
     requires of_game { IsInstanceOf level.old.grid.layers instance.now }
+    requires cells { IfSome cells (λ cells. IsOfOneCell instance.now cells.0.now cells.1.now) }
     ensures applied { in_rewrite level.new.grid result ≡ fold (applied_at instance.now) (in_rewrite level.old.grid false) (map (λ place. place ∷ []) places.now) }
     ensures size { SameSize level.old.grid level.new.grid }
 {
     let mut changed = false;
     for place in places {
-        changed = apply_at(level, instance, slice::from_ref(place), changed);
+        changed = apply_one(level, instance, cells, place, changed);
     }
     changed
 }
 
-/// Applies an instance of one row, as nearly all are. Each place is a combination, and both limits are equal.
+/// Whether an instance of one cell holds at none of these places.
+fn has_rested(
+    level: &Level,
+    instance: &Instance,
+    cells: Option<(&Pattern, &Pattern)>,
+    places: &[Place],
+) -> bool
+    requires of_game { IsInstanceOf level.now.grid.layers instance.now }
+    requires cells { IfSome cells (λ cells. IsOfOneCell instance.now cells.0.now cells.1.now) }
+    ensures { result ≡ true → HoldsNowhere level.now.grid instance.now places.now }
+{
+    match cells {
+        Some((left, _)) => !holds_somewhere(level, instance.scan, left, places),
+        None => false,
+    }
+}
+
+/// Applies an instance of one row, as nearly all are. Each place is a combination, and both limits are equal. If it is of one cell, it
+/// changed only the cells of its places; where it holds in none of them any more, it holds nowhere.
 fn apply_row(
     alloc: Global,
     level: &mut Level,
@@ -249,15 +299,22 @@ fn apply_row(
     requires of_game { IsInstanceOf level.old.grid.layers instance.now }
     requires only { instance.now.left ≡ row.now ∷ [] }
     ensures outcome { GivesOutcome (applied instance.now level.old.grid) level.new.grid result }
+    ensures calm { IfOk result (λ given. given.calm ≡ true → IsCalm applied given.commands level.new.grid instance.now) }
     ensures size { SameSize level.old.grid level.new.grid }
 {
     let found = search(alloc, level, row, instance.scan)?;
     if found.items().is_empty() {
         return Ok(Given::nothing());
     }
-    let changed = apply_each(level, instance, found.items());
+    let cells = single_cell(instance);
+    let changed = apply_each(level, instance, cells, found.items());
     let commands = instance.commands;
-    Ok(Given { commands, changed })
+    let calm = has_rested(level, instance, cells, found.items());
+    Ok(Given {
+        commands,
+        changed,
+        calm,
+    })
 }
 
 /// Applies an instance to a level. `MatchLimit`: a row before the first one without a place has too many places, or there are more than
@@ -265,6 +322,7 @@ fn apply_row(
 fn apply(alloc: Global, level: &mut Level, instance: &Instance) -> Result<Given, StepFault>
     requires of_game { IsInstanceOf level.old.grid.layers instance.now }
     ensures outcome { GivesOutcome (applied instance.now level.old.grid) level.new.grid result }
+    ensures calm { IfOk result (λ given. given.calm ≡ true → IsCalm applied given.commands level.new.grid instance.now) }
     ensures size { SameSize level.old.grid level.new.grid }
 {
     if is_left_out(level, instance) {

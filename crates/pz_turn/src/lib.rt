@@ -7,6 +7,7 @@ pub mod laws;
 pub mod loops;
 pub mod outcome;
 pub mod resting;
+mod single;
 pub mod stepping;
 pub mod win;
 

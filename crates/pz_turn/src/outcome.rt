@@ -15,31 +15,35 @@ pub enum StepFault {
     MatchLimit,
 }
 
-/// What a run of rules gave: its commands, and whether some rewriting changed a cell.
+/// What a run of rules gave: its commands, and whether some rewriting changed a cell. `calm`: it is known that the same run, on the level
+/// that this one left, would change nothing and give no new command.
 #[derive(Clone, Copy, PartialEq, Eq, Debug)]
 pub struct Given {
     pub commands: Commands,
     pub changed: bool,
+    pub calm: bool,
 }
 
 impl Given {
     /// What a run of nothing gives: no command and no change.
     pub(crate) fn nothing() -> Given
-        ensures { result ≡ record { commands = no_commands; changed = false } }
+        ensures { result ≡ record { commands = no_commands; changed = false; calm = false } }
     {
         Given {
             commands: Commands::empty(),
             changed: false,
+            calm: false,
         }
     }
 
-    /// What two runs gave together.
+    /// What two runs gave together. Whether the two are calm together is not known.
     pub(crate) fn and(self, more: Given) -> Given
-        ensures { result ≡ record { commands = either self.commands more.commands; changed = self.changed || more.changed } }
+        ensures { result ≡ record { commands = either self.commands more.commands; changed = self.changed || more.changed; calm = false } }
     {
         Given {
             commands: either(self.commands, more.commands),
             changed: self.changed || more.changed,
+            calm: false,
         }
     }
 }

@@ -3,7 +3,7 @@
 ghost use Rattle.std.specs.Prelude.{◌≡◌, ◌≢◌, Result, Ok, Err, IfOk, IfErr, All, take, cond, true, false};
 ghost use Rattle.pz_program.specs.Instance.{IsGroupOf};
 ghost use Rattle.pz_sheet.specs.Grid.{Grid, IsLawful, IsOfGame, SameSize};
-ghost use Rattle.pz_turn.specs.Calm.{AreCalmFrom};
+ghost use Rattle.pz_turn.specs.Calm.{AreCalmFrom, IsCalm};
 ghost use Rattle.pz_turn.specs.Instance.{applied};
 ghost use Rattle.pz_turn.specs.Outcome.{Outcome, GivesOutcome, GivesBoth};
 ghost use Rattle.pz_turn.specs.Rest.{pass_of, rest_of};
@@ -23,8 +23,9 @@ pub const PASSES: u64 = 200;
 
 /// What runs on a level: an instance, a segment, a group of a loop, a block.
 pub(crate) trait Runnable {
-    ghost use Rattle.std.specs.Prelude.{◌≡◌, ℕ, List, IfOk, false};
+    ghost use Rattle.std.specs.Prelude.{◌≡◌, ℕ, List, IfOk, false, true};
     ghost use Rattle.pz_sheet.specs.Grid.{Grid};
+    ghost use Rattle.pz_turn.specs.Calm.{IsCalm};
     ghost use Rattle.pz_turn.specs.Rest.{Runs};
 
     ghost is_of: { List ℕ → Self → Type 0 };
@@ -35,10 +36,11 @@ pub(crate) trait Runnable {
         requires of_game { is_of level.old.grid.layers self.now }
         ensures outcome { GivesOutcome (runs self.now level.old.grid) level.new.grid result }
         ensures kept { IfOk result (λ given. given.changed ≡ false → level.new.grid ≡ level.old.grid) }
+        ensures calm { IfOk result (λ given. given.calm ≡ true → IsCalm runs given.commands level.new.grid self.now) }
         ensures size { SameSize level.old.grid level.new.grid };
 }
 
-/// Makes one pass: runs each item once, in order.
+/// Makes one pass: runs each item once, in order. A pass over one item is calm if the item is.
 pub(crate) fn pass<T: Runnable>(
     alloc: Global,
     level: &mut Level,
@@ -46,14 +48,23 @@ pub(crate) fn pass<T: Runnable>(
 ) -> Result<Given, StepFault>
     requires of_game { All (T.is_of level.old.grid.layers) items.now }
     ensures outcome { GivesOutcome (pass_of T.runs items.now level.old.grid) level.new.grid result }
+    ensures calm { IfOk result (λ given. given.calm ≡ true → IsCalm (pass_of T.runs) given.commands level.new.grid items.now) }
     ensures size { SameSize level.old.grid level.new.grid }
 {
     let mut so_far = Given::nothing();
+    let mut calm = false;
     for item in items {
         let given = item.run(alloc, level)?;
+        if given.changed {
+            calm = given.calm;
+        }
         so_far = so_far.and(given);
     }
-    Ok(so_far)
+    Ok(Given {
+        commands: so_far.commands,
+        changed: so_far.changed,
+        calm: calm && items.len() == 1,
+    })
 }
 
 /// What a pass gave, and from which item on all are calm: run again on the level after the pass, they change nothing and give no new
@@ -79,7 +90,7 @@ fn pass_after<T: Runnable>(
     ensures size { SameSize level.old.grid level.new.grid }
 {
     let mut so_far = Given::nothing();
-    let mut behind_changed = 0;
+    let mut first_calm = 0;
     for (index, item) in items.iter().enumerate() {
         if index == calm_from && !so_far.changed {
             break;
@@ -87,17 +98,17 @@ fn pass_after<T: Runnable>(
         let given = item.run(alloc, level)?;
         so_far = so_far.and(given);
         if given.changed {
-            behind_changed = index + 1;
+            first_calm = if given.calm { index } else { index + 1 };
         }
     }
     Ok(Passed {
         given: so_far,
-        calm_from: behind_changed,
+        calm_from: first_calm,
     })
 }
 
 /// Repeats passes up to the first that changes nothing. Items after the last one that changed something needn't run again until something
-/// changes.
+/// changes, nor does that one if it is calm behind its change.
 pub(crate) fn to_rest<T: Runnable>(
     alloc: Global,
     level: &mut Level,
@@ -106,6 +117,7 @@ pub(crate) fn to_rest<T: Runnable>(
     requires of_game { All (T.is_of level.old.grid.layers) items.now }
     ensures outcome { GivesOutcome (rest_of PASSES (pass_of T.runs items.now) level.old.grid) level.new.grid result }
     ensures kept { IfOk result (λ given. given.changed ≡ false → level.new.grid ≡ level.old.grid) }
+    ensures calm { IfOk result (λ given. given.calm ≡ false) }
     ensures size { SameSize level.old.grid level.new.grid }
 {
     let mut so_far = Given::nothing();

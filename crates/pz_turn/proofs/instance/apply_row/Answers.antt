@@ -1,6 +1,8 @@
-use Rattle.pz_turn.proofs.Common.{◌≡◌, ◌<◌, ◌∷◌, [], List, Ok, length, map, fold, nat_eq, subst, ap, sym, ◌∙◌, err_from_is_err_and, eqb-true, nil_from_length, false, IsRowOf, AreRowsOf, Place, Rewriting, in_rewrite, Given, applied_at}
+use Rattle.pz_turn.proofs.Common.{◌≡◌, ◌<◌, ◌∷◌, [], List, Ok, length, map, fold, nat_eq, subst, ap, sym, ◌∙◌, err_from_is_err_and, eqb-true, nil_from_length, false, IsRowOf, AreRowsOf, Place, Rewriting, in_rewrite, Given, HoldsNowhere, applied_at, applied}
 use Rattle.std.proofs.lemmas.List.Elements.{All-head}
 use Rattle.pz_turn.proofs.SingleRow.{positive, row_stops, row_nowhere, row_ends}
+use Rattle.pz_turn.proofs.Calm.{calm_untouched}
+use Rattle.pz_turn.proofs.OneCell.{rested}
 use Rattle.pz_turn.proofs.instance.apply_row.Goals as goal
 
 pub search-requires : goal.search-requires
@@ -28,3 +30,13 @@ returns-clause-outcome c =
     let some : 0 < length found = positive found (ap (λ (ps : List Place). nat_eq (length ps) 0) (sym c.items.ensures) ∙ sym c.is_empty.ensures ∙ c.if-is_empty.false) in
     let run : List Place → Rewriting = λ ps. fold (applied_at instance) (in_rewrite grid false) (map (λ (p : Place). p ∷ []) ps) in
     row_ends instance grid c.args.row.now found (in_rewrite c.apply_each-changed.new.level.grid c.apply_each-changed.result) c.requires.only c.in_ok-found.ensures.found some (c.apply_each-changed.ensures.applied ∙ ap run c.items-2.ensures)
+
+pub returns-clause-calm : goal.returns-clause-calm
+returns-clause-calm c = λ calm.
+    let instance = c.args.instance.now in
+    let grid = c.args.level.now.grid in
+    let end = in_rewrite c.apply_each-changed.new.level.grid c.apply_each-changed.result in
+    let run : List Place → Rewriting = λ ps. fold (applied_at instance) (in_rewrite grid false) (map (λ (p : Place). p ∷ []) ps) in
+    calm_untouched applied instance.commands end.grid instance
+    (rested instance grid c.args.row.now c.in_ok-found.found end c.requires.only c.in_ok-found.ensures.found (c.apply_each-changed.ensures.applied ∙ ap run c.items-2.ensures) c.apply_each-changed.ensures.size
+    (subst (HoldsNowhere end.grid instance) c.items-3.ensures (c.has_rested-calm.ensures calm)))

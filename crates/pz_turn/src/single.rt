@@ -1,0 +1,79 @@
+//! Instances of one cell: their one row has one cell and no gap.
+
+ghost use Rattle.std.specs.Prelude.{◌≡◌, ◌∷◌, [], IfSome, MatchOption, true, false};
+ghost use Rattle.std.specs.List.{list_any};
+ghost use Rattle.pz_game.specs.Pattern.{AreOf};
+ghost use Rattle.pz_program.specs.Instance.{IsInstanceOf};
+ghost use Rattle.pz_sheet.specs.Grid.{SameSize};
+ghost use Rattle.pz_grid.specs.Places.{row_of, row_holds};
+ghost use Rattle.pz_grid.specs.Rewriting.{in_rewrite};
+ghost use Rattle.pz_turn.specs.Instance.{applied_at, IsOfOneCell};
+
+use pz_game::direction::Dir;
+use pz_game::pattern::{Pattern, Row};
+use pz_grid::Level;
+use pz_grid::placing::Place;
+use pz_program::instance::Instance;
+
+/// The cell of a row of one cell.
+fn only_cell(row: &Row) -> Option<&Pattern>
+    ensures { IfSome result (λ cell. row.now ≡ row_of cell.now) }
+{
+    match (row.cells(), row.gap_at()) {
+        ([cell], None) => Some(cell),
+        _ => None,
+    }
+}
+
+/// The cell of the only row, if it is a row of one cell.
+fn only_row(rows: &[Row]) -> Option<&Pattern>
+    ensures { IfSome result (λ cell. rows.now ≡ row_of cell.now ∷ []) }
+{
+    match rows {
+        [row] => only_cell(row),
+        _ => None,
+    }
+}
+
+/// The left and the right cell of an instance of one cell.
+pub(crate) fn single_cell(instance: &Instance) -> Option<(&Pattern, &Pattern)>
+    ensures { IfSome result (λ cells. IsOfOneCell instance.now cells.0.now cells.1.now) }
+{
+    let left = only_row(instance.left.items())?;
+    let right = only_row(instance.right.items())?;
+    Some((left, right))
+}
+
+/// Applies an instance of one cell at a place, if it still holds there.
+pub(crate) fn apply_cell_at(
+    level: &mut Level,
+    instance: &Instance,
+    left: &Pattern,
+    right: &Pattern,
+    place: Place,
+    changed: bool,
+) -> bool
+    requires of_game { IsInstanceOf level.old.grid.layers instance.now }
+    requires single { IsOfOneCell instance.now left.now right.now }
+    ensures applied { in_rewrite level.new.grid result ≡ applied_at instance.now (in_rewrite level.old.grid changed) (place ∷ []) }
+    ensures size { SameSize level.old.grid level.new.grid }
+{
+    if place.gap == 0 && level.cell_holds(instance.scan, place, left) {
+        level.rewrite_cell(instance.scan, place, left, right, changed)
+    } else {
+        changed
+    }
+}
+
+/// Whether a row of this one cell holds at one of these places.
+pub(crate) fn holds_somewhere(level: &Level, dir: Dir, cell: &Pattern, places: &[Place]) -> bool
+    requires of_game { AreOf level.now.grid.layers cell.now }
+    ensures { result ≡ list_any (row_holds level.now.grid (row_of cell.now) dir) places.now }
+{
+    for place in places {
+        if level.cell_holds(dir, *place, cell) {
+            return true;
+        }
+    }
+    false
+}
