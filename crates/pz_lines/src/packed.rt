@@ -1,7 +1,7 @@
 //! Lines that are kept packed until they are written: of each line only what differs from the line before it. The line of a frame has
 //! the whole text of a level, and mostly little of it changed.
 
-ghost use Rattle.std.specs.Prelude.{◌≡◌, ◌++◌, ◌+◌, ◌≤◌, [], length, take, drop, IfOk, IsTrue, OnErr, OnOk};
+ghost use Rattle.std.specs.Prelude.{◌≡◌, ◌++◌, ◌+◌, ◌*◌, ◌≤◌, [], length, take, drop, IfOk, IsTrue, OnErr, OnOk};
 ghost use Rattle.pz_lines.specs.Packed.{AreChanges, HaveGrown, IsPartOf, changed, line_of, next_line, replaced, tail_of};
 ghost use Rattle.pz_lines.specs.declared.packed.TheConstants.{BLOCK, CHUNK, MOST};
 
@@ -11,7 +11,7 @@ use std::mem::replace;
 use std::simd::Simd;
 
 /// Lines are compared in blocks of so many bytes.
-const BLOCK: usize = 32;
+const BLOCK: usize = 64;
 
 /// Of a block that changed, chunks of so many bytes are kept.
 const CHUNK: usize = 8;
@@ -112,24 +112,32 @@ impl Pieces {
         Ok(())
     }
 
-    /// Adds the chunks of the block at a place that differ. Those before it were added.
-    fn add_block(&mut self, last: &[u8], line: &[u8], at: usize) -> Result<(), AllocError>
+    /// Adds those of so many chunks from a place on that differ. Those before it were added. As many as a block are first compared at
+    /// once.
+    fn add_chunks(
+        &mut self,
+        last: &[u8],
+        line: &[u8],
+        at: usize,
+        count: usize,
+    ) -> Result<(), AllocError>
         requires before { AreChanges last.now line.now at self.old.places.items self.old.bytes.items }
-        requires last { at + BLOCK ≤ length last.now }
-        requires line { at + BLOCK ≤ length line.now }
-        requires few { at + BLOCK ≤ MOST }
-        ensures { OnOk result (AreChanges last.now line.now (at + BLOCK) self.new.places.items self.new.bytes.items) }
+        requires last { at + count * CHUNK ≤ length last.now }
+        requires line { at + count * CHUNK ≤ length line.now }
+        requires few { at + count * CHUNK ≤ MOST }
+        ensures { OnOk result (AreChanges last.now line.now (at + count * CHUNK) self.new.places.items self.new.bytes.items) }
     {
-        if begin_alike(&last[at..], &line[at..]) {
+        if count * CHUNK == BLOCK && begin_alike(&last[at..], &line[at..]) {
             return Ok(());
         }
-        for chunk in 0..BLOCK / CHUNK {
+        for chunk in 0..count {
             self.add_chunk(last, line, at + chunk * CHUNK)?;
         }
         Ok(())
     }
 
-    /// Finds the changes of a line, block by block, in place of those of another. Answers how many first bytes were compared.
+    /// Finds the changes of a line, in place of those of another: block by block, and behind the last whole block all chunks at once.
+    /// Answers how many first bytes were compared: none if the changes would take more room than these bytes.
     fn find(&mut self, last: &[u8], line: &[u8]) -> Result<usize, AllocError>
         ensures changes { IfOk result (λ front. AreChanges last.now line.now front self.new.places.items self.new.bytes.items) }
         ensures last { IfOk result (λ front. front ≤ length last.now) }
@@ -140,9 +148,16 @@ impl Pieces {
         self.bytes.clear();
         let end = last.len().min(line.len()).min(MOST);
         let mut at = 0;
-        while BLOCK <= end - at {
-            self.add_block(last, line, at)?;
-            at += BLOCK;
+        while CHUNK <= end - at {
+            let count = BLOCK.min(end - at) / CHUNK;
+            self.add_chunks(last, line, at, count)?;
+            at += count * CHUNK;
+        }
+        // (each place takes half as much room as its chunk)
+        if at < self.bytes.len() + self.bytes.len() / 2 {
+            self.places.clear();
+            self.bytes.clear();
+            return Ok(0);
         }
         Ok(at)
     }
@@ -189,6 +204,18 @@ fn put(line: &mut [u8], place: u32, own: &[u8])
     }
 }
 
+/// Replaces bytes of a line from a place on as `put` does. All chunks have the same length, and so their bytes are moved at once.
+fn put_chunk(line: &mut [u8], place: u32, own: &[u8])
+    ensures { line.new ≡ replaced line.old place own.now }
+{
+    let at = place as usize;
+    if own.len() == CHUNK && CHUNK <= line.len() && at <= line.len() - CHUNK {
+        line[at..at + CHUNK].copy_from_slice(own);
+    } else {
+        put(line, place, own);
+    }
+}
+
 /// Changes a chunk of a line at each place, by the bytes that are kept, and answers those that are left.
 fn change<'a>(line: &mut [u8], places: &[u32], own: &'a [u8]) -> &'a [u8]
     ensures changed { line.new ≡ changed CHUNK line.old places.now own.now }
@@ -197,7 +224,7 @@ fn change<'a>(line: &mut [u8], places: &[u32], own: &'a [u8]) -> &'a [u8]
     let mut rest = own;
     for place in places {
         let (chunk, later) = cut(rest, CHUNK);
-        put(line, *place, chunk);
+        put_chunk(line, *place, chunk);
         rest = later;
     }
     rest

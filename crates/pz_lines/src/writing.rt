@@ -145,7 +145,10 @@ fn write_texts<W: Write>(
     ensures ok { OnOk result (IsSent (concat texts.now) written.old written.new output.old output.new) }
     ensures err { IfErr result (IsSentInPart (concat texts.now) written.old written.new output.old output.new) }
 {
-    let mut lines = Vec::new(alloc);
+    // (room that grew bit by bit would leave its smaller places behind)
+    let Ok(mut lines) = Vec::with_capacity(alloc, 2 * PIECE) else {
+        return Err(Cause::Memory);
+    };
     for packed in texts {
         lines = write_lines_of(lines, packed, written, output)?;
     }

@@ -1,8 +1,8 @@
 -- Texts of cells that are begun, that take over the front of another, and that are whole.
-use Rattle.std.proofs.Common.{◌≡◌, ℕ, ◌+◌, ◌-◌, ◌*◌, ◌/◌, ◌%◌, ◌≤◌, ◌<◌, List, [], ◌++◌, Option, None, All, length, take, drop, get_or, map, replicate, refl, ap, ap₂, sym, ◌∙◌, subst, arith, inl, inr}
+use Rattle.std.proofs.Common.{◌≡◌, ℕ, ◌+◌, ◌-◌, ◌*◌, ◌/◌, ◌%◌, ◌≤◌, ◌<◌, List, [], ◌∷◌, ◌++◌, Option, None, All, length, take, drop, get_or, map, replicate, refl, ap, ap₂, sym, ◌∙◌, subst, arith, inl, inr}
 use Rattle.std.proofs.Math.Nat.{mod-lt, mod-eq_of_lt}
 use Rattle.std.proofs.lemmas.List.{take-take, take_at, take-map, get_or-take, length-append, length-take-le, length-map, length-drop, take-append-drop, drop-drop, drop_at, get_or-drop, get_or-map, get_or_append_left, get_or-append_right}
-use Rattle.std.proofs.lemmas.List.Elements.{All-nil, All-same, All-take}
+use Rattle.std.proofs.lemmas.List.Elements.{All-head, All-nil, All-same, All-tail, All-take}
 use Rattle.std.proofs.lemmas.Bool.{cases_lt}
 use Rattle.json.specs.Print.{escape}
 use Rattle.pz_base.specs.NameSet.{number_in}
@@ -307,3 +307,11 @@ all_same first end before all same none =
     sym (take-append-drop first before)
     ∙ ap₂ (λ (a b : List (List ℕ)). a ++ b) same.front (rest before ∙ ap (drop d) same.back ∙ sym (rest all))
     ∙ take-append-drop first all
+
+-- marks that end where they did
+pub unmoved : (n : ℕ) (marks : List Written) → All (λ mark. n ≤ mark.end) marks → map (moved n n) marks ≡ marks
+unmoved n [] ends = refl
+unmoved n (mark ∷ marks) ends =
+    let P : Written → Type 0 = λ it. n ≤ it.end in
+    let end : mark.end - n + n ≡ mark.end = omega (arith, All-head P mark marks ends) in
+    ap₂ (λ it rest. it ∷ rest) (λ i. record { end = end i; cells = mark.cells; known = mark.known; column = mark.column }) (unmoved n marks (All-tail P mark marks ends))

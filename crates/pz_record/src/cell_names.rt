@@ -32,11 +32,12 @@ fn has(names: &[Vec<u8>], name: &[u8]) -> bool
 }
 
 impl CellNames {
-    /// The names of a set. Err: memory was refused.
+    /// The names of a set, in no more room than they need. Err: memory was refused.
     pub fn of_set(alloc: Global, set: BTreeSet<Vec<u8>>) -> Result<CellNames, AllocError>
         ensures { IfOk result (λ names. names ≡ map (λ name. name.items) set.keys) }
     {
-        let names = set.into_iter().collect(alloc)?;
+        let mut names: Vec<Vec<u8>> = set.into_iter().collect(alloc)?;
+        names.shrink_to_fit();
         Ok(CellNames { names })
     }
 

@@ -223,7 +223,8 @@ pub(crate) fn write_all(
     Ok(())
 }
 
-/// Adds marks of another text, moved: what ended at `from` there ends at `to` here. Err: memory was refused.
+/// Adds marks of another text, moved: what ended at `from` there ends at `to` here. Mostly that is the same place, and then they are copied
+/// at once. Err: memory was refused.
 fn take_marks(
     marks: &mut Vec<Written>,
     rest: &[Written],
@@ -234,6 +235,10 @@ fn take_marks(
     requires fits { All (λ mark. mark.end + to < 2 ^ 64) rest.now }
     ensures { OnOk result (marks.new.items ≡ marks.old.items ++ map (moved from to) rest.now) }
 {
+    if from == to {
+        marks.extend_from_slice(rest)?;
+        return Ok(());
+    }
     for mark in rest {
         marks.push(Written {
             end: mark.end - from + to,
