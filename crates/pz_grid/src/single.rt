@@ -20,10 +20,13 @@ impl Level {
         requires of_game { AreOf self.now.grid.layers cell.now }
         ensures { result ≡ row_holds self.now.grid (row_of cell.now) dir place }
     {
-        match self.bare().sheet() {
-            AnySheet::Small(sheet) => sheet.holds_along(dir, place.x, place.y, 0, cell),
-            AnySheet::Middle(sheet) => sheet.holds_along(dir, place.x, place.y, 0, cell),
-            AnySheet::Large(sheet) => sheet.holds_along(dir, place.x, place.y, 0, cell),
+        match self.position_of(dir, None, place, 0) {
+            None => false,
+            Some((x, y)) => match self.bare().sheet() {
+                AnySheet::Small(sheet) => sheet.holds(x, y, cell),
+                AnySheet::Middle(sheet) => sheet.holds(x, y, cell),
+                AnySheet::Large(sheet) => sheet.holds(x, y, cell),
+            },
         }
     }
 

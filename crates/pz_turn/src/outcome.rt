@@ -42,7 +42,7 @@ impl Given {
     {
         Given {
             commands: either(self.commands, more.commands),
-            changed: self.changed || more.changed,
+            changed: self.changed | more.changed,
             calm: false,
         }
     }

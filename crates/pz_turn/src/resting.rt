@@ -55,10 +55,8 @@ pub(crate) fn pass<T: Runnable>(
     let mut calm = false;
     for item in items {
         let given = item.run(alloc, level)?;
-        if given.changed {
-            calm = given.calm;
-        }
         so_far = so_far.and(given);
+        calm = given.calm;
     }
     Ok(Given {
         commands: so_far.commands,

@@ -1,7 +1,6 @@
 use Rattle.pz_turn.proofs.Common.{◌≡◌, ℕ, ◌+◌, ◌++◌, ◌∷◌, [], Result, Ok, drop, take, fold, get_or, arith, ap, sym, subst, ◌∙◌, take_more, err_from_is_err_and, same_size_on, either, Grid, Given, Outcome, StepFault, IsCalm, followed_by, pass_of}
 use Rattle.pz_turn.proofs.Calm.{calm_alone, calm_known}
 use Rattle.pz_turn.proofs.Passes.{fold_stops, fold_more}
-use Rattle.pz_turn.proofs.resting.pass.Goals.{then-given, else-given}
 use Rattle.pz_turn.proofs.resting.pass.Goals as goal
 
 pub returns-in_err-given-clause-outcome : goal.returns-in_err-given-clause-outcome
@@ -25,13 +24,10 @@ loop-item-preserved g c =
     let only : n ≡ 0 → item ∷ [] ≡ take (n + 1) items = λ first. ap (λ x. x ∷ []) c.item-item.is ∙ ap (λ (k : ℕ). take k items ++ get_or items n item ∷ []) (sym first) ∙ sym (take_more items n item (omega arith)) in
     record {
       whole = ap run c.and-so_far.ensures ∙ fold_more runs o r items n item (omega arith) c.item-item.is c.in_ok-given.ensures.outcome ∙ c.loop-item.invariant.whole;
-      calm = elim c.if-given.branch [
-        | then-given w ↦ λ calm. (
-          omega arith,
-          λ one. subst (λ (all : Given). IsCalm (pass_of runs) all.commands after (take (n + 1) items)) (sym c.and-so_far.ensures)
-              (subst (IsCalm (pass_of runs) (either before.commands given.commands) after) (only (omega (arith, one))) (calm_known (pass_of runs) before.commands given.commands after (item ∷ []) (calm_alone runs given.commands after item (c.in_ok-given.ensures.calm (sym w.calm-is ∙ calm))))),
-        )
-        | else-given w ↦ λ calm. (let was = (c.loop-item.invariant.calm (sym w.calm-is ∙ calm)).0 in (omega arith, λ one. absurd (omega (arith, was, one))))
-      ];
+      calm = λ calm. (
+        omega arith,
+        λ one. subst (λ (all : Given). IsCalm (pass_of runs) all.commands after (take (n + 1) items)) (sym c.and-so_far.ensures)
+            (subst (IsCalm (pass_of runs) (either before.commands given.commands) after) (only (omega (arith, one))) (calm_known (pass_of runs) before.commands given.commands after (item ∷ []) (calm_alone runs given.commands after item (c.in_ok-given.ensures.calm calm)))),
+      );
       size = same_size_on _ _ _ c.loop-item.invariant.size c.in_ok-given.ensures.size;
     }
