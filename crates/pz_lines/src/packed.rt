@@ -1,7 +1,7 @@
 //! Lines that are kept packed until they are written: of each line only what differs from the line before it. The line of a frame has
 //! the whole text of a level, and mostly little of it changed.
 
-ghost use Rattle.std.specs.Prelude.{◌≡◌, ◌++◌, ◌+◌, ◌*◌, ◌≤◌, [], length, take, drop, IfOk, IsTrue, OnErr, OnOk};
+ghost use Rattle.std.specs.Prelude.{◌≡◌, ℕ, ◌++◌, ◌+◌, ◌*◌, ◌≤◌, List, [], length, take, drop, IfOk, IsTrue, OnErr, OnOk};
 ghost use Rattle.pz_lines.specs.Packed.{AreChanges, HaveGrown, IsPartOf, changed, line_of, next_line, replaced, tail_of};
 ghost use Rattle.pz_lines.specs.declared.packed.TheConstants.{BLOCK, CHUNK, MOST};
 
@@ -85,6 +85,22 @@ fn begin_alike(one: &[u8], other: &[u8]) -> bool
     one.simd_ne(other).to_bitmask() == 0
 }
 
+/// The end of the blocks from a place on in which two texts are alike, before a place that both have.
+fn alike_to(last: &[u8], line: &[u8], from: usize, end: usize) -> usize
+    requires from { from ≤ end }
+    requires last { end ≤ length last.now }
+    requires line { end ≤ length line.now }
+    ensures onward { from ≤ result }
+    ensures within { result ≤ end }
+    ensures alike { (places bytes : List ℕ) → AreChanges last.now line.now from places bytes → AreChanges last.now line.now result places bytes }
+{
+    let mut at = from;
+    while BLOCK <= end - at && begin_alike(&last[at..], &line[at..]) {
+        at += BLOCK;
+    }
+    at
+}
+
 impl Pieces {
     fn none(alloc: Global) -> Pieces
         ensures places { result.places.items ≡ [] }
@@ -94,6 +110,15 @@ impl Pieces {
             places: Vec::new(alloc),
             bytes: Vec::new(alloc),
         }
+    }
+
+    /// Forgets them, and keeps their room.
+    fn clear(&mut self)
+        ensures places { self.new.places.items ≡ [] }
+        ensures bytes { self.new.bytes.items ≡ [] }
+    {
+        self.places.clear();
+        self.bytes.clear();
     }
 
     /// Adds the chunk of a line at a place, if it differs from that of the last line. Those before it were added.
@@ -112,8 +137,7 @@ impl Pieces {
         Ok(())
     }
 
-    /// Adds those of so many chunks from a place on that differ. Those before it were added. As many as a block are first compared at
-    /// once.
+    /// Adds those of so many chunks from a place on that differ. Those before it were added.
     fn add_chunks(
         &mut self,
         last: &[u8],
@@ -127,36 +151,32 @@ impl Pieces {
         requires few { at + count * CHUNK ≤ MOST }
         ensures { OnOk result (AreChanges last.now line.now (at + count * CHUNK) self.new.places.items self.new.bytes.items) }
     {
-        if count * CHUNK == BLOCK && begin_alike(&last[at..], &line[at..]) {
-            return Ok(());
-        }
         for chunk in 0..count {
             self.add_chunk(last, line, at + chunk * CHUNK)?;
         }
         Ok(())
     }
 
-    /// Finds the changes of a line, in place of those of another: block by block, and behind the last whole block all chunks at once.
-    /// Answers how many first bytes were compared: none if the changes would take more room than these bytes.
+    /// Finds the changes of a line, in place of those of another. Blocks that are alike are passed over, of others the chunks are compared.
+    /// Answers how many first bytes the line has by its changes: none if these would take more room than the bytes.
     fn find(&mut self, last: &[u8], line: &[u8]) -> Result<usize, AllocError>
         ensures changes { IfOk result (λ front. AreChanges last.now line.now front self.new.places.items self.new.bytes.items) }
         ensures last { IfOk result (λ front. front ≤ length last.now) }
         ensures line { IfOk result (λ front. front ≤ length line.now) }
         ensures few { IfOk result (λ front. front ≤ MOST) }
     {
-        self.places.clear();
-        self.bytes.clear();
+        self.clear();
         let end = last.len().min(line.len()).min(MOST);
         let mut at = 0;
         while CHUNK <= end - at {
+            at = alike_to(last, line, at, end);
             let count = BLOCK.min(end - at) / CHUNK;
             self.add_chunks(last, line, at, count)?;
             at += count * CHUNK;
         }
         // (each place takes half as much room as its chunk)
         if at < self.bytes.len() + self.bytes.len() / 2 {
-            self.places.clear();
-            self.bytes.clear();
+            self.clear();
             return Ok(0);
         }
         Ok(at)
