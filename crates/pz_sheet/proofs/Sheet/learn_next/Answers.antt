@@ -1,6 +1,6 @@
 use Rattle.pz_sheet.proofs.Common.{List, length, ap, sym, ◌∙◌, refl, subst, Cell, IsNextDiffering, small_cell}
 use Rattle.pz_sheet.proofs.SheetLemmas.{lawful_here}
-use Rattle.pz_sheet.proofs.ChangeLemmas.{both_of, as_many, as_many_seen, next_is}
+use Rattle.pz_sheet.proofs.ChangeLemmas.{both_of, as_many, next_is}
 use Rattle.pz_sheet.proofs.StillLemmas.{nowhere_read}
 use Rattle.pz_sheet.proofs.TellLemmas.{no_row, found_row, known_row}
 use Rattle.pz_sheet.proofs.Sheet.learn_next.Goals as goal
