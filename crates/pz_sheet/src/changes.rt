@@ -110,6 +110,7 @@ impl<const N: usize> Sheet<N> {
 
     /// The first cell, from number `from` on, in which another level of the same size differs. Then the changes in its row are known, if that
     /// is little work.
+    #[tactic(auto, using(crate::proofs::SheetLemmas::lawful_here))]
     fn learn_next(&self, other: &Sheet<N>, known: &mut KnownChanges, from: usize) -> Option<usize>
         requires size { SameSize self.now.grid other.now.grid }
         requires known { TellsOf (differ_in self.now.grid other.now.grid) (length self.now.grid.cells) known.old }
@@ -132,8 +133,7 @@ impl<const N: usize> Sheet<N> {
             };
             return Some(row.found);
         }
-        let found = next_differing(&self.cells, &other.cells, are_still, from);
-        found
+        next_differing(&self.cells, &other.cells, are_still, from)
     }
 
     /// The first cell, from number `from` on, in which another level of the same size differs.

@@ -1,10 +1,9 @@
 //! The end of all movement.
 
-ghost use Rattle.std.specs.Prelude.{◌≡◌, ◌<◌, ◌≤◌, ◌*◌, All, length, map, true, MatchOption};
-ghost use Rattle.pz_game.specs.Size.{IsSize};
+ghost use Rattle.std.specs.Prelude.{◌≡◌, ◌<◌, ◌≤◌, length, map, true, MatchOption};
 ghost use Rattle.pz_cells.specs.Cell.{still_place};
-ghost use Rattle.pz_cells.specs.Lists.{IsSound, AreMapped, HeadNowhere, HaveSameObjects};
-ghost use Rattle.pz_sheet.specs.Seen.{AreNoted};
+ghost use Rattle.pz_cells.specs.Lists.{AreMapped, HeadNowhere, HaveSameObjects};
+ghost use Rattle.pz_sheet.specs.Seen.{IsStored};
 ghost use Rattle.pz_sheet.specs.Grid.{IsLawful, place_at};
 ghost use Rattle.pz_sheet.specs.Movement.{stilled, IsStillAt, AreStill, AreColumnsStill};
 
@@ -37,6 +36,7 @@ impl<const N: usize> Sheet<N> {
     }
 
     /// The first column, from `from` on, in which something may head somewhere.
+    #[tactic(auto, using(crate::proofs::SheetLemmas::lawful_here))]
     pub fn next_column(&self, from: u32) -> Option<u32>
         ensures next { MatchOption result (AreColumnsStill self.now.grid from self.now.grid.width) (λ x. (from ≤ x) × (x < self.now.grid.width) × AreColumnsStill self.now.grid from x) }
         ensures lawful { IsLawful self.now.grid }
@@ -77,6 +77,7 @@ impl<const N: usize> Sheet<N> {
     }
 
     /// Stills every piece.
+    #[tactic(auto, using(crate::proofs::SheetLemmas::lawful_here))]
     pub fn still_all(&mut self)
         ensures stilled { self.new.grid ≡ stilled self.old.grid }
         ensures lawful { IsLawful self.new.grid }
@@ -96,10 +97,7 @@ fn still_rows<const N: usize>(
     notes: &Notes,
     width: u32,
 )
-    requires sound { All (IsSound layers.now) cells.old.items }
-    requires size { IsSize width (length notes.now.rows) }
-    requires covers { length cells.old.items ≡ width * length notes.now.rows }
-    requires noted { AreNoted N width (length notes.now.rows) notes.now cells.old.items }
+    requires { IsStored N width (length notes.now.rows) layers.now cells.old.items notes.now }
     ensures mapped { AreMapped layers.now (map still_place) cells.old.items cells.new.items }
     ensures nowhere { HeadNowhere cells.new.items }
     ensures objects { HaveSameObjects cells.old.items cells.new.items }

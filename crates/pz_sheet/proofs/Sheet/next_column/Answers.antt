@@ -1,5 +1,4 @@
-use Rattle.pz_sheet.proofs.Common.{arith, ap, subst, Grid, BareState, IsLawful}
-use Rattle.pz_sheet.proofs.SheetLemmas.{lawful_seen}
+use Rattle.pz_sheet.proofs.Common.{arith, ap, Grid, BareState}
 use Rattle.pz_sheet.proofs.StillLemmas.{columns_are_still}
 use Rattle.pz_sheet.proofs.Sheet.next_column.Goals as goal
 
@@ -21,9 +20,3 @@ returns-in-Some-clause-next g c =
       omega (arith, found.1, count, ap (λ (grid : Grid). grid.width) e),
       columns_are_still g.row.N a.width a.height a.layers a.cells.items a.notes c.self.invariant.stored c.args.self.now.grid e c.args.from c.in-Some.x (omega (arith, found.1, count)) found.2,
     )
-
-pub returns-in-None-clause-lawful : goal.returns-in-None-clause-lawful
-returns-in-None-clause-lawful g c = subst IsLawful (ap (λ (s : BareState). s.grid) c.self.view_is) (lawful_seen _ _ _ _ _ _ c.self.invariant.stored)
-
-pub returns-in-Some-clause-lawful : goal.returns-in-Some-clause-lawful
-returns-in-Some-clause-lawful g c = subst IsLawful (ap (λ (s : BareState). s.grid) c.self.view_is) (lawful_seen _ _ _ _ _ _ c.self.invariant.stored)

@@ -1,6 +1,6 @@
 use Rattle.pz_sheet.proofs.Common.{◌≡◌, ℕ, List, Option, false, length, map, ap, sym, ◌∙◌, member, Piece, BareState, grid_of, still_place}
 use Rattle.pz_sheet.specs.Movement.{stilled}
-use Rattle.pz_sheet.proofs.SheetLemmas.{lawful_here, lawful_seen}
+use Rattle.pz_sheet.proofs.SheetLemmas.{lawful_seen}
 use Rattle.pz_sheet.proofs.StillLemmas.{all_are_still, noted_nowhere}
 use Rattle.pz_sheet.proofs.PlacedLemmas.{placed_same}
 use Rattle.pz_sheet.proofs.MapLemmas.{stored_mapped}
@@ -14,9 +14,6 @@ returns-then-is_empty-clause-stilled g c =
     let still = ap (λ (cells : List (List (Option Piece))). record (grid_of a.width a.height a.layers a.cells.items) { cells = cells })
     (all_are_still g.row.N a.width a.height a.layers a.cells.items a.notes c.self.invariant.stored none) in
     sym e ∙ still ∙ ap stilled e
-
-pub returns-then-is_empty-clause-lawful : goal.returns-then-is_empty-clause-lawful
-returns-then-is_empty-clause-lawful g c = lawful_here _ _ _ _ _ _ _ c.self.invariant.stored c.self.view_is
 
 pub invariant_of-self : goal.invariant_of-self
 invariant_of-self g c =
