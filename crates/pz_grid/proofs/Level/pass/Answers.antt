@@ -1,4 +1,4 @@
-use Rattle.pz_grid.proofs.Common.{ℕ, ◌≡◌, ◌<◌, ◌≤◌, inl, inr, cases_eq, cases_lt, false, ap, sym, subst, ◌∙◌, arith, fold, Grid, AreStill, AreColumnsStill, Pass, in_pass, move_at, spots_in}
+use Rattle.pz_grid.proofs.Common.{ℕ, ◌≡◌, inl, inr, cases_eq, cases_lt, false, ap, sym, subst, ◌∙◌, arith, fold, AreStill, Pass, in_pass, move_at, spots_in}
 use Rattle.pz_grid.proofs.GatherLemmas.{gather}
 use Rattle.pz_grid.proofs.MoveLemmas.{moves_on}
 use Rattle.pz_grid.proofs.MovementLemmas.{fold_gather_more, same_size_on}

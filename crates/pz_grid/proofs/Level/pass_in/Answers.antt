@@ -1,4 +1,4 @@
-use Rattle.pz_grid.proofs.Common.{ℕ, ◌≡◌, ◌+◌, ◌<◌, ◌≤◌, inl, inr, cases_eq, cases_lt, ap, sym, subst, ◌∙◌, arith, fold, Grid, AreStill, Pass, in_pass, move_at, spots_at}
+use Rattle.pz_grid.proofs.Common.{ℕ, ◌≡◌, ◌+◌, inl, inr, cases_eq, cases_lt, ap, sym, subst, ◌∙◌, arith, fold, Grid, AreStill, Pass, in_pass, move_at, spots_at}
 use Rattle.pz_sheet.specs.Movement.{IsStillAt}
 use Rattle.pz_grid.proofs.MoveLemmas.{moves_on}
 use Rattle.pz_grid.proofs.MovementLemmas.{fold_gather_more, same_size_on}
