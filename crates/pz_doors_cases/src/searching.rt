@@ -23,8 +23,8 @@ struct Search {
     last: Option<Place>,
 }
 
-/// What a search may tell: lines from one number to another, and just so many tested start cells and these places. Tested are the cells that
-/// are left once the positions of the objects that a row's cells name have been joined.
+/// What a search may tell: lines from one number to another, and just so many tested start cells and these places. Tested are the cells
+/// that are left once the positions of the objects that a row's cells name have been joined.
 #[derive(Clone, Copy)]
 struct Wanted {
     lines: (u32, u32),

@@ -35,8 +35,8 @@ fn writes_a_level_after_another(rt: HostRuntime) -> Result<(), Fail> {
     Ok(())
 }
 
-/// The text of a level of three rows; that of the level after its left player moved, in which the upper row gets other numbers, and so do the
-/// rows below; and the first again.
+/// The text of a level of three rows; that of the level after its left player moved, in which the upper row gets other numbers, and so do
+/// the rows below; and the first again.
 fn three_texts_in(alloc: Global, game: &Game, order: Order) -> Result<[QuotedText; 3], Fail> {
     let before = loaded(alloc, game)?;
     let after = moved(alloc, game)?;

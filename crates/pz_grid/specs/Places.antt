@@ -34,8 +34,8 @@ abbrev pub row_holds : Grid → RuleRow → Dir → Place → Bool
 row_holds grid row dir place = list_all (cell_holds grid row dir place) (enumerate_from 0 row.cells)
 
 -- the row of this one cell
-abbrev pub row_of : List Item → RuleRow
-row_of cell = record { cells = cell ∷ []; gap_at = None }
+abbrev pub row_of_one : List Item → RuleRow
+row_of_one cell = record { cells = cell ∷ []; gap_at = None }
 
 -- how many lines are scanned: columns for up and down, else rows
 abbrev pub line_count : Grid → Dir → ℕ

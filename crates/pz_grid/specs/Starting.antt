@@ -11,7 +11,7 @@ use Rattle.pz_grid.specs.Places.{head_of, line_length, starts_with}
 abbrev pub StartsNowhere : Grid → RuleRow → Dir → ℕ → Type 0
 StartsNowhere grid row dir line = (start : ℕ) → starts_with grid dir line (head_of row) start ≡ false
 
--- the run that is looked for starts where the row does
+-- a run is looked for in a line as long as this one, and holds from where the row starts
 pub record IsSearchFor (grid : Grid) (row : RuleRow) (dir : Dir) (line : ℕ) (run : SoughtRun) : Type 0 where
   pub long : sheet.line_length run.grid run.line.axis ≡ line_length grid dir
   pub starts : (start : ℕ) → run_holds_from run start ≡ starts_with grid dir line (head_of row) start

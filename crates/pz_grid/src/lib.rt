@@ -15,12 +15,12 @@ mod admitting;
 mod headed;
 mod marks;
 mod movement;
+mod one_cell;
 pub mod placing;
 mod presence;
 mod pushing;
 pub mod rewriting;
 mod sameness;
-mod single;
 
 pub use movement::resolve;
 pub use placing::{GridFault, MATCH_LIMIT, Place, admitted, places, places_counted, still_matches};

@@ -47,6 +47,7 @@ impl Level {
     }
 
     /// Rewrites the cell at a position, or nothing where that is off the map. True: this or an earlier rewriting changed a cell.
+    /// (Inlined, because rows of one cell and of several both come here.)
     #[inline(always)]
     pub(crate) fn rewrite_at(
         &mut self,

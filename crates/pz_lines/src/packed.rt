@@ -85,7 +85,7 @@ fn begin_alike(one: &[u8], other: &[u8]) -> bool
     one.simd_ne(other).to_bitmask() == 0
 }
 
-/// The end of the blocks from a place on in which two texts are alike, before a place that both have.
+/// The end of the alike blocks that stand from a place on in two texts which both reach to `end`. How far it goes is not promised.
 fn alike_to(last: &[u8], line: &[u8], from: usize, end: usize) -> usize
     requires from { from ≤ end }
     requires last { end ≤ length last.now }
@@ -137,7 +137,7 @@ impl Pieces {
         Ok(())
     }
 
-    /// Adds those of so many chunks from a place on that differ. Those before it were added.
+    /// Adds, of so many chunks from a place on, those that differ. Those before them were added.
     fn add_chunks(
         &mut self,
         last: &[u8],
@@ -157,8 +157,8 @@ impl Pieces {
         Ok(())
     }
 
-    /// Finds the changes of a line, in place of those of another. Blocks that are alike are passed over, of others the chunks are compared.
-    /// Answers how many first bytes the line has by its changes: none if these would take more room than the bytes.
+    /// Finds the changes of a line, in place of those of another: blocks that are alike are passed over, and of others the chunks compared.
+    /// Answers for how many first bytes they stand: for none, and there are none, if they would take more room than these bytes.
     fn find(&mut self, last: &[u8], line: &[u8]) -> Result<usize, AllocError>
         ensures changes { IfOk result (λ front. AreChanges last.now line.now front self.new.places.items self.new.bytes.items) }
         ensures last { IfOk result (λ front. front ≤ length last.now) }
@@ -224,7 +224,7 @@ fn put(line: &mut [u8], place: u32, own: &[u8])
     }
 }
 
-/// Replaces bytes of a line from a place on as `put` does. All chunks have the same length, and so their bytes are moved at once.
+/// The same as `put`, for a chunk. As its length is known, its bytes are moved at once.
 fn put_chunk(line: &mut [u8], place: u32, own: &[u8])
     ensures { line.new ≡ replaced line.old place own.now }
 {

@@ -145,7 +145,7 @@ fn write_texts<W: Write>(
     ensures ok { OnOk result (IsSent (concat texts.now) written.old written.new output.old output.new) }
     ensures err { IfErr result (IsSentInPart (concat texts.now) written.old written.new output.old output.new) }
 {
-    // (room that grew bit by bit would leave its smaller places behind)
+    // (asked for at once: while room grows, the C library keeps the smaller blocks that it left)
     let Ok(mut lines) = Vec::with_capacity(alloc, 2 * PIECE) else {
         return Err(Cause::Memory);
     };

@@ -1,6 +1,6 @@
-//! The replay of a job by several workers: its recording has what every session showed, in the order of the sessions. A door of the library:
-//! a caller lists this crate beside `pz_session`. What divides the work, whoever plays, stands behind it in `pz_crew`, `pz_claims` and
-//! `pz_lines`.
+//! The replay of a job by several workers: its recording has what every session showed, in the order of the sessions. A door of the
+//! library: a caller lists this crate beside `pz_session`. What divides the work, whoever plays, stands behind it in `pz_crew`, `pz_claims`
+//! and `pz_lines`.
 #![tactic(auto)]
 
 pub mod replaying;

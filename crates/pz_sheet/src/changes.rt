@@ -43,7 +43,8 @@ impl KnownChanges {
         }
     }
 
-    /// The first cell, from number `from` on, that differs, if it is one of these. Err: up to this number none differs.
+    /// The first cell, from number `from` on, that differs, if it is one of these. Err: from there on no cell before this number
+    /// differs.
     fn next(&self, from: usize) -> Result<usize, usize>
         ensures { (test : ℕ → Bool) (end : ℕ) → TellsOf test end self.now → MatchResult result (λ index. IsNext test from end (Some index)) (λ behind. IsClear test from behind) }
     {
@@ -108,8 +109,8 @@ impl<const N: usize> Sheet<N> {
         }
     }
 
-    /// The first cell, from number `from` on, in which another level of the same size differs. Then the changes in its row are known, if that
-    /// is little work.
+    /// The first cell, from number `from` on, in which another level of the same size differs. Then the changes in its row are known, if
+    /// that is little work.
     #[tactic(auto, using(crate::proofs::SheetLemmas::lawful_here))]
     fn learn_next(&self, other: &Sheet<N>, known: &mut KnownChanges, from: usize) -> Option<usize>
         requires size { SameSize self.now.grid other.now.grid }

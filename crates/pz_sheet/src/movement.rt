@@ -48,6 +48,7 @@ impl<const N: usize> Sheet<N> {
     }
 
     /// The first row, from `from` on, for which a heading is noted. In those before it nothing heads anywhere in a column of the map.
+    /// (Inlined, because it is asked again and again for each column.)
     #[inline(always)]
     fn next_noted(&self, x: u32, from: u32) -> Option<u32>
         requires { x < self.now.grid.width }

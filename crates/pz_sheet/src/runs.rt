@@ -125,8 +125,8 @@ impl<const N: usize> Sheet<N> {
     }
 }
 
-/// A search of a line for the positions from which a run holds: rules' cells, one or more, one after another as the line is walked. `starts`
-/// has the positions, of the first 128, from which it may hold.
+/// A search of a line for the positions from which a run holds: rules' cells, one or more, one after another as the line is walked.
+/// `starts` has the positions, of the first 128, from which it may hold.
 #[derive(Drop)]
 pub struct RunSearch<'a, const N: usize> {
     sheet: &'a Sheet<N>,
@@ -147,8 +147,8 @@ impl<'a, const N: usize> Model for RunSearch<'a, N> {
 }
 
 impl<'a, const N: usize> RunSearch<'a, N> {
-    /// The search of a line. In a line of up to 128 positions the planes show, for the objects that the cells name, where the run may start.
-    /// This is asked once.
+    /// The search of a line. In a line of up to 128 positions the planes show, for the objects that the cells name, where the run may
+    /// start. This is asked once.
     pub fn new(
         sheet: &'a Sheet<N>,
         line: Line,
@@ -195,7 +195,8 @@ impl<'a, const N: usize> RunSearch<'a, N> {
 
     /// The same, where the line and the way are this search's.
     fn next_along(&self, line: Line, way: Way, from: u32) -> Option<u32>
-        requires { (line ≡ self.now.line) × (way ≡ self.now.way) }
+        requires line { line ≡ self.now.line }
+        requires way { way ≡ self.now.way }
         ensures { IsNext (run_holds_from self.now) from (line_length self.now.grid self.now.line.axis) result }
     {
         let end = self.sheet.line_length(line.axis);

@@ -9,7 +9,7 @@ pub use Rattle.pz_game.specs.Pattern.{AreRowsOf, AsksAmong, IsRowOf, RuleRow}
 pub use Rattle.pz_game.specs.declared.direction.Dir.{Dir}
 pub use Rattle.pz_game.specs.declared.game.GameParts.{GameParts}
 pub use Rattle.pz_grid.proofs.MovementLemmas.{same_size_on}
-pub use Rattle.pz_grid.specs.Places.{along, holds_at, line_count, line_length, place_in, places, position_of, row_holds, row_of, still_holds, still_matches}
+pub use Rattle.pz_grid.specs.Places.{along, holds_at, line_count, line_length, place_in, places, position_of, row_holds, row_of_one, still_holds, still_matches}
 unfoldable pub use Rattle.pz_grid.specs.Places.{searched}
 pub use Rattle.pz_grid.specs.Rewriting.{Rewriting, in_rewrite, rewritten, rewritten_along, rewritten_at, rewritten_row}
 pub use Rattle.pz_grid.specs.declared.placing.Place.{Place}

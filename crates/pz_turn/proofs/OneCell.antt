@@ -1,5 +1,5 @@
 -- An instance of one cell rewrites only the cells of its places. If it holds in none of them any more, it holds nowhere.
-use Rattle.pz_turn.proofs.Common.{◌≡◌, ◌⊎◌, ℕ, ◌+◌, ◌*◌, List, [], ◌∷◌, map, fold, filter, set, get_or, length, list_any, Option, Some, None, Bool, true, false, ◌&&◌, cond, nat_eq, refl, ap, sym, subst, ◌∙◌, inl, inr, or_parts, set-get_or, get_or-set_other, range_with_len, flat_map, zip, list_all, Result, Ok, Err, Dir, Instance, RuleRow, AreRowsOf, IsRowOf, Place, Grid, cell_at, SameSize, row_of, row_holds, still_holds, along, holds_at, places, place_in, line_count, line_length, searched, Rewriting, in_rewrite, rewritten_at, rewritten_row, found_or_stop, applied_at, applied, untouched, IsOfOneCell, HoldsNowhere}
+use Rattle.pz_turn.proofs.Common.{◌≡◌, ◌⊎◌, ℕ, ◌+◌, ◌*◌, List, [], ◌∷◌, map, fold, filter, set, get_or, length, list_any, Option, Some, None, Bool, true, false, ◌&&◌, cond, nat_eq, refl, ap, sym, subst, ◌∙◌, inl, inr, or_parts, set-get_or, get_or-set_other, range_with_len, flat_map, zip, list_all, Result, Ok, Err, Dir, Instance, RuleRow, AreRowsOf, IsRowOf, Place, Grid, cell_at, SameSize, row_of_one, row_holds, still_holds, along, holds_at, places, place_in, line_count, line_length, searched, Rewriting, in_rewrite, rewritten_at, rewritten_row, found_or_stop, applied_at, applied, untouched, IsOfOneCell, HoldsNowhere}
 use Rattle.pz_game.specs.declared.pattern.Item.{Item}
 use Rattle.pz_cells.specs.declared.piece.Piece.{Piece}
 use Rattle.pz_game.specs.declared.direction.Dir.TheVariants.{Up, Down, Left, Right, Action}
@@ -17,16 +17,16 @@ and_true true = refl
 and_true false = refl
 
 -- the only cell of rows of a game
-pub cell_of : (layers : List ℕ) (rows : List RuleRow) (cell : List Item) → rows ≡ row_of cell ∷ [] → AreRowsOf layers rows → AreOf layers cell
-cell_of layers rows cell only of = All-head (AreOf layers) cell [] (All-head (IsRowOf layers) (row_of cell) [] (subst (AreRowsOf layers) only of))
+pub cell_of : (layers : List ℕ) (rows : List RuleRow) (cell : List Item) → rows ≡ row_of_one cell ∷ [] → AreRowsOf layers rows → AreOf layers cell
+cell_of layers rows cell only of = All-head (AreOf layers) cell [] (All-head (IsRowOf layers) (row_of_one cell) [] (subst (AreRowsOf layers) only of))
 
 -- how an instance of one cell is applied at a place
 pub applied_at-one : (instance : Instance) (left right : List Item) (so_far : Rewriting) (place : Place) → IsOfOneCell instance left right
-    → applied_at instance so_far (place ∷ []) ≡ cond (nat_eq place.gap 0 && row_holds so_far.grid (row_of left) instance.scan place) (rewritten_row instance.scan so_far (place, (row_of left, row_of right))) so_far
+    → applied_at instance so_far (place ∷ []) ≡ cond (nat_eq place.gap 0 && row_holds so_far.grid (row_of_one left) instance.scan place) (rewritten_row instance.scan so_far (place, (row_of_one left, row_of_one right))) so_far
 applied_at-one instance left right so_far place one =
-    let next = rewritten_row instance.scan so_far (place, (row_of left, row_of right)) in
+    let next = rewritten_row instance.scan so_far (place, (row_of_one left, row_of_one right)) in
     let at : List RuleRow → List RuleRow → Rewriting = λ ls rs. cond (nat_eq 1 (length ls) && list_all (still_holds so_far.grid instance.scan) (zip ls (place ∷ []))) (fold (rewritten_row instance.scan) so_far (zip (place ∷ []) (zip ls rs))) so_far in
-    (λ i. at (one.left i) (one.right i)) ∙ ap (λ (b : Bool). cond b next so_far) (and_true (nat_eq place.gap 0 && row_holds so_far.grid (row_of left) instance.scan place))
+    (λ i. at (one.left i) (one.right i)) ∙ ap (λ (b : Bool). cond b next so_far) (and_true (nat_eq place.gap 0 && row_holds so_far.grid (row_of_one left) instance.scan place))
 
 -- of two levels the second is the first, except perhaps for the cell at this position
 abbrev DiffersAt : Grid → Grid → Option (ℕ × ℕ) → Type 0
@@ -64,22 +64,22 @@ along_same old new Right x y size = rw (size.0, size.1) refl
 along_same old new Action x y size = refl
 
 -- where a row of one cell holds
-holds_in : (grid end : Grid) (cell : List Item) (dir : Dir) (place : Place) → IsAsLarge grid end → row_holds grid (row_of cell) dir place ≡ holds_at grid cell (along end dir place.x place.y 0)
+holds_in : (grid end : Grid) (cell : List Item) (dir : Dir) (place : Place) → IsAsLarge grid end → row_holds grid (row_of_one cell) dir place ≡ holds_at grid cell (along end dir place.x place.y 0)
 holds_in grid end cell dir place size = and_true _ ∙ ap (holds_at grid cell) (along_same grid end dir place.x place.y size)
 
 -- a place where it held nowhere before, and holds in none of the places now, hasn't become one
 unheld : (instance : Instance) (left right : List Item) → IsOfOneCell instance left right → (found : List Place) (start end : Rewriting) → fold (applied_at instance) start (map (λ (p : Place). p ∷ []) found) ≡ end → IsAsLarge start.grid end.grid
-    → list_any (row_holds end.grid (row_of left) instance.scan) found ≡ false → (place : Place) → row_holds start.grid (row_of left) instance.scan place ≡ false → row_holds end.grid (row_of left) instance.scan place ≡ false
-unheld instance left right one [] start end is size gone place was = ap (λ (r : Rewriting). row_holds r.grid (row_of left) instance.scan place) (sym is) ∙ was
+    → list_any (row_holds end.grid (row_of_one left) instance.scan) found ≡ false → (place : Place) → row_holds start.grid (row_of_one left) instance.scan place ≡ false → row_holds end.grid (row_of_one left) instance.scan place ≡ false
+unheld instance left right one [] start end is size gone place was = ap (λ (r : Rewriting). row_holds r.grid (row_of_one left) instance.scan place) (sym is) ∙ was
 unheld instance left right one (first ∷ found) start end is size gone place was =
     let dir = instance.scan in
     let next = applied_at instance start (first ∷ []) in
     let at : Place → Option (ℕ × ℕ) = λ p. along end.grid dir p.x p.y 0 in
-    let test = nat_eq first.gap 0 && row_holds start.grid (row_of left) dir first in
+    let test = nat_eq first.gap 0 && row_holds start.grid (row_of_one left) dir first in
     let step : next ≡ cond test (rewritten_at start left right (at first)) start = applied_at-one instance left right start first one ∙ ap (λ (a : Option (ℕ × ℕ)). cond test (rewritten_at start left right a) start) (along_same start.grid end.grid dir first.x first.y size) in
     let other : DiffersAt start.grid next.grid (at first) = subst (λ (r : Rewriting). DiffersAt start.grid r.grid (at first)) (sym step) (differs test start left right (at first)) in
     let large = still_large start.grid next.grid end.grid (at first) other size in
-    let parts = or_parts (row_holds end.grid (row_of left) dir first) (list_any (row_holds end.grid (row_of left) dir) found) gone in
+    let parts = or_parts (row_holds end.grid (row_of_one left) dir first) (list_any (row_holds end.grid (row_of_one left) dir) found) gone in
     elim (apart start.grid next.grid end.grid left (at first) (at place) other size (sym (holds_in end.grid end.grid left dir first (refl, refl)) ∙ parts.0) (sym (holds_in start.grid end.grid left dir place size) ∙ was)) [
       | inl unchanged ↦ unheld instance left right one found next end is large parts.1 place (holds_in next.grid end.grid left dir place large ∙ unchanged)
       | inr gone_here ↦ holds_in end.grid end.grid left dir place (refl, refl) ∙ gone_here
@@ -116,7 +116,7 @@ pub rested : (instance : Instance) (grid : Grid) (row : RuleRow) (found : List P
     → HoldsNowhere end.grid instance found → applied instance end.grid ≡ Ok (untouched end.grid)
 rested instance grid row found end only is ends size holds =
     let dir = instance.scan in
-    let left = row_of holds.left in
+    let left = row_of_one holds.left in
     let both : row ∷ [] ≡ left ∷ [] = sym only ∙ holds.single.left in
     let same : row ≡ left = cc in
     let large : IsAsLarge grid end.grid = (sym size.width, sym size.height) in

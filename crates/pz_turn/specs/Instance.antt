@@ -13,7 +13,7 @@ use Rattle.pz_grid.specs.declared.placing.GridFault.{GridFault}
 use Rattle.pz_grid.specs.declared.placing.GridFault.TheVariants as grid
 use Rattle.pz_grid.specs.declared.placing.Place.{Place}
 use Rattle.pz_sheet.specs.Grid.{Grid}
-use Rattle.pz_grid.specs.Places.{row_of, row_holds, searched, still_matches}
+use Rattle.pz_grid.specs.Places.{row_of_one, row_holds, searched, still_matches}
 use Rattle.pz_grid.specs.Rewriting.{Rewriting, in_rewrite, rewritten}
 use Rattle.pz_turn.specs.declared.outcome.StepFault.{StepFault}
 use Rattle.pz_turn.specs.declared.outcome.StepFault.TheVariants.{Memory, MatchLimit}
@@ -83,13 +83,13 @@ pub record HasNoEffect (grid : Grid) (instance : Instance) : Type 0 where
   pub few : (row.gap_at ≡ None) ⊎ (grid.width * grid.height ≤ FEW_CELLS)
 
 -- an instance of one cell: on the left and on the right it has one row of one cell, without a gap
-pub record IsOfOneCell (instance : Instance) (asked written : List Item) : Type 0 where
-  pub left : instance.left ≡ row_of asked ∷ []
-  pub right : instance.right ≡ row_of written ∷ []
+pub record IsOfOneCell (instance : Instance) (left_cell right_cell : List Item) : Type 0 where
+  pub left : instance.left ≡ row_of_one left_cell ∷ []
+  pub right : instance.right ≡ row_of_one right_cell ∷ []
 
 -- an instance of one cell that holds at none of these places
 pub record HoldsNowhere (grid : Grid) (instance : Instance) (places : List Place) : Type 0 where
   pub left : List Item
   pub right : List Item
   pub single : IsOfOneCell instance left right
-  pub nowhere : list_any (row_holds grid (row_of left) instance.scan) places ≡ false
+  pub nowhere : list_any (row_holds grid (row_of_one left) instance.scan) places ≡ false

@@ -13,9 +13,9 @@ ghost use Rattle.pz_turn.specs.Instance.{found_or_stop, taken, applied_at, appli
 ghost use Rattle.pz_turn.specs.Outcome.{GivesOutcome, untouched};
 ghost use Rattle.pz_turn.specs.declared.outcome.StepFault.TheVariants.{Memory};
 
+use crate::one_cell::{apply_cell_at, cells_of, holds_somewhere};
 use crate::outcome::{Given, StepFault};
 use crate::resting::Runnable;
-use crate::single::{apply_cell_at, holds_somewhere, single_cell};
 use bitflags::Flags;
 use pz_base::listed::Listed;
 use pz_game::direction::Dir;
@@ -271,8 +271,8 @@ fn apply_each(
     changed
 }
 
-/// Whether an instance of one cell holds at none of these places.
-fn has_rested(
+/// Whether an instance is known to hold at none of these places: it is of one cell, and each place was asked. False says nothing.
+fn holds_nowhere(
     level: &Level,
     instance: &Instance,
     cells: Option<(&Pattern, &Pattern)>,
@@ -306,10 +306,10 @@ fn apply_row(
     if found.items().is_empty() {
         return Ok(Given::nothing());
     }
-    let cells = single_cell(instance);
+    let cells = cells_of(instance);
     let changed = apply_each(level, instance, cells, found.items());
     let commands = instance.commands;
-    let calm = has_rested(level, instance, cells, found.items());
+    let calm = holds_nowhere(level, instance, cells, found.items());
     Ok(Given {
         commands,
         changed,

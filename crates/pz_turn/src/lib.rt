@@ -5,9 +5,9 @@ mod group;
 pub mod instance;
 pub mod laws;
 pub mod loops;
+mod one_cell;
 pub mod outcome;
 pub mod resting;
-mod single;
 pub mod stepping;
 pub mod win;
 

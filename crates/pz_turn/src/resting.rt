@@ -40,7 +40,7 @@ pub(crate) trait Runnable {
         ensures size { SameSize level.old.grid level.new.grid };
 }
 
-/// Makes one pass: runs each item once, in order. A pass over one item is calm if the item is.
+/// Makes one pass: runs each item once, in order. If it is known to be calm, it has one item: with more, a later one might wake an earlier.
 pub(crate) fn pass<T: Runnable>(
     alloc: Global,
     level: &mut Level,

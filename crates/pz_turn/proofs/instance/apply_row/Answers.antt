@@ -39,4 +39,4 @@ returns-clause-calm c = λ calm.
     let run : List Place → Rewriting = λ ps. fold (applied_at instance) (in_rewrite grid false) (map (λ (p : Place). p ∷ []) ps) in
     calm_untouched applied instance.commands end.grid instance
     (rested instance grid c.args.row.now c.in_ok-found.found end c.requires.only c.in_ok-found.ensures.found (c.apply_each-changed.ensures.applied ∙ ap run c.items-2.ensures) c.apply_each-changed.ensures.size
-    (subst (HoldsNowhere end.grid instance) c.items-3.ensures (c.has_rested-calm.ensures calm)))
+    (subst (HoldsNowhere end.grid instance) c.items-3.ensures (c.holds_nowhere-calm.ensures calm)))

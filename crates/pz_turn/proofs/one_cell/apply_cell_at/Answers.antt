@@ -1,5 +1,5 @@
 use Rattle.pz_turn.proofs.OneCell.{cell_of}
-use Rattle.pz_turn.proofs.single.apply_cell_at.Goals as goal
+use Rattle.pz_turn.proofs.one_cell.apply_cell_at.Goals as goal
 
 pub cell_holds-requires : goal.cell_holds-requires
 cell_holds-requires c = record { of_game = cell_of _ _ _ c.requires.single.left c.requires.of_game.left }

@@ -5,7 +5,7 @@ ghost use Rattle.pz_game.specs.Pattern.{AreOf};
 ghost use Rattle.pz_sheet.specs.Grid.{SameSize};
 ghost use Rattle.pz_grid.specs.Marks.{IsWidenedBy};
 ghost use Rattle.pz_game.specs.Items.{names_object};
-ghost use Rattle.pz_grid.specs.Places.{row_of, row_holds};
+ghost use Rattle.pz_grid.specs.Places.{row_of_one, row_holds};
 ghost use Rattle.pz_grid.specs.Rewriting.{in_rewrite, rewritten_row};
 
 use crate::Level;
@@ -15,10 +15,10 @@ use pz_game::direction::Dir;
 use pz_game::pattern::Pattern;
 
 impl Level {
-    /// Whether a row of this one cell holds at a place.
-    pub fn cell_holds(&self, dir: Dir, place: Place, cell: &Pattern) -> bool
+    /// Whether a row of this one cell holds at a place, whatever gap the place has.
+    pub fn one_cell_holds(&self, dir: Dir, place: Place, cell: &Pattern) -> bool
         requires of_game { AreOf self.now.grid.layers cell.now }
-        ensures { result ≡ row_holds self.now.grid (row_of cell.now) dir place }
+        ensures { result ≡ row_holds self.now.grid (row_of_one cell.now) dir place }
     {
         match self.position_of(dir, None, place, 0) {
             None => false,
@@ -42,7 +42,7 @@ impl Level {
     ) -> bool
         requires left_of { AreOf self.old.grid.layers left.now }
         requires right_of { AreOf self.old.grid.layers right.now }
-        ensures rewritten { in_rewrite self.new.grid result ≡ rewritten_row dir (in_rewrite self.old.grid changed) (place, (row_of left.now, row_of right.now)) }
+        ensures rewritten { in_rewrite self.new.grid result ≡ rewritten_row dir (in_rewrite self.old.grid changed) (place, (row_of_one left.now, row_of_one right.now)) }
         ensures size { SameSize self.old.grid self.new.grid }
         ensures marks { IsWidenedBy self.old self.new (λ object. names_object object right.now) }
     {

@@ -1,6 +1,6 @@
 use Rattle.pz_turn.proofs.Common.{subst, IfSome, IsOfOneCell}
 use Rattle.pz_turn.proofs.OneCell.{cell_of}
-use Rattle.pz_turn.proofs.instance.has_rested.Goals as goal
+use Rattle.pz_turn.proofs.instance.holds_nowhere.Goals as goal
 
 pub holds_somewhere-requires : goal.holds_somewhere-requires
 holds_somewhere-requires c =

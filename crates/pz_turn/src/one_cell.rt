@@ -5,7 +5,7 @@ ghost use Rattle.std.specs.List.{list_any};
 ghost use Rattle.pz_game.specs.Pattern.{AreOf};
 ghost use Rattle.pz_program.specs.Instance.{IsInstanceOf};
 ghost use Rattle.pz_sheet.specs.Grid.{SameSize};
-ghost use Rattle.pz_grid.specs.Places.{row_of, row_holds};
+ghost use Rattle.pz_grid.specs.Places.{row_of_one, row_holds};
 ghost use Rattle.pz_grid.specs.Rewriting.{in_rewrite};
 ghost use Rattle.pz_turn.specs.Instance.{applied_at, IsOfOneCell};
 
@@ -17,7 +17,7 @@ use pz_program::instance::Instance;
 
 /// The cell of a row of one cell.
 fn only_cell(row: &Row) -> Option<&Pattern>
-    ensures { IfSome result (λ cell. row.now ≡ row_of cell.now) }
+    ensures { IfSome result (λ cell. row.now ≡ row_of_one cell.now) }
 {
     match (row.cells(), row.gap_at()) {
         ([cell], None) => Some(cell),
@@ -26,8 +26,8 @@ fn only_cell(row: &Row) -> Option<&Pattern>
 }
 
 /// The cell of the only row, if it is a row of one cell.
-fn only_row(rows: &[Row]) -> Option<&Pattern>
-    ensures { IfSome result (λ cell. rows.now ≡ row_of cell.now ∷ []) }
+fn cell_of_rows(rows: &[Row]) -> Option<&Pattern>
+    ensures { IfSome result (λ cell. rows.now ≡ row_of_one cell.now ∷ []) }
 {
     match rows {
         [row] => only_cell(row),
@@ -36,11 +36,11 @@ fn only_row(rows: &[Row]) -> Option<&Pattern>
 }
 
 /// The left and the right cell of an instance of one cell.
-pub(crate) fn single_cell(instance: &Instance) -> Option<(&Pattern, &Pattern)>
+pub(crate) fn cells_of(instance: &Instance) -> Option<(&Pattern, &Pattern)>
     ensures { IfSome result (λ cells. IsOfOneCell instance.now cells.0.now cells.1.now) }
 {
-    let left = only_row(instance.left.items())?;
-    let right = only_row(instance.right.items())?;
+    let left = cell_of_rows(instance.left.items())?;
+    let right = cell_of_rows(instance.right.items())?;
     Some((left, right))
 }
 
@@ -58,7 +58,7 @@ pub(crate) fn apply_cell_at(
     ensures applied { in_rewrite level.new.grid result ≡ applied_at instance.now (in_rewrite level.old.grid changed) (place ∷ []) }
     ensures size { SameSize level.old.grid level.new.grid }
 {
-    if place.gap == 0 && level.cell_holds(instance.scan, place, left) {
+    if place.gap == 0 && level.one_cell_holds(instance.scan, place, left) {
         level.rewrite_cell(instance.scan, place, left, right, changed)
     } else {
         changed
@@ -68,10 +68,10 @@ pub(crate) fn apply_cell_at(
 /// Whether a row of this one cell holds at one of these places.
 pub(crate) fn holds_somewhere(level: &Level, dir: Dir, cell: &Pattern, places: &[Place]) -> bool
     requires of_game { AreOf level.now.grid.layers cell.now }
-    ensures { result ≡ list_any (row_holds level.now.grid (row_of cell.now) dir) places.now }
+    ensures { result ≡ list_any (row_holds level.now.grid (row_of_one cell.now) dir) places.now }
 {
     for place in places {
-        if level.cell_holds(dir, *place, cell) {
+        if level.one_cell_holds(dir, *place, cell) {
             return true;
         }
     }
