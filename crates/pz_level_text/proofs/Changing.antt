@@ -1,5 +1,5 @@
 -- The texts of a level's cells, where one cell has changed since it was seen.
-use Rattle.pz_level_text.proofs.Common.{◌≡◌, ◌≢◌, ℕ, ◌+◌, ◌*◌, ◌/◌, ◌%◌, ◌<◌, ◌≤◌, List, [], Option, None, Bool, true, false, not, ◌&&◌, cond, length, set, get_or, refl, ap, ap₂, sym, ◌∙◌, arith, inl, inr, is_some, get_or-set_same, get_or-set_other, nat_lt, length-set, ext_get_or, GameParts, Grid, IsLawful, SameSize, cell_at, stands, Order, set_of, standing_names, joined, texts_in, column_of, row_of, number_of}
+use Rattle.pz_level_text.proofs.Common.{◌≡◌, ◌≢◌, Some, IfSome, IsSameBut, take, ℕ, ◌+◌, ◌*◌, ◌/◌, ◌%◌, ◌<◌, ◌≤◌, List, [], Option, None, Bool, true, false, not, ◌&&◌, cond, length, set, get_or, refl, ap, ap₂, sym, ◌∙◌, arith, inl, inr, is_some, get_or-set_same, get_or-set_other, nat_lt, length-set, ext_get_or, GameParts, Grid, IsLawful, SameSize, cell_at, stands, Order, set_of, standing_names, joined, texts_in, column_of, row_of, number_of}
 use Rattle.std.proofs.lemmas.Bool.{cases_eq, cases_lt}
 use Rattle.std.proofs.Math.Nat.{div-lt_iff_lt-mul}
 use Rattle.std.proofs.lemmas.Nat.{div-add-mod', div-mul-add, mod-mul-add}
@@ -13,6 +13,10 @@ use Rattle.pz_record.specs.declared.order.Order.TheVariants.{Rows, Columns}
 use Rattle.pz_level_text.proofs.Labelling.{chosen_same}
 use Rattle.pz_level_text.proofs.Ordered.{text_at_number, length-texts_in}
 use Rattle.pz_level_text.proofs.Walking.{on_map}
+use Rattle.pz_record.proofs.Changes.{text_kept}
+use Rattle.pz_record.specs.Written.{RoomView}
+use Rattle.pz_level_text.specs.LastText.{IsLastOf}
+use Rattle.pz_level_text.specs.declared.last_text.LastText.{LastText}
 
 -- ---- numbers and positions
 pub number_back : (order : Order) (grid : Grid) (k : ℕ) → number_of order grid (column_of order grid k) (row_of order grid k) ≡ k
@@ -206,3 +210,11 @@ seen_more game game_now order order_now seen level from index cells new same_gam
       front = front_more now level from index long inside is.front (λ k low high. differs_as now seen level k (is.rest k low) (none k low high));
       rest = λ k h. get_or-set_other now.cells index k (cell_of level index) [] (λ same. omega (arith, h, same)) ∙ is.rest k (omega (arith, h, past));
     }
+
+-- the last text among more texts, before one more cell changes
+pub last_before : (texts more before all : List (List ℕ)) (room : RoomView) (cell : ℕ) → take (length texts) more ≡ texts → IsSameBut cell (cell + 1) before all → (last : Option LastText) → IfSome last (IsLastOf before texts room)
+    → IfSome last (λ last. (before : List (List ℕ)) × IsLastOf before more room last × IsSameBut cell (cell + 1) before all)
+last_before texts more before all room cell kept same None known = tt
+last_before texts more before all room cell kept same (Some last) known =
+    let has = known.1 in
+    (before, (known.0, record { before = has.before; text = text_kept last.width has.before texts more room kept has.text; same = has.same }), same)

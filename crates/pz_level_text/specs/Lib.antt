@@ -4,3 +4,4 @@ pub mod LevelText
 pub mod Equality
 pub mod Labels
 pub mod Naming
+pub mod LastText

@@ -1,23 +1,25 @@
 //! The labels of the cells of a level, in the order of its text.
 
-ghost use Rattle.std.specs.Prelude.{◌≡◌, ◌*◌, ◌<◌, ◌++◌, ◌∷◌, ◌+◌, [], length, map, take, slice_set, All, IfOk, OnOk};
+ghost use Rattle.std.specs.Prelude.{◌≡◌, ◌*◌, ◌<◌, ◌++◌, ◌∷◌, ◌+◌, [], length, map, take, slice_set, All, IfOk, IfSome, OnOk};
 ghost use Rattle.pz_sheet.specs.Changes.{with_cell, cell_there};
 ghost use Rattle.pz_sheet.specs.Grid.{Grid, SameSize};
 ghost use Rattle.pz_record.specs.CellNames.{set_of};
 ghost use Rattle.pz_record.specs.Labels.{text_at};
 ghost use Rattle.pz_level_text.specs.Labels.{texts_in};
+ghost use Rattle.pz_level_text.specs.LastText.{IsLastOf};
 ghost use Rattle.pz_level_text.specs.LevelNames.{standing_names};
 ghost use Rattle.pz_record.specs.CellTexts.{joined};
 ghost use Rattle.pz_record.specs.Written.{IsSameBut};
 
 use crate::cell_order::{number_at, position};
 use crate::label_table::LabelTable;
+use crate::last_text::{LastText, follow};
 use pz_bare::BareLevel;
 use pz_game::game::Game;
 use pz_grid::Level;
-use pz_record::changed::Changed;
 use pz_record::labels::KnownTexts;
 use pz_record::order::Order;
+use pz_record::text_room::TextRoom;
 use pz_sheet::changes::KnownChanges;
 use std::alloc::{AllocError, Global};
 use std::marker::Model;
@@ -146,11 +148,11 @@ impl<'a> CellLabels<'a> {
 
     /// Labels the cell of this number again, because it may differ from what was seen there. Here cells are numbered row by row. The answer
     /// has the cell's number in the order of the text. Err: memory was refused.
-    fn look(&mut self, level: &Level, index: usize) -> Result<Changed, AllocError>
+    fn look(&mut self, level: &Level, index: usize) -> Result<usize, AllocError>
         requires on_map { index < level.now.grid.width * level.now.grid.height }
         requires count { length self.old.cells ≡ level.now.grid.width * level.now.grid.height }
         ensures known { OnOk result ((seen : Grid) → SameSize seen level.now.grid → index < length seen.cells → self.old.cells ≡ texts_in self.old.table.game self.old.order seen → self.new.cells ≡ texts_in self.old.table.game self.old.order (with_cell seen (cell_there level.now.grid index))) }
-        ensures changed { IfOk result (λ changed. IsSameBut changed.first changed.end self.old.cells self.new.cells) }
+        ensures changed { IfOk result (λ number. IsSameBut number (number + 1) self.old.cells self.new.cells) }
         ensures kept { take (length self.old.table.texts) self.new.table.texts ≡ self.old.table.texts }
         ensures game { self.new.table.game ≡ self.old.table.game }
         ensures order { self.new.order ≡ self.old.order }
@@ -161,37 +163,36 @@ impl<'a> CellLabels<'a> {
         let label = self.label_at(level, x, y)?;
         let number = number_at(self.order, level, x, y);
         self.put(number, label);
-        Ok(Changed {
-            first: number,
-            end: number + 1,
-        })
+        Ok(number)
     }
 
-    /// Labels each cell of a level that differs from one that was seen. The answer is a range with these cells, in the order of the text.
-    /// Err: memory was refused.
+    /// Labels each cell of a level that differs from one that was seen. The last text in the room follows these changes. Err: memory was
+    /// refused.
     pub fn look_at_changes(
         &mut self,
         seen: &BareLevel,
         level: &Level,
-    ) -> Result<Changed, AllocError>
+        room: &mut TextRoom,
+        last: Option<LastText>,
+    ) -> Result<Option<LastText>, AllocError>
         requires size { SameSize seen.now.grid level.now.grid }
         requires known { self.old.cells ≡ texts_in self.old.table.game self.old.order seen.now.grid }
+        requires last { IfSome last (IsLastOf self.old.cells self.old.table.texts room.old) }
         ensures cells { OnOk result (self.new.cells ≡ texts_in self.old.table.game self.old.order level.now.grid) }
-        ensures changed { IfOk result (λ changed. IsSameBut changed.first changed.end self.old.cells self.new.cells) }
-        ensures kept { take (length self.old.table.texts) self.new.table.texts ≡ self.old.table.texts }
+        ensures last { IfOk result (λ last. IfSome last (IsLastOf self.new.cells self.new.table.texts room.new)) }
         ensures game { self.new.table.game ≡ self.old.table.game }
         ensures order { self.new.order ≡ self.old.order }
     {
         // (brings the proof the law of the level)
         let _ = level.width();
-        let mut changed = Changed::none();
+        let mut last = last;
         let mut known = KnownChanges::none();
         let mut from = 0;
         'changes: while let Some(index) = seen.next_change_after(level.bare(), &mut known, from) {
-            let next = self.look(level, index)?;
-            changed = changed.and(next);
+            let number = self.look(level, index)?;
+            last = follow(last, room, self.texts(), self.labels(), number);
             from = index + 1;
         }
-        Ok(changed)
+        Ok(last)
     }
 }

@@ -6,6 +6,7 @@ mod cell_order;
 pub mod equality;
 mod label_table;
 mod labelled_set;
+mod last_text;
 mod level_names;
 mod naming;
 pub mod reading_back;

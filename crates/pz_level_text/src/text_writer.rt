@@ -5,10 +5,11 @@ ghost use Rattle.std.specs.Prelude.{◌≡◌, ◌<◌, [], IfOk, IfSome, OnOk};
 ghost use Rattle.pz_sheet.specs.Grid.{SameSize};
 ghost use Rattle.pz_level_text.specs.Labels.{texts_in};
 ghost use Rattle.pz_record.specs.CellTexts.{text_of_cells};
-ghost use Rattle.pz_record.specs.Written.{HasTextBut};
+ghost use Rattle.pz_level_text.specs.LastText.{IsLastOf};
 ghost use Rattle.pz_level_text.specs.LevelText.{text_of_level};
 
 use crate::cell_labels::CellLabels;
+use crate::last_text::LastText;
 use pz_bare::BareLevel;
 use pz_base::text::Text;
 use pz_game::game::Game;
@@ -31,13 +32,6 @@ pub struct TextWriter<'a> {
     last: Option<LastText>,
 }
 
-/// What the room has: the text of a level of this width whose cells were as they are now, but for those that have changed since.
-#[derive(Clone, Copy)]
-struct LastText {
-    width: u32,
-    changed: Changed,
-}
-
 /// Written out: where one goes out of scope, the prover then sees one call.
 impl Drop for TextWriter<'_> {
     fn drop(self) {
@@ -54,14 +48,14 @@ impl Drop for TextWriter<'_> {
 
 impl<'a> Model for TextWriter<'a> {
     ghost use Rattle.std.specs.Prelude.{◌≡◌, IfSome};
-    ghost use Rattle.pz_record.specs.Written.{HasTextBut};
+    ghost use Rattle.pz_level_text.specs.LastText.{IsLastOf};
     ghost use Rattle.pz_level_text.specs.Labels.{WriterView};
 
     ghost Value = { WriterView };
 
     ghost view = { λ t. t.cells };
 
-    ghost invariant = { λ t. IfSome t.last (λ last. HasTextBut last.width last.changed.first last.changed.end t.cells.cells t.cells.table.texts t.room) };
+    ghost invariant = { λ t. IfSome t.last (IsLastOf t.cells.cells t.cells.table.texts t.room) };
 }
 
 /// Writes the text of cells into the room. After a text of the same width, parts of that one are copied. The text stays in the room:
@@ -73,9 +67,9 @@ fn fill(
     width: u32,
 ) -> Result<(), AllocError>
     requires wide { 0 < width }
-    requires known { IfSome last.old (λ last. HasTextBut last.width last.changed.first last.changed.end cells.now.cells cells.now.table.texts room.old) }
+    requires known { IfSome last.old (IsLastOf cells.now.cells cells.now.table.texts room.old) }
     ensures text { OnOk result (room.new.text ≡ text_of_cells width cells.now.cells) }
-    ensures known { IfSome last.new (λ last. HasTextBut last.width last.changed.first last.changed.end cells.now.cells cells.now.table.texts room.new) }
+    ensures known { IfSome last.new (IsLastOf cells.now.cells cells.now.table.texts room.new) }
 {
     match last.take() {
         Some(kept) if kept.width == width => {
@@ -131,14 +125,10 @@ impl<'a> TextWriter<'a> {
         ensures order { self.new.order ≡ self.old.order }
     {
         let last = self.last.take();
-        let changed = self.cells.look_at_changes(seen, level)?;
-        self.last = match last {
-            Some(last) => Some(LastText {
-                width: last.width,
-                changed: last.changed.and(changed),
-            }),
-            None => None,
-        };
+        let kept = self
+            .cells
+            .look_at_changes(seen, level, &mut self.room, last)?;
+        self.last = kept;
         Ok(())
     }
 

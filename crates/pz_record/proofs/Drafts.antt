@@ -52,7 +52,7 @@ nothing_begun width all texts draft given wide at firsts marks numbers =
     }
 
 -- how long a text is that goes on
-goes_far : (width : ℕ) (all : List (List ℕ)) (from to : ℕ) (rest : List ℕ) → text_to width all to ≡ text_to width all from ++ rest → length (escape (text_to width all to)) ≡ length (escape (text_to width all from)) + length (escape rest)
+pub goes_far : (width : ℕ) (all : List (List ℕ)) (from to : ℕ) (rest : List ℕ) → text_to width all to ≡ text_to width all from ++ rest → length (escape (text_to width all to)) ≡ length (escape (text_to width all from)) + length (escape rest)
 goes_far width all from to rest e =
     ap (λ (l : List ℕ). length (escape l)) e ∙ ap length (escape-append (text_to width all from) rest) ∙ length-append (escape (text_to width all from)) (escape rest)
 

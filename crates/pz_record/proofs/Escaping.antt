@@ -3,7 +3,7 @@ use Rattle.std.proofs.Common.{◌≡◌, ℕ, ◌+◌, ◌%◌, ◌<◌, ◌≤�
 use Rattle.std.proofs.Math.Nat.{mod-lt}
 use Rattle.std.proofs.Math.ListN.{length-set}
 use Rattle.std.proofs.lemmas.Bool.{ne_eqb, le-ltb}
-use Rattle.std.proofs.lemmas.Fmt.{decimal_by_steps}
+use Rattle.std.proofs.lemmas.Fmt.{decimal_by_steps, decimal_digit}
 use Rattle.std.proofs.lemmas.Grind.{flat_map-append, take-set_at}
 use Rattle.std.proofs.lemmas.List.{append_assoc, take_at}
 use Rattle.json.specs.Print.{escape_byte, escape}
@@ -39,6 +39,10 @@ escape-decimal n fits = decimal_by_steps (λ n ds. escape ds ≡ ds) one more n 
 -- a number and a comma
 pub escape-number : (n : ℕ) → n < 2 ^ 64 → escape (decimal n ++ 44 ∷ []) ≡ decimal n ++ 44 ∷ []
 escape-number n fits = escape-append (decimal n) (44 ∷ []) ∙ ap₂ (λ a b. a ++ b) (escape-decimal n fits) (ap (λ (l : List ℕ). l ++ []) (for_itself 44 (omega arith) (omega arith)))
+
+-- a digit and a comma
+pub escape-digit : (n : ℕ) → n < 10 → escape (decimal n ++ 44 ∷ []) ≡ (48 + n) ∷ 44 ∷ []
+escape-digit n few = escape-number n (omega (arith, few)) ∙ ap (λ (l : List ℕ). l ++ 44 ∷ []) (decimal_digit n few)
 
 pub line_feed : escape (10 ∷ []) ≡ 92 ∷ 110 ∷ []
 unfolding escape_byte

@@ -13,10 +13,10 @@ use Rattle.pz_record.proofs.LabelTexts.{distinct_more, none_at}
 next : (n : ℕ) → n + 1 ≡ suc n
 next n = omega arith
 
-none_more : (n : ℕ) → n ≡ n + 0
+pub none_more : (n : ℕ) → n ≡ n + 0
 none_more n = omega arith
 
-one_more : (n d : ℕ) → n + d + 1 ≡ n + suc d
+pub one_more : (n d : ℕ) → n + d + 1 ≡ n + suc d
 one_more n d = omega arith
 
 -- the text of the first cells depends on them alone

@@ -10,3 +10,4 @@ pub mod WrittenCells
 pub mod Keeping
 pub mod Drafts
 pub mod Changes
+pub mod Patching

@@ -53,6 +53,13 @@ pub record IsWhole (width : ℕ) (all texts : List (List ℕ)) (draft : Draft) :
   pub firsts : AreFirsts all texts (length all) draft.firsts.items
   pub marks : AreMarks width all (length all) draft.marks.items
 
+-- a cell is written as a digit and a comma, at this place in the text of all cells, where so many texts have a number
+pub record IsDigitAt (width : ℕ) (all : List (List ℕ)) (cell place known : ℕ) : Type 0 where
+  pub there : place ≡ length (escape (text_to width all cell))
+  pub count : known ≡ length (known_of (take cell all))
+  pub same : length (known_of (take (cell + 1) all)) ≡ known
+  pub few : known ≤ 10
+
 -- cells with these texts are as others, but for those from one number on and before another
 pub record IsSameBut (first end : ℕ) (before all : List (List ℕ)) : Type 0 where
   pub front : take first before ≡ take first all

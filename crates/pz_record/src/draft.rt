@@ -1,10 +1,12 @@
 //! A text of cells that is written part by part, and may take over parts of the last one.
 
-ghost use Rattle.std.specs.Prelude.{◌≡◌, ℕ, ◌+◌, ◌-◌, ◌*◌, ◌<◌, ◌≤◌, ◌^◌, ◌++◌, List, [], length, map, replicate, take, drop, None, All, OnOk};
+ghost use Rattle.std.specs.Prelude.{◌≡◌, ℕ, ◌+◌, ◌-◌, ◌*◌, ◌<◌, ◌≤◌, ◌^◌, ◌++◌, List, [], length, map, replicate, take, drop, min, slice_set, true, false, ◌==◌, None, All, IfOk, IfSome, OnOk};
+ghost use Rattle.std.specs.List.{position};
 ghost use Rattle.pz_base.specs.NameSet.{number_in};
 ghost use Rattle.pz_record.specs.declared.written.Written.{Written};
 ghost use Rattle.pz_record.specs.Labels.{AreDistinct, text_at};
-ghost use Rattle.pz_record.specs.Written.{AreFirsts, AreWritten, IsBegun, IsWhole, IsSameBut, moved};
+ghost use Rattle.pz_record.specs.CellTexts.{known_of};
+ghost use Rattle.pz_record.specs.Written.{AreFirsts, AreWritten, IsBegun, IsDigitAt, IsWhole, IsSameBut, moved};
 
 use crate::changed::Changed;
 use crate::escaped::{make_way, write_bytes, write_cell, write_known};
@@ -276,9 +278,9 @@ fn take_rest(draft: &mut Draft, last: &Draft, mark: Written, count: usize) -> Re
     Ok(())
 }
 
-/// Finishes a text that is begun. In the last text a mark has `count` marks before it, and behind that mark the cells are the same. The
-/// cells up to the mark are written. If the same labels then have the same numbers, the rest of the last text is taken over. Otherwise the
-/// other cells are written too. Err: memory was refused.
+/// Writes the cells of a text that is begun, up to a mark of the last text that has `count` marks before it. Behind that mark the cells are
+/// the same. If the same labels then have the same numbers, the rest of the last text is taken over, and the answer is true. Err: memory was
+/// refused.
 fn finish_at(
     draft: &mut Draft,
     numbers: &mut Vec<Option<usize>>,
@@ -287,23 +289,24 @@ fn finish_at(
     labels: &[usize],
     width: usize,
     count: usize,
-) -> Result<(), AllocError>
+) -> Result<bool, AllocError>
     requires within { All (λ label. label < length texts.now) labels.now }
     requires begun { IsBegun width (map (text_at texts.now) labels.now) texts.now draft.old numbers.old.items }
     requires mark { draft.old.at.cells ≡ length draft.old.marks.items * STEP }
     requires from { draft.old.at.cells ≤ count * STEP }
     requires count { count < length last.now.marks.items }
     requires last { (before : List (List ℕ)) × IsWhole width before texts.now last.now × IsSameBut 0 (count * STEP) before (map (text_at texts.now) labels.now) }
-    ensures { OnOk result (IsWhole width (map (text_at texts.now) labels.now) texts.now draft.new) }
+    ensures whole { IfOk result (λ whole. whole ≡ true → IsWhole width (map (text_at texts.now) labels.now) texts.now draft.new) }
+    ensures begun { IfOk result (λ whole. whole ≡ false → IsBegun width (map (text_at texts.now) labels.now) texts.now draft.new numbers.new.items) }
+    ensures mark { IfOk result (λ whole. whole ≡ false → draft.new.at.cells ≡ count * STEP) }
 {
     let mark = last.marks[count];
     write_cells(draft, numbers, texts, labels, width, mark.cells)?;
     if draft.firsts.as_slice() == &last.firsts[..mark.known] {
         take_rest(draft, last, mark, count)?;
-        return Ok(());
+        return Ok(true);
     }
-    write_cells(draft, numbers, texts, labels, width, labels.len())?;
-    Ok(())
+    Ok(false)
 }
 
 /// Finishes a text that is begun. Behind the cells that may have changed it takes over what it can of the last text. Err: memory was
@@ -326,9 +329,12 @@ fn finish(
     ensures { OnOk result (IsWhole width (map (text_at texts.now) labels.now) texts.now draft.new) }
 {
     // (the number of the first mark behind all cells that may have changed)
-    let count = (changed.end - 1) / STEP + 1;
-    if count < last.marks.len() {
-        return finish_at(draft, numbers, last, texts, labels, width, count);
+    let mut count = (changed.end - 1) / STEP + 1;
+    'marks: while count < last.marks.len() {
+        if finish_at(draft, numbers, last, texts, labels, width, count)? {
+            return Ok(());
+        }
+        count += 1;
     }
     write_cells(draft, numbers, texts, labels, width, labels.len())?;
     Ok(())
@@ -356,4 +362,66 @@ pub(crate) fn write_after(
     number_labels(numbers, texts, draft.firsts.as_slice())?;
     finish(draft, numbers, last, texts, labels, width, changed)?;
     Ok(())
+}
+
+/// How many labels have a number in a whole text once the cells of a step are written. A mark has `count` marks before it, and the step is
+/// behind it.
+fn known_behind(draft: &Draft, count: usize) -> usize
+    requires { count < length draft.now.marks.items }
+    ensures { (width : ℕ) (all texts : List (List ℕ)) → IsWhole width all texts draft.now → result ≡ length (known_of (take (min ((count + 1) * STEP) (length all)) all)) }
+{
+    if count + 1 < draft.marks.len() {
+        return draft.marks[count + 1].known;
+    }
+    draft.firsts.len()
+}
+
+/// Where the text of a cell stands in a whole text, and how many labels have a number there. `None`: some cell of its step has more than a
+/// number of one digit.
+fn place(draft: &Draft, width: usize, cell: usize) -> Option<(usize, usize)>
+    requires wide { 0 < width }
+    requires whole { (all : List (List ℕ)) × (texts : List (List ℕ)) × IsWhole width all texts draft.now × (cell < length all) }
+    ensures { IfSome result (λ found. (all texts : List (List ℕ)) → IsWhole width all texts draft.now → cell < length all → IsDigitAt width all cell found.0 found.1) }
+{
+    let count = cell / STEP;
+    let mark = draft.marks[count];
+    let known = known_behind(draft, count);
+    if known != mark.known || 10 < known {
+        return None;
+    }
+    let breaks = cell / width - mark.cells / width;
+    Some((mark.end + 2 * (cell - mark.cells + breaks), known))
+}
+
+/// The number of a label among those that have one.
+fn number_of(firsts: &[usize], label: usize) -> Option<usize>
+    ensures { result ≡ position (λ first. first == label) firsts.now }
+{
+    firsts.iter().position(|first| *first == label)
+}
+
+/// Gives a cell of a whole text another label, if that changes a digit and no more. Otherwise the text stays as it is.
+pub(crate) fn patch(
+    draft: &mut Draft,
+    texts: &KnownTexts,
+    label: usize,
+    width: usize,
+    cell: usize,
+) -> bool
+    requires wide { 0 < width }
+    requires known { label < length texts.now }
+    requires whole { (all : List (List ℕ)) × IsWhole width all texts.now draft.old × (cell < length all) }
+    ensures patched { result ≡ true → (all : List (List ℕ)) → IsWhole width all texts.now draft.old → cell < length all → IsWhole width (slice_set all cell (text_at texts.now label)) texts.now draft.new }
+    ensures kept { result ≡ false → draft.new ≡ draft.old }
+{
+    let (at, known) = match place(draft, width, cell) {
+        Some(found) => found,
+        None => return false,
+    };
+    let number = match number_of(&draft.firsts[..known], label) {
+        Some(number) => number,
+        None => return false,
+    };
+    draft.json[at] = b'0' + number as u8;
+    true
 }

@@ -1,11 +1,11 @@
 //! Reused memory for the text of a level.
 
-ghost use Rattle.std.specs.Prelude.{◌≡◌, ◌<◌, [], length, map, All, IfOk, OnOk, OnErr};
+ghost use Rattle.std.specs.Prelude.{◌≡◌, ℕ, List, ◌<◌, ◌+◌, [], length, map, All, IfOk, OnOk, OnErr};
 ghost use Rattle.pz_record.specs.Labels.{text_at};
-ghost use Rattle.pz_record.specs.Written.{HasTextOf, HasTextBut};
+ghost use Rattle.pz_record.specs.Written.{HasTextOf, HasTextBut, IsSameBut};
 
 use crate::changed::Changed;
-use crate::draft::{Draft, write_after, write_all};
+use crate::draft::{Draft, patch, write_after, write_all};
 use crate::labels::KnownTexts;
 use crate::quoted::QuotedText;
 use std::alloc::{AllocError, Global};
@@ -113,5 +113,30 @@ impl TextRoom {
         )?;
         swap(&mut self.last, &mut self.next);
         Ok(())
+    }
+
+    /// Follows a change of one cell, `cell`. The room has the text of cells that were as they were before it, but for those in `changed`. The
+    /// answer is a range of cells that may now differ from those of the text: the digit of the cell is replaced where that is enough, and the
+    /// cell is added to the range otherwise.
+    pub fn follow(
+        &mut self,
+        texts: &KnownTexts,
+        labels: &[usize],
+        width: usize,
+        changed: Changed,
+        cell: usize,
+    ) -> Changed
+        requires wide { 0 < width }
+        requires within { All (λ label. label < length texts.now) labels.now }
+        requires last { (before : List (List ℕ)) × HasTextBut width changed.first changed.end before texts.now self.old × IsSameBut cell (cell + 1) before (map (text_at texts.now) labels.now) }
+        ensures { HasTextBut width result.first result.end (map (text_at texts.now) labels.now) texts.now self.new }
+    {
+        if patch(&mut self.last, texts, labels[cell], width, cell) {
+            return changed;
+        }
+        changed.and(Changed {
+            first: cell,
+            end: cell + 1,
+        })
     }
 }

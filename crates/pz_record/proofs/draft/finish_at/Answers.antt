@@ -21,8 +21,8 @@ take_rest-requires-clause-firsts c = rest_firsts c.args.width c.requires.last.0 
 pub take_rest-requires-clause-ends : goal.take_rest-requires-clause-ends
 take_rest-requires-clause-ends c = rest_ends c.args.width c.requires.last.0 (map (text_at c.args.texts.now) c.args.labels.now) c.args.texts.now c.args.last.now c.requires.last.1 c.args.count c.requires.last.2 c.requires.count c.index-mark.result.now c.index-mark.ensures
 
-pub returns-then-eq : goal.returns-then-eq
-returns-then-eq c =
+pub returns-then-eq-clause-whole : goal.returns-then-eq-clause-whole
+returns-then-eq-clause-whole c is =
     let mark = c.index-mark.result.now in
     let same : c.as_slice.result.now ≡ take mark.known c.deref.result.now = (slice_eq-Decides Decides-eqb c.as_slice.result.now (take mark.known c.deref.result.now) c.eq.result c.eq.ensures).0 c.if-eq.true in
     let cells : mark.cells ≡ _ = ap (λ (w : Written). w.cells) (mark_is c.args.width c.requires.last.0 (map (text_at c.args.texts.now) c.args.labels.now) c.args.texts.now c.args.last.now c.requires.last.1 c.args.count c.requires.last.2 c.requires.count c.index-mark.result.now c.index-mark.ensures) in

@@ -1,16 +1,14 @@
 use Rattle.std.proofs.Common.{◌≡◌, ℕ, List, ◌++◌, ◌+◌, ◌/◌, ◌%◌, ◌<◌, ◌∷◌, [], take, decimal, ap, arith, sym, ◌∙◌}
 use Rattle.std.proofs.lemmas.Fmt.{decimal_digit, decimal_step}
 use Rattle.json.specs.Print.{escape}
-use Rattle.pz_record.proofs.Escaping.{escape-number}
+use Rattle.pz_record.proofs.Escaping.{escape-digit, escape-number}
 use Rattle.pz_record.proofs.escaped.put_number.Goals as goal
 
 pub returns-then-number-lt10-clause-written : goal.returns-then-number-lt10-clause-written
 returns-then-number-lt10-clause-written c =
     let n = c.args.number in
     let old = take c.args.end c.args.json.now in
-    let text : escape (decimal n ++ 44 ∷ []) ≡ (48 + n) ∷ 44 ∷ [] =
-    escape-number n (omega (arith, c.ranges.number.fits)) ∙ ap (λ (l : List ℕ). l ++ 44 ∷ []) (decimal_digit n c.if-number-lt10.true) in
-    c.put.ensures.written ∙ ap (λ (l : List ℕ). old ++ l) (sym text)
+    c.put.ensures.written ∙ ap (λ (l : List ℕ). old ++ l) (sym (escape-digit n c.if-number-lt10.true))
 
 pub returns-then-number-lt100-clause-written : goal.returns-then-number-lt100-clause-written
 returns-then-number-lt100-clause-written c =

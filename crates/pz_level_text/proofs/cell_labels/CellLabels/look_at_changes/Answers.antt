@@ -1,7 +1,7 @@
-use Rattle.pz_level_text.proofs.Common.{◌≡◌, ◌<◌, ◌≤◌, ℕ, false, length, take_all, ap, arith, refl, subst, ◌∙◌, Grid, still_kept, both_changed}
-use Rattle.pz_record.specs.declared.changed.Changed.{Changed}
+use Rattle.pz_level_text.proofs.Common.{◌≡◌, ◌+◌, ◌<◌, ◌≤◌, ℕ, List, IfSome, false, length, map, take, ap, arith, refl, subst, sym, ◌∙◌, Grid, IsSameBut, text_at}
+use Rattle.pz_level_text.specs.LastText.{IsLastOf}
 use Rattle.pz_sheet.specs.Changes.{TellsOf, differ_in}
-use Rattle.pz_level_text.proofs.Changing.{seen_count, seen_more, all_seen}
+use Rattle.pz_level_text.proofs.Changing.{seen_count, seen_more, all_seen, last_before}
 use Rattle.pz_level_text.proofs.cell_labels.CellLabels.look_at_changes.Goals as goal
 
 pub look-requires-clause-count : goal.look-requires-clause-count
@@ -10,8 +10,7 @@ look-requires-clause-count c = seen_count c.args.self.now.table.game c.args.self
 pub changes-init : goal.changes-init
 changes-init c = record {
   seen = record { now = c.args.seen.now.grid; size = c.requires.size; many = refl; known = c.requires.known; front = λ k low. absurd (omega (arith, low)); rest = λ k low. refl };
-  changed = record { front = refl; back = refl; count = refl; within = omega (arith, ap (λ (it : Changed). it.end) c.none-changed.ensures) };
-  kept = take_all (length c.args.self.now.table.texts) c.args.self.now.table.texts (omega arith);
+  last = c.requires.last;
   game = refl;
   order = refl;
   known = c.none-known.ensures (differ_in c.args.seen.now.grid c.args.level.now.grid) (length c.args.seen.now.grid.cells);
@@ -26,14 +25,26 @@ changes-preserved c =
     let next = c.in-Some.ensures.next in
     let same : (k : ℕ) → c.changes.from ≤ k → k < index → differ_in seen level k ≡ false = subst (λ (g : Grid). (k : ℕ) → c.changes.from ≤ k → k < index → differ_in seen g k ≡ false) c.bare.ensures next.3 in
     record {
-      seen = seen_more c.args.self.now.table.game c.changes.self.table.game c.args.self.now.order c.changes.self.order seen level c.changes.from index c.changes.self.cells c.look.new.self.cells before.game before.order c.requires.size c.in-Some.ensures.lawful c.width.ensures.lawful next.0 next.1 same before.seen c.in_ok-next.ensures.known;
-      changed = rw (c.and-changed.ensures.first, c.and-changed.ensures.end)
-          (both_changed c.changes.changed.first c.changes.changed.end c.in_ok-next.next.first c.in_ok-next.next.end c.args.self.now.cells c.changes.self.cells c.look.new.self.cells before.changed c.in_ok-next.ensures.changed);
-      kept = still_kept c.args.self.now.table.texts c.changes.self.table.texts c.look.new.self.table.texts before.kept c.look.ensures.kept;
+      seen = seen_more c.args.self.now.table.game c.changes.self.table.game c.args.self.now.order c.changes.self.order seen level c.changes.from index c.changes.self.cells c.look.new.self.cells before.game before.order c.requires.size c.in-Some.ensures.lawful c.width.ensures.lawful next.0 next.1 same before.seen c.in_ok-number.ensures.known;
+      last = subst (λ (cells : List (List ℕ)). IfSome c.follow-last.result (IsLastOf cells c.look.new.self.table.texts c.follow-last.new.room)) c.labels.ensures.cells
+          (subst (λ (texts : List (List ℕ)). IfSome c.follow-last.result (IsLastOf (map (text_at texts) c.labels.result.now) texts c.follow-last.new.room)) c.texts.ensures c.follow-last.ensures);
       game = c.look.ensures.game ∙ before.game;
       order = c.look.ensures.order ∙ before.order;
       known = subst (λ (g : Grid). TellsOf (differ_in seen g) (length seen.cells) c.next_change_after.new.known) c.bare.ensures c.in-Some.ensures.known;
     }
+
+pub follow-last-requires-clause-last : goal.follow-last-requires-clause-last
+follow-last-requires-clause-last c =
+    let texts = c.changes.self.table.texts in
+    let more = c.texts.result.now in
+    let n = c.in_ok-number.number in
+    let cells = c.changes.self.cells in
+    let all = map (text_at more) c.labels.result.now in
+    let now : all ≡ c.look.new.self.cells = ap (λ (l : List (List ℕ)). map (text_at l) c.labels.result.now) c.texts.ensures ∙ c.labels.ensures.cells in
+    last_before texts more cells all c.changes.room n
+    (subst (λ (l : List (List ℕ)). take (length texts) l ≡ texts) (sym c.texts.ensures) c.look.ensures.kept)
+    (subst (IsSameBut n (n + 1) cells) (sym now) c.in_ok-number.ensures.changed)
+    c.changes.last c.changes.invariant.last
 
 pub returns-clause-cells : goal.returns-clause-cells
 returns-clause-cells c =
