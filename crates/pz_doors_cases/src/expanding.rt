@@ -1,8 +1,8 @@
 //! The rules of a game, expanded: how many instances there are, in which order, and what each says.
 
 use crate::drawing::drawn;
-use crate::game::{expect, game_of, program_of};
 use pz_rules::expand;
+use pz_sample_game::{expect, game_of, program_of};
 use pz_source::{Code, Game, SourceFault};
 use std::alloc::Global;
 use std::test::Fail;

@@ -1,4 +1,5 @@
-//! Tests of the public calls, from outside: each is called with ample memory, and its whole answer is compared.
+//! Tests of the public calls, from outside: each is called with ample memory, and its whole answer is compared. Here are sources, rules,
+//! sessions and texts; levels and steps are in `pz_play_cases`.
 #![tactic(auto)]
 
 #[cfg(test)]
@@ -6,18 +7,8 @@ mod drawing;
 #[cfg(test)]
 mod expanding;
 #[cfg(test)]
-mod game;
-#[cfg(test)]
-mod matching;
-#[cfg(test)]
 mod reading;
 #[cfg(test)]
-mod resting;
-#[cfg(test)]
 mod running;
-#[cfg(test)]
-mod searching;
-#[cfg(test)]
-mod stepping;
 #[cfg(test)]
 mod texts;

@@ -1,6 +1,6 @@
 //! The reading of sources: what a game has, and the first fault of a source that is refused.
 
-use crate::game::{expect, game_of, source_of};
+use pz_sample_game::{expect, game_of, source_of};
 use pz_source::{Code, Game, Kind, SourceFault, read_game};
 use std::alloc::{AllocError, Global};
 use std::test::Fail;

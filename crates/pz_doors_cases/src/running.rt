@@ -1,6 +1,6 @@
 //! The items of a case, one by one.
 
-use crate::game::expect;
+use pz_sample_game::expect;
 use pz_session::{
     Case, Frame, FrameKind, Item, Job, Order, Refusal, Run, Stop, Verdict, frames, prepare,
     read_sessions,

@@ -1,7 +1,7 @@
 //! The texts of levels: written in both orders, read, and compared.
 
-use crate::game::{expect, expect_level, game_of, loaded};
 use pz_grid::Level;
+use pz_sample_game::{expect, expect_level, game_of, loaded};
 use pz_session::{Order, Recorded, equals, level_text, read_level_text};
 use pz_source::Game;
 use std::alloc::{AllocError, Global};

@@ -1,4 +1,5 @@
-//! A game with rules, win lines and levels of the case, its program and its first level.
+//! The game that tests of the doors play: its objects are always the same; rules, win lines and levels are the case's.
+#![tactic(auto)]
 
 ghost use Rattle.std.specs.Prelude.{IfOk};
 ghost use Rattle.pz_rules.specs.Instance.{IsProgramOf};
@@ -21,13 +22,13 @@ fn read(alloc: Global, text: &str) -> Result<Game, Fail> {
 }
 
 /// The game with these rules, win lines and levels, whose lines are ended.
-pub(crate) fn game_of(alloc: Global, rules: &str, wins: &str, levels: &str) -> Result<Game, Fail> {
+pub fn game_of(alloc: Global, rules: &str, wins: &str, levels: &str) -> Result<Game, Fail> {
     let text = source_of(alloc, rules, wins, levels)?;
     read(alloc, text.as_str())
 }
 
 /// The source of that game.
-pub(crate) fn source_of(
+pub fn source_of(
     alloc: Global,
     rules: &str,
     wins: &str,
@@ -37,7 +38,7 @@ pub(crate) fn source_of(
 }
 
 /// The program of its rules.
-pub(crate) fn program_of(alloc: Global, game: &Game) -> Result<Program, Fail>
+pub fn program_of(alloc: Global, game: &Game) -> Result<Program, Fail>
     ensures { IfOk result (λ program. IsProgramOf game.now.layers program) }
 {
     match expand(alloc, game) {
@@ -47,7 +48,7 @@ pub(crate) fn program_of(alloc: Global, game: &Game) -> Result<Program, Fail>
 }
 
 /// The level of the first entry of LEVELS.
-pub(crate) fn loaded(alloc: Global, game: &Game) -> Result<Level, Fail>
+pub fn loaded(alloc: Global, game: &Game) -> Result<Level, Fail>
     ensures { IfOk result (λ level. IsOfGame game.now level.grid) }
 {
     match game.levels() {
@@ -59,18 +60,13 @@ pub(crate) fn loaded(alloc: Global, game: &Game) -> Result<Level, Fail>
 }
 
 /// Fails a test if a level has another text, row by row.
-pub(crate) fn expect_level(
-    alloc: Global,
-    game: &Game,
-    level: &Level,
-    text: &str,
-) -> Result<(), Fail> {
+pub fn expect_level(alloc: Global, game: &Game, level: &Level, text: &str) -> Result<(), Fail> {
     let found = level_text(alloc, game, Order::Rows, level)?;
     expect(found.as_str(), text)
 }
 
 /// Fails a test if another text was found. One function compares for all tests, because each comparison is expensive to prove.
-pub(crate) fn expect(found: &str, wanted: &str) -> Result<(), Fail> {
+pub fn expect(found: &str, wanted: &str) -> Result<(), Fail> {
     if found == wanted {
         Ok(())
     } else {

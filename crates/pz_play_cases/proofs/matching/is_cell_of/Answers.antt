@@ -2,7 +2,7 @@ use Rattle.std.proofs.Common.{arith, ◌∙◌, subst}
 use Rattle.std.proofs.lemmas.List.{take_all}
 use Rattle.std.proofs.lemmas.List.Elements.{All-more}
 use Rattle.pz_rules.specs.Pattern.{IsOf, AreOf}
-use Rattle.pz_doors_cases.proofs.matching.is_cell_of.Goals as goal
+use Rattle.pz_play_cases.proofs.matching.is_cell_of.Goals as goal
 
 pub loop-item-preserved : goal.loop-item-preserved
 loop-item-preserved c =

@@ -5,10 +5,10 @@ ghost use Rattle.std.specs.Prelude.{IfOk};
 ghost use Rattle.pz_rules.specs.Instance.{IsInstanceOf};
 ghost use Rattle.pz_grid.specs.Grid.{IsOfGame};
 
-use crate::game::{game_of, loaded, program_of};
 use crate::matching::{first_instance, test_instance};
 use pz_grid::{Level, Place, admitted, places_counted, push_players, resolve};
 use pz_rules::Instance;
+use pz_sample_game::{game_of, loaded, program_of};
 use pz_source::{Dir, Game};
 use std::alloc::{AllocError, Global};
 use std::test::Fail;

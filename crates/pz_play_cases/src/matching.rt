@@ -5,9 +5,9 @@ ghost use Rattle.pz_rules.specs.Pattern.{IsOf, AreOf, IsRowOf, AreRowsOf};
 ghost use Rattle.pz_rules.specs.Instance.{IsInstanceOf};
 ghost use Rattle.pz_grid.specs.Grid.{IsOfGame};
 
-use crate::game::{expect, expect_level, game_of, loaded, program_of};
 use pz_grid::{Level, Place, places, rewrite, still_matches};
 use pz_rules::{Block, Group, Instance, Item, Pattern, Program, Row, Rows};
+use pz_sample_game::{expect, expect_level, game_of, loaded, program_of};
 use pz_source::{Dir, Game};
 use std::alloc::{AllocError, Global};
 use std::test::Fail;
