@@ -1,9 +1,6 @@
-//! Tests of the serving of a command line and of the engine as a library, from outside: what the words choose, reads that fail, what is
-//! said of a failure.
+//! Tests of the serving of a command line, from outside: what the words choose, reads that fail, what is said of a failure.
 #![tactic(auto)]
 
-#[cfg(test)]
-mod engine;
 #[cfg(test)]
 mod serving;
 #[cfg(test)]

@@ -6,7 +6,8 @@ use pz_serving::{
     Counted, Options, OptionsFault, Output, read_options, serve, serve_opened, serve_words,
 };
 use pz_session::Order;
-use std::alloc::Global;
+use std::alloc::{AllocGlobal, Global};
+use std::fs::Files;
 use std::io;
 use std::io::{Read, Write};
 use std::test::Fail;
@@ -169,36 +170,43 @@ fn calls_a_reader_without_end_as_often_as_promised(rt: HostRuntime) -> Result<()
     Ok(())
 }
 
-#[test]
-fn serves_the_input_where_no_file_is_named(rt: HostRuntime) -> Result<(), Fail> {
-    let line = words(&rt, "p --workers 1 --order rows")?;
+/// What comes of serving these words, with a refused session as the input: the status, what was written, what was said, and how often the
+/// input was read.
+fn served<T: Files + Threads + Sync + AllocGlobal>(
+    rt: &T,
+    line: &[String],
+) -> (u8, Vec<u8>, Vec<u8>, usize) {
     let mut input = Counted::new(reader_of(REFUSED.as_bytes(), usize::MAX));
     let mut output = Output::new(Vec::new(rt.alloc()));
     let mut errors = Output::new(Vec::new(rt.alloc()));
-    let status = serve_words(&rt, &line, &mut input, &mut output, &mut errors);
-    let (output, errors) = (output.into_writer(), errors.into_writer());
+    let status = serve_words(rt, line, &mut input, &mut output, &mut errors);
+    let read = input.into_reader().calls;
+    (status, output.into_writer(), errors.into_writer(), read)
+}
+
+#[test]
+fn serves_the_input_where_no_file_is_named(rt: HostRuntime) -> Result<(), Fail> {
+    let line = words(&rt, "p --workers 1 --order rows")?;
+    let (status, written, said, calls) = served(&rt, &line);
     assert!(rt;
-        (status, output.as_slice(), errors.as_slice()) == (1, CLOSE.as_bytes(), b"".as_slice())
+        (status, written.as_slice(), said.as_slice()) == (1, CLOSE.as_bytes(), b"".as_slice())
     );
+    assert_eq!(rt; calls, REFUSED.len() + 1);
     Ok(())
 }
 
 #[test]
 fn says_why_a_file_is_not_served(rt: HostRuntime) -> Result<(), Fail> {
-    for (line, said) in [
+    for (line, why) in [
         ("p --workers 0", "bad command line\n"),
         ("p no/such/file", "open-fault\n"),
     ] {
         let line = words(&rt, line)?;
-        let mut output = Output::new(Vec::new(rt.alloc()));
-        let mut errors = Output::new(Vec::new(rt.alloc()));
-        let mut input = Counted::new(reader_of(REFUSED.as_bytes(), usize::MAX));
-        let status = serve_words(&rt, &line, &mut input, &mut output, &mut errors);
-        let (output, errors) = (output.into_writer(), errors.into_writer());
-        assert_eq!(rt; input.into_reader().calls, 0);
+        let (status, written, said, calls) = served(&rt, &line);
         assert!(rt;
-            (status, output.as_slice(), errors.as_slice()) == (2, b"".as_slice(), said.as_bytes())
+            (status, written.as_slice(), said.as_slice()) == (2, b"".as_slice(), why.as_bytes())
         );
+        assert_eq!(rt; calls, 0);
     }
     Ok(())
 }

@@ -1,4 +1,4 @@
-//! The engine as a library: from the bytes of a file to its lines.
+//! From the bytes of a file to its lines.
 
 use pz_engine::engine::{lines, lines_from, play, play_case};
 use pz_engine::sessions::decode;
