@@ -4,6 +4,8 @@
 #[cfg(test)]
 mod matching;
 #[cfg(test)]
+mod one_cell;
+#[cfg(test)]
 mod resting;
 #[cfg(test)]
 mod searching;
