@@ -9,7 +9,7 @@ use std::alloc::{AllocError, Global};
 use std::test::Fail;
 
 /// Lines, one after another: how long each is, and from which byte up to which it has dashes in place of letters.
-const LINES: [(usize, usize, usize); 21] = [
+const LINES: [(usize, usize, usize); 27] = [
     // the same twice
     (200, 0, 0),
     (200, 0, 0),
@@ -19,7 +19,14 @@ const LINES: [(usize, usize, usize); 21] = [
     (200, 70, 76),
     (200, 90, 180),
     (200, 199, 200),
-    // all of it
+    // in the last byte of a block alone, and in the first of another
+    (200, 0, 0),
+    (200, 63, 64),
+    (200, 0, 0),
+    (200, 64, 65),
+    (200, 0, 0),
+    // nearly all of it, and all
+    (200, 1, 199),
     (200, 0, 200),
     // one byte shorter, longer; a front of the line before; longer again
     (199, 0, 0),
