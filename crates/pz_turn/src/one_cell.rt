@@ -1,10 +1,9 @@
 //! Instances of one cell: their one row has one cell and no gap.
 
 ghost use Rattle.std.specs.Prelude.{◌≡◌, ◌∷◌, [], IfSome, false, fold};
-ghost use Rattle.std.specs.List.{list_any};
 ghost use Rattle.pz_game.specs.Pattern.{AreOf};
 ghost use Rattle.pz_sheet.specs.Grid.{SameSize};
-ghost use Rattle.pz_grid.specs.Places.{row_of_one, row_holds};
+ghost use Rattle.pz_grid.specs.Places.{row_of_one};
 ghost use Rattle.pz_grid.specs.Rewriting.{in_rewrite};
 ghost use Rattle.pz_turn.specs.Instance.{one_rewritten, IsOfOneCell};
 
@@ -61,17 +60,4 @@ pub(crate) fn rewrite_each(
         changed = level.rewrite_cell(dir, *place, left, right, changed);
     }
     changed
-}
-
-/// Whether a row of this one cell holds at one of these places.
-pub(crate) fn holds_somewhere(level: &Level, dir: Dir, cell: &Pattern, places: &[Place]) -> bool
-    requires of_game { AreOf level.now.grid.layers cell.now }
-    ensures { result ≡ list_any (row_holds level.now.grid (row_of_one cell.now) dir) places.now }
-{
-    for place in places {
-        if level.one_cell_holds(dir, *place, cell) {
-            return true;
-        }
-    }
-    false
 }

@@ -1,9 +1,7 @@
-use Rattle.pz_turn.proofs.Common.{◌≡◌, ◌∷◌, [], ℕ, List, Ok, map, fold, subst, ap, sym, ◌∙◌, err_from_is_err_and, eqb-true, nil_from_length, not-true, false, list_any, IsRowOf, AreRowsOf, Place, row_holds, row_of_one, Rewriting, in_rewrite, one_rewritten, Given, applied_at, applied}
-use Rattle.pz_game.specs.Pattern.{AreOf}
+use Rattle.pz_turn.proofs.Common.{◌≡◌, ◌∷◌, [], List, Ok, map, fold, subst, ap, sym, ◌∙◌, err_from_is_err_and, eqb-true, nil_from_length, false, IsRowOf, AreRowsOf, Place, Rewriting, in_rewrite, one_rewritten, Given, applied_at}
 use Rattle.std.proofs.lemmas.List.Elements.{All-head}
 use Rattle.pz_turn.proofs.SingleRow.{some_found, row_stops, row_nowhere, row_ends}
-use Rattle.pz_turn.proofs.Calm.{calm_untouched}
-use Rattle.pz_turn.proofs.OneCell.{cell_of, all_of_one, applied_unasked, rested}
+use Rattle.pz_turn.proofs.OneCell.{cell_of, all_of_one, applied_unasked, calm}
 use Rattle.pz_turn.proofs.instance.apply_row.Goals as goal
 
 pub search-requires : goal.search-requires
@@ -37,10 +35,6 @@ rewrite_each-changed-requires-clause-left_of c = cell_of _ _ _ c.in-Some.ensures
 pub rewrite_each-changed-requires-clause-right_of : goal.rewrite_each-changed-requires-clause-right_of
 rewrite_each-changed-requires-clause-right_of c = cell_of _ _ _ c.in-Some.ensures.right c.requires.of_game.right
 
-pub holds_somewhere-calm-requires : goal.holds_somewhere-calm-requires
-holds_somewhere-calm-requires c =
-    record { of_game = subst (λ (layers : List ℕ). AreOf layers c.in-Some.left.now) (sym c.rewrite_each-changed.ensures.size.layers) (cell_of _ _ _ c.in-Some.ensures.left c.requires.of_game.left) }
-
 pub returns-clause-outcome : goal.returns-clause-outcome
 returns-clause-outcome c =
     let instance = c.args.instance.now in
@@ -48,19 +42,17 @@ returns-clause-outcome c =
     let found = c.in_ok-found.found in
     let left = c.in-Some.left.now in
     let right = c.in-Some.right.now in
-    let whole = all_of_one instance left right grid c.args.row.now found c.in-Some.ensures c.requires.only c.in_ok-found.ensures.found in
+    let all = all_of_one instance left right grid c.args.row.now found c.in-Some.ensures c.requires.only c.in_ok-found.ensures.found in
     row_ends instance grid c.args.row.now found (in_rewrite c.rewrite_each-changed.new.level.grid c.rewrite_each-changed.result) c.requires.only c.in_ok-found.ensures.found (some_found _ found c.items.ensures (sym c.is_empty.ensures ∙ c.if-is_empty.false))
-    (c.rewrite_each-changed.ensures.rewritten ∙ ap (fold (one_rewritten instance.scan left right) (in_rewrite grid false)) c.items-2.ensures ∙ sym (applied_unasked instance left right grid found whole))
+    (c.rewrite_each-changed.ensures.rewritten ∙ ap (fold (one_rewritten instance.scan left right) (in_rewrite grid false)) c.items-2.ensures ∙ sym (applied_unasked instance left right c.in-Some.ensures grid found all))
 
 pub returns-clause-calm : goal.returns-clause-calm
-returns-clause-calm c = λ calm.
+returns-clause-calm c = λ known.
     let instance = c.args.instance.now in
     let grid = c.args.level.now.grid in
     let found = c.in_ok-found.found in
     let left = c.in-Some.left.now in
     let right = c.in-Some.right.now in
-    let now = in_rewrite c.rewrite_each-changed.new.level.grid c.rewrite_each-changed.result in
-    let whole = all_of_one instance left right grid c.args.row.now found c.in-Some.ensures c.requires.only c.in_ok-found.ensures.found in
-    calm_untouched applied instance.commands now.grid instance
-    (rested instance left right grid found whole now (c.rewrite_each-changed.ensures.rewritten ∙ ap (fold (one_rewritten instance.scan left right) (in_rewrite grid false)) c.items-2.ensures) c.rewrite_each-changed.ensures.size
-    (ap (list_any (row_holds now.grid (row_of_one left) instance.scan)) (sym c.items-3.ensures) ∙ sym c.holds_somewhere-calm.ensures ∙ not-true _ calm))
+    let all = all_of_one instance left right grid c.args.row.now found c.in-Some.ensures c.requires.only c.in_ok-found.ensures.found in
+    let is = c.rewrite_each-changed.ensures.rewritten ∙ ap (fold (one_rewritten instance.scan left right) (in_rewrite grid false)) c.items-2.ensures in
+    calm instance left right c.in-Some.ensures grid found all c.rewrite_each-changed.new.level.grid (ap (λ (r : Rewriting). r.grid) (sym is)) c.rewrite_each-changed.ensures.size c.width.ensures.lawful
