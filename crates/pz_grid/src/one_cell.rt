@@ -1,35 +1,19 @@
-//! Rows of one cell, without the loops that rows of several need.
+//! Rows of one cell, rewritten without the loops that rows of several need.
 
 ghost use Rattle.std.specs.Prelude.{◌≡◌};
 ghost use Rattle.pz_game.specs.Pattern.{AreOf};
 ghost use Rattle.pz_sheet.specs.Grid.{SameSize};
 ghost use Rattle.pz_grid.specs.Marks.{IsWidenedBy};
 ghost use Rattle.pz_game.specs.Items.{names_object};
-ghost use Rattle.pz_grid.specs.Places.{row_of_one, row_holds};
+ghost use Rattle.pz_grid.specs.Places.{row_of_one};
 ghost use Rattle.pz_grid.specs.Rewriting.{in_rewrite, rewritten_row};
 
 use crate::Level;
 use crate::placing::Place;
-use pz_bare::AnySheet;
 use pz_game::direction::Dir;
 use pz_game::pattern::Pattern;
 
 impl Level {
-    /// Whether a row of this one cell holds at a place, whatever gap the place has.
-    pub fn one_cell_holds(&self, dir: Dir, place: Place, cell: &Pattern) -> bool
-        requires of_game { AreOf self.now.grid.layers cell.now }
-        ensures { result ≡ row_holds self.now.grid (row_of_one cell.now) dir place }
-    {
-        match self.position_of(dir, None, place, 0) {
-            None => false,
-            Some((x, y)) => match self.bare().sheet() {
-                AnySheet::Small(sheet) => sheet.holds(x, y, cell),
-                AnySheet::Middle(sheet) => sheet.holds(x, y, cell),
-                AnySheet::Large(sheet) => sheet.holds(x, y, cell),
-            },
-        }
-    }
-
     /// Rewrites a row of one cell at its place. True: this or an earlier rewriting changed a cell. It doesn't test whether the row holds,
     /// and does nothing off the map.
     pub fn rewrite_cell(

@@ -227,7 +227,8 @@ fn search_in<'a, const N: usize>(
 }
 
 impl Found {
-    /// Adds a place, unless there are `MATCH_LIMIT` already.
+    /// Adds a place, unless there are `MATCH_LIMIT` already. (Inlined: each place that a search finds comes here.)
+    #[inline(always)]
     fn add(&mut self, place: Place) -> Result<(), GridFault>
         ensures added { OnOk result (self.new ≡ self.old ++ (place ∷ [])) }
         ensures limit { result ≡ Err GridFault.MatchLimit → MATCH_LIMIT < length (self.old ++ (place ∷ [])) }

@@ -24,7 +24,7 @@ either_assoc a b c = ap set_of (or_assoc a.0 b.0 c.0)
 pub either_comm : (a b : Commands) → either a b ≡ either b a
 either_comm a b = ap set_of (or_comm a.0 b.0)
 
-either_self : (a : Commands) → either a a ≡ a
+pub either_self : (a : Commands) → either a a ≡ a
 either_self a = ap set_of (or_self a.0)
 
 -- what was known stays known, and what was given is

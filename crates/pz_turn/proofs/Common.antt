@@ -1,5 +1,5 @@
 -- The words of the proofs of this crate: what several of them import.
-pub use Rattle.std.proofs.Common.{Bool, Err, Global, List, None, Ok, Option, Result, Some, Vec, [], add-one, ap, append_assoc, arith, below_more, cond, drop, eqb, false, filter, fold, get_or, get_or-set_other, inl, inr, is_some, length, map, min, nat_eq, not, refl, rules, set, subst, suc, sym, take, true, zero, ℕ, ◌*◌, ◌++◌, ◌+◌, ◌/◌, ◌<◌, ◌&&◌, ◌||◌, ◌∙◌, ◌∷◌, ◌≡◌, ◌≢◌, ◌≤◌, ◌⊎◌}
+pub use Rattle.std.proofs.Common.{Bool, Err, Global, List, None, Ok, Option, Result, Some, Vec, [], add-one, ap, append_assoc, arith, below_more, cond, drop, eqb, false, filter, fold, get_or, get_or-set_other, inl, inr, is_some, length, map, min, nat_eq, not, refl, rules, set, subst, suc, sym, take, true, zero, ℕ, ◌*◌, ◌++◌, ◌+◌, ◌-◌, ◌/◌, ◌<◌, ◌&&◌, ◌||◌, ◌∙◌, ◌∷◌, ◌≡◌, ◌≢◌, ◌≤◌, ◌⊎◌}
 pub use Rattle.std.proofs.lemmas.Bool.{cases_lt, eqb-true, false_from_ne_true, ltb-false, ltb-true, not-false, not-true, or_parts, true_from_ne_false}
 pub use Rattle.std.proofs.lemmas.List.{append-nil, at_drop_more, drop-drop, drop_all, get_or-drop, get_or_default, length-append, length-drop, length-map, length-set, map-append, nil_from_length, set-get_or, take-append-drop, take_all, take_more}
 pub use Rattle.std.proofs.lemmas.Result.{IfOk-weaker, err_from_is_err_and}
@@ -21,7 +21,7 @@ pub use Rattle.pz_program.specs.declared.instance.Program.{Program}
 pub use Rattle.pz_sheet.specs.Grid.{Grid, IsLawful, SameSize, cell_at}
 pub use Rattle.pz_turn.specs.Calm.{AreCalmFrom, IsCalm}
 pub use Rattle.pz_turn.specs.Combinations.{combinations}
-pub use Rattle.pz_turn.specs.Instance.{HasNoEffect, HoldsNowhere, IsOfOneCell, after_row, applied_at, applied_to, applied_with, found_or_stop, given, outcome_of, taken}
+pub use Rattle.pz_turn.specs.Instance.{HasNoEffect, IsOfOneCell, after_row, applied_at, applied_to, applied_with, found_or_stop, given, one_rewritten, outcome_of, taken}
 unfoldable pub use Rattle.pz_turn.specs.Instance.{applied}
 pub use Rattle.pz_turn.specs.Outcome.{GivesOutcome, Outcome, followed_by, joined, untouched}
 pub use Rattle.pz_turn.specs.Rest.{Runs, ends, ends_after, group_runs, is_last, pass_of, passes, rests, up_to}

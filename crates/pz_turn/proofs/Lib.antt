@@ -8,6 +8,7 @@ pub mod Calm
 pub mod Taking
 pub mod SingleRow
 pub mod Skipping
+pub mod Again
 pub mod OneCell
 pub mod Effectless
 pub mod Segments

@@ -1,16 +1,25 @@
--- An instance of one cell rewrites only the cells of its places. If it holds in none of them any more, it holds nowhere.
-use Rattle.pz_turn.proofs.Common.{◌≡◌, ◌⊎◌, ℕ, ◌+◌, ◌*◌, List, [], ◌∷◌, map, fold, filter, set, get_or, length, list_any, Option, Some, None, Bool, true, false, ◌&&◌, cond, nat_eq, refl, ap, sym, subst, ◌∙◌, inl, inr, or_parts, set-get_or, get_or-set_other, range_with_len, flat_map, zip, list_all, Result, Ok, Err, Dir, Instance, RuleRow, AreRowsOf, IsRowOf, Place, Grid, cell_at, SameSize, row_of_one, row_holds, still_holds, along, holds_at, places, place_in, line_count, line_length, searched, Rewriting, in_rewrite, rewritten_at, rewritten_row, found_or_stop, applied_at, applied, untouched, IsOfOneCell, HoldsNowhere}
+-- An instance of one cell rewrites only the cells of its places. So it still holds at each when that one's turn comes, and run again it
+-- changes nothing.
+use Rattle.pz_turn.proofs.Common.{◌≡◌, ◌⊎◌, ℕ, zero, suc, ◌+◌, ◌-◌, ◌*◌, ◌/◌, ◌<◌, ◌≤◌, List, [], ◌∷◌, ◌++◌, map, fold, filter, set, get_or, length, Option, Some, None, Bool, true, false, ◌&&◌, cond, not, cases_lt, nat_eq, nat_lt, refl, ap, sym, subst, ◌∙◌, arith, inl, inr, ltb-true, set-get_or, get_or-set_other, length-set, range_with_len, flat_map, zip, list_all, Result, Ok, Err, Dir, Instance, RuleRow, AreRowsOf, IsRowOf, Place, Grid, cell_at, SameSize, row_of_one, row_holds, still_holds, along, holds_at, places, place_in, line_count, line_length, searched, Rewriting, in_rewrite, rewritten_at, rewritten_row, found_or_stop, applied_at, applied, one_rewritten, IsOfOneCell, IsLawful, IsCalm}
 use Rattle.pz_game.specs.declared.pattern.Item.{Item}
 use Rattle.pz_cells.specs.declared.piece.Piece.{Piece}
 use Rattle.pz_game.specs.declared.direction.Dir.TheVariants.{Up, Down, Left, Right, Action}
 use Rattle.pz_cells.specs.Pattern.{pattern_holds}
 use Rattle.pz_cells.specs.Rewriting.{rewritten_cell}
+use Rattle.pz_grid.specs.Places.{on_map}
 use Rattle.pz_grid.specs.declared.placing.GridFault.{GridFault}
-use Rattle.std.proofs.lemmas.Bool.{cases_eq}
+use Rattle.std.proofs.lemmas.Bool.{cases_eq, le-leb}
+use Rattle.std.proofs.lemmas.Nat.{div-mul-add}
+use Rattle.std.proofs.lemmas.List.{get_or-set_same, get_or_past}
 use Rattle.std.proofs.lemmas.List.Elements.{All-head}
 use Rattle.pz_game.specs.Pattern.{AreOf}
+use Rattle.pz_cells.specs.Sameness.{same_cell}
+use Rattle.pz_cells.proofs.SameLemmas.{same_cell_self}
+use Rattle.pz_grid.proofs.CountLemmas.{searched-gapless}
 use Rattle.pz_grid.proofs.FoundLemmas.{searched-gives}
-use Rattle.pz_turn.proofs.Skipping.{IsNoneTaken, none_first, applied_none}
+use Rattle.pz_turn.proofs.Again.{rewritten_again}
+use Rattle.pz_turn.proofs.Calm.{calm_untouched, either_self}
+use Rattle.pz_turn.proofs.SingleRow.{row_nowhere, row_ends}
 
 and_true : (b : Bool) → (b && true) ≡ b
 and_true true = refl
@@ -21,40 +30,16 @@ pub cell_of : (layers : List ℕ) (rows : List RuleRow) (cell : List Item) → r
 cell_of layers rows cell only of = All-head (AreOf layers) cell [] (All-head (IsRowOf layers) (row_of_one cell) [] (subst (AreRowsOf layers) only of))
 
 -- how an instance of one cell is applied at a place
-pub applied_at-one : (instance : Instance) (left right : List Item) (so_far : Rewriting) (place : Place) → IsOfOneCell instance left right
-    → applied_at instance so_far (place ∷ []) ≡ cond (nat_eq place.gap 0 && row_holds so_far.grid (row_of_one left) instance.scan place) (rewritten_row instance.scan so_far (place, (row_of_one left, row_of_one right))) so_far
+applied_at-one : (instance : Instance) (left right : List Item) (so_far : Rewriting) (place : Place) → IsOfOneCell instance left right
+    → applied_at instance so_far (place ∷ []) ≡ cond (nat_eq place.gap 0 && row_holds so_far.grid (row_of_one left) instance.scan place) (one_rewritten instance.scan left right so_far place) so_far
 applied_at-one instance left right so_far place one =
-    let next = rewritten_row instance.scan so_far (place, (row_of_one left, row_of_one right)) in
+    let next = one_rewritten instance.scan left right so_far place in
     let at : List RuleRow → List RuleRow → Rewriting = λ ls rs. cond (nat_eq 1 (length ls) && list_all (still_holds so_far.grid instance.scan) (zip ls (place ∷ []))) (fold (rewritten_row instance.scan) so_far (zip (place ∷ []) (zip ls rs))) so_far in
     (λ i. at (one.left i) (one.right i)) ∙ ap (λ (b : Bool). cond b next so_far) (and_true (nat_eq place.gap 0 && row_holds so_far.grid (row_of_one left) instance.scan place))
-
--- of two levels the second is the first, except perhaps for the cell at this position
-abbrev DiffersAt : Grid → Grid → Option (ℕ × ℕ) → Type 0
-DiffersAt old new None = new ≡ old
-DiffersAt old new (Some (x, y)) = (cell : List (Option Piece)) × (new ≡ record old { cells = set old.cells (y * old.width + x) cell })
-
-differs : (b : Bool) (so_far : Rewriting) (left right : List Item) (at : Option (ℕ × ℕ)) → DiffersAt so_far.grid (cond b (rewritten_at so_far left right at) so_far).grid at
-differs true so_far left right None = refl
-differs false so_far left right None = refl
-differs true so_far left right (Some (x, y)) = (rewritten_cell left right (cell_at so_far.grid x y), refl)
-differs false so_far left right (Some (x, y)) = (cell_at so_far.grid x y, ap (λ (cells : List (List (Option Piece))). record so_far.grid { cells = cells }) (sym (set-get_or so_far.grid.cells (y * so_far.grid.width + x) [])))
 
 -- two levels are equally wide and high
 abbrev IsAsLarge : Grid → Grid → Type 0
 IsAsLarge old new = (old.width ≡ new.width) × (old.height ≡ new.height)
-
-still_large : (old new end : Grid) (at : Option (ℕ × ℕ)) → DiffersAt old new at → IsAsLarge old end → IsAsLarge new end
-still_large old new end None same size = (ap (λ (g : Grid). g.width) same ∙ size.0, ap (λ (g : Grid). g.height) same ∙ size.1)
-still_large old new end (Some (x, y)) other size = (ap (λ (g : Grid). g.width) other.1 ∙ size.0, ap (λ (g : Grid). g.height) other.1 ∙ size.1)
-
--- a cell that differs is at the position where something was rewritten
-apart : (old new end : Grid) (cell : List Item) (at here : Option (ℕ × ℕ)) → DiffersAt old new at → IsAsLarge old end → holds_at end cell at ≡ false → holds_at old cell here ≡ false → (holds_at new cell here ≡ false) ⊎ (holds_at end cell here ≡ false)
-apart old new end cell at None other size gone was = inl refl
-apart old new end cell None (Some (x, y)) same size gone was = inl (ap (λ (g : Grid). holds_at g cell (Some (x, y))) same ∙ was)
-apart old new end cell (Some (at_x, at_y)) (Some (x, y)) other size gone was = elim (cases_eq (y * old.width + x) (at_y * old.width + at_x)) [
-  | inl same ↦ inr (ap (λ (k : ℕ). pattern_holds (get_or end.cells k []) cell) (subst (λ (w : ℕ). y * w + x ≡ at_y * w + at_x) size.0 same) ∙ gone)
-  | inr different ↦ inl (ap (λ (g : Grid). holds_at g cell (Some (x, y))) other.1 ∙ ap (λ (c : List (Option Piece)). pattern_holds c cell) (get_or-set_other old.cells (at_y * old.width + at_x) (y * old.width + x) other.0 [] different) ∙ was)
-]
 
 along_same : (old new : Grid) (dir : Dir) (x y : ℕ) → IsAsLarge old new → along old dir x y 0 ≡ along new dir x y 0
 along_same old new Up x y size = rw (size.0, size.1) refl
@@ -63,65 +48,274 @@ along_same old new Left x y size = rw (size.0, size.1) refl
 along_same old new Right x y size = rw (size.0, size.1) refl
 along_same old new Action x y size = refl
 
--- where a row of one cell holds
-holds_in : (grid end : Grid) (cell : List Item) (dir : Dir) (place : Place) → IsAsLarge grid end → row_holds grid (row_of_one cell) dir place ≡ holds_at grid cell (along end dir place.x place.y 0)
-holds_in grid end cell dir place size = and_true _ ∙ ap (holds_at grid cell) (along_same grid end dir place.x place.y size)
+-- a position on the map is this one
+abbrev IsHere : Grid → ℕ → ℕ → Option (ℕ × ℕ) → Type 0
+IsHere grid x y None = Unit {0}
+IsHere grid x y (Some (at_x, at_y)) = (at_x ≡ x) × (at_y ≡ y) × (at_x < grid.width) × (at_y < grid.height)
 
--- a place where it held nowhere before, and holds in none of the places now, hasn't become one
-unheld : (instance : Instance) (left right : List Item) → IsOfOneCell instance left right → (found : List Place) (start end : Rewriting) → fold (applied_at instance) start (map (λ (p : Place). p ∷ []) found) ≡ end → IsAsLarge start.grid end.grid
-    → list_any (row_holds end.grid (row_of_one left) instance.scan) found ≡ false → (place : Place) → row_holds start.grid (row_of_one left) instance.scan place ≡ false → row_holds end.grid (row_of_one left) instance.scan place ≡ false
-unheld instance left right one [] start end is size gone place was = ap (λ (r : Rewriting). row_holds r.grid (row_of_one left) instance.scan place) (sym is) ∙ was
-unheld instance left right one (first ∷ found) start end is size gone place was =
-    let dir = instance.scan in
-    let next = applied_at instance start (first ∷ []) in
-    let at : Place → Option (ℕ × ℕ) = λ p. along end.grid dir p.x p.y 0 in
-    let test = nat_eq first.gap 0 && row_holds start.grid (row_of_one left) dir first in
-    let step : next ≡ cond test (rewritten_at start left right (at first)) start = applied_at-one instance left right start first one ∙ ap (λ (a : Option (ℕ × ℕ)). cond test (rewritten_at start left right a) start) (along_same start.grid end.grid dir first.x first.y size) in
-    let other : DiffersAt start.grid next.grid (at first) = subst (λ (r : Rewriting). DiffersAt start.grid r.grid (at first)) (sym step) (differs test start left right (at first)) in
-    let large = still_large start.grid next.grid end.grid (at first) other size in
-    let parts = or_parts (row_holds end.grid (row_of_one left) dir first) (list_any (row_holds end.grid (row_of_one left) dir) found) gone in
-    elim (apart start.grid next.grid end.grid left (at first) (at place) other size (sym (holds_in end.grid end.grid left dir first (refl, refl)) ∙ parts.0) (sym (holds_in start.grid end.grid left dir place size) ∙ was)) [
-      | inl unchanged ↦ unheld instance left right one found next end is large parts.1 place (holds_in next.grid end.grid left dir place large ∙ unchanged)
-      | inr gone_here ↦ holds_in end.grid end.grid left dir place (refl, refl) ∙ gone_here
-    ]
+on_here : (grid : Grid) (x y : ℕ) → IsHere grid x y (on_map grid x y)
+on_here grid x y = by (nat_lt x grid.width) (nat_lt y grid.height) refl refl where
+  by : (a b : Bool) → nat_lt x grid.width ≡ a → nat_lt y grid.height ≡ b → IsHere grid x y (cond (a && b) (Some (x, y)) None)
+  by true true wide high = (refl, refl, ltb-true x grid.width wide, ltb-true y grid.height high)
+  by true false wide high = tt
+  by false b wide high = tt
 
--- a test that fails on all that pass another, and on all that don't, never passes
-filter_none : {X : Type 0} (xs : List X) (before after : X → Bool) → list_any after (filter before xs) ≡ false → ((x : X) → before x ≡ false → after x ≡ false) → filter after xs ≡ []
-filter_none [] before after none rest = refl
-filter_none {X} (x ∷ xs) before after none rest = by (λ later. filter_none xs before after later rest) (before x) refl none where
-  here : (list_any after (filter before xs) ≡ false → filter after xs ≡ []) → after x ≡ false → list_any after (filter before xs) ≡ false → cond (after x) (x ∷ filter after xs) (filter after xs) ≡ []
-  here more fails later = ap (λ (b : Bool). cond b (x ∷ filter after xs) (filter after xs)) fails ∙ more later
+-- a row of one cell stands where it starts
+stands_here : (grid : Grid) (dir : Dir) (x y : ℕ) → IsHere grid x y (along grid dir x y 0)
+stands_here grid Right x y = subst (λ (k : ℕ). IsHere grid x y (on_map grid k y)) (omega arith) (on_here grid x y)
+stands_here grid Left x y = subst (λ (b : Bool). IsHere grid x y (cond b (on_map grid (x - 0) y) None)) (sym (le-leb 0 x (omega arith))) (subst (λ (k : ℕ). IsHere grid x y (on_map grid k y)) (omega arith) (on_here grid x y))
+stands_here grid Down x y = subst (λ (k : ℕ). IsHere grid x y (on_map grid x k)) (omega arith) (on_here grid x y)
+stands_here grid Up x y = subst (λ (b : Bool). IsHere grid x y (cond b (on_map grid x (y - 0)) None)) (sym (le-leb 0 y (omega arith))) (subst (λ (k : ℕ). IsHere grid x y (on_map grid x k)) (omega arith) (on_here grid x y))
+stands_here grid Action x y = tt
 
-  by : (list_any after (filter before xs) ≡ false → filter after xs ≡ []) → (b : Bool) → before x ≡ b → list_any after (cond b (x ∷ filter before xs) (filter before xs)) ≡ false → cond (after x) (x ∷ filter after xs) (filter after xs) ≡ []
-  by more true is all = (let parts = or_parts (after x) (list_any after (filter before xs)) all in here more parts.0 parts.1)
-  by more false is all = here more (rest x is) all
+-- what stands at a position; off the map nothing does
+abbrev cell_there : Grid → Option (ℕ × ℕ) → List (Option Piece)
+cell_there grid None = []
+cell_there grid (Some (x, y)) = cell_at grid x y
+
+abbrev cell_of_place : Grid → Dir → Place → List (Option Piece)
+cell_of_place grid dir place = cell_there grid (along grid dir place.x place.y 0)
+
+-- where a cell is written, another stays
+apart : (grid : Grid) (written : List (Option Piece)) (x y other_x other_y : ℕ) (at : Option (ℕ × ℕ)) → x < grid.width → IsHere grid other_x other_y at
+    → (cell_there (record grid { cells = set grid.cells (y * grid.width + x) written }) at ≡ cell_there grid at) ⊎ ((x ≡ other_x) × (y ≡ other_y))
+apart grid written x y other_x other_y None wide here = inl refl
+apart grid written x y other_x other_y (Some (at_x, at_y)) wide here = elim (cases_eq (at_y * grid.width + at_x) (y * grid.width + x)) [
+  | inl same ↦ (
+      let rows : at_y ≡ y = sym (div-mul-add at_y grid.width at_x here.2) ∙ ap (λ (k : ℕ). k / grid.width) same ∙ div-mul-add y grid.width x wide in
+      let columns : at_x ≡ x = omega (arith, same, ap (λ (k : ℕ). k * grid.width) rows) in
+      inr (sym columns ∙ here.0, sym rows ∙ here.1)
+      )
+  | inr different ↦ inl (get_or-set_other grid.cells (y * grid.width + x) (at_y * grid.width + at_x) written [] different)
+]
+
+-- where a row of one cell is rewritten at a place, the cells of other places stay
+kept : (dir : Dir) (left right : List Item) (so_far : Rewriting) (place other : Place)
+    → (cell_of_place (one_rewritten dir left right so_far place).grid dir other ≡ cell_of_place so_far.grid dir other) ⊎ ((place.x ≡ other.x) × (place.y ≡ other.y))
+kept dir left right so_far place other = by (along so_far.grid dir place.x place.y 0) (stands_here so_far.grid dir place.x place.y) where
+  by : (at : Option (ℕ × ℕ)) → IsHere so_far.grid place.x place.y at → (cell_of_place (rewritten_at so_far left right at).grid dir other ≡ cell_of_place so_far.grid dir other) ⊎ ((place.x ≡ other.x) × (place.y ≡ other.y))
+  by None here = inl refl
+  by (Some (x, y)) here =
+      let next = rewritten_at so_far left right (Some (x, y)) in
+      elim (apart so_far.grid (rewritten_cell left right (cell_at so_far.grid x y)) x y other.x other.y (along so_far.grid dir other.x other.y 0) here.2 (stands_here so_far.grid dir other.x other.y)) [
+        | inl same ↦ inl (ap (cell_there next.grid) (along_same next.grid so_far.grid dir other.x other.y (refl, refl)) ∙ same)
+        | inr there ↦ inr (sym here.0 ∙ there.0, sym here.1 ∙ there.1)
+      ]
+
+-- a cell that stays, holds as before
+holds_still : (dir : Dir) (left right cell : List Item) (so_far : Rewriting) (place other : Place) → cell_of_place (one_rewritten dir left right so_far place).grid dir other ≡ cell_of_place so_far.grid dir other → row_holds (one_rewritten dir left right so_far place).grid (row_of_one cell) dir other ≡ row_holds so_far.grid (row_of_one cell) dir other
+holds_still dir left right cell so_far place other = by (along so_far.grid dir place.x place.y 0) where
+  there : (old new : Grid) (at : Option (ℕ × ℕ)) → cell_there new at ≡ cell_there old at → (holds_at new cell at && true) ≡ (holds_at old cell at && true)
+  there old new None equal = refl
+  there old new (Some (x, y)) equal = ap (λ (c : List (Option Piece)). pattern_holds c cell && true) equal
+
+  by : (at : Option (ℕ × ℕ)) → cell_of_place (rewritten_at so_far left right at).grid dir other ≡ cell_of_place so_far.grid dir other → row_holds (rewritten_at so_far left right at).grid (row_of_one cell) dir other ≡ row_holds so_far.grid (row_of_one cell) dir other
+  by None equal = refl
+  by (Some (x, y)) equal =
+      let next = (rewritten_at so_far left right (Some (x, y))).grid in
+      let at = along_same next so_far.grid dir other.x other.y (refl, refl) in
+      ap (λ (position : Option (ℕ × ℕ)). holds_at next cell position && true) at ∙ there so_far.grid next (along so_far.grid dir other.x other.y 0) (ap (cell_there next) (sym at) ∙ equal)
+
+-- ---- still holding
+-- the number of a position, line after line, each of this many cells
+abbrev number_at : Dir → ℕ → ℕ → ℕ → ℕ
+number_at Up long x y = x * long + y
+number_at Down long x y = x * long + y
+number_at _ long x y = y * long + x
+
+-- these places have the numbers from one up to another, and no gap
+abbrev AreNumbered : Dir → ℕ → ℕ → ℕ → List Place → Type 0
+AreNumbered dir long from to [] = from ≡ to
+AreNumbered dir long from to (place ∷ more) = (number_at dir long place.x place.y ≡ from) × (place.gap ≡ 0) × AreNumbered dir long (from + 1) to more
+
+number_in : (dir : Dir) (long line start : ℕ) (place : Place) → place ≡ place_in dir line start 0 → (number_at dir long place.x place.y ≡ line * long + start) × (place.gap ≡ 0)
+number_in Up long line start place is = rw is (refl, refl)
+number_in Down long line start place is = rw is (refl, refl)
+number_in Left long line start place is = rw is (refl, refl)
+number_in Right long line start place is = rw is (refl, refl)
+number_in Action long line start place is = rw is (refl, refl)
 
 -- the places of a row of one cell are tried line by line
-abbrev tried : Dir → ℕ → ℕ → List Place
-tried dir count long = flat_map (λ line. flat_map (λ start. map (place_in dir line start) (range_with_len 0 1)) (range_with_len 0 long)) (range_with_len 0 count)
+abbrev tried_in : Dir → ℕ → List ℕ → List Place
+tried_in dir line starts = flat_map (λ start. map (place_in dir line start) (range_with_len 0 1)) starts
 
-lines_same : (old new : Grid) (dir : Dir) → IsAsLarge old new → tried dir (line_count old dir) (line_length old dir) ≡ tried dir (line_count new dir) (line_length new dir)
-lines_same old new Up size = (λ i. tried Up (size.0 i) (size.1 i))
-lines_same old new Down size = (λ i. tried Down (size.0 i) (size.1 i))
-lines_same old new Left size = (λ i. tried Left (size.1 i) (size.0 i))
-lines_same old new Right size = (λ i. tried Right (size.1 i) (size.0 i))
-lines_same old new Action size = (λ i. tried Action (size.1 i) (size.0 i))
+abbrev tried : Dir → ℕ → List ℕ → List Place
+tried dir long lines = flat_map (λ line. tried_in dir line (range_with_len 0 long)) lines
+
+line_numbered : (dir : Dir) (long line start n from middle to : ℕ) (after : List Place) → line * long + start ≡ from → from + n ≡ middle → AreNumbered dir long middle to after → AreNumbered dir long from to (tried_in dir line (range_with_len start n) ++ after)
+line_numbered dir long line start zero from middle to after begins ends rest = subst (λ (k : ℕ). AreNumbered dir long k to after) (omega (arith, ends)) rest
+line_numbered dir long line start (suc n) from middle to after begins ends rest =
+    let here = number_in dir long line start (place_in dir line start 0) refl in
+    (here.0 ∙ begins, here.1, line_numbered dir long line (start + 1) n (from + 1) middle to after (omega (arith, begins)) (omega (arith, ends)) rest)
+
+lines_numbered : (dir : Dir) (long line n from to : ℕ) → line * long ≡ from → (line + n) * long ≡ to → AreNumbered dir long from to (tried dir long (range_with_len line n))
+lines_numbered dir long line zero from to begins ends = omega (arith, begins, ends)
+lines_numbered dir long line (suc n) from to begins ends =
+    line_numbered dir long line 0 long from (from + long) to (tried dir long (range_with_len (line + 1) n)) (omega (arith, begins)) refl (lines_numbered dir long (line + 1) n (from + long) to (omega (arith, begins)) (omega (arith, ends)))
+
+module _ (instance : Instance) (left right : List Item) (one : IsOfOneCell instance left right) (grid : Grid) (long : ℕ) where
+  abbrev holds : Grid → Place → Bool
+  holds now = row_holds now (row_of_one left) instance.scan
+
+  abbrev number : Place → ℕ
+  number place = number_at instance.scan long place.x place.y
+
+  -- the places from a number on hold as at the start
+  abbrev HoldAsBefore : ℕ → Rewriting → Type 0
+  HoldAsBefore from so_far = (place : Place) → from ≤ number place → holds so_far.grid place ≡ holds grid place
+
+  abbrev IsUnasked : Rewriting → List Place → Type 0
+  IsUnasked so_far found = fold (applied_at instance) so_far (map (λ (place : Place). place ∷ []) found) ≡ fold (one_rewritten instance.scan left right) so_far found
+
+  -- where the cell is rewritten at a place, those of higher numbers hold as before
+  behind : (from : ℕ) (so_far : Rewriting) (place : Place) → number place ≡ from → HoldAsBefore from so_far → HoldAsBefore (from + 1) (one_rewritten instance.scan left right so_far place)
+  behind from so_far place is same other past = elim (kept instance.scan left right so_far place other) [
+    | inl unchanged ↦ holds_still instance.scan left right left so_far place other unchanged ∙ same other (omega (arith, past))
+    | inr there ↦ absurd (let equal : number place ≡ number other = (λ i. number_at instance.scan long (there.0 i) (there.1 i)) in omega (arith, equal, is, past))
+  ]
+
+  -- rewritten in the order of their numbers, all places that hold at the start still do when their turn comes
+  still_there : (from to : ℕ) (all : List Place) → AreNumbered instance.scan long from to all → (so_far : Rewriting) → HoldAsBefore from so_far → IsUnasked so_far (filter (holds grid) all)
+  still_there from to [] numbered so_far same = refl
+  still_there from to (place ∷ all) numbered so_far same =
+      by (holds grid place) refl (still_there (from + 1) to all numbered.2 so_far (λ other past. same other (omega (arith, past)))) (still_there (from + 1) to all numbered.2 (one_rewritten instance.scan left right so_far place) (behind from so_far place numbered.0 same)) where
+        by : (b : Bool) → holds grid place ≡ b → IsUnasked so_far (filter (holds grid) all) → IsUnasked (one_rewritten instance.scan left right so_far place) (filter (holds grid) all) → IsUnasked so_far (cond b (place ∷ filter (holds grid) all) (filter (holds grid) all))
+        by true is left_out more =
+            let next = one_rewritten instance.scan left right so_far place in
+            let test : (nat_eq place.gap 0 && holds so_far.grid place) ≡ true = ap (λ (gap : ℕ). nat_eq gap 0 && holds so_far.grid place) numbered.1 ∙ same place (omega (arith, numbered.0)) ∙ is in
+            let step : applied_at instance so_far (place ∷ []) ≡ next = applied_at-one instance left right so_far place one ∙ ap (λ (b : Bool). cond b next so_far) test in
+            ap (λ (r : Rewriting). fold (applied_at instance) r (map (λ (p : Place). p ∷ []) (filter (holds grid) all))) step ∙ more
+        by false is left_out more = left_out
+
+-- ---- running again
+module _ (dir : Dir) (left right : List Item) where
+  -- a row of one cell doesn't hold at a place, or what stands there stays if it is rewritten
+  abbrev IsSettled : Grid → Place → Type 0
+  IsSettled grid place = (row_holds grid (row_of_one left) dir place ≡ false) ⊎ (rewritten_cell left right (cell_of_place grid dir place) ≡ cell_of_place grid dir place)
+
+  abbrev stays : List (Option Piece) → Type 0
+  stays cell = rewritten_cell left right cell ≡ cell
+
+  written_stays : (cells : List (List (Option Piece))) (i : ℕ) (cell : List (Option Piece)) → stays (get_or (set cells i (rewritten_cell left right cell)) i [])
+  written_stays cells i cell = elim (cases_lt i (length cells)) [
+    | inl within ↦ subst stays (sym (get_or-set_same cells i (rewritten_cell left right cell) [] within)) (rewritten_again left right cell)
+    | inr past ↦ subst stays (sym (get_or_past (set cells i (rewritten_cell left right cell)) i [] (omega (arith, past, length-set cells i (rewritten_cell left right cell))))) refl
+  ]
+
+  settled_here : (so_far : Rewriting) (place : Place) → IsSettled (one_rewritten dir left right so_far place).grid place
+  settled_here so_far place = by (along so_far.grid dir place.x place.y 0) refl where
+    by : (at : Option (ℕ × ℕ)) → along so_far.grid dir place.x place.y 0 ≡ at → IsSettled (rewritten_at so_far left right at).grid place
+    by None is = inl (ap (λ (there : Option (ℕ × ℕ)). holds_at so_far.grid left there && true) is)
+    by (Some (x, y)) is =
+        let next = rewritten_at so_far left right (Some (x, y)) in
+        inr (subst stays (sym (ap (cell_there next.grid) (along_same next.grid so_far.grid dir place.x place.y (refl, refl) ∙ is))) (written_stays so_far.grid.cells (y * so_far.grid.width + x) (cell_at so_far.grid x y)))
+
+  settled_still : (so_far : Rewriting) (place other : Place) → IsSettled so_far.grid other → IsSettled (one_rewritten dir left right so_far place).grid other
+  settled_still so_far place other settled = elim (kept dir left right so_far place other) [
+    | inl same ↦ elim settled [
+      | inl fails ↦ inl (holds_still dir left right left so_far place other same ∙ fails)
+      | inr stay ↦ inr (subst stays (sym same) stay)
+    ]
+    | inr there ↦ subst (λ (p : Place). IsSettled (one_rewritten dir left right so_far place).grid p) (λ i. record { x = there.0 i; y = there.1 i; gap = other.gap }) (settled_here so_far (record { x = place.x; y = place.y; gap = other.gap }))
+  ]
+
+  settled_behind : (found : List Place) (start : Rewriting) (other : Place) → IsSettled start.grid other → IsSettled (fold (one_rewritten dir left right) start found).grid other
+  settled_behind [] start other settled = settled
+  settled_behind (place ∷ found) start other settled = settled_behind found (one_rewritten dir left right start place) other (settled_still start place other settled)
+
+  -- rewriting a cell that stays leaves the level
+  left_so : (grid : Grid) (place : Place) → stays (cell_of_place grid dir place) → one_rewritten dir left right (in_rewrite grid false) place ≡ in_rewrite grid false
+  left_so grid place = by (along grid dir place.x place.y 0) where
+    by : (at : Option (ℕ × ℕ)) → stays (cell_there grid at) → rewritten_at (in_rewrite grid false) left right at ≡ in_rewrite grid false
+    by None stay = refl
+    by (Some (x, y)) stay =
+        let i = y * grid.width + x in
+        ap (λ (cell : List (Option Piece)). in_rewrite (record grid { cells = set grid.cells i cell }) (not (same_cell cell (cell_at grid x y)))) stay
+        ∙ ap (λ (cells : List (List (Option Piece))). in_rewrite (record grid { cells = cells }) (not (same_cell (cell_at grid x y) (cell_at grid x y)))) (set-get_or grid.cells i [])
+        ∙ ap (λ (b : Bool). in_rewrite grid (not b)) (same_cell_self (cell_at grid x y))
+
+module _ (instance : Instance) (left right : List Item) (one : IsOfOneCell instance left right) (grid end : Grid) where
+  abbrev holding : Grid → Place → Bool
+  holding now = row_holds now (row_of_one left) instance.scan
+
+  settled_leaves : (place : Place) → IsSettled instance.scan left right end place → applied_at instance (in_rewrite end false) (place ∷ []) ≡ in_rewrite end false
+  settled_leaves place settled = applied_at-one instance left right (in_rewrite end false) place one ∙ by (nat_eq place.gap 0) (holding end place) refl where
+    by : (a b : Bool) → holding end place ≡ b → cond (a && b) (one_rewritten instance.scan left right (in_rewrite end false) place) (in_rewrite end false) ≡ in_rewrite end false
+    by true true is = elim settled [ inl fails ↦ (let both : true ≡ false = sym is ∙ fails in cc) | inr stay ↦ left_so instance.scan left right end place stay ]
+    by true false is = refl
+    by false b is = refl
+
+  abbrev Leaves : List Place → Type 0
+  Leaves all = fold (applied_at instance) (in_rewrite end false) (map (λ (p : Place). p ∷ []) (filter (holding end) all)) ≡ in_rewrite end false
+
+  -- applied once more at all places where it then holds, an instance leaves the level
+  leaves : (all : List Place) (start : Rewriting) → (fold (one_rewritten instance.scan left right) start (filter (holding grid) all)).grid ≡ end → ((place : Place) → holding grid place ≡ false → IsSettled instance.scan left right start.grid place) → Leaves all
+  leaves [] start is lost = refl
+  leaves (place ∷ all) start is lost = by (holding grid place) refl is (λ later ends more. leaves all later ends more) where
+    next : Rewriting
+    next = one_rewritten instance.scan left right start place
+
+    then : IsSettled instance.scan left right end place → Leaves all → (b : Bool) → fold (applied_at instance) (in_rewrite end false) (map (λ (p : Place). p ∷ []) (cond b (place ∷ filter (holding end) all) (filter (holding end) all))) ≡ in_rewrite end false
+    then settled rest true = ap (λ (r : Rewriting). fold (applied_at instance) r (map (λ (p : Place). p ∷ []) (filter (holding end) all))) (settled_leaves place settled) ∙ rest
+    then settled rest false = rest
+
+    by : (b : Bool) → holding grid place ≡ b → (fold (one_rewritten instance.scan left right) start (cond b (place ∷ filter (holding grid) all) (filter (holding grid) all))).grid ≡ end
+        → ((later : Rewriting) → (fold (one_rewritten instance.scan left right) later (filter (holding grid) all)).grid ≡ end → ((other : Place) → holding grid other ≡ false → IsSettled instance.scan left right later.grid other) → Leaves all) → Leaves (place ∷ all)
+    by true same ends rest =
+        then (subst (λ (g : Grid). IsSettled instance.scan left right g place) ends (settled_behind instance.scan left right (filter (holding grid) all) next place (settled_here instance.scan left right start place)))
+        (rest next ends (λ other was. settled_still instance.scan left right start place other (lost other was))) (holding end place)
+    by false same ends rest =
+        then (subst (λ (g : Grid). IsSettled instance.scan left right g place) ends (settled_behind instance.scan left right (filter (holding grid) all) start place (lost place same)))
+        (rest start ends lost) (holding end place)
+
+lines_same : (old new : Grid) (dir : Dir) → IsAsLarge old new → tried dir (line_length old dir) (range_with_len 0 (line_count old dir)) ≡ tried dir (line_length new dir) (range_with_len 0 (line_count new dir))
+lines_same old new Up size = (λ i. tried Up (size.1 i) (range_with_len 0 (size.0 i)))
+lines_same old new Down size = (λ i. tried Down (size.1 i) (range_with_len 0 (size.0 i)))
+lines_same old new Left size = (λ i. tried Left (size.0 i) (range_with_len 0 (size.1 i)))
+lines_same old new Right size = (λ i. tried Right (size.0 i) (range_with_len 0 (size.1 i)))
+lines_same old new Action size = (λ i. tried Action (size.0 i) (range_with_len 0 (size.1 i)))
 
 was_found : (r : Result (List Place) GridFault) (found : List Place) → found_or_stop r ≡ Ok found → r ≡ Ok found
 was_found (Err fault) found is = cc
 was_found (Ok places) found is = cc
 
--- an instance of one cell that has been applied at all its places, and holds in none of them any more, does nothing
-pub rested : (instance : Instance) (grid : Grid) (row : RuleRow) (found : List Place) (end : Rewriting) → instance.left ≡ row ∷ [] → found_or_stop (searched grid row instance.scan) ≡ Ok found → end ≡ fold (applied_at instance) (in_rewrite grid false) (map (λ (p : Place). p ∷ []) found) → SameSize grid end.grid
-    → HoldsNowhere end.grid instance found → applied instance end.grid ≡ Ok (untouched end.grid)
-rested instance grid row found end only is ends size holds =
-    let dir = instance.scan in
-    let left = row_of_one holds.left in
-    let both : row ∷ [] ≡ left ∷ [] = sym only ∙ holds.single.left in
-    let same : row ≡ left = cc in
-    let large : IsAsLarge grid end.grid = (sym size.width, sym size.height) in
-    let are : found ≡ places grid left dir = searched-gives grid left dir found (ap (λ (r : RuleRow). searched grid r dir) (sym same) ∙ was_found _ found is) in
-    let none : places end.grid left dir ≡ [] = ap (filter (row_holds end.grid left dir)) (sym (lines_same grid end.grid dir large))
-    ∙ filter_none (tried dir (line_count grid dir) (line_length grid dir)) (row_holds grid left dir) (row_holds end.grid left dir) (ap (list_any (row_holds end.grid left dir)) (sym are) ∙ holds.nowhere)
-    (unheld instance holds.left holds.right holds.single found (in_rewrite grid false) end (sym ends) large holds.nowhere) in
-    applied_none instance end.grid (subst (λ rows. IsNoneTaken end.grid dir rows) (sym holds.single.left) (none_first end.grid dir left [] none))
+-- what was found are all places of the row
+pub all_of_one : (instance : Instance) (left right : List Item) (grid : Grid) (row : RuleRow) (found : List Place) → IsOfOneCell instance left right → instance.left ≡ row ∷ [] → found_or_stop (searched grid row instance.scan) ≡ Ok found → found ≡ places grid (row_of_one left) instance.scan
+all_of_one instance left right grid row found one only is =
+    let both : row ∷ [] ≡ row_of_one left ∷ [] = sym only ∙ one.left in
+    let same : row ≡ row_of_one left = cc in
+    searched-gives grid (row_of_one left) instance.scan found (ap (λ (r : RuleRow). searched grid r instance.scan) (sym same) ∙ was_found _ found is)
+
+module _ (instance : Instance) (left right : List Item) (one : IsOfOneCell instance left right) (grid : Grid) (found : List Place) (all : found ≡ places grid (row_of_one left) instance.scan) where
+  abbrev end : Rewriting
+  end = fold (one_rewritten instance.scan left right) (in_rewrite grid false) found
+
+  -- it is applied as its cell is rewritten
+  pub applied_unasked : fold (applied_at instance) (in_rewrite grid false) (map (λ (p : Place). p ∷ []) found) ≡ end
+  applied_unasked =
+      let dir = instance.scan in
+      let long = line_length grid dir in
+      let lines = line_count grid dir in
+      subst (IsUnasked instance left right one grid long (in_rewrite grid false)) (sym all) (still_there instance left right one grid long 0 (lines * long) (tried dir long (range_with_len 0 lines)) (lines_numbered dir long 0 lines 0 (lines * long) (omega arith) (omega arith)) (in_rewrite grid false) (λ place past. refl))
+
+  -- it is calm behind its change
+  pub calm : (now : Grid) → end.grid ≡ now → SameSize grid now → IsLawful now → IsCalm applied instance.commands now instance
+  calm now is size lawful = by (places now row dir) (ap found_or_stop (searched-gapless now row dir lawful refl)) again where
+    dir : Dir
+    dir = instance.scan
+
+    row : RuleRow
+    row = row_of_one left
+
+    again : fold (applied_at instance) (in_rewrite now false) (map (λ (p : Place). p ∷ []) (places now row dir)) ≡ in_rewrite now false
+    again =
+        subst (λ (all : List Place). fold (applied_at instance) (in_rewrite now false) (map (λ (p : Place). p ∷ []) (filter (row_holds now row dir) all)) ≡ in_rewrite now false) (lines_same grid now dir (sym size.width, sym size.height))
+        (leaves instance left right one grid now (tried dir (line_length grid dir) (range_with_len 0 (line_count grid dir))) (in_rewrite grid false) (ap (λ (ps : List Place). (fold (one_rewritten dir left right) (in_rewrite grid false) ps).grid) (sym all) ∙ is) (λ place fails. inl fails))
+
+    by : (held : List Place) → found_or_stop (searched now row dir) ≡ Ok held → fold (applied_at instance) (in_rewrite now false) (map (λ (p : Place). p ∷ []) held) ≡ in_rewrite now false → IsCalm applied instance.commands now instance
+    by [] found_now same = calm_untouched applied instance.commands now instance (row_nowhere instance now row one.left found_now)
+    by (place ∷ held) found_now same = record {
+      gives = instance.commands;
+      quiet = row_ends instance now row (place ∷ held) (in_rewrite now false) one.left found_now (omega arith) (sym same);
+      known = either_self instance.commands;
+    }

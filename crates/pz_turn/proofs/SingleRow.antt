@@ -1,13 +1,13 @@
 -- An instance of one row: each place of the row is a combination.
-use Rattle.pz_turn.proofs.Common.{◌≡◌, ◌<◌, ◌≤◌, List, [], ◌∷◌, map, length, nat_eq, refl, ap, sym, ◌∙◌, arith, Result, Ok, Err, inl, inr, fold, false, cases_lt, append-nil, length-map, Dir, Instance, RuleRow, Place, Grid, places, searched, Rewriting, in_rewrite, StepFault, combinations, untouched, found_or_stop, after_row, taken, applied_at, outcome_of, applied}
+use Rattle.pz_turn.proofs.Common.{◌≡◌, ◌<◌, ◌≤◌, List, [], ◌∷◌, map, length, nat_eq, true, refl, ap, sym, ◌∙◌, arith, Result, Ok, Err, inl, inr, fold, false, cases_lt, append-nil, length-map, Dir, Instance, RuleRow, Place, Grid, places, searched, Rewriting, in_rewrite, StepFault, combinations, untouched, found_or_stop, after_row, taken, applied_at, outcome_of, applied}
 use Rattle.pz_grid.proofs.FoundLemmas.{searched-within, searched-over}
 use Rattle.pz_turn.specs.declared.outcome.StepFault.TheVariants.{MatchLimit}
 use Rattle.pz_turn.proofs.Applying.{applied_ends, applied_stops, map-nothing_behind}
 use Rattle.pz_turn.proofs.Skipping.{applied_none}
 
-pub positive : (found : List Place) → nat_eq (length found) 0 ≡ false → 0 < length found
-positive [] none = cc
-positive (place ∷ found) some = omega arith
+pub some_found : (items found : List Place) → items ≡ found → nat_eq (length items) 0 ≡ false → 0 < length found
+some_found items [] are none = (let no : nat_eq (length items) 0 ≡ true = ap (λ (ps : List Place). nat_eq (length ps) 0) are in cc)
+some_found items (place ∷ found) are some = omega arith
 
 -- what is taken of one row
 taken_one : (instance : Instance) (grid : Grid) (row : RuleRow) (found : Result (List Place) StepFault) → instance.left ≡ row ∷ [] → found_or_stop (searched grid row instance.scan) ≡ found → taken grid instance.scan instance.left ≡ after_row found (Ok [])

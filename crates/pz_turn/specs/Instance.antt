@@ -3,7 +3,6 @@
 -- combination, even if nothing changes. Two things stop it: too many places of a row before the first one without a place, or
 -- too many combinations.
 use Rattle.std.specs.Prelude.{◌≡◌, ◌⊎◌, ◌*◌, ◌≤◌, List, [], ◌∷◌, fold, length, false, None, Result, Ok, Err, nat_lt, if◌then◌else◌}
-use Rattle.std.specs.List.{list_any}
 use Rattle.pz_game.specs.declared.direction.Dir.{Dir}
 use Rattle.pz_program.specs.declared.commands.Commands.{Commands}
 use Rattle.pz_program.specs.declared.instance.Instance.{Instance}
@@ -13,8 +12,8 @@ use Rattle.pz_grid.specs.declared.placing.GridFault.{GridFault}
 use Rattle.pz_grid.specs.declared.placing.GridFault.TheVariants as grid
 use Rattle.pz_grid.specs.declared.placing.Place.{Place}
 use Rattle.pz_sheet.specs.Grid.{Grid}
-use Rattle.pz_grid.specs.Places.{row_of_one, row_holds, searched, still_matches}
-use Rattle.pz_grid.specs.Rewriting.{Rewriting, in_rewrite, rewritten}
+use Rattle.pz_grid.specs.Places.{row_of_one, searched, still_matches}
+use Rattle.pz_grid.specs.Rewriting.{Rewriting, in_rewrite, rewritten, rewritten_row}
 use Rattle.pz_turn.specs.declared.outcome.StepFault.{StepFault}
 use Rattle.pz_turn.specs.declared.outcome.StepFault.TheVariants.{Memory, MatchLimit}
 use Rattle.pz_turn.specs.declared.instance.TheConstants.{COMBINATION_LIMIT, FEW_CELLS}
@@ -87,9 +86,6 @@ pub record IsOfOneCell (instance : Instance) (left_cell right_cell : List Item) 
   pub left : instance.left ≡ row_of_one left_cell ∷ []
   pub right : instance.right ≡ row_of_one right_cell ∷ []
 
--- an instance of one cell that holds at none of these places
-pub record HoldsNowhere (grid : Grid) (instance : Instance) (places : List Place) : Type 0 where
-  pub left : List Item
-  pub right : List Item
-  pub single : IsOfOneCell instance left right
-  pub nowhere : list_any (row_holds grid (row_of_one left) instance.scan) places ≡ false
+-- a row of this left and this right cell is rewritten at a place
+abbrev pub one_rewritten : Dir → List Item → List Item → Rewriting → Place → Rewriting
+one_rewritten dir left right so_far place = rewritten_row dir so_far (place, (row_of_one left, row_of_one right))

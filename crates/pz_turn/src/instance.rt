@@ -9,17 +9,17 @@ ghost use Rattle.pz_grid.specs.Places.{places, searched};
 ghost use Rattle.pz_grid.specs.Rewriting.{in_rewrite};
 ghost use Rattle.pz_turn.specs.Calm.{IsCalm};
 ghost use Rattle.pz_turn.specs.Combinations.{combinations};
-ghost use Rattle.pz_turn.specs.Instance.{found_or_stop, taken, applied_at, applied, given, HasNoEffect, IsOfOneCell, HoldsNowhere};
+ghost use Rattle.pz_turn.specs.Instance.{found_or_stop, taken, applied_at, applied, given, HasNoEffect};
 ghost use Rattle.pz_turn.specs.Outcome.{GivesOutcome, untouched};
 ghost use Rattle.pz_turn.specs.declared.outcome.StepFault.TheVariants.{Memory};
 
-use crate::one_cell::{apply_cell_at, cells_of, holds_somewhere};
+use crate::one_cell::{cells_of, rewrite_each};
 use crate::outcome::{Given, StepFault};
 use crate::resting::Runnable;
 use bitflags::Flags;
 use pz_base::listed::Listed;
 use pz_game::direction::Dir;
-use pz_game::pattern::{Pattern, Row};
+use pz_game::pattern::Row;
 use pz_grid::Level;
 use pz_grid::placing::{GridFault, Place, places, still_matches};
 use pz_program::commands::Commands;
@@ -233,63 +233,22 @@ fn apply_rows(alloc: Global, level: &mut Level, instance: &Instance) -> Result<G
     })
 }
 
-/// Applies an instance of one row at a place, if it still holds there. `cells`: its left and its right cell, if it is of one cell.
-fn apply_one(
-    level: &mut Level,
-    instance: &Instance,
-    cells: Option<(&Pattern, &Pattern)>,
-    place: &Place,
-    changed: bool,
-) -> bool
-    requires of_game { IsInstanceOf level.old.grid.layers instance.now }
-    requires cells { IfSome cells (λ cells. IsOfOneCell instance.now cells.0.now cells.1.now) }
-    ensures applied { in_rewrite level.new.grid result ≡ applied_at instance.now (in_rewrite level.old.grid changed) (place.now ∷ []) }
-    ensures size { SameSize level.old.grid level.new.grid }
-{
-    match cells {
-        Some((left, right)) => apply_cell_at(level, instance, left, right, *place, changed),
-        None => apply_at(level, instance, slice::from_ref(place), changed),
-    }
-}
-
 /// Applies an instance of one row at each of these places in order.
-fn apply_each(
-    level: &mut Level,
-    instance: &Instance,
-    cells: Option<(&Pattern, &Pattern)>,
-    places: &[Place],
-) -> bool
+fn apply_each(level: &mut Level, instance: &Instance, places: &[Place]) -> bool
     requires of_game { IsInstanceOf level.old.grid.layers instance.now }
-    requires cells { IfSome cells (λ cells. IsOfOneCell instance.now cells.0.now cells.1.now) }
     ensures applied { in_rewrite level.new.grid result ≡ fold (applied_at instance.now) (in_rewrite level.old.grid false) (map (λ place. place ∷ []) places.now) }
     ensures size { SameSize level.old.grid level.new.grid }
 {
     let mut changed = false;
     for place in places {
-        changed = apply_one(level, instance, cells, place, changed);
+        changed = apply_at(level, instance, slice::from_ref(place), changed);
     }
     changed
 }
 
-/// Whether an instance is known to hold at none of these places: it is of one cell, and each place was asked. False says nothing.
-fn holds_nowhere(
-    level: &Level,
-    instance: &Instance,
-    cells: Option<(&Pattern, &Pattern)>,
-    places: &[Place],
-) -> bool
-    requires of_game { IsInstanceOf level.now.grid.layers instance.now }
-    requires cells { IfSome cells (λ cells. IsOfOneCell instance.now cells.0.now cells.1.now) }
-    ensures { result ≡ true → HoldsNowhere level.now.grid instance.now places.now }
-{
-    match cells {
-        Some((left, _)) => !holds_somewhere(level, instance.scan, left, places),
-        None => false,
-    }
-}
-
 /// Applies an instance of one row, as nearly all are. Each place is a combination, and both limits are equal. If it is of one cell, it
-/// changed only the cells of its places; where it holds in none of them any more, it holds nowhere.
+/// changes only the cells of its places. So none is asked again before its rewriting. Run again, it would change nothing, since a cell that
+/// was rewritten stays as it is if it is rewritten again.
 fn apply_row(
     alloc: Global,
     level: &mut Level,
@@ -306,14 +265,22 @@ fn apply_row(
     if found.items().is_empty() {
         return Ok(Given::nothing());
     }
-    let cells = cells_of(instance);
-    let changed = apply_each(level, instance, cells, found.items());
     let commands = instance.commands;
-    let calm = holds_nowhere(level, instance, cells, found.items());
+    let Some((left, right)) = cells_of(instance) else {
+        let changed = apply_each(level, instance, found.items());
+        return Ok(Given {
+            commands,
+            changed,
+            calm: false,
+        });
+    };
+    let changed = rewrite_each(level, instance.scan, left, right, found.items());
+    // (brings the proof the law of levels)
+    let _ = level.width();
     Ok(Given {
         commands,
         changed,
-        calm,
+        calm: true,
     })
 }
 

@@ -1,13 +1,11 @@
 //! Instances of one cell: their one row has one cell and no gap.
 
-ghost use Rattle.std.specs.Prelude.{◌≡◌, ◌∷◌, [], IfSome, MatchOption, true, false};
-ghost use Rattle.std.specs.List.{list_any};
+ghost use Rattle.std.specs.Prelude.{◌≡◌, ◌∷◌, [], IfSome, false, fold};
 ghost use Rattle.pz_game.specs.Pattern.{AreOf};
-ghost use Rattle.pz_program.specs.Instance.{IsInstanceOf};
 ghost use Rattle.pz_sheet.specs.Grid.{SameSize};
-ghost use Rattle.pz_grid.specs.Places.{row_of_one, row_holds};
+ghost use Rattle.pz_grid.specs.Places.{row_of_one};
 ghost use Rattle.pz_grid.specs.Rewriting.{in_rewrite};
-ghost use Rattle.pz_turn.specs.Instance.{applied_at, IsOfOneCell};
+ghost use Rattle.pz_turn.specs.Instance.{one_rewritten, IsOfOneCell};
 
 use pz_game::direction::Dir;
 use pz_game::pattern::{Pattern, Row};
@@ -44,36 +42,22 @@ pub(crate) fn cells_of(instance: &Instance) -> Option<(&Pattern, &Pattern)>
     Some((left, right))
 }
 
-/// Applies an instance of one cell at a place, if it still holds there.
-pub(crate) fn apply_cell_at(
+/// Rewrites a row of one cell at each of these places in order. It doesn't ask whether the row holds there.
+pub(crate) fn rewrite_each(
     level: &mut Level,
-    instance: &Instance,
+    dir: Dir,
     left: &Pattern,
     right: &Pattern,
-    place: Place,
-    changed: bool,
+    places: &[Place],
 ) -> bool
-    requires of_game { IsInstanceOf level.old.grid.layers instance.now }
-    requires single { IsOfOneCell instance.now left.now right.now }
-    ensures applied { in_rewrite level.new.grid result ≡ applied_at instance.now (in_rewrite level.old.grid changed) (place ∷ []) }
+    requires left_of { AreOf level.old.grid.layers left.now }
+    requires right_of { AreOf level.old.grid.layers right.now }
+    ensures rewritten { in_rewrite level.new.grid result ≡ fold (one_rewritten dir left.now right.now) (in_rewrite level.old.grid false) places.now }
     ensures size { SameSize level.old.grid level.new.grid }
 {
-    if place.gap == 0 && level.one_cell_holds(instance.scan, place, left) {
-        level.rewrite_cell(instance.scan, place, left, right, changed)
-    } else {
-        changed
-    }
-}
-
-/// Whether a row of this one cell holds at one of these places.
-pub(crate) fn holds_somewhere(level: &Level, dir: Dir, cell: &Pattern, places: &[Place]) -> bool
-    requires of_game { AreOf level.now.grid.layers cell.now }
-    ensures { result ≡ list_any (row_holds level.now.grid (row_of_one cell.now) dir) places.now }
-{
+    let mut changed = false;
     for place in places {
-        if level.one_cell_holds(dir, *place, cell) {
-            return true;
-        }
+        changed = level.rewrite_cell(dir, *place, left, right, changed);
     }
-    false
+    changed
 }
