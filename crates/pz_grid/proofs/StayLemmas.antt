@@ -1,5 +1,5 @@
 -- A piece that is still stays where it stands to the end of the movement: nothing moves it, and nothing enters its place.
-use Rattle.pz_grid.proofs.Common.{◌≡◌, ◌≢◌, inl, inr, ℕ, ◌+◌, ◌*◌, List, [], Option, Some, None, length, get_or, set, ap, sym, ◌∙◌, refl, subst, cases_lt, cases_eq, get_or-set_same, get_or-set_other, get_or_past, set_past, Piece, Dir, still_piece, Grid, cell_at, place_at, with_place, IsStill, KeepsStill, Pass, Spot, neighbour, unless_taken, free, heading_goal, moved_to}
+use Rattle.pz_grid.proofs.Common.{◌≡◌, ◌≢◌, inl, inr, ℕ, ◌+◌, ◌*◌, List, [], Option, Some, None, length, get_or, set, ap, sym, ◌∙◌, refl, subst, cases_lt, cases_eq, get_or-set_same, get_or-set_other, set_past, Piece, Dir, still_piece, Grid, place_at, IsStill, KeepsStill, Pass, Spot, neighbour, unless_taken, free, heading_goal, moved_to}
 
 -- a write to another place leaves it
 still_write : (cells : List (List (Option Piece))) (i at : ℕ) (place : Option Piece) (index layer object : ℕ) → (index ≡ i → layer ≡ at → ⊥) → IsStill cells index layer object → IsStill (set cells i (set (get_or cells i []) at place)) index layer object
@@ -43,23 +43,3 @@ still-moved_to pass at piece (Some goal) e g index layer object h =
     let none : Option Piece = None in
     let one : Some (still_piece object) ≡ none = sym h ∙ here in
     cc) taken
-
--- where nothing stands on a layer, nothing does once a place of that layer is emptied
-none_set : (cell : List (Option Piece)) (layer : ℕ) → get_or (set cell layer None) layer None ≡ None
-none_set cell layer = elim (cases_lt layer (length cell)) [
-  | inl within ↦ get_or-set_same cell layer None None within
-  | inr past ↦ ap (λ (places : List (Option Piece)). get_or places layer None) (set_past cell layer None past) ∙ get_or_past cell layer None past
-]
-
-pub none_stays : (grid : Grid) (x y layer next_x next_y : ℕ) → place_at grid next_x next_y layer ≡ None → place_at (with_place grid x y layer None) next_x next_y layer ≡ None
-none_stays grid x y layer next_x next_y none =
-    let put = y * grid.width + x in
-    let at = next_y * grid.width + next_x in
-    let cell = set (cell_at grid x y) layer None in
-    elim (cases_eq at put) [
-      | inl same ↦ elim (cases_lt put (length grid.cells)) [
-        | inl within ↦ ap (λ (places : List (Option Piece)). get_or places layer None) (ap (λ (k : ℕ). get_or (set grid.cells put cell) k []) same ∙ get_or-set_same grid.cells put cell [] within) ∙ none_set (cell_at grid x y) layer
-        | inr past ↦ ap (λ (cells : List (List (Option Piece))). get_or (get_or cells at []) layer None) (set_past grid.cells put cell past) ∙ none
-      ]
-      | inr apart ↦ ap (λ (places : List (Option Piece)). get_or places layer None) (get_or-set_other grid.cells put at cell [] apart) ∙ none
-    ]
