@@ -1,5 +1,5 @@
 -- The first piece of a cell that heads somewhere, and such a piece that is taken away.
-use Rattle.pz_cells.proofs.Common.{◌≡◌, ◌≢◌, inl, inr, ℕ, ◌+◌, ◌*◌, ◌/◌, ◌%◌, ◌<◌, ◌≤◌, List, Option, Some, None, Bool, true, false, not, ◌&&◌, get_or, set, arith, ap, sym, ◌∙◌, refl, subst, nat_eq, All, cases_eq, cases_lt, member, Piece, Dir, is_toward, flag, heads, heading_in, place_of, cell_of, Shows, AreLawful, IsOnLayer, heading_of, still_place, dir_bit-low}
+use Rattle.pz_cells.proofs.Common.{◌≡◌, ◌≢◌, inl, inr, ℕ, ◌+◌, ◌*◌, ◌/◌, ◌%◌, ◌<◌, List, Option, Some, None, true, false, not, ◌&&◌, length, get_or, set, arith, ap, sym, ◌∙◌, refl, subst, nat_eq, All, cases_eq, cases_lt, member, Piece, Dir, is_toward, flag, heads, heading_in, place_of, cell_of, Shows, AreLawful, IsOnLayer, heading_of, still_place, dir_bit-low}
 use Rattle.pz_game.specs.Headings.{dir_bit}
 use Rattle.pz_cells.specs.Cell.{IsStillOn, moving_piece}
 use Rattle.pz_cells.specs.declared.piece.Mover.{Mover}
@@ -47,6 +47,12 @@ module _ (depth : ℕ) (layers objects movement : List ℕ) (low : All (λ l. l 
     pub mover_low : mover.layer < depth
     mover_low = (let on = subst (IsOnLayer layers mover.layer) there (on_its_layer depth layers objects movement lawful mover.layer) in omega (arith, low mover.object 0 on.0, on.1))
 
+    its : (member objects mover.object ≡ true) × (get_or layers mover.object 0 ≡ mover.layer) × (mover.object < length layers)
+    its = object_there layers objects movement mover.layer (moving_piece mover) lawful (sym (place_seen depth layers objects movement mover.layer mover_low) ∙ there)
+
+    pub mover_stands : member objects mover.object ≡ true
+    mover_stands = its.0
+
     headed_new : (movement_new : List ℕ) → ((number : ℕ) → member movement_new number ≡ (not (nat_eq number (flag mover.layer mover.dir)) && member movement number)) → (layer : ℕ) (dir : Dir) → heads movement_new layer dir ≡ (not (nat_eq layer mover.layer) && heads movement layer dir)
     headed_new movement_new is layer dir = elim (cases_eq layer mover.layer) [
       | inl same ↦ grind (arith, same, is (flag layer dir), heads_seen depth layers objects movement layer dir low lawful, there, same_dir_is)
@@ -58,6 +64,5 @@ module _ (depth : ℕ) (layers objects movement : List ℕ) (low : All (λ l. l 
     pub taken : (objects_new movement_new : List ℕ) → ((other : ℕ) → member objects_new other ≡ (not (nat_eq other mover.object) && member objects other)) → ((number : ℕ) → member movement_new number ≡ (not (nat_eq number (flag mover.layer mover.dir)) && member movement number))
         → AreLawful layers objects_new movement_new × (cell_of depth layers objects_new movement_new ≡ set cell mover.layer None)
     taken objects_new movement_new objects_are movement_is =
-        let here = object_there layers objects movement mover.layer (moving_piece mover) lawful (sym (place_seen depth layers objects movement mover.layer mover_low) ∙ there) in
         put_seen depth layers objects movement objects_new movement_new mover.layer None None lawful refl
-        (changes_lifted layers objects movement objects_new movement_new mover.layer mover.object lawful here.0 here.1 objects_are (headed_new movement_new movement_is) (λ number high. grind (arith, movement_is number, lawful.proper number high)))
+        (changes_lifted layers objects movement objects_new movement_new mover.layer mover.object lawful its.0 its.1 objects_are (headed_new movement_new movement_is) (λ number high. grind (arith, movement_is number, lawful.proper number high)))

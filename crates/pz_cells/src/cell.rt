@@ -1,7 +1,7 @@
 //! A cell in words.
 
-ghost use Rattle.std.specs.Prelude.{◌≡◌, ◌<◌, length, slice_index_or, slice_set, Some, None};
-ghost use Rattle.pz_sets.specs.Sets.{IsWithin};
+ghost use Rattle.std.specs.Prelude.{◌≡◌, ◌<◌, ◌&&◌, ◌||◌, ℕ, Some, None, false, length, nat_eq, not, slice_index_or, slice_set, true};
+ghost use Rattle.pz_sets.specs.Sets.{IsWithin, member};
 ghost use Rattle.pz_cells.specs.Cell.{IsOnLayer, moving_piece, still_piece};
 ghost use Rattle.pz_cells.specs.Layering.{IsLayering};
 ghost use Rattle.pz_cells.specs.Shown.{AreLawful, Changes};
@@ -84,6 +84,8 @@ impl<const N: usize> Cell<N> {
         ensures sound { IsSound layers.now self.new }
         ensures cell { seen layers.now self.new ≡ slice_set (seen layers.now self.old) mover.layer None }
         ensures movement { IsWithin self.new.movement self.old.movement }
+        ensures objects { (object : ℕ) → member self.new.objects object ≡ (not (nat_eq object mover.object) && member self.old.objects object) }
+        ensures stood { member self.old.objects mover.object ≡ true }
     {
         // (brings the proof the law of the layers)
         let _ = layers.depth();
@@ -99,6 +101,8 @@ impl<const N: usize> Cell<N> {
         ensures sound { IsSound layers.now self.new }
         ensures cell { seen layers.now self.new ≡ slice_set (seen layers.now self.old) layer (Some (still_piece object)) }
         ensures movement { self.new.movement ≡ self.old.movement }
+        ensures objects { (other : ℕ) → member self.new.objects other ≡ (nat_eq other object || member self.old.objects other) }
+        ensures lacked { member self.old.objects object ≡ false }
     {
         // (brings the proof the law of the layers)
         let _ = layers.depth();
