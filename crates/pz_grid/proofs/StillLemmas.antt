@@ -1,5 +1,6 @@
 -- A cell in which nothing heads anywhere is left as it is by a pass, and so are rows of such cells, and columns of such rows.
-use Rattle.pz_grid.proofs.Common.{◌≡◌, inl, inr, ℕ, zero, suc, ◌+◌, ◌-◌, ◌*◌, ◌≤◌, ◌<◌, List, [], ◌∷◌, Bool, false, Option, Some, None, length, map, set, get_or, get_or-set_other, get_or-set_same, set_past, cases_eq, cases_lt, arith, refl, ap, sym, subst, ◌∙◌, range_with_len, fold, Dir, Piece, still_piece, still_place, Grid, cell_at, place_at, with_place, AreStill, AreColumnsStill, Pass, Spot, spot, in_pass, heading_goal, moved_to, move_place, move_at, pass_of, spots_at, spots_in}
+use Rattle.pz_grid.proofs.Common.{◌≡◌, inl, inr, ℕ, zero, suc, ◌+◌, ◌-◌, ◌≤◌, ◌<◌, List, [], ◌∷◌, Bool, false, Option, Some, None, map, get_or, cases_lt, arith, refl, ap, sym, subst, ◌∙◌, range_with_len, fold, Dir, Piece, still_piece, still_place, Grid, cell_at, place_at, with_place, AreStill, AreColumnsStill, Pass, Spot, spot, in_pass, heading_goal, moved_to, move_place, move_at, pass_of, spots_at, spots_in}
+use Rattle.std.proofs.lemmas.Grind.{common_steps}
 use Rattle.std.proofs.lemmas.List.{map-set}
 use Rattle.pz_sheet.specs.Movement.{IsStillAt}
 use Rattle.pz_grid.proofs.GatherLemmas.{gather}
@@ -42,10 +43,7 @@ all_stay_on grid x y from start end before still layer late early = elim (cases_
 
 -- one more layer
 pub all_stay_more : (grid : Grid) (x y from layer : ℕ) → AllStay grid x y from layer → Stays grid (spot x y layer) → AllStay grid x y from (layer + 1)
-all_stay_more grid x y from layer before here other late early = elim (cases_eq other layer) [
-  | inl same ↦ subst (λ (k : ℕ). Stays grid (spot x y k)) (sym same) here
-  | inr apart ↦ before other late (omega (arith, early, apart))
-]
+all_stay_more grid x y from layer before here other late early moved = grind (arith, λ (h : other < layer). before other late h moved, here moved, early)
 
 -- steps that leave a pass as it is
 steps_on : (so_far : ℕ → Pass) (step : ℕ → Pass → Pass) (here : Pass) (from n : ℕ) → ((k : ℕ) → so_far (k + 1) ≡ step k (so_far k)) → so_far from ≡ here → ((k : ℕ) → from ≤ k → k < from + n → step k here ≡ here) → so_far (from + n) ≡ here
@@ -79,22 +77,7 @@ columns_stay start grid moved depth height from end high low so_far still =
 
 -- a cell in which nothing heads anywhere stays so where a still piece or nothing is put
 put_still : (grid : Grid) (px py layer : ℕ) (place : Option Piece) (x y : ℕ) → place ≡ still_place place → IsStillAt grid x y → IsStillAt (with_place grid px py layer place) x y
-put_still grid px py layer place x y is still =
-    let at = y * grid.width + x in
-    let put = py * grid.width + px in
-    let cell = set (cell_at grid px py) layer place in
-    let here : get_or grid.cells at [] ≡ map still_place (get_or grid.cells at []) = still in
-    let whole : (c : List (Option Piece)) → get_or (set grid.cells put cell) at [] ≡ c → c ≡ map still_place c → IsStillAt (with_place grid px py layer place) x y = λ c e m. e ∙ m ∙ ap (map still_place) (sym e) in
-    elim (cases_eq at put) [
-      | inl same ↦ (
-          let there : cell_at grid px py ≡ map still_place (cell_at grid px py) = subst (λ (k : ℕ). get_or grid.cells k [] ≡ map still_place (get_or grid.cells k [])) same here in
-          let stays : cell ≡ map still_place cell = (λ i. set (there i) layer (is i)) ∙ sym (map-set still_place (cell_at grid px py) layer place) in
-          elim (cases_lt put (length grid.cells)) [
-            | inl within ↦ whole cell (ap (λ (k : ℕ). get_or (set grid.cells put cell) k []) same ∙ get_or-set_same grid.cells put cell [] within) stays
-            | inr past ↦ whole (get_or grid.cells at []) (ap (λ (cells : List (List (Option Piece))). get_or cells at []) (set_past grid.cells put cell past)) here
-          ])
-      | inr apart ↦ whole (get_or grid.cells at []) (get_or-set_other grid.cells put at cell [] apart) here
-    ]
+put_still grid px py layer place x y is still = grind (arith, common_steps, is, still, map-set still_place)
 
 still_moved_to : (pass : Pass) (at : Spot) (piece : Piece) (goal : Option (ℕ × ℕ)) (x y : ℕ) → IsStillAt pass.grid x y → IsStillAt (moved_to pass at piece goal).grid x y
 still_moved_to pass at piece None x y still = still
