@@ -7,9 +7,9 @@ ghost use Rattle.std.specs.List.{list_any, list_all};
 ghost use Rattle.pz_sets.specs.Sets.{member};
 ghost use Rattle.pz_game.specs.declared.pattern.Item.{Item};
 ghost use Rattle.pz_game.specs.Pattern.{AreOf, AsksAmong, IsRowOf};
-ghost use Rattle.pz_cells.specs.Cell.{IsOnLayer};
-ghost use Rattle.pz_sheet.specs.Grid.{IsLawful, place_at, with_place};
-ghost use Rattle.pz_sheet.specs.Movement.{stilled, IsStillAt, AreStill, AreColumnsStill};
+ghost use Rattle.pz_cells.specs.Cell.{moving_piece, still_piece};
+ghost use Rattle.pz_sheet.specs.Grid.{IsLawful, IsOnMap, place_at};
+ghost use Rattle.pz_sheet.specs.Movement.{carried, stilled, IsStillAt, AreStill, AreColumnsStill};
 ghost use Rattle.pz_sheet.specs.Presence.{is_in, cell_of, holds_both, holds_if};
 ghost use Rattle.pz_sheet.specs.Line.{line_count};
 ghost use Rattle.pz_sheet.specs.Marks.{AreMarksOf};
@@ -17,10 +17,9 @@ ghost use Rattle.pz_sheet.specs.Pushing.{pushed};
 ghost use Rattle.pz_sheet.specs.Rewriting.{with_rewritten, changes};
 ghost use Rattle.pz_sheet.specs.Searching.{HoldsSomewhere};
 ghost use Rattle.pz_sheet.specs.Standing.{standing_at, stands};
-ghost use Rattle.pz_sheet.specs.Toggle.{IsToggle};
 ghost use Rattle.pz_bare.specs.AnySheet.{state_in};
 
-use pz_cells::piece::Piece;
+use pz_cells::piece::{Mover, Piece};
 use pz_game::direction::Dir;
 use pz_game::pattern::{Pattern, Row};
 use pz_sets::set::NumberSet;
@@ -149,17 +148,6 @@ impl BareLevel {
         }
     }
 
-    /// The number of layers.
-    pub fn depth(&self) -> usize
-        ensures { result ≡ self.now.grid.depth }
-    {
-        match &*self.sheet {
-            AnySheet::Small(sheet) => sheet.depth(),
-            AnySheet::Middle(sheet) => sheet.depth(),
-            AnySheet::Large(sheet) => sheet.depth(),
-        }
-    }
-
     /// The number of cells.
     pub fn cell_count(&self) -> usize
         ensures { result ≡ length self.now.grid.cells }
@@ -205,20 +193,19 @@ impl BareLevel {
         }
     }
 
-    /// Puts a piece on a layer of a position where nothing stands, or takes away the piece that stands there. `object` is the piece's.
-    pub fn toggle(&mut self, x: u32, y: u32, layer: usize, object: usize, place: Option<Piece>)
-        requires x_in { x < self.old.grid.width }
-        requires y_in { y < self.old.grid.height }
-        requires layer_in { layer < self.old.grid.depth }
-        requires on_layer { IsOnLayer self.old.grid.layers layer place }
-        requires one { IsToggle object (place_at self.old.grid x y layer) place }
-        ensures put { self.new.grid ≡ with_place self.old.grid x y layer place }
-        ensures there { place_at self.new.grid x y layer ≡ place }
+    /// Moves a piece that heads somewhere to a position where nothing stands on its layer, and stills it.
+    pub fn carry(&mut self, x: u32, y: u32, mover: Mover, next_x: u32, next_y: u32)
+        requires on_map { IsOnMap self.old.grid x y }
+        requires goal_on_map { IsOnMap self.old.grid next_x next_y }
+        requires there { place_at self.old.grid x y mover.layer ≡ Some (moving_piece mover) }
+        requires free { place_at self.old.grid next_x next_y mover.layer ≡ None }
+        ensures carried { self.new.grid ≡ carried self.old.grid x y mover next_x next_y }
+        ensures there { place_at self.new.grid next_x next_y mover.layer ≡ Some (still_piece mover.object) }
     {
         match &mut *self.sheet {
-            AnySheet::Small(sheet) => sheet.toggle(x, y, layer, object, place),
-            AnySheet::Middle(sheet) => sheet.toggle(x, y, layer, object, place),
-            AnySheet::Large(sheet) => sheet.toggle(x, y, layer, object, place),
+            AnySheet::Small(sheet) => sheet.carry(x, y, mover, next_x, next_y),
+            AnySheet::Middle(sheet) => sheet.carry(x, y, mover, next_x, next_y),
+            AnySheet::Large(sheet) => sheet.carry(x, y, mover, next_x, next_y),
         }
     }
 

@@ -7,7 +7,7 @@ pub use Rattle.std.proofs.lemmas.List.FromFn.{get_or-map-range_with_len, length-
 pub use Rattle.std.specs.List.{list_any, range_with_len}
 pub use Rattle.std.specs.Option.{option_map, option_map_or}
 pub use Rattle.std.specs.Prelude.{All, IfSome, IsTrue, find, fold, is_some, replicate, ◌↔◌}
-pub use Rattle.pz_cells.specs.Cell.{IsOnLayer, empty_cell, still_place}
+pub use Rattle.pz_cells.specs.Cell.{IsOnLayer, empty_cell, still_piece, still_place}
 pub use Rattle.pz_cells.specs.Differing.{AreAlikeBetween, Differ}
 pub use Rattle.pz_cells.specs.Drawing.{filled_cell, glyph_cell, with_object}
 pub use Rattle.pz_cells.specs.Layering.{IsLayering, Layering}

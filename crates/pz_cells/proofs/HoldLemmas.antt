@@ -42,7 +42,7 @@ heads_toward layers objects movement layer dir lawful = grind (arith, lawful.sho
 
 -- ---- what the items of a cell ask of the words
 -- a heading without a direction
-none_toward : (heading : Option Dir) → ((dir : Dir) → is_toward heading dir ≡ false) → heading ≡ None
+pub none_toward : (heading : Option Dir) → ((dir : Dir) → is_toward heading dir ≡ false) → heading ≡ None
 none_toward heading h = grind (arith, h Up, h Down, h Left, h Right, h Action)
 
 -- what a word asks: whether its object is there, and how its layer heads

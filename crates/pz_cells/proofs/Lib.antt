@@ -5,4 +5,5 @@ pub mod SameLemmas
 pub mod HoldLemmas
 pub mod RewriteLemmas
 pub mod ListLemmas
+pub mod MoverLemmas
 pub mod DrawLemmas

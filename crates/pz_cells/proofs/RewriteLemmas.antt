@@ -48,7 +48,7 @@ cell_alike depth layers objects movement objects_new movement_new same_objects s
 pub member_seen : (depth : ℕ) (layers objects movement : List ℕ) (object : ℕ) → All (λ l. l < depth) layers → AreLawful layers objects movement → member objects object ≡ is_some (standing (cell_of depth layers objects movement) object)
 member_seen depth layers objects movement object low lawful = grind (arith, standing_seen depth layers objects movement object low lawful)
 
-heads_seen : (depth : ℕ) (layers objects movement : List ℕ) (layer : ℕ) (dir : Dir) → All (λ l. l < depth) layers → AreLawful layers objects movement → heads movement layer dir ≡ is_toward (heading_of (get_or (cell_of depth layers objects movement) layer None)) dir
+pub heads_seen : (depth : ℕ) (layers objects movement : List ℕ) (layer : ℕ) (dir : Dir) → All (λ l. l < depth) layers → AreLawful layers objects movement → heads movement layer dir ≡ is_toward (heading_of (get_or (cell_of depth layers objects movement) layer None)) dir
 heads_seen depth layers objects movement layer dir low lawful =
     toward_shown layers (member objects) (heads movement layer) layer (place_of layers objects movement layer) dir (lawful.shows layer) ∙ ap (λ (p : Option Piece). is_toward (heading_of p) dir) (sym (place_everywhere depth layers objects movement layer low lawful))
 

@@ -1,13 +1,14 @@
 //! A cell in words.
 
-ghost use Rattle.std.specs.Prelude.{◌≡◌, ◌<◌, length, slice_index_or, slice_set, None};
-ghost use Rattle.pz_cells.specs.Cell.{IsOnLayer};
+ghost use Rattle.std.specs.Prelude.{◌≡◌, ◌<◌, ◌&&◌, ◌||◌, ℕ, Some, None, false, length, nat_eq, not, slice_index_or, slice_set, true};
+ghost use Rattle.pz_sets.specs.Sets.{IsWithin, member};
+ghost use Rattle.pz_cells.specs.Cell.{IsOnLayer, moving_piece, still_piece};
 ghost use Rattle.pz_cells.specs.Layering.{IsLayering};
 ghost use Rattle.pz_cells.specs.Shown.{AreLawful, Changes};
 ghost use Rattle.pz_cells.specs.Lists.{seen, IsSound};
 
 use crate::layers::Layers;
-use crate::piece::Piece;
+use crate::piece::{Mover, Piece};
 use pz_game::direction::Dir;
 use pz_game::headings;
 use pz_sets::words;
@@ -74,6 +75,38 @@ impl<const N: usize> Cell<N> {
                 })
             }
         }
+    }
+
+    /// Takes away a piece that heads somewhere.
+    pub fn take(&mut self, layers: &Layers<N>, mover: Mover)
+        requires sound { IsSound layers.now self.old }
+        requires there { slice_index_or (seen layers.now self.old) mover.layer None ≡ Some (moving_piece mover) }
+        ensures sound { IsSound layers.now self.new }
+        ensures cell { seen layers.now self.new ≡ slice_set (seen layers.now self.old) mover.layer None }
+        ensures movement { IsWithin self.new.movement self.old.movement }
+        ensures objects { (object : ℕ) → member self.new.objects object ≡ (not (nat_eq object mover.object) && member self.old.objects object) }
+        ensures stood { member self.old.objects mover.object ≡ true }
+    {
+        // (brings the proof the law of the layers)
+        let _ = layers.depth();
+        words::remove(&mut self.objects, mover.object as usize);
+        words::remove(&mut self.movement, headings::flag(mover.layer, mover.dir));
+    }
+
+    /// Puts an object, still, on its layer, where nothing stands.
+    pub fn land(&mut self, layers: &Layers<N>, layer: usize, object: u16)
+        requires sound { IsSound layers.now self.old }
+        requires free { slice_index_or (seen layers.now self.old) layer None ≡ None }
+        requires on_layer { IsOnLayer layers.now.layers layer (Some (still_piece object)) }
+        ensures sound { IsSound layers.now self.new }
+        ensures cell { seen layers.now self.new ≡ slice_set (seen layers.now self.old) layer (Some (still_piece object)) }
+        ensures movement { self.new.movement ≡ self.old.movement }
+        ensures objects { (other : ℕ) → member self.new.objects other ≡ (nat_eq other object || member self.old.objects other) }
+        ensures lacked { member self.old.objects object ≡ false }
+    {
+        // (brings the proof the law of the layers)
+        let _ = layers.depth();
+        words::insert(&mut self.objects, object as usize);
     }
 
     /// Puts a piece, or nothing, on a layer, instead of what stands there.

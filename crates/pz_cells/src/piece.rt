@@ -12,6 +12,14 @@ pub struct Piece {
     pub heading: Option<Dir>,
 }
 
+/// A piece that heads somewhere, and its layer.
+#[derive(Clone, Copy)]
+pub struct Mover {
+    pub layer: usize,
+    pub object: u16,
+    pub dir: Dir,
+}
+
 impl Piece {
     /// The object, still.
     pub fn still(object: u16) -> Piece

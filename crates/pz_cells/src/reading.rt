@@ -1,13 +1,14 @@
 //! What stands in a cell.
 
-ghost use Rattle.std.specs.Prelude.{◌≡◌, ℕ, ◌<◌, ◌↔◌, IsTrue, true, false, slice_index, None, MatchOption};
+ghost use Rattle.std.specs.Prelude.{◌≡◌, ℕ, ◌+◌, ◌*◌, ◌/◌, ◌%◌, ◌↔◌, IsTrue, true, false, slice_index, MatchOption};
 ghost use Rattle.pz_sets.specs.Sets.{member, AreSame};
-ghost use Rattle.pz_game.specs.Headings.{heading_in};
-ghost use Rattle.pz_cells.specs.Lists.{IsSound};
+ghost use Rattle.pz_game.specs.Headings.{dir_bit, heading_in};
+ghost use Rattle.pz_cells.specs.Cell.{IsNextMover};
+ghost use Rattle.pz_cells.specs.Lists.{seen, IsSound};
 
 use crate::cell::Cell;
 use crate::layers::Layers;
-use crate::piece::Piece;
+use crate::piece::{Mover, Piece};
 use pz_game::direction::Dir;
 use pz_game::headings;
 use pz_sets::set::NumberSet;
@@ -35,16 +36,28 @@ impl<const N: usize> Cell<N> {
         words::is_empty(&self.movement)
     }
 
-    /// Whether what stands on a layer heads nowhere.
-    pub fn is_layer_still(&self, layers: &Layers<N>, layer: usize) -> bool
-        requires low { layer < layers.now.depth }
-        ensures { result ≡ true → heading_in self.now.movement layer ≡ None }
+    /// The first piece that heads somewhere, on a layer from `from` on.
+    pub fn next_mover(&self, layers: &Layers<N>, from: usize) -> Option<Mover>
+        requires sound { IsSound layers.now self.now }
+        ensures { IsNextMover (seen layers.now self.now) from result }
     {
-        let movement = self.movement_words(layers);
-        let start = headings::flag(layer, Dir::Up);
-        match words::next(movement, start) {
-            None => true,
-            Some(found) => found >= start + 5,
+        if from >= layers.depth() {
+            return None;
+        }
+        match words::next(&self.movement, headings::flag(from, Dir::Up)) {
+            None => None,
+            Some(found) => {
+                let layer = layer_of(found);
+                let dir = dir_of(found);
+                match words::first_common(&self.objects, layers.objects_of(layer)) {
+                    None => None,
+                    Some(object) => Some(Mover {
+                        layer,
+                        object: object as u16,
+                        dir,
+                    }),
+                }
+            }
         }
     }
 
@@ -74,5 +87,25 @@ impl<const N: usize> Cell<N> {
             &self.movement,
             &other.movement,
         )
+    }
+}
+
+/// The layer that has this number among its directions.
+fn layer_of(number: usize) -> usize
+    ensures { result ≡ 25 * (number / 128) + number % 128 / 5 }
+{
+    number / 128 * 25 + number % 128 / 5
+}
+
+/// The direction that has this number in the field of a layer.
+fn dir_of(number: usize) -> Dir
+    ensures { dir_bit result ≡ number % 128 % 5 }
+{
+    match number % 128 % 5 {
+        0 => Dir::Up,
+        1 => Dir::Down,
+        2 => Dir::Left,
+        3 => Dir::Right,
+        _ => Dir::Action,
     }
 }

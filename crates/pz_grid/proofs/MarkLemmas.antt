@@ -1,7 +1,10 @@
 -- Which objects stand in a cell and in a line, and how a level stays marked.
 use Rattle.pz_grid.proofs.Common.{◌≡◌, ◌⊎◌, inl, inr, ℕ, zero, suc, ◌+◌, ◌*◌, ◌<◌, ◌≤◌, List, [], ◌∷◌, Option, Some, None, Bool, true, false, cond, ◌&&◌, ◌||◌, nat_eq, length, get_or, set, map, arith, ap, sym, ◌∙◌, refl, subst, eq-eqb, IfSome, is_some, list_any, range_with_len, and_parts, cases_eq, cases_lt, cases_order, eqb-true, or_cases, or_left, or_right, length-set, get_or_past, get_or-set_same, get_or-set_other, member, Dir, Item, Piece, still_place, is_in, in_row, in_column, Grid, LevelState, cell_at, with_place, stilled, names, names_object, forbids_object, placed_on, is_on, tells_of, is_marked, IsMarked, IsMarkedAt, IsMore}
 use Rattle.std.proofs.lemmas.Nat.{mul-add-lt}
+use Rattle.pz_cells.specs.declared.piece.Mover.{Mover}
+use Rattle.pz_cells.specs.Cell.{still_piece}
 use Rattle.pz_cells.specs.Standing.{standing}
+use Rattle.pz_sheet.specs.Movement.{carried}
 use Rattle.pz_sheet.specs.Pushing.{pushed_place, pushed, is_one_of}
 use Rattle.pz_cells.specs.Rewriting.{kept, replaced, rewritten_place, rewritten_cell}
 use Rattle.pz_sheet.specs.Rewriting.{with_rewritten}
@@ -224,11 +227,21 @@ marked_cell state x y new test x_in has at h =
 pub marked_rewritten : (state : LevelState) (x y : ℕ) (left right : List Item) → x < state.grid.width → IsMarkedAt state x y (λ object. names_object object right) → IsMarked state → IsMarked (record { grid = with_rewritten state.grid x y left right; row_marks = state.row_marks; column_marks = state.column_marks; level_marks = state.level_marks })
 marked_rewritten state x y left right x_in at h = marked_cell state x y (rewritten_cell left right (cell_at state.grid x y)) (λ object. names_object object right) x_in (has_rewritten left right (cell_at state.grid x y)) at h
 
-pub marked_put : (state : LevelState) (x y layer : ℕ) (place : Option Piece) → x < state.grid.width → IfSome place (λ piece. IsMarkedAt state x y (nat_eq piece.object)) → IsMarked state → IsMarked (record { grid = with_place state.grid x y layer place; row_marks = state.row_marks; column_marks = state.column_marks; level_marks = state.level_marks })
+marked_put : (state : LevelState) (x y layer : ℕ) (place : Option Piece) → x < state.grid.width → IfSome place (λ piece. IsMarkedAt state x y (nat_eq piece.object)) → IsMarked state → IsMarked (record { grid = with_place state.grid x y layer place; row_marks = state.row_marks; column_marks = state.column_marks; level_marks = state.level_marks })
 marked_put state x y layer place x_in at h = marked_cell state x y (set (cell_at state.grid x y) layer place) (is_in (place ∷ [])) x_in (has_put (cell_at state.grid x y) layer place) (by_place place at) h where
   by_place : (place : Option Piece) → IfSome place (λ piece. IsMarkedAt state x y (nat_eq piece.object)) → IsMarkedAt state x y (is_in (place ∷ []))
   by_place None at = record { row = λ object e. cc; column = λ object e. cc }
   by_place (Some piece) at = record { row = λ object e. at.row object (is_in_piece piece object e); column = λ object e. at.column object (is_in_piece piece object e) }
+
+-- an object that is marked in a line's set is in it
+pub marked_in : (old new : List (List ℕ)) (line added object : ℕ) → IsMore old new line (nat_eq added) → nat_eq added object ≡ true → is_marked new line object ≡ true
+marked_in old new line added object more is = grind (arith, more line object, eq-eqb line line refl, is)
+
+-- a piece goes where its object is marked
+pub marked_carried : (state : LevelState) (x y : ℕ) (mover : Mover) (next_x next_y : ℕ) → x < state.grid.width → next_x < state.grid.width → IsMarkedAt state next_x next_y (nat_eq mover.object) → IsMarked state → IsMarked (record { grid = carried state.grid x y mover next_x next_y; row_marks = state.row_marks; column_marks = state.column_marks; level_marks = state.level_marks })
+marked_carried state x y mover next_x next_y x_in next_in at h =
+    marked_put (record { grid = with_place state.grid x y mover.layer None; row_marks = state.row_marks; column_marks = state.column_marks; level_marks = state.level_marks }) next_x next_y mover.layer (Some (still_piece mover.object)) next_in (record { row = at.row; column = at.column })
+    (marked_put state x y mover.layer None x_in (search) h)
 
 -- ---- a mark
 -- what is new in a line's set that got one more object

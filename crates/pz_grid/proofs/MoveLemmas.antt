@@ -1,5 +1,9 @@
 -- What a movement marks: what has landed stays, so in the end each line holds what was marked for it.
-use Rattle.pz_grid.proofs.Common.{◌≡◌, inl, inr, ℕ, ◌+◌, ◌*◌, ◌<◌, List, [], Option, Some, None, Bool, true, false, ◌&&◌, ◌||◌, nat_eq, ◌∷◌, length, get_or, take, map, arith, ap, sym, ◌∙◌, refl, subst, list_any_more, Item, Piece, still_piece, still_place, is_in, in_row, in_column, Grid, LevelState, place_at, with_place, in_pass, spot, heading_goal, stilled, names, names_object, is_marked, IsMore, IsWidened, IsWidenedBy, IsStill, KeepsStill, IsMove}
+use Rattle.pz_grid.proofs.Common.{◌≡◌, inl, inr, ℕ, ◌+◌, ◌*◌, ◌<◌, List, [], Option, Some, Bool, true, false, ◌&&◌, ◌||◌, nat_eq, ◌∷◌, length, get_or, take, map, arith, ap, sym, ◌∙◌, refl, subst, list_any_more, Item, Piece, still_piece, still_place, is_in, in_row, in_column, Grid, LevelState, place_at, in_pass, spot, stilled, names, names_object, is_marked, IsMore, IsWidened, IsWidenedBy, IsStill, KeepsStill, IsMove}
+use Rattle.pz_cells.specs.declared.piece.Mover.{Mover}
+use Rattle.pz_cells.specs.Cell.{moving_piece}
+use Rattle.pz_sheet.specs.Movement.{carried}
+use Rattle.pz_grid.specs.Movement.{Leaves}
 use Rattle.pz_grid.proofs.StayLemmas.{still-moved_to}
 use Rattle.pz_grid.proofs.MarkLemmas.{more_only, in_row_from, in_column_from, is_in_at, is_in_cells, piece_is_in, still_same}
 
@@ -35,37 +39,33 @@ moves_on a b d p q = record {
   ];
 }
 
--- a piece is lifted, marked where it goes, and landed there
-pub moves_piece : (old lifted marked new : LevelState) (x y layer : ℕ) (piece : Piece) (next_x next_y : ℕ) → place_at old.grid x y layer ≡ Some piece → heading_goal old.grid (spot x y layer) piece.heading ≡ Some (next_x, next_y) → next_x < old.grid.width → next_y < old.grid.height
-    → lifted.grid ≡ with_place old.grid x y layer None → lifted.row_marks ≡ old.row_marks → lifted.column_marks ≡ old.column_marks
-    → marked.grid ≡ lifted.grid → IsMore lifted.row_marks marked.row_marks next_y (nat_eq piece.object) → IsMore lifted.column_marks marked.column_marks next_x (nat_eq piece.object)
-    → new.grid ≡ with_place marked.grid next_x next_y layer (Some (still_piece piece.object)) → new.row_marks ≡ marked.row_marks → new.column_marks ≡ marked.column_marks
-    → place_at new.grid next_x next_y layer ≡ Some (still_piece piece.object)
-    → IsMove old new
-moves_piece old lifted marked new x y layer piece next_x next_y here goes x_in y_in g1 r1 c1 g2 r2 c2 g3 r3 c3 there =
-    let made : new.grid ≡ with_place (with_place old.grid x y layer None) next_x next_y layer (Some (still_piece piece.object)) = g3 ∙ ap (λ (g : Grid). with_place g next_x next_y layer (Some (still_piece piece.object))) (g2 ∙ g1) in
+-- a piece is marked where it goes, and goes there
+pub moves_piece : (old marked new : LevelState) (x y : ℕ) (mover : Mover) (next : ℕ × ℕ) → Leaves old.grid x y mover next → marked.grid ≡ old.grid → IsMore old.row_marks marked.row_marks next.1 (nat_eq mover.object) → IsMore old.column_marks marked.column_marks next.0 (nat_eq mover.object)
+    → new.grid ≡ carried marked.grid x y mover next.0 next.1 → new.row_marks ≡ marked.row_marks → new.column_marks ≡ marked.column_marks → place_at new.grid next.0 next.1 mover.layer ≡ Some (still_piece mover.object) → IsMove old new
+moves_piece old marked new x y mover next leaves g2 r2 c2 g3 r3 c3 there =
+    let made : new.grid ≡ carried old.grid x y mover next.0 next.1 = g3 ∙ ap (λ (g : Grid). carried g x y mover next.0 next.1) g2 in
     let wide : new.grid.width ≡ old.grid.width = ap (λ (g : Grid). g.width) made in
     let high : new.grid.height ≡ old.grid.height = ap (λ (g : Grid). g.height) made in
     record {
       width = wide;
       height = high;
-      still = subst (KeepsStill old.grid) (sym made) (still-moved_to (in_pass old.grid false) (spot x y layer) piece (Some (next_x, next_y)) here goes);
-      rows = λ line object e. elim (more_only lifted.row_marks marked.row_marks next_y piece.object r2 line object (ap (λ (m : List (List ℕ)). is_marked m line object) (sym r3) ∙ e)) [
-        | inl before ↦ inl (ap (λ (m : List (List ℕ)). is_marked m line object) (sym r1) ∙ before)
+      still = subst (KeepsStill old.grid) (sym made) (still-moved_to (in_pass old.grid false) (spot x y mover.layer) (moving_piece mover) (Some next) leaves.there leaves.goes);
+      rows = λ line object e. elim (more_only old.row_marks marked.row_marks next.1 mover.object r2 line object (ap (λ (m : List (List ℕ)). is_marked m line object) (sym r3) ∙ e)) [
+        | inl before ↦ inl before
         | inr (same, is) ↦ inr (record {
-          x = next_x;
-          layer = layer;
-          inside = omega (arith, wide);
-          there = ap (λ (k : ℕ). place_at new.grid next_x k layer) same ∙ there ∙ ap (λ (o : ℕ). Some (still_piece o)) is;
+          x = next.0;
+          layer = mover.layer;
+          inside = omega (arith, wide, leaves.on_map.0);
+          there = ap (λ (k : ℕ). place_at new.grid next.0 k mover.layer) same ∙ there ∙ ap (λ (o : ℕ). Some (still_piece o)) is;
         })
       ];
-      columns = λ line object e. elim (more_only lifted.column_marks marked.column_marks next_x piece.object c2 line object (ap (λ (m : List (List ℕ)). is_marked m line object) (sym c3) ∙ e)) [
-        | inl before ↦ inl (ap (λ (m : List (List ℕ)). is_marked m line object) (sym c1) ∙ before)
+      columns = λ line object e. elim (more_only old.column_marks marked.column_marks next.0 mover.object c2 line object (ap (λ (m : List (List ℕ)). is_marked m line object) (sym c3) ∙ e)) [
+        | inl before ↦ inl before
         | inr (same, is) ↦ inr (record {
-          y = next_y;
-          layer = layer;
-          inside = omega (arith, high);
-          there = ap (λ (k : ℕ). place_at new.grid k next_y layer) same ∙ there ∙ ap (λ (o : ℕ). Some (still_piece o)) is;
+          y = next.1;
+          layer = mover.layer;
+          inside = omega (arith, high, leaves.on_map.1);
+          there = ap (λ (k : ℕ). place_at new.grid k next.1 mover.layer) same ∙ there ∙ ap (λ (o : ℕ). Some (still_piece o)) is;
         })
       ];
     }

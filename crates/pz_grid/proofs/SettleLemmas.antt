@@ -18,16 +18,10 @@ moving-put_still grid x y layer place e =
 
 -- what is read in a list stands within it
 within_from_some : (xs : List (Option Piece)) (i : ℕ) (piece : Piece) → get_or xs i None ≡ Some piece → i < length xs
-within_from_some xs i piece e = elim (cases_lt i (length xs)) [
-  | inl within ↦ within
-  | inr past ↦ absurd (let none : Option Piece = None in let f : none ≡ Some piece = sym (get_or_past xs i None past) ∙ e in cc)
-]
+within_from_some xs i piece e = grind (arith, get_or_past xs i None, e)
 
 cell_within : (cells : List (List (Option Piece))) (i layer : ℕ) (piece : Piece) → get_or (get_or cells i []) layer None ≡ Some piece → i < length cells
-cell_within cells i layer piece e = elim (cases_lt i (length cells)) [
-  | inl within ↦ within
-  | inr past ↦ absurd (let none : Option Piece = None in let f : none ≡ Some piece = ap (λ (cell : List (Option Piece)). get_or cell layer None) (sym (get_or_past cells i [] past)) ∙ e in cc)
-]
+cell_within cells i layer piece e = grind (arith, get_or_past cells i [], e)
 
 -- to take a moving piece away leaves one fewer
 pub moving-take : (grid : Grid) (x y layer : ℕ) (piece : Piece) → place_at grid x y layer ≡ Some piece → heading_count piece.heading ≡ 1 → moving (with_place grid x y layer None) + 1 ≡ moving grid

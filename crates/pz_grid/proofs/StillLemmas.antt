@@ -1,9 +1,13 @@
 -- A cell in which nothing heads anywhere is left as it is by a pass, and so are rows of such cells, and columns of such rows.
-use Rattle.pz_grid.proofs.Common.{◌≡◌, inl, inr, ℕ, zero, suc, ◌+◌, ◌-◌, ◌*◌, ◌≤◌, ◌<◌, List, [], ◌∷◌, Bool, false, Option, Some, None, length, map, set, get_or, get_or-set_other, get_or-set_same, set_past, cases_eq, cases_lt, arith, refl, ap, sym, subst, ◌∙◌, range_with_len, fold, Dir, Piece, still_piece, still_place, Grid, cell_at, place_at, with_place, AreStill, AreColumnsStill, Pass, Spot, spot, in_pass, heading_goal, moved_to, move_place, move_at, pass_of, spots_at, spots_in}
+use Rattle.pz_grid.proofs.Common.{◌≡◌, inl, inr, ℕ, zero, suc, ◌+◌, ◌-◌, ◌≤◌, ◌<◌, List, [], ◌∷◌, Bool, false, Option, Some, None, map, get_or, cases_lt, arith, refl, ap, sym, subst, ◌∙◌, range_with_len, fold, Dir, Piece, still_piece, still_place, Grid, cell_at, place_at, with_place, AreStill, AreColumnsStill, Pass, Spot, spot, in_pass, heading_goal, moved_to, move_place, move_at, pass_of, spots_at, spots_in}
+use Rattle.std.proofs.lemmas.Grind.{common_steps}
 use Rattle.std.proofs.lemmas.List.{map-set}
 use Rattle.pz_sheet.specs.Movement.{IsStillAt}
 use Rattle.pz_grid.proofs.GatherLemmas.{gather}
-use Rattle.pz_grid.proofs.MovementLemmas.{fold_gather_more}
+use Rattle.pz_cells.specs.declared.piece.Mover.{Mover}
+use Rattle.pz_cells.specs.Cell.{IsStillOn, moving_piece}
+use Rattle.pz_grid.specs.Movement.{AllStay, Stays}
+use Rattle.pz_grid.proofs.MovementLemmas.{fold_gather_more, fold_map_more}
 
 still_at : (cell : List (Option Piece)) (layer : ℕ) → get_or (map still_place cell) layer None ≡ still_place (get_or cell layer None)
 still_at [] layer = refl
@@ -25,51 +29,55 @@ all_stay grid moved x y (layer ∷ layers) is =
     let first : move_at (in_pass grid moved) (spot x y layer) ≡ in_pass grid moved = stays (in_pass grid moved) (spot x y layer) (place_at grid x y layer) here in
     ap (λ (pass : Pass). fold move_at pass (map (spot x y) layers)) first ∙ all_stay grid moved x y layers is
 
--- parts that leave a pass as it is
-parts_on : (start here : Pass) (part : ℕ → List Spot) (from n : ℕ) → fold move_at start (gather part from) ≡ here → ((k : ℕ) → from ≤ k → k < from + n → fold move_at here (part k) ≡ here)
-    → fold move_at start (gather part (from + n)) ≡ here
-parts_on start here part from zero so_far stays = ap (λ (k : ℕ). fold move_at start (gather part k)) (let e : from + zero ≡ from = omega arith in e) ∙ so_far
-parts_on start here part from (suc n) so_far stays =
-    ap (λ (k : ℕ). fold move_at start (gather part k)) (let e : from + suc n ≡ (from + n) + 1 = omega arith in e)
-    ∙ fold_gather_more move_at start part (from + n)
-    ∙ ap (λ (pass : Pass). fold move_at pass (part (from + n))) (parts_on start here part from n so_far (λ k late below. stays k late (omega (arith, below))))
-    ∙ stays (from + n) (omega arith) (omega arith)
+-- a piece that goes nowhere stays
+pub blocked : (grid : Grid) (x y : ℕ) (mover : Mover) → place_at grid x y mover.layer ≡ Some (moving_piece mover) → heading_goal grid (spot x y mover.layer) (Some mover.dir) ≡ None → Stays grid (spot x y mover.layer)
+blocked grid x y mover there none moved =
+    ap (move_place (in_pass grid moved) (spot x y mover.layer)) there ∙ ap (moved_to (in_pass grid moved) (spot x y mover.layer) (moving_piece mover)) none
 
-parts_stay : (start here : Pass) (part : ℕ → List Spot) (from end : ℕ) → from ≤ end → fold move_at start (gather part from) ≡ here → ((k : ℕ) → from ≤ k → k < end → fold move_at here (part k) ≡ here)
-    → fold move_at start (gather part end) ≡ here
-parts_stay start here part from end low so_far stays =
+-- more layers on which nothing heads anywhere
+pub all_stay_on : (grid : Grid) (x y from start end : ℕ) → AllStay grid x y from start → ((layer : ℕ) → start ≤ layer → layer < end → IsStillOn (cell_at grid x y) layer) → AllStay grid x y from end
+all_stay_on grid x y from start end before still layer late early = elim (cases_lt layer start) [
+  | inl first ↦ before layer late first
+  | inr past ↦ λ moved. stays (in_pass grid moved) (spot x y layer) (place_at grid x y layer) (still layer past early)
+]
+
+-- one more layer
+pub all_stay_more : (grid : Grid) (x y from layer : ℕ) → AllStay grid x y from layer → Stays grid (spot x y layer) → AllStay grid x y from (layer + 1)
+all_stay_more grid x y from layer before here other late early moved = grind (arith, λ (h : other < layer). before other late h moved, here moved, early)
+
+-- steps that leave a pass as it is
+steps_on : (so_far : ℕ → Pass) (step : ℕ → Pass → Pass) (here : Pass) (from n : ℕ) → ((k : ℕ) → so_far (k + 1) ≡ step k (so_far k)) → so_far from ≡ here → ((k : ℕ) → from ≤ k → k < from + n → step k here ≡ here) → so_far (from + n) ≡ here
+steps_on so_far step here from zero more is stays = ap so_far (let e : from + zero ≡ from = omega arith in e) ∙ is
+steps_on so_far step here from (suc n) more is stays =
+    ap so_far (let e : from + suc n ≡ (from + n) + 1 = omega arith in e) ∙ more (from + n)
+    ∙ ap (step (from + n)) (steps_on so_far step here from n more is (λ k late below. stays k late (omega (arith, below)))) ∙ stays (from + n) (omega arith) (omega arith)
+
+steps_stay : (so_far : ℕ → Pass) (step : ℕ → Pass → Pass) (here : Pass) (from end : ℕ) → from ≤ end → ((k : ℕ) → so_far (k + 1) ≡ step k (so_far k)) → so_far from ≡ here → ((k : ℕ) → from ≤ k → k < end → step k here ≡ here) → so_far end ≡ here
+steps_stay so_far step here from end low more is stays =
     let split : from + (end - from) ≡ end = omega (arith, low) in
-    ap (λ (k : ℕ). fold move_at start (gather part k)) (sym split) ∙ parts_on start here part from (end - from) so_far (λ k late below. stays k late (omega (arith, below, split)))
+    ap so_far (sym split) ∙ steps_on so_far step here from (end - from) more is (λ k late below. stays k late (omega (arith, below, split)))
 
--- rows of a column in which nothing heads anywhere leave a pass as it is
+-- layers on which everything stays leave a pass as it is
+pub layers_stay : (start : Pass) (grid : Grid) (moved : Bool) (x y from end : ℕ) → from ≤ end → fold move_at start (map (spot x y) (range_with_len 0 from)) ≡ in_pass grid moved → AllStay grid x y from end → fold move_at start (map (spot x y) (range_with_len 0 end)) ≡ in_pass grid moved
+layers_stay start grid moved x y from end low so_far stay =
+    steps_stay (λ k. fold move_at start (map (spot x y) (range_with_len 0 k))) (λ k pass. move_at pass (spot x y k)) (in_pass grid moved) from end low (fold_map_more move_at start (spot x y)) so_far (λ k late below. stay k late below moved)
+
+-- so do rows of a column in which nothing heads anywhere
 pub rows_stay : (start : Pass) (grid : Grid) (moved : Bool) (x depth from end : ℕ) → from ≤ end → fold move_at start (gather (spots_at depth x) from) ≡ in_pass grid moved
     → AreStill grid x from end → fold move_at start (gather (spots_at depth x) end) ≡ in_pass grid moved
-rows_stay start grid moved x depth from end low so_far still = parts_stay start (in_pass grid moved) (spots_at depth x) from end low so_far (λ y late below. all_stay grid moved x y (range_with_len 0 depth) (still y late below))
+rows_stay start grid moved x depth from end low so_far still =
+    steps_stay (λ k. fold move_at start (gather (spots_at depth x) k)) (λ k pass. fold move_at pass (spots_at depth x k)) (in_pass grid moved) from end low (fold_gather_more move_at start (spots_at depth x)) so_far (λ y late below. all_stay grid moved x y (range_with_len 0 depth) (still y late below))
 
--- and so do such columns
+-- and such columns
 pub columns_stay : (start : Pass) (grid : Grid) (moved : Bool) (depth height from end : ℕ) → grid.height ≡ height → from ≤ end → fold move_at start (gather (spots_in depth height) from) ≡ in_pass grid moved
     → AreColumnsStill grid from end → fold move_at start (gather (spots_in depth height) end) ≡ in_pass grid moved
-columns_stay start grid moved depth height from end high low so_far still = parts_stay start (in_pass grid moved) (spots_in depth height) from end low so_far
+columns_stay start grid moved depth height from end high low so_far still =
+    steps_stay (λ k. fold move_at start (gather (spots_in depth height) k)) (λ k pass. fold move_at pass (spots_in depth height k)) (in_pass grid moved) from end low (fold_gather_more move_at start (spots_in depth height)) so_far
     (λ x late below. rows_stay (in_pass grid moved) grid moved x depth 0 height (omega arith) refl (λ y from_top y_in. still x late below y from_top (omega (arith, y_in, high))))
 
 -- a cell in which nothing heads anywhere stays so where a still piece or nothing is put
 put_still : (grid : Grid) (px py layer : ℕ) (place : Option Piece) (x y : ℕ) → place ≡ still_place place → IsStillAt grid x y → IsStillAt (with_place grid px py layer place) x y
-put_still grid px py layer place x y is still =
-    let at = y * grid.width + x in
-    let put = py * grid.width + px in
-    let cell = set (cell_at grid px py) layer place in
-    let here : get_or grid.cells at [] ≡ map still_place (get_or grid.cells at []) = still in
-    let whole : (c : List (Option Piece)) → get_or (set grid.cells put cell) at [] ≡ c → c ≡ map still_place c → IsStillAt (with_place grid px py layer place) x y = λ c e m. e ∙ m ∙ ap (map still_place) (sym e) in
-    elim (cases_eq at put) [
-      | inl same ↦ (
-          let there : cell_at grid px py ≡ map still_place (cell_at grid px py) = subst (λ (k : ℕ). get_or grid.cells k [] ≡ map still_place (get_or grid.cells k [])) same here in
-          let stays : cell ≡ map still_place cell = (λ i. set (there i) layer (is i)) ∙ sym (map-set still_place (cell_at grid px py) layer place) in
-          elim (cases_lt put (length grid.cells)) [
-            | inl within ↦ whole cell (ap (λ (k : ℕ). get_or (set grid.cells put cell) k []) same ∙ get_or-set_same grid.cells put cell [] within) stays
-            | inr past ↦ whole (get_or grid.cells at []) (ap (λ (cells : List (List (Option Piece))). get_or cells at []) (set_past grid.cells put cell past)) here
-          ])
-      | inr apart ↦ whole (get_or grid.cells at []) (get_or-set_other grid.cells put at cell [] apart) here
-    ]
+put_still grid px py layer place x y is still = grind (arith, common_steps, is, still, map-set still_place)
 
 still_moved_to : (pass : Pass) (at : Spot) (piece : Piece) (goal : Option (ℕ × ℕ)) (x y : ℕ) → IsStillAt pass.grid x y → IsStillAt (moved_to pass at piece goal).grid x y
 still_moved_to pass at piece None x y still = still

@@ -1,12 +1,14 @@
 -- The movement of a step. A pass goes column by column from the left, each from the top, and in a cell layer by layer. What
 -- heads somewhere moves one cell if its target is on the map and free on its layer; then it is still. Passes repeat until one
 -- moves nothing; then all is still. The action moves nothing.
-use Rattle.std.specs.Prelude.{◌≡◌, ◌<◌, ℕ, zero, suc, ◌+◌, ◌-◌, List, map, fold, Bool, true, false, Option, Some, None, nat_lt, if◌then◌else◌}
+use Rattle.std.specs.Prelude.{◌≡◌, ◌<◌, ◌≤◌, ℕ, zero, suc, ◌+◌, ◌-◌, List, map, fold, Bool, true, false, Option, Some, None, nat_lt, if◌then◌else◌}
 use Rattle.std.specs.List.{flat_map, range_with_len, sum_by}
+use Rattle.pz_game.specs.declared.limits.TheConstants.{MAX_LAYERS}
 use Rattle.pz_game.specs.declared.direction.Dir.{Dir}
 use Rattle.pz_game.specs.declared.direction.Dir.TheVariants.{Up, Down, Left, Right, Action}
 use Rattle.pz_cells.specs.declared.piece.Piece.{Piece}
-use Rattle.pz_cells.specs.Cell.{IsOnLayer, still_piece}
+use Rattle.pz_cells.specs.declared.piece.Mover.{Mover}
+use Rattle.pz_cells.specs.Cell.{moving_piece, still_piece}
 use Rattle.pz_sets.specs.declared.set.TheConstants.{CAPACITY}
 use Rattle.pz_sheet.specs.Grid.{IsOnMap, Grid, place_at, with_place}
 use Rattle.pz_sheet.specs.Movement.{stilled}
@@ -68,13 +70,23 @@ move_at pass spot = move_place pass spot (place_at pass.grid spot.x spot.y spot.
 abbrev pub Stays : Grid → Spot → Type 0
 Stays grid spot = (moved : Bool) → move_at (in_pass grid moved) spot ≡ in_pass grid moved
 
--- a piece leaves a spot for a position
-pub record Leaves (grid : Grid) (spot : Spot) (piece : Piece) (goal : ℕ × ℕ) : Type 0 where
-  pub there : place_at grid spot.x spot.y spot.layer ≡ Some piece
-  pub goes : heading_goal grid spot piece.heading ≡ Some goal
+-- what stands on the layers of a position from one on and before another stays there
+abbrev pub AllStay : Grid → ℕ → ℕ → ℕ → ℕ → Type 0
+AllStay grid x y from end = (layer : ℕ) → from ≤ layer → layer < end → Stays grid (spot x y layer)
+
+-- a piece leaves a position for another
+pub record Leaves (grid : Grid) (x y : ℕ) (mover : Mover) (goal : ℕ × ℕ) : Type 0 where
+  pub there : place_at grid x y mover.layer ≡ Some (moving_piece mover)
+  pub goes : heading_goal grid (spot x y mover.layer) (Some mover.dir) ≡ Some goal
   pub on_map : IsOnMap grid goal.0 goal.1
-  pub on_layer : IsOnLayer grid.layers spot.layer (Some piece)
-  pub low : piece.object < CAPACITY
+  pub layer_in : mover.layer < grid.depth
+  pub shallow : mover.layer < MAX_LAYERS
+  pub low : mover.object < CAPACITY
+
+-- the first piece that leaves a position, on a layer from one on, and where it goes, if there is one
+abbrev pub IsNextLeaving : Grid → ℕ → ℕ → ℕ → Option (Mover × (ℕ × ℕ)) → Type 0
+IsNextLeaving grid x y from None = AllStay grid x y from grid.depth
+IsNextLeaving grid x y from (Some (mover, goal)) = (from ≤ mover.layer) × Leaves grid x y mover goal × AllStay grid x y from mover.layer
 
 abbrev pub spots_at : ℕ → ℕ → ℕ → List Spot
 spots_at depth x y = map (spot x y) (range_with_len 0 depth)

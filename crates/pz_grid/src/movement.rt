@@ -1,18 +1,16 @@
 //! The movement of a step.
 
-ghost use Rattle.std.specs.Prelude.{◌≡◌, ◌<◌, ◌≤◌, ◌&&◌, IfSome, MatchOption, fold, map, nat_eq, true, false};
-ghost use Rattle.pz_cells.specs.Cell.{IsOnLayer};
-ghost use Rattle.pz_sheet.specs.Grid.{IsOnMap, IsLawful, IsOfGame, SameSize, place_at, with_place};
+ghost use Rattle.std.specs.Prelude.{◌≡◌, ◌<◌, ◌≤◌, ◌&&◌, Bool, IfSome, MatchOption, Some, fold, map, true, false};
+ghost use Rattle.pz_sheet.specs.Grid.{IsOnMap, IsLawful, IsOfGame, SameSize};
 ghost use Rattle.pz_sheet.specs.Presence.{in_row, in_column};
-ghost use Rattle.pz_grid.specs.Marks.{IsMarked, IsMarkedAt, IsWidened};
+ghost use Rattle.pz_grid.specs.Marks.{IsMarked, IsWidened};
 ghost use Rattle.pz_grid.specs.Staying.{IsMove};
-ghost use Rattle.pz_grid.specs.Movement.{neighbour, heading_goal, spot, in_pass, move_at, spots_at, spots_in, pass_of, moving, settle, resolved, Stays, Leaves};
+ghost use Rattle.pz_grid.specs.Movement.{neighbour, heading_goal, spot, in_pass, move_at, spots_at, spots_in, pass_of, moving, settle, resolved, IsNextLeaving, Leaves};
 ghost use Rattle.pz_sheet.specs.Movement.{stilled, IsStillAt, AreStill, AreColumnsStill};
-ghost use Rattle.pz_sheet.specs.Toggle.{IsToggle};
 
 use crate::Level;
 use pz_bare::AnySheet;
-use pz_cells::piece::Piece;
+use pz_cells::piece::Mover;
 use pz_game::direction::Dir;
 use pz_game::game::Game;
 use pz_sheet::Sheet;
@@ -62,71 +60,52 @@ fn neighbour<const N: usize>(sheet: &Sheet<N>, dir: Dir, x: u32, y: u32) -> Opti
     }
 }
 
-/// Where a piece with this heading goes, if that is on the map and free on its layer.
-fn goal<const N: usize>(
-    sheet: &Sheet<N>,
-    x: u32,
-    y: u32,
-    layer: usize,
-    heading: Option<Dir>,
-) -> Option<(u32, u32)>
+/// Where a piece goes, if that is on the map and free on its layer.
+fn goal<const N: usize>(sheet: &Sheet<N>, x: u32, y: u32, mover: Mover) -> Option<(u32, u32)>
     requires on_map { IsOnMap sheet.now.grid x y }
-    requires layer_in { layer < sheet.now.grid.depth }
-    ensures goal { result ≡ heading_goal sheet.now.grid (spot x y layer) heading }
+    requires layer_in { mover.layer < sheet.now.grid.depth }
+    ensures goal { result ≡ heading_goal sheet.now.grid (spot x y mover.layer) (Some mover.dir) }
     ensures on_map { IfSome result (λ next. IsOnMap sheet.now.grid next.0 next.1) }
 {
-    match heading {
+    match neighbour(sheet, mover.dir, x, y) {
         None => None,
-        Some(dir) => match neighbour(sheet, dir, x, y) {
-            None => None,
-            Some((next_x, next_y)) => match sheet.place(next_x, next_y, layer) {
-                None => Some((next_x, next_y)),
-                Some(_) => None,
-            },
+        Some((next_x, next_y)) => match sheet.place(next_x, next_y, mover.layer) {
+            None => Some((next_x, next_y)),
+            Some(_) => None,
         },
     }
 }
 
-/// The piece that leaves this layer of a position, and where it goes. `None`: nothing leaves.
+/// The first piece that leaves a position, on a layer from `from` on, and where it goes. `None`: nothing leaves.
 fn leaving<const N: usize>(
     sheet: &Sheet<N>,
     x: u32,
     y: u32,
-    layer: usize,
-) -> Option<(Piece, (u32, u32))>
-    requires on_map { IsOnMap sheet.now.grid x y }
-    requires layer_in { layer < sheet.now.grid.depth }
-    ensures { MatchOption result (Stays sheet.now.grid (spot x y layer)) (λ leaves. Leaves sheet.now.grid (spot x y layer) leaves.0 leaves.1) }
+    from: usize,
+) -> Option<(Mover, (u32, u32))>
+    requires { IsOnMap sheet.now.grid x y }
+    ensures { IsNextLeaving sheet.now.grid x y from result }
 {
-    if sheet.is_layer_still(x, y, layer) {
-        return None;
+    let mut start = from;
+    'layers: while let Some(mover) = sheet.next_mover(x, y, start) {
+        if let Some(next) = goal(sheet, x, y, mover) {
+            return Some((mover, next));
+        }
+        start = mover.layer + 1;
     }
-    match sheet.place(x, y, layer) {
-        None => None,
-        Some(piece) => match goal(sheet, x, y, layer, piece.heading) {
-            None => None,
-            Some(next) => Some((piece, next)),
-        },
-    }
+    None
 }
 
 impl Level {
-    fn depth(&self) -> usize
-        ensures { result ≡ self.now.grid.depth }
-    {
-        self.bare.depth()
-    }
-
-    /// The piece that leaves this layer of a position, and where it goes. `None`: nothing leaves.
-    fn leaving(&self, x: u32, y: u32, layer: usize) -> Option<(Piece, (u32, u32))>
-        requires on_map { IsOnMap self.now.grid x y }
-        requires layer_in { layer < self.now.grid.depth }
-        ensures { MatchOption result (Stays self.now.grid (spot x y layer)) (λ leaves. Leaves self.now.grid (spot x y layer) leaves.0 leaves.1) }
+    /// The first piece that leaves a position, on a layer from `from` on, and where it goes. `None`: nothing leaves.
+    fn leaving(&self, x: u32, y: u32, from: usize) -> Option<(Mover, (u32, u32))>
+        requires { IsOnMap self.now.grid x y }
+        ensures { IsNextLeaving self.now.grid x y from result }
     {
         match self.bare.sheet() {
-            AnySheet::Small(sheet) => leaving(sheet, x, y, layer),
-            AnySheet::Middle(sheet) => leaving(sheet, x, y, layer),
-            AnySheet::Large(sheet) => leaving(sheet, x, y, layer),
+            AnySheet::Small(sheet) => leaving(sheet, x, y, from),
+            AnySheet::Middle(sheet) => leaving(sheet, x, y, from),
+            AnySheet::Large(sheet) => leaving(sheet, x, y, from),
         }
     }
 
@@ -147,22 +126,6 @@ impl Level {
         self.bare.next_heading(x, from)
     }
 
-    /// Puts a piece on a layer of a position where nothing stands, or takes away the piece that stands there. `object` is the piece's. A piece
-    /// that is put there must be marked.
-    fn toggle(&mut self, x: u32, y: u32, layer: usize, object: usize, place: Option<Piece>)
-        requires on_map { IsOnMap self.old.grid x y }
-        requires layer_in { layer < self.old.grid.depth }
-        requires on_layer { IsOnLayer self.old.grid.layers layer place }
-        requires one { IsToggle object (place_at self.old.grid x y layer) place }
-        requires marked { IfSome place (λ piece. IsMarkedAt self.old x y (nat_eq piece.object)) }
-        ensures put { self.new.grid ≡ with_place self.old.grid x y layer place }
-        ensures there { place_at self.new.grid x y layer ≡ place }
-        ensures row_marks { self.new.row_marks ≡ self.old.row_marks }
-        ensures column_marks { self.new.column_marks ≡ self.old.column_marks }
-    {
-        self.bare.toggle(x, y, layer, object, place);
-    }
-
     /// Stills every piece.
     fn still_all(&mut self)
         ensures stilled { self.new.grid ≡ stilled self.old.grid }
@@ -174,32 +137,19 @@ impl Level {
         self.bare.still_all();
     }
 
-    /// Moves what stands on a layer of a position, if it can. True: something has moved in this pass, here or before.
-    fn move_at(&mut self, x: u32, y: u32, layer: usize, moved: bool) -> bool
+    /// Moves a piece to where it goes.
+    fn carry(&mut self, x: u32, y: u32, mover: Mover, next: (u32, u32))
         requires on_map { IsOnMap self.old.grid x y }
-        requires layer_in { layer < self.old.grid.depth }
-        ensures pass { in_pass self.new.grid result ≡ move_at (in_pass self.old.grid moved) (spot x y layer) }
+        requires leaves { Leaves self.old.grid x y mover next }
+        ensures pass { (moved : Bool) → in_pass self.new.grid true ≡ move_at (in_pass self.old.grid moved) (spot x y mover.layer) }
         ensures size { SameSize self.old.grid self.new.grid }
         ensures marks { IsMove self.old self.new }
     {
-        match self.leaving(x, y, layer) {
-            None => moved,
-            Some((piece, (next_x, next_y))) => {
-                let object = piece.object as usize;
-                self.toggle(x, y, layer, object, None);
-                self.mark(next_x, next_y, object);
-                self.toggle(
-                    next_x,
-                    next_y,
-                    layer,
-                    object,
-                    Some(Piece::still(piece.object)),
-                );
-                true
-            }
-        }
+        self.mark(next.0, next.1, mover.object as usize);
+        self.bare.carry(x, y, mover, next.0, next.1);
     }
 
+    /// Moves what leaves a position. True: something has moved in this pass, here or before.
     fn pass_at(&mut self, x: u32, y: u32, moved_before: bool) -> bool
         requires on_map { IsOnMap self.old.grid x y }
         ensures pass { in_pass self.new.grid result ≡ fold move_at (in_pass self.old.grid moved_before) (spots_at self.old.grid.depth x y) }
@@ -207,8 +157,11 @@ impl Level {
         ensures marks { IsMove self.old self.new }
     {
         let mut moved = moved_before;
-        for layer in 0..self.depth() {
-            moved = self.move_at(x, y, layer, moved);
+        let mut from = 0;
+        'layers: while let Some((mover, next)) = self.leaving(x, y, from) {
+            self.carry(x, y, mover, next);
+            from = mover.layer + 1;
+            moved = true;
         }
         moved
     }

@@ -1,5 +1,6 @@
 -- A level becomes a newer one if it gets the newer one's cells wherever the changes that lead back say that the two differ.
-use Rattle.pz_sheet.proofs.Common.{map, suc, restored, ◌≡◌, inl, inr, ℕ, ◌+◌, ◌<◌, List, [], ◌∷◌, Option, Some, None, false, not, length, get_or, ap, sym, ◌∙◌, refl, arith, get_or-set_same, get_or-set_other, fold, cases_eq, cases_lt, IsNext, Piece, same_cell, same_cell_is, same_cell_self, Change, CellChange, changed_from, changed_cells, changes_seen, with_cell, differ_in, cell_there, Grid, SameSize, cell_of}
+use Rattle.pz_sheet.proofs.Common.{map, suc, restored, ◌≡◌, ℕ, ◌+◌, ◌<◌, List, [], ◌∷◌, Option, Some, None, false, length, get_or, ap, sym, ◌∙◌, refl, arith, fold, IsNext, Piece, same_cell, same_cell_is, same_cell_self, Change, CellChange, changed_from, changed_cells, changes_seen, with_cell, differ_in, cell_there, Grid, SameSize, cell_of}
+use Rattle.std.proofs.lemmas.Grind.{common_steps}
 use Rattle.pz_sheet.proofs.ChangeLemmas.{way_back}
 
 -- cells of a newer level put where changes say
@@ -34,22 +35,8 @@ all_taken N newer grid changes size long e =
 -- up to the next cell that differs, and with it taken, none does
 pub same_before : (grid other : Grid) (from index : ℕ) → IsNext (differ_in grid other) from (length grid.cells) (Some index) → ((number : ℕ) → number < from → differ_in grid other number ≡ false)
     → (number : ℕ) → number < index + 1 → differ_in (with_cell grid (cell_there other index)) other number ≡ false
-same_before grid other from index next before number below =
-    let there = cell_of other index in
-    let same = λ (k : ℕ) (cell : List (Option Piece)). not (same_cell cell (cell_of other k)) in
-    elim (cases_eq number index) [
-      | inl here ↦
-          ap (λ (k : ℕ). differ_in (with_cell grid (cell_there other index)) other k) here ∙ ap (same index) (get_or-set_same grid.cells index there [] next.1)
-          ∙ ap not (same_cell_self there)
-      | inr apart ↦ ap (same number) (get_or-set_other grid.cells index number there [] apart) ∙ elim (cases_lt number from) [
-        | inl early ↦ before number early
-        | inr late ↦ next.3 number late (omega (arith, below, apart))
-      ]
-    ]
+same_before grid other from index next before number below = grind (arith, common_steps, next.1, next.3 number, before number, same_cell_self (cell_of other index), below)
 
 -- and from there on none
 pub same_all : (grid other : Grid) (from : ℕ) → IsNext (differ_in grid other) from (length grid.cells) None → ((number : ℕ) → number < from → differ_in grid other number ≡ false) → (number : ℕ) → number < length grid.cells → differ_in grid other number ≡ false
-same_all grid other from none before number within = elim (cases_lt number from) [
-  | inl early ↦ before number early
-  | inr late ↦ none number late within
-]
+same_all grid other from none before number within = grind (arith, before number, none number, within)

@@ -1,7 +1,9 @@
 -- A cell of a level in words, and what is seen of it.
-use Rattle.pz_sheet.proofs.Common.{Layering, ◌≡◌, ℕ, ◌+◌, ◌*◌, ◌/◌, ◌%◌, ◌<◌, ◌≤◌, List, [], Option, Some, None, Bool, true, false, not, set, length, get_or, ap, sym, ◌∙◌, refl, subst, arith, inl, inr, get_or-set_same, get_or-set_other, IfSome, MatchOption, lt-ltb, cases_eq, not-false, length-map, length-set, get_or-map, get_or_default, set-get_or, length-map-range_with_len, Dir, Cell, Piece, same_cell, same_cell_is, Item, IsCell, IsOnLayer, standing, place_of, on_its_layer, standing_by, Grid, BareState, IsLawful, cell_at, place_at, with_place, HeadingSets, IsWider, seen, IsSound, grid_of, IsNoted, IsStored}
+use Rattle.pz_sheet.proofs.Common.{IsLayering, Layering, ◌≡◌, ℕ, ◌+◌, ◌*◌, ◌/◌, ◌%◌, ◌<◌, ◌≤◌, List, [], Option, Some, None, Bool, true, false, not, set, length, get_or, ap, sym, ◌∙◌, refl, subst, arith, inl, inr, get_or-set_same, get_or-set_other, IfSome, MatchOption, lt-ltb, cases_eq, not-false, length-map, length-set, get_or-map, get_or_default, set-get_or, length-map-range_with_len, Dir, Cell, Piece, same_cell, same_cell_is, Item, IsCell, IsOnLayer, standing, place_of, on_its_layer, standing_by, Grid, BareState, IsLawful, cell_at, place_at, with_place, HeadingSets, IsWider, seen, IsSound, grid_of, IsNoted, IsStored}
 use Rattle.std.proofs.lemmas.List.Elements.{All-map, All-set}
-use Rattle.pz_game.specs.declared.limits.TheConstants.{MAX_OBJECTS}
+use Rattle.pz_game.specs.declared.limits.TheConstants.{MAX_LAYERS, MAX_OBJECTS}
+use Rattle.pz_cells.specs.declared.piece.Mover.{Mover}
+use Rattle.pz_cells.specs.Cell.{IsNextMover}
 use Rattle.pz_cells.specs.Rewriting.{rewritten_cell}
 use Rattle.pz_sheet.specs.Standing.{standing_at}
 use Rattle.pz_sheet.specs.Rewriting.{with_rewritten}
@@ -49,6 +51,13 @@ lawful_here N width height layering cells notes level s is = subst IsLawful (ap 
 
 pub low_place : (layers : List ℕ) (layer : ℕ) (place : Option Piece) → length layers ≤ MAX_OBJECTS → IsOnLayer layers layer place → IfSome place (λ piece. piece.object < MAX_OBJECTS)
 low_place layers layer place few on = grind arith
+
+pub low_mover : (N : ℕ) (layering : Layering) (cell : List (Option Piece)) (from : ℕ) (mover : Option Mover) → IsLayering N layering → IsCell layering.depth layering.layers cell → IsNextMover cell from mover → IfSome mover (λ m. (m.layer < layering.depth) × (m.layer < MAX_LAYERS) × (m.object < MAX_OBJECTS))
+low_mover N layering cell from None law is next = search
+low_mover N layering cell from (Some mover) law is next =
+    let on = subst (IsOnLayer layering.layers mover.layer) next.1 (is.on_layers mover.layer) in
+    let low : mover.layer < layering.depth = omega (arith, law.layered mover.object 0 on.0, on.1) in
+    (low, omega (arith, low, law.shallow), omega (arith, on.0, law.few))
 
 -- a position on the map
 pub standing_on_map : (grid : Grid) (x y object : ℕ) → x < grid.width → y < grid.height → standing_at grid x y object ≡ standing (cell_at grid x y) object

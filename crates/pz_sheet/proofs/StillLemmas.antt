@@ -1,10 +1,7 @@
 -- A cell that heads nowhere is still. So is each cell of a line or of a level for which no heading is noted.
-use Rattle.pz_sheet.proofs.Common.{Layering, inl, inr, ◌≡◌, ◌+◌, ◌*◌, ◌/◌, ◌%◌, ◌<◌, ◌≤◌, ℕ, suc, List, [], ◌∷◌, Option, Some, None, Bool, true, false, map, length, get_or, arith, ap, sym, ◌∙◌, refl, subst, All, range_with_len, cases_lt, get_or_default, mul-add-lt, mod-mul-add, div-mul-add, member, IsWithin, Dir, heads, heading_in, flag, Cell, Piece, still_place, place_of, Grid, cell_at, HeadingSets, column_in, number_of, row_in, seen, IsSound, grid_of, HeadsWithin, IsNoted, AreNoted, IsStored, no_cell, cell_mapped}
-use Rattle.std.specs.Prelude.{find}
-use Rattle.std.specs.Option.{option_map}
+use Rattle.pz_sheet.proofs.Common.{Layering, inl, inr, ◌≡◌, ◌+◌, ◌*◌, ◌/◌, ◌%◌, ◌<◌, ◌≤◌, ℕ, suc, List, [], ◌∷◌, Option, Bool, true, false, map, length, get_or, arith, ap, sym, ◌∙◌, refl, subst, All, cases_lt, get_or_default, mul-add-lt, mod-mul-add, div-mul-add, member, IsWithin, heads, flag, Cell, Piece, still_place, place_of, Grid, HeadingSets, column_in, number_of, row_in, seen, IsSound, grid_of, HeadsWithin, IsNoted, AreNoted, IsStored, no_cell, cell_mapped}
 use Rattle.std.proofs.Math.Nat.{mul-le-mul_right}
 use Rattle.std.proofs.lemmas.List.Elements.{All-map}
-use Rattle.pz_cells.specs.Shown.{stands_on, piece_with}
 use Rattle.pz_sheet.specs.Movement.{IsStillAt, AreStill, AreColumnsStill}
 use Rattle.pz_planes.specs.Notes.{HaveNoneBetween}
 use Rattle.pz_cells.specs.Lists.{IsStilled, HeadNowhere}
@@ -15,13 +12,6 @@ pub still_seen : (N : ℕ) (layering : Layering) (cell : Cell N) → IsSound lay
 still_seen N layering cell sound none =
     cell_mapped layering.depth layering.layers cell.objects cell.movement cell.objects cell.movement still_place sound.of_game
     (λ layer. still_shows layering.layers (member cell.objects) (heads cell.movement layer) (heads cell.movement layer) layer (place_of layering.layers cell.objects cell.movement layer) (λ dir. none (flag layer dir)) (sound.shows layer))
-
--- what stands where nothing heads is still
-pub place_is_still : (layers objects movement : List ℕ) (layer : ℕ) → heading_in movement layer ≡ None → place_of layers objects movement layer ≡ still_place (place_of layers objects movement layer)
-place_is_still layers objects movement layer nowhere = by_found (find (stands_on layers objects layer) (range_with_len 0 (length layers))) where
-  by_found : (found : Option ℕ) → option_map (piece_with (heading_in movement layer)) found ≡ still_place (option_map (piece_with (heading_in movement layer)) found)
-  by_found None = refl
-  by_found (Some object) = ap (λ (heading : Option Dir). Some (piece_with heading object)) nowhere
 
 -- what is within nothing has nothing
 none_within : (wanted words : List ℕ) → IsWithin wanted words → ((number : ℕ) → member words number ≡ false) → (number : ℕ) → member wanted number ≡ false

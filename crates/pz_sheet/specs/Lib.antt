@@ -11,7 +11,6 @@ pub mod Holding
 pub mod Loading
 pub mod Rewriting
 pub mod Searching
-pub mod Toggle
 pub mod Runs
 pub mod Line
 pub mod Marks

@@ -1,7 +1,14 @@
--- Where nothing heads anywhere: at a position of the map, in rows of a column, and in a level in which movement is over.
-use Rattle.std.specs.Prelude.{◌≡◌, ◌≤◌, ◌<◌, ℕ, map}
-use Rattle.pz_cells.specs.Cell.{still_place}
-use Rattle.pz_sheet.specs.Grid.{Grid, cell_at}
+-- A piece that is carried to another position. Where nothing heads anywhere: at a position of the map, in rows of a column, and in a
+-- level in which movement is over.
+use Rattle.std.specs.Prelude.{◌≡◌, ◌≤◌, ◌<◌, ℕ, Some, None, map}
+use Rattle.pz_cells.specs.declared.piece.Mover.{Mover}
+use Rattle.pz_cells.specs.Cell.{still_piece, still_place}
+use Rattle.pz_sheet.specs.Grid.{Grid, cell_at, with_place}
+
+-- a piece goes from a position to another, and is still there
+abbrev pub carried : Grid → ℕ → ℕ → Mover → ℕ → ℕ → Grid
+carried grid x y mover next_x next_y =
+    with_place (with_place grid x y mover.layer None) next_x next_y mover.layer (Some (still_piece mover.object))
 
 -- nothing at a position of the map heads anywhere
 abbrev pub IsStillAt : Grid → ℕ → ℕ → Type 0

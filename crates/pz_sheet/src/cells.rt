@@ -1,18 +1,20 @@
 //! One cell of a level: lent, or replaced.
 
-ghost use Rattle.std.specs.Prelude.{◌≡◌, ◌<◌, ◌≤◌, ◌+◌, ◌*◌, ◌/◌, ◌%◌, ℕ, nat_eq, length};
+ghost use Rattle.std.specs.Prelude.{◌≡◌, ◌<◌, ◌≤◌, ◌+◌, ◌*◌, ◌/◌, ◌%◌, ℕ, Some, None, length};
 ghost use Rattle.pz_sets.specs.Sets.{member};
+ghost use Rattle.pz_cells.specs.Cell.{IsOnLayer, moving_piece, still_piece};
 ghost use Rattle.pz_cells.specs.Layering.{IsLayering};
 ghost use Rattle.pz_cells.specs.Lists.{seen, IsSound};
-ghost use Rattle.pz_planes.specs.Planes.{AreChanged, AreKnown, AreThere, toggled};
+ghost use Rattle.pz_planes.specs.Planes.{AreChanged, AreKnown, AreThere};
 ghost use Rattle.pz_sheet.specs.Changes.{with_cell};
-ghost use Rattle.pz_sheet.specs.Grid.{IsOnMap, cell_at, layers_in};
+ghost use Rattle.pz_sheet.specs.Grid.{IsOnMap, layers_in, place_at, with_place};
 ghost use Rattle.pz_sheet.specs.Presence.{cell_of, is_in};
 
 use crate::Sheet;
 use crate::noting::note_heading;
 use pz_cells::cell::Cell;
 use pz_cells::layers::Layers;
+use pz_cells::piece::Mover;
 use pz_planes::planes::Planes;
 use pz_sets::words::same;
 
@@ -55,18 +57,30 @@ impl<const N: usize> Sheet<N> {
         note_objects(&mut self.planes, index, &before, &cell);
     }
 
-    /// The same at a position, where exactly this object comes or goes.
-    pub(crate) fn set_toggled(&mut self, x: u32, y: u32, object: usize, cell: Cell<N>)
+    /// Takes away a piece that heads somewhere. The notes of headings stay, so they may have more than there are.
+    pub(crate) fn take(&mut self, x: u32, y: u32, mover: Mover)
         requires on_map { IsOnMap self.old.grid x y }
-        requires sound { IsSound (layers_in self.old.grid) cell }
-        requires known { object < length self.old.grid.layers }
-        requires toggled { (other : ℕ) → member cell.objects other ≡ toggled (nat_eq other object) (is_in (cell_at self.old.grid x y) other) }
-        ensures { self.new.grid ≡ with_cell self.old.grid (record { number = y * self.old.grid.width + x; cell = seen (layers_in self.old.grid) cell.entry }) }
+        requires there { place_at self.old.grid x y mover.layer ≡ Some (moving_piece mover) }
+        ensures taken { self.new.grid ≡ with_place self.old.grid x y mover.layer None }
+        ensures on_layer { IsOnLayer self.old.grid.layers mover.layer (Some (still_piece mover.object)) }
     {
         let number = self.index(x, y);
-        self.cells[number] = cell;
-        note_heading(&mut self.notes, &self.layers, number, &cell);
-        self.planes.toggle(object, x as usize, y as usize);
+        self.cells[number].take(&self.layers, mover);
+        self.planes
+            .toggle(mover.object as usize, x as usize, y as usize);
+    }
+
+    /// Puts an object, still, on its layer of a position, where nothing stands.
+    pub(crate) fn land(&mut self, x: u32, y: u32, layer: usize, object: u16)
+        requires on_map { IsOnMap self.old.grid x y }
+        requires free { place_at self.old.grid x y layer ≡ None }
+        requires on_layer { IsOnLayer self.old.grid.layers layer (Some (still_piece object)) }
+        ensures landed { self.new.grid ≡ with_place self.old.grid x y layer (Some (still_piece object)) }
+        ensures there { place_at self.new.grid x y layer ≡ Some (still_piece object) }
+    {
+        let number = self.index(x, y);
+        self.cells[number].land(&self.layers, layer, object);
+        self.planes.toggle(object as usize, x as usize, y as usize);
     }
 }
 

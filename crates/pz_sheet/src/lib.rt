@@ -86,15 +86,6 @@ impl<const N: usize> Sheet<N> {
         self.height
     }
 
-    /// The number of layers.
-    #[tactic(auto, using(crate::proofs::SheetLemmas::lawful_here))]
-    pub fn depth(&self) -> usize
-        ensures depth { result ≡ self.now.grid.depth }
-        ensures lawful { IsLawful self.now.grid }
-    {
-        self.layers.depth()
-    }
-
     /// The number of the cell at a position of the map. Cells are numbered row by row.
     fn index(&self, x: u32, y: u32) -> usize
         requires on_map { IsOnMap self.now.grid x y }

@@ -1,15 +1,18 @@
 //! The end of all movement.
 
-ghost use Rattle.std.specs.Prelude.{◌≡◌, ◌<◌, ◌≤◌, length, map, true, MatchOption};
-ghost use Rattle.pz_cells.specs.Cell.{still_place};
+ghost use Rattle.std.specs.Prelude.{◌≡◌, ◌<◌, ◌≤◌, length, map, true, IfSome, MatchOption};
+ghost use Rattle.pz_sets.specs.declared.set.TheConstants.{CAPACITY};
+ghost use Rattle.pz_game.specs.declared.limits.TheConstants.{MAX_LAYERS};
+ghost use Rattle.pz_cells.specs.Cell.{IsNextMover, still_place};
 ghost use Rattle.pz_cells.specs.Lists.{AreMapped, HeadNowhere, HaveSameObjects};
 ghost use Rattle.pz_sheet.specs.Seen.{IsStored};
-ghost use Rattle.pz_sheet.specs.Grid.{IsLawful, place_at};
+ghost use Rattle.pz_sheet.specs.Grid.{IsLawful, IsOnMap, cell_at};
 ghost use Rattle.pz_sheet.specs.Movement.{stilled, IsStillAt, AreStill, AreColumnsStill};
 
 use crate::Sheet;
 use pz_cells::cell::Cell;
 use pz_cells::layers::Layers;
+use pz_cells::piece::Mover;
 use pz_cells::stilling::still_cells;
 use pz_planes::notes::{Notes, is_empty};
 
@@ -24,15 +27,14 @@ impl<const N: usize> Sheet<N> {
         self.cell(self.index(x, y)).is_still(layers)
     }
 
-    /// Whether what stands on a layer of a position of the map heads nowhere.
-    pub fn is_layer_still(&self, x: u32, y: u32, layer: usize) -> bool
-        requires x_in { x < self.now.grid.width }
-        requires y_in { y < self.now.grid.height }
-        requires layer_in { layer < self.now.grid.depth }
-        ensures { result ≡ true → place_at self.now.grid x y layer ≡ still_place (place_at self.now.grid x y layer) }
+    /// The first piece at a position of the map that heads somewhere, on a layer from `from` on.
+    pub fn next_mover(&self, x: u32, y: u32, from: usize) -> Option<Mover>
+        requires { IsOnMap self.now.grid x y }
+        ensures next { IsNextMover (cell_at self.now.grid x y) from result }
+        ensures low { IfSome result (λ mover. (mover.layer < self.now.grid.depth) × (mover.layer < MAX_LAYERS) × (mover.object < CAPACITY)) }
     {
         let layers = self.layers();
-        self.cell(self.index(x, y)).is_layer_still(layers, layer)
+        self.cell(self.index(x, y)).next_mover(layers, from)
     }
 
     /// The first column, from `from` on, in which something may head somewhere.

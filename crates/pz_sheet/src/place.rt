@@ -1,16 +1,16 @@
 //! What stands at a position, and its change.
 
-ghost use Rattle.std.specs.Prelude.{◌≡◌, ◌<◌, IfSome};
+ghost use Rattle.std.specs.Prelude.{◌≡◌, ◌<◌, IfSome, Some, None};
 ghost use Rattle.pz_sets.specs.declared.set.TheConstants.{CAPACITY};
 ghost use Rattle.pz_game.specs.Pattern.{AreOf};
-ghost use Rattle.pz_cells.specs.Cell.{IsOnLayer};
+ghost use Rattle.pz_cells.specs.Cell.{IsOnLayer, moving_piece, still_piece};
 ghost use Rattle.pz_cells.specs.Pattern.{pattern_holds};
-ghost use Rattle.pz_sheet.specs.Grid.{IsOnMap, cell_at, place_at, with_place};
+ghost use Rattle.pz_sheet.specs.Grid.{IsOnMap, cell_at, place_at};
+ghost use Rattle.pz_sheet.specs.Movement.{carried};
 ghost use Rattle.pz_sheet.specs.Rewriting.{with_rewritten, changes};
-ghost use Rattle.pz_sheet.specs.Toggle.{IsToggle};
 
 use crate::Sheet;
-use pz_cells::piece::Piece;
+use pz_cells::piece::{Mover, Piece};
 use pz_game::pattern::Pattern;
 
 impl<const N: usize> Sheet<N> {
@@ -26,20 +26,17 @@ impl<const N: usize> Sheet<N> {
         self.cell(self.index(x, y)).place(layers, layer)
     }
 
-    /// Puts a piece on a layer of a position where nothing stands, or takes away the piece that stands there. `object` is the piece's.
-    pub fn toggle(&mut self, x: u32, y: u32, layer: usize, object: usize, place: Option<Piece>)
+    /// Moves a piece that heads somewhere to a position where nothing stands on its layer, and stills it.
+    pub fn carry(&mut self, x: u32, y: u32, mover: Mover, next_x: u32, next_y: u32)
         requires on_map { IsOnMap self.old.grid x y }
-        requires layer_in { layer < self.old.grid.depth }
-        requires on_layer { IsOnLayer self.old.grid.layers layer place }
-        requires one { IsToggle object (place_at self.old.grid x y layer) place }
-        ensures put { self.new.grid ≡ with_place self.old.grid x y layer place }
-        ensures there { place_at self.new.grid x y layer ≡ place }
+        requires goal_on_map { IsOnMap self.old.grid next_x next_y }
+        requires there { place_at self.old.grid x y mover.layer ≡ Some (moving_piece mover) }
+        requires free { place_at self.old.grid next_x next_y mover.layer ≡ None }
+        ensures carried { self.new.grid ≡ carried self.old.grid x y mover next_x next_y }
+        ensures there { place_at self.new.grid next_x next_y mover.layer ≡ Some (still_piece mover.object) }
     {
-        let index = self.index(x, y);
-        let layers = self.layers();
-        let mut cell = *self.cell(index);
-        cell.put(layers, layer, place);
-        self.set_toggled(x, y, object, cell);
+        self.take(x, y, mover);
+        self.land(next_x, next_y, mover.layer, mover.object);
     }
 
     /// Whether a rule's cell holds at a position of the map.

@@ -1,4 +1,4 @@
-use Rattle.pz_grid.proofs.Common.{ℕ, ◌≡◌, ◌+◌, inl, inr, cases_eq, cases_lt, ap, sym, subst, ◌∙◌, arith, fold, Grid, AreStill, Pass, in_pass, move_at, spots_at}
+use Rattle.pz_grid.proofs.Common.{ℕ, ◌≡◌, ◌+◌, inl, inr, cases_lt, ap, sym, ◌∙◌, arith, fold, Grid, AreStill, Pass, in_pass, move_at, spots_at}
 use Rattle.pz_sheet.specs.Movement.{IsStillAt}
 use Rattle.pz_grid.proofs.MoveLemmas.{moves_on}
 use Rattle.pz_grid.proofs.MovementLemmas.{fold_gather_more, same_size_on}
@@ -8,13 +8,7 @@ use Rattle.pz_grid.proofs.Level.pass_in.Goals as goal
 
 -- rows up to one, one behind them up to another, and that one
 pub rows_more : (grid : Grid) (x from y : ℕ) → AreStill grid x 0 from → AreStill grid x from y → IsStillAt grid x y → AreStill grid x 0 (y + 1)
-rows_more grid x from y front rest last k low high = elim (cases_eq k y) [
-  | inl same ↦ subst (λ (j : ℕ). IsStillAt grid x j) (sym same) last
-  | inr apart ↦ elim (cases_lt k from) [
-    | inl before ↦ front k low before
-    | inr past ↦ rest k past (omega (arith, high, apart))
-  ]
-]
+rows_more grid x from y front rest last k low high = grind (arith, front k, rest k, last, low, high)
 
 pub rows-preserved : goal.rows-preserved
 rows-preserved c =
