@@ -1,5 +1,5 @@
 -- What a rewriting does to the sets of a cell.
-use Rattle.pz_cells.proofs.Common.{cases_Bool, IfSome, map, find, option_map, piece_with, first_of, range_with_len, ◌≡◌, ◌≢◌, nat_lt, inl, inr, ℕ, ◌+◌, ◌<◌, ◌≤◌, List, Option, Some, None, Bool, true, false, cond, not, ◌&&◌, ◌||◌, length, get_or, arith, ap, sym, ◌∙◌, refl, subst, nat_eq, All, is_some, ◌↔◌, cases_lt, and_parts, or_right, or_parts, length-map-range_with_len, common_steps, member, Piece, Dir, Word, Item, AreOf, standing, same_cell, is_toward, flag, heads, IsProper, place_of, cell_of, Shows, AreLawful, each_number, names, placed_on, tells_of, tells_movement, names_object, forbids_object, heading_of, new_heading, kept, replaced, rewritten_place, rewritten_cell, Masks, toward, begins, settles, AreMasksOf, ends, Leaves, removed_by}
+use Rattle.pz_cells.proofs.Common.{cases_Bool, IfSome, map, find, option_map, piece_with, first_of, range_with_len, ◌≡◌, ◌≢◌, nat_lt, inl, inr, ℕ, ◌+◌, ◌<◌, ◌≤◌, List, Option, Some, None, Bool, true, false, cond, not, ◌&&◌, ◌||◌, length, get_or, arith, ap, sym, ◌∙◌, refl, subst, nat_eq, All, is_some, ◌↔◌, cases_lt, and_parts, or_right, or_parts, length-map-range_with_len, common_steps, member, Piece, Dir, Word, Item, AreOf, standing, same_cell, is_toward, flag, heads, IsProper, place_of, cell_of, Shows, AreLawful, each_number, names, placed_on, tells_of, tells_movement, names_object, forbids_object, heading_of, new_heading, kept, replaced, rewritten_place, rewritten_cell, Masks, toward, begins, settles, AreMasksOf, ends, leaves}
 use Rattle.pz_cells.proofs.SameLemmas.{same_cell_is, same_cell_self}
 use Rattle.pz_cells.proofs.PlaceLemmas.{lawful_from_shows, cell_shown}
 use Rattle.pz_cells.proofs.HoldLemmas.{place_everywhere, standing_seen, placed_is}
@@ -32,8 +32,8 @@ pub record AreRewritten (layers : List ℕ) (left right : List Item) (l r : Mask
   pub is_new : (object : ℕ) → object < length layers → member objects_new object ≡ ((member objects object && not (member r.layers (get_or layers object 0) || (member l.present object || member r.absent object))) || member r.placed object)
   pub of_game : (object : ℕ) → member objects_new object ≡ true → object < length layers
   pub is_mid : (number : ℕ) → member mid number ≡ ((member movement number && not (member r.settled number || (member l.told number && member r.covered number))) || member r.headed number)
-  pub ended : (object : ℕ) (dir : Dir) → Leaves layers objects r.layers (removed_by l r) object → heads movement_new (get_or layers object 0) dir ≡ false
-  pub others : (layer : ℕ) (dir : Dir) → ((object : ℕ) → Leaves layers objects r.layers (removed_by l r) object → get_or layers object 0 ≡ layer → ⊥) → heads movement_new layer dir ≡ heads mid layer dir
+  pub ended : (object : ℕ) (dir : Dir) → leaves layers objects l r object ≡ true → heads movement_new (get_or layers object 0) dir ≡ false
+  pub others : (layer : ℕ) (dir : Dir) → ((object : ℕ) → leaves layers objects l r object ≡ true → get_or layers object 0 ≡ layer → ⊥) → heads movement_new layer dir ≡ heads mid layer dir
 
 -- what is placed is of the game
 pub placed_within : (layers : List ℕ) (right : List Item) (r : Masks) → AreOf layers right → AreMasksOf right r → (object : ℕ) → member r.placed object ≡ true → object < length layers
@@ -75,7 +75,7 @@ module _ (layers : List ℕ) (left right : List Item) (l r : Masks) (objects mov
       let on : p.0 ≡ get_or layers object 0 = sym (placed_is layers p.0 right p.1 w.are p.2).1 ∙ ap (λ (k : ℕ). get_or layers k 0) p.3 in
       subst (λ (o : Option Item). IfSome o (λ item. item.object ≡ object) × (is_some o ≡ true)) (sym p.2 ∙ ap (λ (k : ℕ). placed_on k right) on) (p.3, refl)
 
-  others : (layer : ℕ) (dir : Dir) → ((object : ℕ) → Leaves layers objects r.layers (removed_by l r) object → get_or layers object 0 ≡ layer → ⊥) → heads movement_new layer dir ≡ ((heads movement layer dir && not (ends (tells_of layer left) (placed_on layer right))) || begins dir (placed_on layer right))
+  others : (layer : ℕ) (dir : Dir) → ((object : ℕ) → leaves layers objects l r object ≡ true → get_or layers object 0 ≡ layer → ⊥) → heads movement_new layer dir ≡ ((heads movement layer dir && not (ends (tells_of layer left) (placed_on layer right))) || begins dir (placed_on layer right))
   others layer dir none = w.others layer dir none ∙ grind (arith, w.is_mid (flag layer dir), w.mr.settled layer dir, w.ml.told layer dir, w.mr.covered layer dir, w.mr.headed layer dir, ends_by (tells_of layer left) (placed_on layer right))
 
   -- each layer shows what the definition says of it
@@ -87,25 +87,25 @@ module _ (layers : List ℕ) (left right : List Item) (l r : Masks) (objects mov
         let unplaced : member r.placed object ≡ false = elim (cases_Bool (member r.placed object)) [ inl there ↦ absurd (let f : false ≡ true = sym free ∙ (placed_here object there).1 in cc) | inr none ↦ none ] in
         stays_by _ _ _ _ _ _ (w.is_new object low) (w.mr.layers (get_or layers object 0) ∙ free) (removable object) unplaced
 
-    toward_kept : placed_on layer right ≡ None → ((object : ℕ) → Leaves layers objects r.layers (removed_by l r) object → get_or layers object 0 ≡ layer → ⊥) → (dir : Dir) → heads movement_new layer dir ≡ heads movement layer dir
+    toward_kept : placed_on layer right ≡ None → ((object : ℕ) → leaves layers objects l r object ≡ true → get_or layers object 0 ≡ layer → ⊥) → (dir : Dir) → heads movement_new layer dir ≡ heads movement layer dir
     toward_kept e none dir = grind (arith, others layer dir none, e)
 
     by_test : placed_on layer right ≡ None → (piece : Piece) → Shows layers (member objects) (heads movement layer) layer (Some piece) → (b : Bool) → is_removable left right piece.object ≡ b → Shows layers (member objects_new) (heads movement_new layer) layer (cond b None (Some piece))
     by_test e piece shown true f = (
       λ object new on. grind (arith, stays e object on (w.of_game object new), new, shown.2 object, on, f),
-      λ dir. ap (λ (k : ℕ). heads movement_new k dir) (sym shown.1) ∙ w.ended piece.object dir (record { here = shown.0; removed = removable piece.object ∙ f; free = ap (member r.layers) shown.1 ∙ w.mr.layers layer ∙ ap is_some e }),
+      λ dir. ap (λ (k : ℕ). heads movement_new k dir) (sym shown.1) ∙ w.ended piece.object dir (grind (arith, shown.0, shown.1, removable piece.object, f, w.mr.layers layer, e)),
     )
     by_test e piece shown false f = (
       grind (arith, stays e piece.object shown.1 (w.lawful.of_game piece.object shown.0), shown.0, f),
       shown.1,
       λ object new on. shown.2 object (grind (arith, stays e object on (w.of_game object new), new)) on,
-      λ dir. toward_kept e (λ object g on. grind (arith, shown.2 object g.here on, g.removed, removable object, f)) dir ∙ shown.3 dir,
+      λ dir. toward_kept e (λ object g on. grind (arith, shown.2 object, on, g, removable object, f)) dir ∙ shown.3 dir,
     )
 
     by_here : placed_on layer right ≡ None → (place : Option Piece) → Shows layers (member objects) (heads movement layer) layer place → Shows layers (member objects_new) (heads movement_new layer) layer (kept left right place)
     by_here e None shown = (
       λ object new on. shown.0 object (grind (arith, stays e object on (w.of_game object new), new)) on,
-      λ dir. toward_kept e (λ object g on. shown.0 object g.here on) dir ∙ shown.1 dir,
+      λ dir. toward_kept e (λ object g on. grind (arith, shown.0 object, on, g)) dir ∙ shown.1 dir,
     )
     by_here e (Some piece) shown = by_test e piece shown (is_removable left right piece.object) refl
 
@@ -116,7 +116,7 @@ module _ (layers : List ℕ) (left right : List Item) (l r : Masks) (objects mov
           w.is_new item.object is.0 ∙ or_right _ _ (w.mr.placed layer item e),
           is.1,
           λ object new on. grind (arith, w.is_new object (w.of_game object new), new, w.mr.layers layer, e, on, placed_here object),
-          λ dir. others layer dir (λ object g on. absurd (grind (arith, g.free, on, w.mr.layers layer, e))) ∙ ap (λ (o : Option Item). (heads movement layer dir && not (ends (tells_of layer left) o)) || begins dir o) e ∙ new_toward item.word (tells_of layer left) here (heads movement layer dir) dir is.2 (toward_shown layers (member objects) (heads movement layer) layer here dir shown),
+          λ dir. others layer dir (λ object g on. grind (arith, g, on, w.mr.layers layer, e)) ∙ ap (λ (o : Option Item). (heads movement layer dir && not (ends (tells_of layer left) o)) || begins dir o) e ∙ new_toward item.word (tells_of layer left) here (heads movement layer dir) dir is.2 (toward_shown layers (member objects) (heads movement layer) layer here dir shown),
         )
 
   -- the new words are lawful, and what is seen of them is the definition's cell
@@ -136,8 +136,8 @@ module _ (layers : List ℕ) (left right : List Item) (l r : Masks) (objects mov
   mid_proper number high = grind (arith, w.is_mid number, w.lawful.proper number high, w.mr.proper_headed number high)
 
   -- where the objects stay, none of them leaves
-  none_leaves : ((object : ℕ) → member objects_new object ≡ member objects object) → (object : ℕ) → Leaves layers objects r.layers (removed_by l r) object → ⊥
-  none_leaves same object g = absurd (grind (arith, g.removed, g.free, g.here, w.is_new object (w.lawful.of_game object g.here), same object, placed_here object, w.mr.layers (get_or layers object 0)))
+  none_leaves : ((object : ℕ) → member objects_new object ≡ member objects object) → (object : ℕ) → leaves layers objects l r object ≡ true → ⊥
+  none_leaves same object g = grind (arith, g, w.is_new object, w.lawful.of_game object, same object, placed_here object, w.mr.layers (get_or layers object 0))
 
   -- whether the cell changed
   pub changed_by : (depth : ℕ) (moved replaced : Bool) → All (λ layer. layer < depth) layers → IsProper movement_new → ((moved ≡ false) ↔ ((number : ℕ) → member mid number ≡ member movement number)) → ((replaced ≡ false) ↔ ((number : ℕ) → member objects_new number ≡ member objects number))
@@ -166,23 +166,20 @@ pub chosen_more : (at layer : ℕ) (chosen : List ℕ) → ((nat_lt at layer && 
 chosen_more at layer chosen = grind (arith, common_steps)
 
 -- the movement after the objects below one that leave
-pub record AreEnded (layers objects cleared : List ℕ) (is_removed : ℕ → Bool) (before now : List ℕ) (start : ℕ) : Type 0 where
-  pub ended : (object : ℕ) (dir : Dir) → object < start → Leaves layers objects cleared is_removed object → heads now (get_or layers object 0) dir ≡ false
-  pub others : (layer : ℕ) (dir : Dir) → ((object : ℕ) → Leaves layers objects cleared is_removed object → get_or layers object 0 ≢ layer) → heads now layer dir ≡ heads before layer dir
+pub record AreEnded (layers : List ℕ) (leaves : ℕ → Bool) (before now : List ℕ) (start : ℕ) : Type 0 where
+  pub ended : (object : ℕ) (dir : Dir) → object < start → leaves object ≡ true → heads now (get_or layers object 0) dir ≡ false
+  pub others : (layer : ℕ) (dir : Dir) → ((object : ℕ) → leaves object ≡ true → get_or layers object 0 ≢ layer) → heads now layer dir ≡ heads before layer dir
 
-pub ended_more : (layers objects cleared : List ℕ) (is_removed : ℕ → Bool) (before now after : List ℕ) (start found : ℕ) → AreEnded layers objects cleared is_removed before now start → start ≤ found → (member objects found && is_removed found) ≡ true
-    → ((k : ℕ) → start ≤ k → k < found → (member objects k && is_removed k) ≡ false)
-    → ((other : ℕ) (dir : Dir) → heads after other dir ≡ ((member cleared (get_or layers found 0) || not (nat_eq other (get_or layers found 0))) && heads now other dir))
-    → AreEnded layers objects cleared is_removed before after (found + 1)
-ended_more layers objects cleared is_removed before now after start found i from here none is = record {
+pub ended_more : (layers : List ℕ) (leaves : ℕ → Bool) (before now after : List ℕ) (start found : ℕ) → AreEnded layers leaves before now start → leaves found ≡ true → ((k : ℕ) → start ≤ k → k < found → leaves k ≡ false)
+    → ((other : ℕ) (dir : Dir) → heads after other dir ≡ (not (nat_eq other (get_or layers found 0)) && heads now other dir))
+    → AreEnded layers leaves before after (found + 1)
+ended_more layers leaves before now after start found i here none is = record {
   ended = λ object dir below g. elim (cases_lt object start) [
     | inl early ↦ grind (arith, is (get_or layers object 0) dir, i.ended object dir early g)
     | inr late ↦ elim (cases_lt object found) [
-      | inl between ↦ absurd (grind (arith, none object late between, g.here, g.removed))
-      | inr past ↦ (let same : object ≡ found = omega (arith, below, past) in grind (arith, is (get_or layers found 0) dir, same, g.free))
+      | inl between ↦ absurd (grind (arith, none object late between, g))
+      | inr past ↦ (let same : object ≡ found = omega (arith, below, past) in grind (arith, is (get_or layers found 0) dir, same))
     ]
   ];
-  others = λ layer dir apart. grind (arith, is layer dir, i.others layer dir apart, λ (e : member cleared (get_or layers found 0) ≡ false). apart found (record { here = parts.0; removed = parts.1; free = e }));
-} where
-  parts : (member objects found ≡ true) × (is_removed found ≡ true)
-  parts = and_parts (member objects found) (is_removed found) here
+  others = λ layer dir apart. grind (arith, is layer dir, i.others layer dir apart, apart found here);
+}
