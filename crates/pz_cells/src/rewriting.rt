@@ -50,10 +50,10 @@ impl<const N: usize> Cell<N> {
         let is = right.masks();
         let ending = is.settled.union(&was.told.common(&is.covered));
         let removed = was.present.union(&is.absent);
-        let spared = layers.objects_on(&is.layers);
-        let gone = spared.union(&removed);
+        let displaced = layers.displaced_by(right.items());
+        let gone = displaced.union(&removed);
         let mut leaving = self.objects;
-        replace(&mut leaving, spared.words(), NumberSet::empty().words());
+        replace(&mut leaving, displaced.words(), NumberSet::empty().words());
         let moved = replace(&mut self.movement, ending.words(), is.headed.words());
         end_leaving(&mut self.movement, layers, &leaving, &removed);
         let replaced = replace(&mut self.objects, gone.words(), is.placed.words());
