@@ -14,9 +14,9 @@ use crate::layers::Layers;
 use pz_game::headings;
 use pz_game::pattern::Pattern;
 use pz_sets::set::NumberSet;
-use pz_sets::words::{next_common, replace};
+use pz_sets::words::{is_disjoint, next_common, replace};
 
-/// Stills the layers of the objects of two sets.
+/// Stills the layers of the objects that are in both sets. Mostly there are none.
 fn end_leaving<const N: usize>(
     movement: &mut [u128],
     layers: &Layers<N>,
@@ -29,6 +29,9 @@ fn end_leaving<const N: usize>(
     ensures others { (layer : ℕ) (dir : Dir) → ((object : ℕ) → (member objects.now object && member removed.now object) ≡ true → slice_index layers.now.layers object ≢ layer) → heads movement.new layer dir ≡ heads movement.old layer dir }
     ensures proper { IsProper movement.old → IsProper movement.new }
 {
+    if is_disjoint(removed.words(), objects) {
+        return;
+    }
     let mut start = 0;
     'leaving: while let Some(object) = next_common(objects, removed.words(), start) {
         headings::clear(movement, layers.layer_of(object));
@@ -52,10 +55,11 @@ impl<const N: usize> Cell<N> {
         let removed = was.present.union(&is.absent);
         let displaced = layers.displaced_by(right.items());
         let gone = displaced.union(&removed);
-        let mut leaving = self.objects;
-        replace(&mut leaving, displaced.words(), NumberSet::empty().words());
+        // (what is displaced leaves its layer to what is placed there)
+        let mut rest = self.objects;
+        replace(&mut rest, displaced.words(), NumberSet::empty().words());
         let moved = replace(&mut self.movement, ending.words(), is.headed.words());
-        end_leaving(&mut self.movement, layers, &leaving, &removed);
+        end_leaving(&mut self.movement, layers, &rest, &removed);
         let replaced = replace(&mut self.objects, gone.words(), is.placed.words());
         moved | replaced
     }
