@@ -21,6 +21,29 @@ impl BareLevel {
         }
     }
 
+    /// The first cell, from number `from` on, in which a level of the same size differs. Then the changes in its row are known, if that is
+    /// little work.
+    fn learn_next(&self, other: &BareLevel, known: &mut KnownChanges, from: usize) -> Option<usize>
+        requires size { SameSize self.now.grid other.now.grid }
+        requires known { TellsOf (differ_in self.now.grid other.now.grid) (length self.now.grid.cells) known.old }
+        ensures lawful { IsLawful self.now.grid }
+        ensures next { IsNext (differ_in self.now.grid other.now.grid) from (length self.now.grid.cells) result }
+        ensures known { TellsOf (differ_in self.now.grid other.now.grid) (length self.now.grid.cells) known.new }
+    {
+        match (&*self.sheet, &*other.sheet) {
+            (AnySheet::Small(sheet), AnySheet::Small(other)) => sheet.learn_next(
+                other, known, from,
+            ),
+            (AnySheet::Middle(sheet), AnySheet::Middle(other)) => sheet.learn_next(
+                other, known, from,
+            ),
+            (AnySheet::Large(sheet), AnySheet::Large(other)) => sheet.learn_next(
+                other, known, from,
+            ),
+            _ => unreachable!(),
+        }
+    }
+
     /// The first cell, from number `from` on, in which a level of the same size differs. Cells are numbered row by row. Some changes may be
     /// known already, and more may be known then.
     pub fn next_change_after(
@@ -35,17 +58,11 @@ impl BareLevel {
         ensures next { IsNext (differ_in self.now.grid other.now.grid) from (length self.now.grid.cells) result }
         ensures known { TellsOf (differ_in self.now.grid other.now.grid) (length self.now.grid.cells) known.new }
     {
-        match (&*self.sheet, &*other.sheet) {
-            (AnySheet::Small(sheet), AnySheet::Small(other)) => sheet.next_change_after(
-                other, known, from,
-            ),
-            (AnySheet::Middle(sheet), AnySheet::Middle(other)) => sheet.next_change_after(
-                other, known, from,
-            ),
-            (AnySheet::Large(sheet), AnySheet::Large(other)) => sheet.next_change_after(
-                other, known, from,
-            ),
-            _ => unreachable!(),
+        // (brings the proof the law of the level)
+        let _ = self.width();
+        match known.next(from) {
+            Ok(index) => Some(index),
+            Err(behind) => self.learn_next(other, known, behind),
         }
     }
 }

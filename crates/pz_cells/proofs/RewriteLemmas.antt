@@ -1,12 +1,8 @@
 -- What a rewriting does to the sets of a cell.
-use Rattle.pz_cells.proofs.Common.{cases_Bool, IfSome, map, find, option_map, piece_with, first_of, range_with_len, ◌≡◌, ◌≢◌, nat_lt, inl, inr, ℕ, ◌+◌, ◌<◌, ◌≤◌, List, Option, Some, None, Bool, true, false, cond, not, ◌&&◌, ◌||◌, length, get_or, arith, ap, sym, ◌∙◌, refl, subst, nat_eq, All, is_some, ◌↔◌, cases_lt, and_parts, or_right, or_parts, length-map-range_with_len, common_steps, member, Piece, Dir, Word, Item, AreOf, standing, same_cell, is_toward, flag, heads, IsProper, place_of, cell_of, Shows, AreLawful, each_number, names, placed_on, tells_of, tells_movement, names_object, forbids_object, heading_of, new_heading, kept, replaced, rewritten_place, rewritten_cell, Masks, toward, begins, settles, AreMasksOf, ends, Leaves, removed_by}
+use Rattle.pz_cells.proofs.Common.{IfSome, map, find, option_map, piece_with, first_of, range_with_len, ◌≡◌, ℕ, ◌<◌, List, Option, Some, None, Bool, true, false, cond, not, ◌&&◌, ◌||◌, length, get_or, arith, ap, sym, ◌∙◌, refl, subst, nat_eq, All, is_some, ◌↔◌, or_right, or_parts, length-map-range_with_len, member, Piece, Dir, Word, Item, AreOf, standing, same_cell, is_toward, flag, heads, IsProper, place_of, cell_of, Shows, AreLawful, each_number, names, placed_on, tells_of, tells_movement, heading_of, new_heading, kept, replaced, rewritten_place, rewritten_cell, Masks, toward, begins, settles, AreMasksOf, ends, is_displaced, is_removed, leaves}
 use Rattle.pz_cells.proofs.SameLemmas.{same_cell_is, same_cell_self}
 use Rattle.pz_cells.proofs.PlaceLemmas.{lawful_from_shows, cell_shown}
 use Rattle.pz_cells.proofs.HoldLemmas.{place_everywhere, standing_seen, placed_is}
-
--- an object that the left names or the right forbids
-abbrev pub is_removable : List Item → List Item → ℕ → Bool
-is_removable left right object = names_object object left || forbids_object object right
 
 -- where an object is placed, its direction is the definition's
 new_toward : (word : Word) (told : Bool) (here : Option Piece) (old : Bool) (dir : Dir) → names word ≡ true → old ≡ is_toward (heading_of here) dir → ((old && not (told || tells_movement word)) || is_toward (toward true word) dir) ≡ is_toward (new_heading word told here) dir
@@ -14,10 +10,6 @@ new_toward word told here old dir n e = grind arith
 
 toward_shown : (layers : List ℕ) (has : ℕ → Bool) (toward : Dir → Bool) (layer : ℕ) (place : Option Piece) (dir : Dir) → Shows layers has toward layer place → toward dir ≡ is_toward (heading_of place) dir
 toward_shown layers has toward layer place dir h = grind arith
-
--- where nothing is placed an object stays unless it is removed
-stays_by : (new here cleared gone removed placed : Bool) → new ≡ ((here && not (cleared || gone)) || placed) → cleared ≡ false → gone ≡ removed → placed ≡ false → new ≡ (here && not removed)
-stays_by new here cleared gone removed placed is free same none = grind arith
 
 -- the directions that end, by the masks of the two cells
 ends_by : (told : Bool) (found : Option Item) → (settles found || (told && is_some found)) ≡ ends told found
@@ -29,11 +21,11 @@ pub record AreRewritten (layers : List ℕ) (left right : List Item) (l r : Mask
   pub ml : AreMasksOf left l
   pub mr : AreMasksOf right r
   pub lawful : AreLawful layers objects movement
-  pub is_new : (object : ℕ) → object < length layers → member objects_new object ≡ ((member objects object && not (member r.layers (get_or layers object 0) || (member l.present object || member r.absent object))) || member r.placed object)
+  pub is_new : (object : ℕ) → object < length layers → member objects_new object ≡ ((member objects object && not (is_displaced layers right object || is_removed left right object)) || member r.placed object)
   pub of_game : (object : ℕ) → member objects_new object ≡ true → object < length layers
   pub is_mid : (number : ℕ) → member mid number ≡ ((member movement number && not (member r.settled number || (member l.told number && member r.covered number))) || member r.headed number)
-  pub ended : (object : ℕ) (dir : Dir) → Leaves layers objects r.layers (removed_by l r) object → heads movement_new (get_or layers object 0) dir ≡ false
-  pub others : (layer : ℕ) (dir : Dir) → ((object : ℕ) → Leaves layers objects r.layers (removed_by l r) object → get_or layers object 0 ≡ layer → ⊥) → heads movement_new layer dir ≡ heads mid layer dir
+  pub ended : (object : ℕ) (dir : Dir) → leaves layers objects left right object ≡ true → heads movement_new (get_or layers object 0) dir ≡ false
+  pub others : (layer : ℕ) (dir : Dir) → ((object : ℕ) → leaves layers objects left right object ≡ true → get_or layers object 0 ≡ layer → ⊥) → heads movement_new layer dir ≡ heads mid layer dir
 
 -- what is placed is of the game
 pub placed_within : (layers : List ℕ) (right : List Item) (r : Masks) → AreOf layers right → AreMasksOf right r → (object : ℕ) → member r.placed object ≡ true → object < length layers
@@ -65,9 +57,6 @@ decided false x y f g = grind (arith, f refl, same_cell_self x)
 decided true x y f g = grind (arith, g, same_cell_is x y)
 
 module _ (layers : List ℕ) (left right : List Item) (l r : Masks) (objects movement objects_new mid movement_new : List ℕ) (w : AreRewritten layers left right l r objects movement objects_new mid movement_new) where
-  removable : (object : ℕ) → (member l.present object || member r.absent object) ≡ is_removable left right object
-  removable object = grind (arith, w.ml.present object, w.mr.absent object)
-
   -- what is placed stands alone on its layer
   placed_here : (object : ℕ) → member r.placed object ≡ true → IfSome (placed_on (get_or layers object 0) right) (λ item. item.object ≡ object) × (is_some (placed_on (get_or layers object 0) right) ≡ true)
   placed_here object h =
@@ -75,39 +64,36 @@ module _ (layers : List ℕ) (left right : List Item) (l r : Masks) (objects mov
       let on : p.0 ≡ get_or layers object 0 = sym (placed_is layers p.0 right p.1 w.are p.2).1 ∙ ap (λ (k : ℕ). get_or layers k 0) p.3 in
       subst (λ (o : Option Item). IfSome o (λ item. item.object ≡ object) × (is_some o ≡ true)) (sym p.2 ∙ ap (λ (k : ℕ). placed_on k right) on) (p.3, refl)
 
-  others : (layer : ℕ) (dir : Dir) → ((object : ℕ) → Leaves layers objects r.layers (removed_by l r) object → get_or layers object 0 ≡ layer → ⊥) → heads movement_new layer dir ≡ ((heads movement layer dir && not (ends (tells_of layer left) (placed_on layer right))) || begins dir (placed_on layer right))
+  others : (layer : ℕ) (dir : Dir) → ((object : ℕ) → leaves layers objects left right object ≡ true → get_or layers object 0 ≡ layer → ⊥) → heads movement_new layer dir ≡ ((heads movement layer dir && not (ends (tells_of layer left) (placed_on layer right))) || begins dir (placed_on layer right))
   others layer dir none = w.others layer dir none ∙ grind (arith, w.is_mid (flag layer dir), w.mr.settled layer dir, w.ml.told layer dir, w.mr.covered layer dir, w.mr.headed layer dir, ends_by (tells_of layer left) (placed_on layer right))
 
   -- each layer shows what the definition says of it
   rewritten_shows : (layer : ℕ) (here : Option Piece) → Shows layers (member objects) (heads movement layer) layer here → Shows layers (member objects_new) (heads movement_new layer) layer (rewritten_place left right layer here)
   rewritten_shows layer here shown = by_placed (placed_on layer right) refl where
-    stays : placed_on layer right ≡ None → (object : ℕ) → get_or layers object 0 ≡ layer → object < length layers → member objects_new object ≡ (member objects object && not (is_removable left right object))
-    stays e object on low =
-        let free : is_some (placed_on (get_or layers object 0) right) ≡ false = ap (λ (k : ℕ). is_some (placed_on k right)) on ∙ ap is_some e in
-        let unplaced : member r.placed object ≡ false = elim (cases_Bool (member r.placed object)) [ inl there ↦ absurd (let f : false ≡ true = sym free ∙ (placed_here object there).1 in cc) | inr none ↦ none ] in
-        stays_by _ _ _ _ _ _ (w.is_new object low) (w.mr.layers (get_or layers object 0) ∙ free) (removable object) unplaced
+    stays : placed_on layer right ≡ None → (object : ℕ) → get_or layers object 0 ≡ layer → object < length layers → member objects_new object ≡ (member objects object && not (is_removed left right object))
+    stays e object on low = grind (arith, w.is_new object low, placed_here object, on, e)
 
-    toward_kept : placed_on layer right ≡ None → ((object : ℕ) → Leaves layers objects r.layers (removed_by l r) object → get_or layers object 0 ≡ layer → ⊥) → (dir : Dir) → heads movement_new layer dir ≡ heads movement layer dir
+    toward_kept : placed_on layer right ≡ None → ((object : ℕ) → leaves layers objects left right object ≡ true → get_or layers object 0 ≡ layer → ⊥) → (dir : Dir) → heads movement_new layer dir ≡ heads movement layer dir
     toward_kept e none dir = grind (arith, others layer dir none, e)
 
-    by_test : placed_on layer right ≡ None → (piece : Piece) → Shows layers (member objects) (heads movement layer) layer (Some piece) → (b : Bool) → is_removable left right piece.object ≡ b → Shows layers (member objects_new) (heads movement_new layer) layer (cond b None (Some piece))
+    by_test : placed_on layer right ≡ None → (piece : Piece) → Shows layers (member objects) (heads movement layer) layer (Some piece) → (b : Bool) → is_removed left right piece.object ≡ b → Shows layers (member objects_new) (heads movement_new layer) layer (cond b None (Some piece))
     by_test e piece shown true f = (
       λ object new on. grind (arith, stays e object on (w.of_game object new), new, shown.2 object, on, f),
-      λ dir. ap (λ (k : ℕ). heads movement_new k dir) (sym shown.1) ∙ w.ended piece.object dir (record { here = shown.0; removed = removable piece.object ∙ f; free = ap (member r.layers) shown.1 ∙ w.mr.layers layer ∙ ap is_some e }),
+      λ dir. ap (λ (k : ℕ). heads movement_new k dir) (sym shown.1) ∙ w.ended piece.object dir (grind (arith, shown.0, shown.1, f, e)),
     )
     by_test e piece shown false f = (
       grind (arith, stays e piece.object shown.1 (w.lawful.of_game piece.object shown.0), shown.0, f),
       shown.1,
       λ object new on. shown.2 object (grind (arith, stays e object on (w.of_game object new), new)) on,
-      λ dir. toward_kept e (λ object g on. grind (arith, shown.2 object g.here on, g.removed, removable object, f)) dir ∙ shown.3 dir,
+      λ dir. toward_kept e (λ object g on. grind (arith, shown.2 object, on, g, f)) dir ∙ shown.3 dir,
     )
 
     by_here : placed_on layer right ≡ None → (place : Option Piece) → Shows layers (member objects) (heads movement layer) layer place → Shows layers (member objects_new) (heads movement_new layer) layer (kept left right place)
     by_here e None shown = (
       λ object new on. shown.0 object (grind (arith, stays e object on (w.of_game object new), new)) on,
-      λ dir. toward_kept e (λ object g on. shown.0 object g.here on) dir ∙ shown.1 dir,
+      λ dir. toward_kept e (λ object g on. grind (arith, shown.0 object, on, g)) dir ∙ shown.1 dir,
     )
-    by_here e (Some piece) shown = by_test e piece shown (is_removable left right piece.object) refl
+    by_here e (Some piece) shown = by_test e piece shown (is_removed left right piece.object) refl
 
     by_placed : (found : Option Item) → placed_on layer right ≡ found → Shows layers (member objects_new) (heads movement_new layer) layer (replaced found (tells_of layer left) left right here)
     by_placed None e = by_here e here shown
@@ -115,8 +101,8 @@ module _ (layers : List ℕ) (left right : List Item) (l r : Masks) (objects mov
         let is = placed_is layers layer right item w.are e in (
           w.is_new item.object is.0 ∙ or_right _ _ (w.mr.placed layer item e),
           is.1,
-          λ object new on. grind (arith, w.is_new object (w.of_game object new), new, w.mr.layers layer, e, on, placed_here object),
-          λ dir. others layer dir (λ object g on. absurd (grind (arith, g.free, on, w.mr.layers layer, e))) ∙ ap (λ (o : Option Item). (heads movement layer dir && not (ends (tells_of layer left) o)) || begins dir o) e ∙ new_toward item.word (tells_of layer left) here (heads movement layer dir) dir is.2 (toward_shown layers (member objects) (heads movement layer) layer here dir shown),
+          λ object new on. grind (arith, w.is_new object (w.of_game object new), new, e, on, placed_here object),
+          λ dir. others layer dir (λ object g on. grind (arith, g, on, e)) ∙ ap (λ (o : Option Item). (heads movement layer dir && not (ends (tells_of layer left) o)) || begins dir o) e ∙ new_toward item.word (tells_of layer left) here (heads movement layer dir) dir is.2 (toward_shown layers (member objects) (heads movement layer) layer here dir shown),
         )
 
   -- the new words are lawful, and what is seen of them is the definition's cell
@@ -135,17 +121,13 @@ module _ (layers : List ℕ) (left right : List Item) (l r : Masks) (objects mov
   pub mid_proper : IsProper mid
   mid_proper number high = grind (arith, w.is_mid number, w.lawful.proper number high, w.mr.proper_headed number high)
 
-  -- where the objects stay, none of them leaves
-  none_leaves : ((object : ℕ) → member objects_new object ≡ member objects object) → (object : ℕ) → Leaves layers objects r.layers (removed_by l r) object → ⊥
-  none_leaves same object g = absurd (grind (arith, g.removed, g.free, g.here, w.is_new object (w.lawful.of_game object g.here), same object, placed_here object, w.mr.layers (get_or layers object 0)))
-
   -- whether the cell changed
   pub changed_by : (depth : ℕ) (moved replaced : Bool) → All (λ layer. layer < depth) layers → IsProper movement_new → ((moved ≡ false) ↔ ((number : ℕ) → member mid number ≡ member movement number)) → ((replaced ≡ false) ↔ ((number : ℕ) → member objects_new number ≡ member objects number))
       → (moved || replaced) ≡ not (same_cell (rewritten_cell left right (cell_of depth layers objects movement)) (cell_of depth layers objects movement))
   changed_by depth moved replaced low proper is_moved is_replaced =
       decided (moved || replaced) (rewritten_cell left right (cell_of depth layers objects movement)) (cell_of depth layers objects movement) forth back where
         settled : ((object : ℕ) → member objects_new object ≡ member objects object) → (layer : ℕ) (dir : Dir) → heads movement_new layer dir ≡ heads mid layer dir
-        settled same layer dir = w.others layer dir (λ object g on. none_leaves same object g)
+        settled same layer dir = w.others layer dir (λ object g on. grind (arith, g, w.is_new object, w.lawful.of_game object, same object, placed_here object))
 
         forth : (moved || replaced) ≡ false → rewritten_cell left right (cell_of depth layers objects movement) ≡ cell_of depth layers objects movement
         forth n =
@@ -159,30 +141,3 @@ module _ (layers : List ℕ) (left right : List Item) (l r : Masks) (objects mov
             let same = objects_alike depth layers objects movement objects_new movement_new low w.lawful lawful_new (cell_rewritten depth low ∙ h) in
             let heads_same = heads_alike depth layers objects movement objects_new movement_new low w.lawful lawful_new (cell_rewritten depth low ∙ h) in
             ap (λ b. b || replaced) (is_moved.1 (each_number (λ mine theirs. mine ≡ theirs) mid movement mid_proper w.lawful.proper refl (λ layer dir. sym (settled same layer dir) ∙ heads_same layer dir))) ∙ is_replaced.1 same
-
--- ---- the loops
--- the layers up to one, and that one
-pub chosen_more : (at layer : ℕ) (chosen : List ℕ) → ((nat_lt at layer && member chosen at) || (member chosen layer && nat_eq at layer)) ≡ (nat_lt at (layer + 1) && member chosen at)
-chosen_more at layer chosen = grind (arith, common_steps)
-
--- the movement after the objects below one that leave
-pub record AreEnded (layers objects cleared : List ℕ) (is_removed : ℕ → Bool) (before now : List ℕ) (start : ℕ) : Type 0 where
-  pub ended : (object : ℕ) (dir : Dir) → object < start → Leaves layers objects cleared is_removed object → heads now (get_or layers object 0) dir ≡ false
-  pub others : (layer : ℕ) (dir : Dir) → ((object : ℕ) → Leaves layers objects cleared is_removed object → get_or layers object 0 ≢ layer) → heads now layer dir ≡ heads before layer dir
-
-pub ended_more : (layers objects cleared : List ℕ) (is_removed : ℕ → Bool) (before now after : List ℕ) (start found : ℕ) → AreEnded layers objects cleared is_removed before now start → start ≤ found → (member objects found && is_removed found) ≡ true
-    → ((k : ℕ) → start ≤ k → k < found → (member objects k && is_removed k) ≡ false)
-    → ((other : ℕ) (dir : Dir) → heads after other dir ≡ ((member cleared (get_or layers found 0) || not (nat_eq other (get_or layers found 0))) && heads now other dir))
-    → AreEnded layers objects cleared is_removed before after (found + 1)
-ended_more layers objects cleared is_removed before now after start found i from here none is = record {
-  ended = λ object dir below g. elim (cases_lt object start) [
-    | inl early ↦ grind (arith, is (get_or layers object 0) dir, i.ended object dir early g)
-    | inr late ↦ elim (cases_lt object found) [
-      | inl between ↦ absurd (grind (arith, none object late between, g.here, g.removed))
-      | inr past ↦ (let same : object ≡ found = omega (arith, below, past) in grind (arith, is (get_or layers found 0) dir, same, g.free))
-    ]
-  ];
-  others = λ layer dir apart. grind (arith, is layer dir, i.others layer dir apart, λ (e : member cleared (get_or layers found 0) ≡ false). apart found (record { here = parts.0; removed = parts.1; free = e }));
-} where
-  parts : (member objects found ≡ true) × (is_removed found ≡ true)
-  parts = and_parts (member objects found) (is_removed found) here

@@ -1,12 +1,16 @@
 //! The collision layers of a game, as the cells of its levels need them.
 
-ghost use Rattle.std.specs.Prelude.{◌≡◌, ◌↔◌, IsTrue, ◌≤◌, ◌<◌, ◌*◌, ◌&&◌, ◌||◌, ℕ, List, IfOk, length, nat_eq, slice_index, slice_index_or, All};
+ghost use Rattle.std.specs.Prelude.{◌≡◌, ◌↔◌, IsTrue, ◌≤◌, ◌<◌, ◌*◌, ◌&&◌, ◌||◌, ℕ, List, IfOk, length, nat_eq, slice_index, slice_index_or};
 ghost use Rattle.pz_game.specs.declared.limits.TheConstants.{MAX_OBJECTS};
+ghost use Rattle.pz_game.specs.Pattern.{AreOf};
 ghost use Rattle.pz_sets.specs.Sets.{member};
+ghost use Rattle.pz_cells.specs.Rewrites.{is_displaced};
 ghost use Rattle.pz_cells.specs.Layering.{IsLayering, layering_of};
 ghost use Rattle.pz_cells.specs.Shown.{IsSetOf};
 
 use pz_game::game::Game;
+use pz_game::masks::names;
+use pz_game::pattern::Item;
 use pz_sets::set::NumberSet;
 use std::alloc::{AllocError, Global};
 use std::marker::Model;
@@ -102,12 +106,17 @@ impl<const N: usize> Layers<N> {
         self.table.sets[layer].words()
     }
 
-    /// The objects of these layers.
-    pub fn objects_on(&self, chosen: &NumberSet) -> NumberSet
-        ensures objects { (object : ℕ) → object < length self.now.layers → member result object ≡ member chosen.now (slice_index self.now.layers object) }
+    /// The objects of the layers on which a right cell of a rule places something.
+    pub fn displaced_by(&self, right: &[Item]) -> NumberSet
+        requires { AreOf self.now.layers right.now }
+        ensures objects { (object : ℕ) → object < length self.now.layers → member result object ≡ is_displaced self.now.layers right.now object }
         ensures law { IsLayering N self.now }
     {
-        union_of(&self.table.layers, &self.table.sets, chosen)
+        let mut objects = NumberSet::empty();
+        for item in right {
+            objects = union_if(&objects, names(item.word), &self.table.sets[item.layer]);
+        }
+        objects
     }
 
     /// Whether both are the same.
@@ -157,17 +166,4 @@ fn union_if(set: &NumberSet, test: bool, more: &NumberSet) -> NumberSet
     ensures { (number : ℕ) → member result number ≡ (member set.now number || (test && member more.now number)) }
 {
     if test { set.union(more) } else { *set }
-}
-
-/// The objects of the chosen layers; `sets` has the objects of each layer.
-fn union_of(layers: &[usize], sets: &[NumberSet], chosen: &NumberSet) -> NumberSet
-    requires table { (layer : ℕ) (other : List ℕ) → layer < length sets.now → IsSetOf layers.now (slice_index_or sets.now layer other) layer }
-    requires layered { All (λ layer. layer < length sets.now) layers.now }
-    ensures { (object : ℕ) → object < length layers.now → member result object ≡ member chosen.now (slice_index layers.now object) }
-{
-    let mut objects = NumberSet::empty();
-    for layer in 0..sets.len() {
-        objects = union_if(&objects, chosen.contains(layer), &sets[layer]);
-    }
-    objects
 }

@@ -85,7 +85,8 @@ impl<'a> CellLabels<'a> {
         self.labels.as_slice()
     }
 
-    /// The label of what stands at a position.
+    /// The label of what stands at a position. (Inlined, because each changed cell comes here, and most have a known set.)
+    #[inline(always)]
     fn label_at(&mut self, level: &Level, x: u32, y: u32) -> Result<usize, AllocError>
         ensures known { IfOk result (λ label. label < length self.new.table.texts) }
         ensures text { IfOk result (λ label. text_at self.new.table.texts label ≡ joined (set_of (standing_names self.old.table.game.objects level.now.grid (x, y)))) }

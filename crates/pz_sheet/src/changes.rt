@@ -45,7 +45,7 @@ impl KnownChanges {
 
     /// The first cell, from number `from` on, that differs, if it is one of these. Err: from there on no cell before this number
     /// differs.
-    fn next(&self, from: usize) -> Result<usize, usize>
+    pub fn next(&self, from: usize) -> Result<usize, usize>
         ensures { (test : ℕ → Bool) (end : ℕ) → TellsOf test end self.now → MatchResult result (λ index. IsNext test from end (Some index)) (λ behind. IsClear test from behind) }
     {
         if from < self.first || from - self.first >= self.count as usize {
@@ -112,7 +112,12 @@ impl<const N: usize> Sheet<N> {
     /// The first cell, from number `from` on, in which another level of the same size differs. Then the changes in its row are known, if
     /// that is little work.
     #[tactic(auto, using(crate::proofs::SheetLemmas::lawful_here))]
-    fn learn_next(&self, other: &Sheet<N>, known: &mut KnownChanges, from: usize) -> Option<usize>
+    pub fn learn_next(
+        &self,
+        other: &Sheet<N>,
+        known: &mut KnownChanges,
+        from: usize,
+    ) -> Option<usize>
         requires size { SameSize self.now.grid other.now.grid }
         requires known { TellsOf (differ_in self.now.grid other.now.grid) (length self.now.grid.cells) known.old }
         ensures next { IsNext (differ_in self.now.grid other.now.grid) from (length self.now.grid.cells) result }
@@ -145,27 +150,6 @@ impl<const N: usize> Sheet<N> {
         ensures lawful { IsLawful self.now.grid }
     {
         self.learn_next(other, &mut KnownChanges::none(), from)
-    }
-
-    /// The same, where some changes are known already. Then those of the found cell's row are known, if that is little work.
-    pub fn next_change_after(
-        &self,
-        other: &Sheet<N>,
-        known: &mut KnownChanges,
-        from: usize,
-    ) -> Option<usize>
-        requires size { SameSize self.now.grid other.now.grid }
-        requires known { TellsOf (differ_in self.now.grid other.now.grid) (length self.now.grid.cells) known.old }
-        ensures next { IsNext (differ_in self.now.grid other.now.grid) from (length self.now.grid.cells) result }
-        ensures known { TellsOf (differ_in self.now.grid other.now.grid) (length self.now.grid.cells) known.new }
-        ensures lawful { IsLawful self.now.grid }
-    {
-        // (brings the proof the law of the level)
-        let _ = self.width();
-        match known.next(from) {
-            Ok(index) => Some(index),
-            Err(behind) => self.learn_next(other, known, behind),
-        }
     }
 
     /// Makes this level equal to another of the same size. Only the cells in which they differ are copied.

@@ -1,13 +1,12 @@
-use Rattle.pz_cells.proofs.Common.{◌≡◌, not, nat_eq, ◌&&◌, ◌||◌, ℕ, List, arith, ap, sym, ◌∙◌, subst, member, Dir, heads}
-use Rattle.pz_cells.proofs.RewriteLemmas.{ended_more}
+use Rattle.pz_cells.proofs.Common.{arith, get_or}
 use Rattle.pz_cells.proofs.rewriting.end_leaving.Goals as goal
 
 pub leaving-preserved : goal.leaving-preserved
 leaving-preserved g c =
     let i = c.leaving.invariant in
-    let f = c.in-Some.ensures in
-    let same = λ (k : ℕ). sym (ap (λ (ws : List ℕ). member c.args.objects.now k && member ws k) c.words.ensures.words) in
-    let e = ended_more c.args.layers.now.layers c.args.objects.now c.args.cleared.now (member c.args.removed.now) c.args.movement.now c.leaving.movement c.end_unless.new.movement c.leaving.start c.in-Some.object
-    (record { ended = i.ended; others = i.others }) f.0 (same c.in-Some.object ∙ f.2) (λ k from below. same k ∙ f.3 k from below)
-    (subst (λ (k : ℕ). (other : ℕ) (dir : Dir) → heads c.end_unless.new.movement other dir ≡ ((member c.args.cleared.now k || not (nat_eq other k)) && heads c.leaving.movement other dir)) c.layer_of.ensures.layer c.end_unless.ensures.heads) in
-    record { low = omega (arith, f.1, c.requires.short); ended = e.ended; others = e.others; proper = λ p. c.end_unless.ensures.proper (i.proper p) }
+    let f = c.in-Some.ensures in record {
+      low = omega (arith, f.1, c.requires.short);
+      ended = λ object dir below e. grind (arith, below, e, c.words.ensures.words, c.layer_of.ensures.layer, c.clear.ensures.heads (get_or c.args.layers.now.layers object 0) dir, i.ended object dir, f.3 object);
+      others = λ layer dir apart. grind (arith, c.words.ensures.words, c.layer_of.ensures.layer, c.clear.ensures.heads layer dir, i.others layer dir apart, apart c.in-Some.object, f.2);
+      proper = λ p. c.clear.ensures.proper (i.proper p);
+    }

@@ -1,5 +1,7 @@
-use Rattle.pz_sheet.proofs.Common.{◌≡◌, inl, inr, ℕ, ◌<◌, ◌≤◌, Bool, false, Option, Some, None, arith, cases_lt, IsNext}
-use Rattle.pz_sheet.proofs.Sheet.next_change_after.Goals as goal
+use Rattle.std.proofs.Common.{◌≡◌, inl, inr, ℕ, ◌<◌, ◌≤◌, Bool, false, Option, Some, None, arith}
+use Rattle.std.proofs.lemmas.Bool.{cases_lt}
+use Rattle.pz_sets.specs.Next.{IsNext}
+use Rattle.pz_bare.proofs.BareLevel.next_change_after.Goals as goal
 
 -- where none passes up to a number, the next one from there on is the next
 next_behind : (test : ℕ → Bool) (from mid end : ℕ) (found : Option ℕ) → from ≤ mid → ((number : ℕ) → from ≤ number → number < mid → test number ≡ false) → IsNext test mid end found → IsNext test from end found
@@ -18,6 +20,6 @@ next_behind test from mid end (Some found) low none next = (
 )
 
 pub returns-in-Err-clause-next : goal.returns-in-Err-clause-next
-returns-in-Err-clause-next g c =
+returns-in-Err-clause-next c =
     let clear = c.in-Err.ensures _ _ c.requires.known in
     next_behind _ c.args.from c.in-Err.behind _ c.learn_next.result clear.0 clear.1 c.learn_next.ensures.next
