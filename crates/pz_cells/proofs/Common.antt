@@ -1,6 +1,6 @@
 -- The words of the proofs of this crate: what several of them import.
 pub use Rattle.std.proofs.Common.{Bool, List, None, Option, Some, [], ap, arith, cond, drop, eq-eqb, false, get_or, get_or-set_other, get_or-set_same, inl, inr, length, length-set, map, nat_eq, not, refl, set, subst, suc, sym, take, true, zero, ℕ, ◌%◌, ◌&&◌, ◌*◌, ◌++◌, ◌+◌, ◌-◌, ◌/◌, ◌<◌, ◌^◌, ◌||◌, ◌∙◌, ◌∷◌, ◌≡◌, ◌≢◌, ◌≤◌}
-pub use Rattle.std.proofs.lemmas.Bool.{and_parts, cases_Bool, cases_eq, cases_lt, eqb-true, leb-true, or_cases, or_parts, or_right}
+pub use Rattle.std.proofs.lemmas.Bool.{and_parts, cases_Bool, cases_eq, cases_lt, eqb-true, or_cases, or_parts, or_right}
 pub use Rattle.std.proofs.lemmas.Grind.{common_steps}
 pub use Rattle.std.proofs.lemmas.List.{at_drop_more, drop_all, ext_get_or, get_or-map, get_or_default, get_or_past, length-map, map_more}
 pub use Rattle.std.proofs.lemmas.List.FromFn.{get_or-map-range_with_len, length-map-range_with_len}
@@ -12,7 +12,7 @@ pub use Rattle.pz_cells.specs.Differing.{AreAlikeBetween, Differ}
 pub use Rattle.pz_cells.specs.Drawing.{filled_cell, glyph_cell, with_object}
 pub use Rattle.pz_cells.specs.Layering.{IsLayering, Layering}
 pub use Rattle.pz_cells.specs.Lists.{AreAlike, AreMapped, HeadNowhere, IsSound, IsStilled, seen}
-pub use Rattle.pz_cells.specs.Rewrites.{ends, is_displaced, is_removed, leaves}
+pub use Rattle.pz_cells.specs.Rewrites.{ends, is_displaced}
 pub use Rattle.pz_cells.specs.Rewriting.{heading_of, kept, new_heading, replaced, rewritten_cell, rewritten_place}
 pub use Rattle.pz_cells.specs.Sameness.{same_cell, same_place}
 pub use Rattle.pz_cells.specs.Shown.{AreLawful, Changes, IsSetOf, Shows, cell_of, piece_with, place_of, stands_on}

@@ -1,8 +1,17 @@
 -- What a rewriting does to the sets of a cell.
-use Rattle.pz_cells.proofs.Common.{IfSome, map, find, option_map, piece_with, first_of, range_with_len, ◌≡◌, ℕ, ◌<◌, List, Option, Some, None, Bool, true, false, cond, not, ◌&&◌, ◌||◌, length, get_or, arith, ap, sym, ◌∙◌, refl, subst, nat_eq, All, is_some, ◌↔◌, or_right, or_parts, length-map-range_with_len, member, Piece, Dir, Word, Item, AreOf, standing, same_cell, is_toward, flag, heads, IsProper, place_of, cell_of, Shows, AreLawful, each_number, names, placed_on, tells_of, tells_movement, heading_of, new_heading, kept, replaced, rewritten_place, rewritten_cell, Masks, toward, begins, settles, AreMasksOf, ends, is_displaced, is_removed, leaves}
+use Rattle.pz_cells.proofs.Common.{IfSome, map, find, option_map, piece_with, first_of, range_with_len, ◌≡◌, ℕ, ◌<◌, List, Option, Some, None, Bool, true, false, cond, not, ◌&&◌, ◌||◌, length, get_or, arith, ap, sym, ◌∙◌, refl, subst, nat_eq, All, is_some, ◌↔◌, or_right, or_parts, length-map-range_with_len, member, Piece, Dir, Word, Item, AreOf, standing, same_cell, is_toward, flag, heads, IsProper, place_of, cell_of, Shows, AreLawful, each_number, names, placed_on, tells_of, tells_movement, heading_of, new_heading, kept, replaced, rewritten_place, rewritten_cell, Masks, toward, begins, settles, AreMasksOf, ends, is_displaced}
 use Rattle.pz_cells.proofs.SameLemmas.{same_cell_is, same_cell_self}
 use Rattle.pz_cells.proofs.PlaceLemmas.{lawful_from_shows, cell_shown}
+use Rattle.pz_game.specs.Items.{names_object, forbids_object}
 use Rattle.pz_cells.proofs.HoldLemmas.{place_everywhere, standing_seen, placed_is}
+
+-- the left names the object as present, or the right has it under `no`
+abbrev pub is_removed : List Item → List Item → ℕ → Bool
+is_removed left right object = names_object object left || forbids_object object right
+
+-- an object of the cell leaves its layer still: it is removed, and the right places nothing on the layer
+abbrev pub leaves : List ℕ → List ℕ → List Item → List Item → ℕ → Bool
+leaves layers objects left right object = member objects object && not (is_displaced layers right object) && is_removed left right object
 
 -- where an object is placed, its direction is the definition's
 new_toward : (word : Word) (told : Bool) (here : Option Piece) (old : Bool) (dir : Dir) → names word ≡ true → old ≡ is_toward (heading_of here) dir → ((old && not (told || tells_movement word)) || is_toward (toward true word) dir) ≡ is_toward (new_heading word told here) dir

@@ -16,6 +16,7 @@ still_place (Some piece) = Some (still_piece piece.object)
 abbrev pub IsStillOn : List (Option Piece) → ℕ → Type 0
 IsStillOn cell layer = slice_index_or cell layer None ≡ still_place (slice_index_or cell layer None)
 
+-- a mover, as the piece that stands on its layer
 abbrev pub moving_piece : Mover → Piece
 moving_piece mover = record { object = mover.object; heading = Some mover.dir }
 

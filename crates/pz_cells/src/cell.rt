@@ -78,7 +78,7 @@ impl<const N: usize> Cell<N> {
     }
 
     /// Takes away a piece that heads somewhere.
-    pub fn take(&mut self, layers: &Layers<N>, mover: Mover)
+    pub fn take_away(&mut self, layers: &Layers<N>, mover: Mover)
         requires sound { IsSound layers.now self.old }
         requires there { slice_index_or (seen layers.now self.old) mover.layer None ≡ Some (moving_piece mover) }
         ensures sound { IsSound layers.now self.new }

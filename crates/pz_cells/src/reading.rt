@@ -47,8 +47,8 @@ impl<const N: usize> Cell<N> {
         match words::next(&self.movement, headings::flag(from, Dir::Up)) {
             None => None,
             Some(found) => {
-                let layer = layer_of(found);
-                let dir = dir_of(found);
+                let layer = layer_of_flag(found);
+                let dir = dir_of_flag(found);
                 match words::first_common(&self.objects, layers.objects_of(layer)) {
                     None => None,
                     Some(object) => Some(Mover {
@@ -90,15 +90,15 @@ impl<const N: usize> Cell<N> {
     }
 }
 
-/// The layer that has this number among its directions.
-fn layer_of(number: usize) -> usize
+/// The layer whose direction has this number: `flag` undone.
+fn layer_of_flag(number: usize) -> usize
     ensures { result ≡ 25 * (number / 128) + number % 128 / 5 }
 {
     number / 128 * 25 + number % 128 / 5
 }
 
-/// The direction that has this number in the field of a layer.
-fn dir_of(number: usize) -> Dir
+/// The direction that has this number: `flag` undone.
+fn dir_of_flag(number: usize) -> Dir
     ensures { dir_bit result ≡ number % 128 % 5 }
 {
     match number % 128 % 5 {

@@ -16,7 +16,7 @@ pub use Rattle.pz_game.specs.declared.direction.Dir.{Dir}
 pub use Rattle.pz_game.specs.declared.pattern.Item.{Item}
 pub use Rattle.pz_grid.specs.Admitted.{StartsNowhere, admits, admits_line, admitted, line_at, line_of, marks_cell, marks_item, marks_of, searches_level, searches_line, start_count, start_of, starts_at, starts_in}
 pub use Rattle.pz_grid.specs.Marks.{IsMarked, IsMarkedAt, IsMore, IsWidened, IsWidenedBy, is_marked, places_object, row_places}
-pub use Rattle.pz_grid.specs.Movement.{Pass, Spot, free, heading_count, heading_goal, heads, in_pass, move_at, move_place, moved_to, moving, neighbour, pass_of, resolved, settle, spot, spots, spots_at, spots_in, unless_taken}
+pub use Rattle.pz_grid.specs.Movement.{Pass, Spot, free, heading_count, heading_goal, heads, in_pass, move_at, move_place, moved_to, moving, neighbour, pass_of, resolved, settle, spot, spots, spots_at, spots_in}
 pub use Rattle.pz_grid.specs.Places.{along, cell_holds, cells_before, distance, gap_count, head_of, holds_at, holds_behind, line_count, line_length, on_map, pairs, pairs_at, pairs_in, place_in, places, row_holds, searched, starts_with, still_holds}
 pub use Rattle.pz_grid.specs.Rewriting.{Rewriting, in_rewrite, rewritten_along, rewritten_row}
 pub use Rattle.pz_grid.specs.Staying.{IsMove, IsStill, KeepsStill}

@@ -1,6 +1,6 @@
-//! One cell of a level: lent, or replaced.
+//! One cell of a level: lent, replaced, or with one piece less or more.
 
-ghost use Rattle.std.specs.Prelude.{◌≡◌, ◌<◌, ◌≤◌, ◌+◌, ◌*◌, ◌/◌, ◌%◌, ℕ, Some, None, length};
+ghost use Rattle.std.specs.Prelude.{◌≡◌, ◌<◌, ◌≤◌, ◌*◌, ◌/◌, ◌%◌, ℕ, Some, None, length};
 ghost use Rattle.pz_sets.specs.Sets.{member};
 ghost use Rattle.pz_cells.specs.Cell.{IsOnLayer, moving_piece, still_piece};
 ghost use Rattle.pz_cells.specs.Layering.{IsLayering};
@@ -58,14 +58,14 @@ impl<const N: usize> Sheet<N> {
     }
 
     /// Takes away a piece that heads somewhere. The notes of headings stay, so they may have more than there are.
-    pub(crate) fn take(&mut self, x: u32, y: u32, mover: Mover)
+    pub(crate) fn take_away(&mut self, x: u32, y: u32, mover: Mover)
         requires on_map { IsOnMap self.old.grid x y }
         requires there { place_at self.old.grid x y mover.layer ≡ Some (moving_piece mover) }
         ensures taken { self.new.grid ≡ with_place self.old.grid x y mover.layer None }
         ensures on_layer { IsOnLayer self.old.grid.layers mover.layer (Some (still_piece mover.object)) }
     {
         let number = self.index(x, y);
-        self.cells[number].take(&self.layers, mover);
+        self.cells[number].take_away(&self.layers, mover);
         self.planes
             .toggle(mover.object as usize, x as usize, y as usize);
     }

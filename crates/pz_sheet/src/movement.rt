@@ -1,4 +1,4 @@
-//! The end of all movement.
+//! What heads somewhere, and the end of all movement.
 
 ghost use Rattle.std.specs.Prelude.{◌≡◌, ◌<◌, ◌≤◌, length, map, true, IfSome, MatchOption};
 ghost use Rattle.pz_sets.specs.declared.set.TheConstants.{CAPACITY};

@@ -35,7 +35,7 @@ impl<const N: usize> Sheet<N> {
         ensures carried { self.new.grid ≡ carried self.old.grid x y mover next_x next_y }
         ensures there { place_at self.new.grid next_x next_y mover.layer ≡ Some (still_piece mover.object) }
     {
-        self.take(x, y, mover);
+        self.take_away(x, y, mover);
         self.land(next_x, next_y, mover.layer, mover.object);
     }
 

@@ -1,6 +1,6 @@
 //! An instance of a rule, applied at each combination of places of its rows.
 
-ghost use Rattle.std.specs.Prelude.{◌≡◌, ◌≢◌, ◌≤◌, ◌<◌, ◌+◌, ◌*◌, ◌++◌, ◌∷◌, IfOk, IfErr, Ok, Err, MatchOption, IfSome, true, false, [], length, drop, map, fold, min};
+ghost use Rattle.std.specs.Prelude.{◌≡◌, ◌≢◌, ◌≤◌, ◌<◌, ◌+◌, ◌*◌, ◌++◌, ◌∷◌, IfOk, IfErr, Ok, Err, MatchOption, true, false, [], length, drop, map, fold, min};
 ghost use Rattle.pz_game.specs.declared.direction.Dir.{Dir};
 ghost use Rattle.pz_program.specs.Instance.{IsInstanceOf};
 ghost use Rattle.pz_game.specs.Pattern.{IsRowOf, AreRowsOf};

@@ -1,6 +1,6 @@
-use Rattle.pz_cells.proofs.Common.{◌≡◌, ℕ, ◌&&◌, List, ap, sym, ◌∙◌, arith, AreMasksOf, is_removed, leaves, member, IsProper}
+use Rattle.pz_cells.proofs.Common.{◌≡◌, ℕ, ◌&&◌, List, ap, sym, ◌∙◌, arith, AreMasksOf, member, IsProper}
 use Rattle.pz_cells.proofs.HoldLemmas.{masks_fit}
-use Rattle.pz_cells.proofs.RewriteLemmas.{AreRewritten, lawful_rewritten, cell_rewritten, placed_within, mid_proper, changed_by}
+use Rattle.pz_cells.proofs.RewriteLemmas.{AreRewritten, is_removed, leaves, lawful_rewritten, cell_rewritten, placed_within, mid_proper, changed_by}
 use Rattle.pz_cells.proofs.cell.Cell.rewrite.Given.{Over}
 use Rattle.pz_cells.proofs.cell.Cell.rewrite.Goals.{After-self-3-1}
 use Rattle.pz_cells.proofs.cell.Cell.rewrite.Goals as goal

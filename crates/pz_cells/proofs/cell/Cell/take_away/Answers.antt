@@ -1,6 +1,6 @@
 use Rattle.pz_cells.proofs.Common.{ℕ, ◌≡◌, ◌&&◌, not, nat_eq, arith, subst, member}
 use Rattle.pz_cells.proofs.MoverLemmas.{mover_low, mover_stands, taken}
-use Rattle.pz_cells.proofs.cell.Cell.take.Goals as goal
+use Rattle.pz_cells.proofs.cell.Cell.take_away.Goals as goal
 
 pub flag-requires : goal.flag-requires
 flag-requires g c = omega (arith, mover_low _ _ _ _ c.depth.ensures.law.layered c.requires.sound c.args.mover c.requires.there, c.depth.ensures.law.shallow)
