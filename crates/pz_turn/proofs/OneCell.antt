@@ -1,6 +1,7 @@
 -- An instance of one cell rewrites only the cells of its places, and a cell that was rewritten stays if it is rewritten again. So it
 -- needn't be asked at a place whether it still holds there, and run again it changes nothing.
-use Rattle.pz_turn.proofs.Common.{◌≡◌, ◌⊎◌, ℕ, zero, suc, ◌+◌, ◌*◌, List, [], ◌∷◌, map, fold, set, get_or, length, Option, Some, None, Ok, Err, Result, Bool, true, false, ◌&&◌, ◌||◌, cond, not, cases_lt, nat_eq, refl, ap, sym, subst, ◌∙◌, arith, inl, inr, set-get_or, get_or-set_other, length-set, zip, list_all, Dir, Instance, RuleRow, AreRowsOf, IsRowOf, Place, Grid, IsLawful, cell_at, row_of_one, still_holds, along, holds_at, places, searched, Rewriting, in_rewrite, rewritten_at, rewritten_row, found_or_stop, applied_at, applied, one_rewritten, IsOfOneCell, IsCalm}
+use Rattle.pz_turn.proofs.Common.{◌≡◌, ◌⊎◌, ℕ, zero, suc, ◌+◌, ◌*◌, List, [], ◌∷◌, map, fold, set, get_or, length, Option, Some, None, Ok, Err, Result, Bool, true, false, ◌&&◌, cond, nat_eq, refl, ap, sym, subst, ◌∙◌, arith, inl, inr, get_or-set_other, zip, list_all, Dir, Instance, RuleRow, AreRowsOf, IsRowOf, Place, Grid, IsLawful, cell_at, row_of_one, still_holds, along, holds_at, places, searched, Rewriting, in_rewrite, rewritten_at, rewritten_row, found_or_stop, applied_at, applied, one_rewritten, IsOfOneCell, IsCalm}
+use Rattle.std.proofs.lemmas.Grind.{common_steps}
 use Rattle.std.specs.Prelude.{Contains}
 use Rattle.pz_game.specs.declared.pattern.Item.{Item}
 use Rattle.pz_cells.specs.declared.piece.Piece.{Piece}
@@ -9,11 +10,9 @@ use Rattle.pz_cells.specs.Pattern.{pattern_holds}
 use Rattle.pz_cells.specs.Rewriting.{rewritten_cell}
 use Rattle.pz_grid.specs.declared.placing.GridFault.{GridFault}
 use Rattle.std.proofs.lemmas.Bool.{cases_eq}
-use Rattle.std.proofs.lemmas.List.{get_or-set_same, get_or_past}
 use Rattle.std.proofs.lemmas.List.Elements.{All-head, Contains-append_right}
 use Rattle.std.proofs.Math.Bool.{or-false}
 use Rattle.pz_game.specs.Pattern.{AreOf}
-use Rattle.pz_cells.specs.Sameness.{same_cell}
 use Rattle.pz_cells.proofs.SameLemmas.{same_cell_self}
 use Rattle.pz_grid.proofs.CountLemmas.{searched-gapless}
 use Rattle.pz_grid.proofs.FoundLemmas.{searched-gives}
@@ -53,12 +52,9 @@ module _ (left right : List Item) where
   SettledAt holds gapless grid at = ((gapless && (holds_at grid left at && true)) ≡ holds) ⊎ Stays (cell_there grid at)
 
   written_stays : (cells : List (List (Option Piece))) (i : ℕ) (cell : List (Option Piece)) → Stays (get_or (set cells i (rewritten_cell left right cell)) i [])
-  written_stays cells i cell = elim (cases_lt i (length cells)) [
-    | inl within ↦ subst Stays (sym (get_or-set_same cells i (rewritten_cell left right cell) [] within)) (rewritten_again left right cell)
-    | inr past ↦ subst Stays (sym (get_or_past (set cells i (rewritten_cell left right cell)) i [] (omega (arith, past, length-set cells i (rewritten_cell left right cell))))) refl
-  ]
+  written_stays cells i cell = grind (arith, common_steps, rewritten_again left right cell)
 
-  -- it is so still where another cell is rewritten
+  -- that stays so where another cell is rewritten
   settled_at : (holds gapless : Bool) (so_far : Rewriting) (from at : Option (ℕ × ℕ)) → SettledAt holds gapless so_far.grid at → SettledAt holds gapless (rewritten_at so_far left right from).grid at
   settled_at holds gapless so_far None at settled = settled
   settled_at holds gapless so_far (Some (x, y)) None settled = inr refl
@@ -75,12 +71,7 @@ module _ (left right : List Item) where
   -- rewriting a cell that stays leaves the level
   stays_at : (so_far : Rewriting) (at : Option (ℕ × ℕ)) → Stays (cell_there so_far.grid at) → rewritten_at so_far left right at ≡ so_far
   stays_at so_far None stay = refl
-  stays_at so_far (Some (x, y)) stay =
-      let grid = so_far.grid in
-      let i = y * grid.width + x in
-      ap (λ (cell : List (Option Piece)). in_rewrite (record grid { cells = set grid.cells i cell }) (so_far.changed || not (same_cell cell (cell_at grid x y)))) stay
-      ∙ (λ n. in_rewrite (record grid { cells = set-get_or grid.cells i [] n }) (so_far.changed || not (same_cell_self (cell_at grid x y) n)))
-      ∙ ap (in_rewrite grid) (or-false so_far.changed)
+  stays_at so_far (Some (x, y)) stay = grind (arith, common_steps, stay, same_cell_self (cell_at so_far.grid x y), or-false so_far.changed)
 
 module _ (instance : Instance) (left right : List Item) (one : IsOfOneCell instance left right) where
   abbrev row : RuleRow
@@ -99,7 +90,7 @@ module _ (instance : Instance) (left right : List Item) (one : IsOfOneCell insta
   abbrev IsSettled : Bool → Grid → Place → Type 0
   IsSettled held grid place = SettledAt left right held (nat_eq place.gap 0) grid (along grid instance.scan place.x place.y 0)
 
-  -- it is so still where the cell is rewritten at a place
+  -- that stays so where the cell is rewritten at a place
   settled_more : (held : Bool) (so_far : Rewriting) (place other : Place) → IsSettled held so_far.grid other → IsSettled held (rewrites so_far place).grid other
   settled_more held so_far place other settled = by (along so_far.grid instance.scan place.x place.y 0) where
     by : (from : Option (ℕ × ℕ)) → IsSettled held (rewritten_at so_far left right from).grid other
@@ -133,9 +124,7 @@ module _ (instance : Instance) (left right : List Item) (one : IsOfOneCell insta
   -- where it is settled that it holds, it is rewritten; where it is settled that it doesn't, it isn't
   asks_settled : (held : Bool) (so_far : Rewriting) (place : Place) → IsSettled held so_far.grid place → asks so_far place ≡ cond held (rewrites so_far place) so_far
   asks_settled held so_far place (inl is) = asks_one so_far place ∙ ap (λ (b : Bool). cond b (rewrites so_far place) so_far) is
-  asks_settled held so_far place (inr stay) = asks_one so_far place ∙ by (holds so_far.grid place) held where
-    by : (a b : Bool) → cond a (rewrites so_far place) so_far ≡ cond b (rewrites so_far place) so_far
-    by a b = grind (arith, stays_at left right so_far (along so_far.grid instance.scan place.x place.y 0) stay)
+  asks_settled held so_far place (inr stay) = grind (arith, asks_one so_far place, stays_at left right so_far (along so_far.grid instance.scan place.x place.y 0) stay)
 
   unasked : (found : List Place) (so_far : Rewriting) → ((place : Place) → Contains found place → IsSettled true so_far.grid place) → fold (applied_at instance) so_far (map (λ (p : Place). p ∷ []) found) ≡ fold rewrites so_far found
   unasked [] so_far settled = refl
