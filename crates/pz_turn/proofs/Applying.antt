@@ -1,5 +1,5 @@
 -- An instance applied at all its combinations.
-use Rattle.pz_turn.proofs.Common.{◌≡◌, ◌<◌, ◌≤◌, List, [], ◌∷◌, ◌++◌, map, fold, length, refl, ap, sym, ◌∙◌, Result, Ok, Err, Bool, false, if◌then◌else◌, append-nil, Commands, Instance, Place, Grid, Rewriting, in_rewrite, StepFault, combinations, Outcome, taken, applied_at, given, outcome_of, applied_with, applied}
+use Rattle.pz_turn.proofs.Common.{arith, ◌≡◌, ◌<◌, ◌≤◌, List, [], ◌∷◌, ◌++◌, map, fold, length, refl, ap, ◌∙◌, Ok, Err, false, append-nil, Commands, Instance, Place, Grid, Rewriting, in_rewrite, StepFault, combinations, taken, applied_at, given, outcome_of, applied_with, applied}
 use Rattle.pz_turn.specs.declared.outcome.StepFault.TheVariants.{MatchLimit}
 use Rattle.pz_turn.proofs.Limits.{within_limit, over_limit}
 
@@ -13,14 +13,9 @@ applied_stops instance grid fault stops = ap (applied_with instance grid) stops
 
 pub applied_too_often : (instance : Instance) (grid : Grid) (lists : List (List Place)) → taken grid instance.scan instance.left ≡ Ok lists → 1048576 < length (combinations lists) → applied instance grid ≡ Err MatchLimit
 unfolding applied
-applied_too_often instance grid lists found over =
-    let gives : Bool → Result (Outcome Grid) StepFault = λ b. if b then Err MatchLimit else Ok (outcome_of (fold (applied_at instance) (in_rewrite grid false) (combinations lists)) (given (combinations lists) instance.commands)) in
-    ap (applied_with instance grid) found ∙ ap gives (over_limit (length (combinations lists)) over)
+applied_too_often instance grid lists found over = grind (arith, found, over_limit (length (combinations lists)) over)
 
 pub applied_ends : (instance : Instance) (grid : Grid) (lists : List (List Place)) (behind : List Place) (end : Rewriting) (commands : Commands) → taken grid instance.scan instance.left ≡ Ok lists → length (combinations lists) ≤ 1048576 → behind ≡ [] → end ≡ fold (applied_at instance) (in_rewrite grid false) (map (λ places. places ++ behind) (combinations lists)) → commands ≡ given (combinations lists) instance.commands → applied instance grid ≡ Ok (outcome_of end commands)
 unfolding applied
 applied_ends instance grid lists behind end commands found within none ends gave =
-    let all = combinations lists in
-    let run : List (List Place) → Rewriting = fold (applied_at instance) (in_rewrite grid false) in
-    let gives : Bool → Result (Outcome Grid) StepFault = λ b. if b then Err MatchLimit else Ok (outcome_of (run all) (given all instance.commands)) in
-    ap (applied_with instance grid) found ∙ ap gives (within_limit (length all) within) ∙ ap (λ (r : Rewriting). Ok (outcome_of r (given all instance.commands))) (sym (ends ∙ ap run (map-nothing_behind all behind none))) ∙ ap (λ (g : Commands). Ok (outcome_of end g)) (sym gave)
+    grind (arith, found, within_limit (length (combinations lists)) within, ends, map-nothing_behind (combinations lists) behind none, gave)

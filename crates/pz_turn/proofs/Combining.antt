@@ -1,7 +1,7 @@
 -- Going through all combinations in order.
-use Rattle.pz_turn.proofs.Common.{◌≡◌, ℕ, suc, ◌+◌, ◌*◌, ◌<◌, List, [], ◌∷◌, ◌++◌, map, take, drop, length, get_or, set, fold, refl, ap, sym, ◌∙◌, append_assoc, arith, flat_map, take_more, append-nil, map-append, length-append, length-map, drop-drop, combinations}
+use Rattle.pz_turn.proofs.Common.{◌≡◌, ℕ, ◌+◌, ◌*◌, ◌<◌, List, [], ◌∷◌, ◌++◌, map, take, drop, length, get_or, set, fold, refl, ap, sym, ◌∙◌, append_assoc, arith, flat_map, take_more, append-nil, map-append, drop-drop, combinations}
 use Rattle.std.proofs.lemmas.List.Concat.{flat_map-append}
-use Rattle.std.proofs.lemmas.Grind.{fold-append, drop-set_at}
+use Rattle.std.proofs.lemmas.Grind.{common_steps, fold-append, drop-set_at}
 use Rattle.pz_base.specs.Lists.{product_of}
 
 -- a last element put behind each of these
@@ -41,10 +41,7 @@ combinations-last (xs ∷ lists) last = ap (headed xs) (combinations-last lists 
 
 length-ending : {X : Type 0} (lists : List (List X)) (last : List X) → length (ending lists last) ≡ length (combinations lists) * length last
 length-ending lists [] = omega arith
-length-ending lists (y ∷ last) =
-    let n = length (combinations lists) in
-    let more : n * suc (length last) ≡ n + n * length last = omega arith in
-    length-append (behind y (combinations lists)) (ending lists last) ∙ omega (arith, more, length-ending lists last, length-map (combinations lists) (λ c. c ++ y ∷ []))
+length-ending lists (y ∷ last) = grind (arith, common_steps, length-ending lists last)
 
 pub length-combinations-last : {X : Type 0} (lists : List (List X)) (last : List X) → length (combinations (lists ++ last ∷ [])) ≡ length (combinations lists) * length last
 length-combinations-last lists last = ap length (combinations-last lists last) ∙ length-ending lists last
@@ -74,6 +71,4 @@ length-combinations [] = refl
 length-combinations (xs ∷ lists) = length-headed xs (combinations lists) ∙ ap (λ n. length xs * n) (length-combinations lists) where
   length-headed : {X : Type 0} (xs : List X) (rests : List (List X)) → length (headed xs rests) ≡ length xs * length rests
   length-headed xs [] = omega arith
-  length-headed xs (rest ∷ rests) =
-      let more : length xs * suc (length rests) ≡ length xs + length xs * length rests = omega arith in
-      length-append (map (λ x. x ∷ rest) xs) (headed xs rests) ∙ omega (arith, more, length-headed xs rests, length-map xs (λ x. x ∷ rest))
+  length-headed xs (rest ∷ rests) = grind (arith, common_steps, length-headed xs rests)

@@ -1,5 +1,5 @@
 -- An instance without effect leaves a level as it is.
-use Rattle.pz_turn.proofs.Common.{◌≡◌, ◌⊎◌, ◌*◌, ◌≤◌, List, [], ◌∷◌, map, refl, ap, sym, ◌∙◌, arith, Bool, true, false, cond, Ok, None, inl, inr, fold, zip, Commands, Instance, RuleRow, Place, Grid, IsLawful, places, searched, still_matches, Rewriting, in_rewrite, rewritten, rewritten_row, untouched, found_or_stop, applied_at, outcome_of, applied, HasNoEffect}
+use Rattle.pz_turn.proofs.Common.{◌≡◌, ◌⊎◌, ◌*◌, ◌≤◌, List, [], ◌∷◌, map, refl, ap, sym, ◌∙◌, arith, false, Ok, None, inl, inr, fold, zip, Commands, Instance, RuleRow, Place, Grid, IsLawful, places, searched, Rewriting, in_rewrite, rewritten, rewritten_row, untouched, found_or_stop, applied_at, outcome_of, applied, HasNoEffect}
 use Rattle.pz_grid.proofs.CountLemmas.{searched-gapless, searched-small}
 use Rattle.pz_turn.proofs.SingleRow.{row_nowhere, row_ends}
 use Rattle.pz_turn.specs.declared.instance.TheConstants.{FEW_CELLS}
@@ -16,10 +16,7 @@ nothing_rewritten instance found so_far none =
     ∙ ap (fold (rewritten_row instance.scan) so_far) (nothing_beside Place (RuleRow × RuleRow) found)
 
 not_applied : (instance : Instance) (so_far : Rewriting) (found : List Place) → instance.right ≡ [] → applied_at instance so_far found ≡ so_far
-not_applied instance so_far found none = by (still_matches so_far.grid instance found) where
-  by : (b : Bool) → cond b (rewritten instance found so_far) so_far ≡ so_far
-  by true = nothing_rewritten instance found so_far none
-  by false = refl
+not_applied instance so_far found none = grind (arith, nothing_rewritten instance found so_far none)
 
 all_the_same : (instance : Instance) (so_far : Rewriting) (all : List (List Place)) → instance.right ≡ [] → fold (applied_at instance) so_far all ≡ so_far
 all_the_same instance so_far [] none = refl

@@ -6,18 +6,13 @@ pub fold_stopped : {L I : Type 0} (applied : I → Runs L) (fault : StepFault) (
 fold_stopped applied fault [] = refl
 fold_stopped applied fault (x ∷ xs) = fold_stopped applied fault xs
 
+-- one more instance, which may stop
+pub fold_more : {L I : Type 0} (applied : I → Runs L) (o : Outcome L) (r : Result (Outcome L) StepFault) (xs : List I) (i : ℕ) (x : I) → i < length xs → x ≡ get_or xs i x → applied x o.level ≡ r → fold (λ so_far y. followed_by so_far (applied y)) (joined o r) (drop (i + 1) xs) ≡ fold (λ so_far y. followed_by so_far (applied y)) (Ok o) (drop i xs)
+fold_more {L} {I} applied o r xs i x in_range at gives =
+    let run : Result (Outcome L) StepFault → Result (Outcome L) StepFault = λ s. fold (λ so_far y. followed_by so_far (applied y)) s (drop (i + 1) xs) in
+    let here : applied (get_or xs i x) o.level ≡ r = rw (← at) gives in
+    sym (at_drop_more (fold (λ so_far y. followed_by so_far (applied y)) (Ok o)) xs i x in_range ∙ ap (λ s. run (joined o s)) here)
+
 -- a stop at the next instance is the stop of the rest of the group
 pub fold_stops : {L I : Type 0} (applied : I → Runs L) (o : Outcome L) (xs : List I) (i : ℕ) (x : I) (fault : StepFault) (whole : Result (Outcome L) StepFault) → fold (λ so_far y. followed_by so_far (applied y)) (Ok o) (drop i xs) ≡ whole → i < length xs → x ≡ get_or xs i x → applied x o.level ≡ Err fault → whole ≡ Err fault
-fold_stops {L} {I} applied o xs i x fault whole so_far in_range at stops =
-    let step : Result (Outcome L) StepFault → I → Result (Outcome L) StepFault = λ s y. followed_by s (applied y) in
-    let e : fold step (Ok o) (drop i xs) ≡ fold step (joined o (applied (get_or xs i x) o.level)) (drop (i + 1) xs) = at_drop_more (fold step (Ok o)) xs i x in_range in
-    let a : applied (get_or xs i x) o.level ≡ Err fault = rw (← at) stops in
-    sym so_far ∙ e ∙ ap (λ r. fold step (joined o r) (drop (i + 1) xs)) a ∙ fold_stopped applied fault (drop (i + 1) xs)
-
--- one more instance
-pub fold_more : {L I : Type 0} (applied : I → Runs L) (o p : Outcome L) (xs : List I) (i : ℕ) (x : I) → i < length xs → x ≡ get_or xs i x → applied x o.level ≡ Ok p → fold (λ so_far y. followed_by so_far (applied y)) (joined o (Ok p)) (drop (i + 1) xs) ≡ fold (λ so_far y. followed_by so_far (applied y)) (Ok o) (drop i xs)
-fold_more {L} {I} applied o p xs i x in_range at gives =
-    let step : Result (Outcome L) StepFault → I → Result (Outcome L) StepFault = λ s y. followed_by s (applied y) in
-    let e : fold step (Ok o) (drop i xs) ≡ fold step (joined o (applied (get_or xs i x) o.level)) (drop (i + 1) xs) = at_drop_more (fold step (Ok o)) xs i x in_range in
-    let a : applied (get_or xs i x) o.level ≡ Ok p = rw (← at) gives in
-    sym (e ∙ ap (λ r. fold step (joined o r) (drop (i + 1) xs)) a)
+fold_stops applied o xs i x fault whole so_far in_range at stops = sym so_far ∙ sym (fold_more applied o (Err fault) xs i x in_range at stops) ∙ fold_stopped applied fault (drop (i + 1) xs)

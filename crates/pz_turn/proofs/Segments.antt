@@ -1,5 +1,5 @@
 -- The segments of a group, run one after another, give what its instances give.
-use Rattle.pz_turn.proofs.Common.{◌≡◌, ℕ, Result, Ok, Err, List, [], ◌∷◌, ◌++◌, Bool, false, ◌||◌, inl, inr, fold, get_or, refl, ap, sym, subst, ◌∙◌, All, flat_map, Commands, Instance, no_commands, either, Dir, IsInstanceOf, IsGroupOf, RuleRow, IsRowOf, AreRowsOf, AsksAmong, Grid, IsLawful, places, StepFault, applied, Outcome, untouched, followed_by, joined, Runs, pass_of, rest_of}
+use Rattle.pz_turn.proofs.Common.{◌≡◌, ℕ, Result, Ok, Err, arith, List, [], ◌∷◌, ◌++◌, ◌||◌, inl, inr, fold, get_or, refl, ap, sym, subst, ◌∙◌, All, flat_map, Instance, no_commands, either, Dir, IsInstanceOf, IsGroupOf, RuleRow, IsRowOf, AreRowsOf, AsksAmong, Grid, IsLawful, places, StepFault, applied, Outcome, untouched, followed_by, joined, Runs, pass_of, rest_of}
 use Rattle.std.proofs.Math.Bool.{or_assoc, or-false}
 use Rattle.std.proofs.lemmas.List.Elements.{All-nil, All-cons, All-head, All-tail}
 use Rattle.std.proofs.lemmas.List.Sums.{fold-append}
@@ -29,15 +29,10 @@ all_in_each {X} P (xs ∷ xss) all =
 -- ---- outcomes one after another
 joined_twice : {L : Type 0} (first second : Outcome L) (third : Result (Outcome L) StepFault)
     → joined (record { level = second.level; commands = either first.commands second.commands; changed = first.changed || second.changed }) third ≡ joined first (joined second third)
-joined_twice first second (Err fault) = refl
-joined_twice first second (Ok third) =
-    ap (λ (commands : Commands). Ok (record { level = third.level; commands = commands; changed = (first.changed || second.changed) || third.changed })) (either_assoc first.commands second.commands third.commands)
-    ∙ ap (λ (changed : Bool). Ok (record { level = third.level; commands = either first.commands (either second.commands third.commands); changed = changed })) (or_assoc first.changed second.changed third.changed)
+joined_twice first second third = grind (arith, either_assoc, or_assoc)
 
 joined_none : {L : Type 0} (o : Outcome L) → joined o (Ok (untouched o.level)) ≡ Ok o
-joined_none o =
-    ap (λ (commands : Commands). Ok (record { level = o.level; commands = commands; changed = o.changed || false })) (either_comm o.commands no_commands)
-    ∙ ap (λ (changed : Bool). Ok (record { level = o.level; commands = o.commands; changed = changed })) (or-false o.changed)
+joined_none o = grind (arith, either_comm o.commands no_commands, or-false o.changed)
 
 joined_follow : {L : Type 0} (o : Outcome L) (a : Result (Outcome L) StepFault) (run : Runs L) → followed_by (joined o a) run ≡ joined o (followed_by a run)
 joined_follow o (Err fault) run = refl

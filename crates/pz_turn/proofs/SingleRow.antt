@@ -1,7 +1,6 @@
 -- An instance of one row: each place of the row is a combination.
-use Rattle.pz_turn.proofs.Common.{◌≡◌, ◌<◌, ◌≤◌, List, [], ◌∷◌, map, length, nat_eq, true, refl, ap, sym, ◌∙◌, arith, Result, Ok, Err, inl, inr, fold, false, cases_lt, append-nil, length-map, Dir, Instance, RuleRow, Place, Grid, places, searched, Rewriting, in_rewrite, StepFault, combinations, untouched, found_or_stop, after_row, taken, applied_at, outcome_of, applied}
-use Rattle.pz_grid.proofs.FoundLemmas.{searched-within, searched-over}
-use Rattle.pz_turn.specs.declared.outcome.StepFault.TheVariants.{MatchLimit}
+use Rattle.pz_turn.proofs.Common.{◌≡◌, ◌<◌, ◌≤◌, List, [], ◌∷◌, map, length, nat_eq, true, refl, ap, sym, ◌∙◌, arith, Result, Ok, Err, fold, false, append-nil, length-map, Dir, Instance, RuleRow, Place, Grid, searched, Rewriting, in_rewrite, StepFault, combinations, untouched, found_or_stop, after_row, taken, applied_at, outcome_of, applied}
+use Rattle.std.proofs.lemmas.Bool.Decides.{nat_tests}
 use Rattle.pz_turn.proofs.Applying.{applied_ends, applied_stops, map-nothing_behind}
 use Rattle.pz_turn.proofs.Skipping.{applied_none}
 
@@ -16,14 +15,8 @@ taken_one instance grid row found only is =
 
 -- what is found is within the limit
 few_found : (grid : Grid) (row : RuleRow) (dir : Dir) (found : List Place) → found_or_stop (searched grid row dir) ≡ Ok found → length found ≤ 1048576
-few_found grid row dir found is = elim (cases_lt 1048576 (length (places grid row dir))) [
-  | inl over ↦ (let both : Err MatchLimit ≡ Ok found = sym (ap found_or_stop (searched-over grid row dir over)) ∙ is in cc)
-  | inr within ↦ (
-      let both : Ok (places grid row dir) ≡ Ok found = sym (ap found_or_stop (searched-within grid row dir (omega arith))) ∙ is in
-      let same : places grid row dir ≡ found = cc in
-      omega (arith, ap length same)
-      )
-]
+unfolding searched
+few_found grid row dir found is = grind (arith, nat_tests, is)
 
 -- too many places
 pub row_stops : (instance : Instance) (grid : Grid) (row : RuleRow) (fault : StepFault) → instance.left ≡ row ∷ [] → found_or_stop (searched grid row instance.scan) ≡ Err fault → applied instance grid ≡ Err fault

@@ -42,7 +42,7 @@ returns-clause-outcome c =
     let found = c.in_ok-found.found in
     let left = c.in-Some.left.now in
     let right = c.in-Some.right.now in
-    let all = all_of_one instance left right grid c.args.row.now found c.in-Some.ensures c.requires.only c.in_ok-found.ensures.found in
+    let all = all_of_one instance left right c.in-Some.ensures grid c.args.row.now found c.requires.only c.in_ok-found.ensures.found in
     row_ends instance grid c.args.row.now found (in_rewrite c.rewrite_each-changed.new.level.grid c.rewrite_each-changed.result) c.requires.only c.in_ok-found.ensures.found (some_found _ found c.items.ensures (sym c.is_empty.ensures ∙ c.if-is_empty.false))
     (c.rewrite_each-changed.ensures.rewritten ∙ ap (fold (one_rewritten instance.scan left right) (in_rewrite grid false)) c.items-2.ensures ∙ sym (applied_unasked instance left right c.in-Some.ensures grid found all))
 
@@ -53,6 +53,6 @@ returns-clause-calm c = λ known.
     let found = c.in_ok-found.found in
     let left = c.in-Some.left.now in
     let right = c.in-Some.right.now in
-    let all = all_of_one instance left right grid c.args.row.now found c.in-Some.ensures c.requires.only c.in_ok-found.ensures.found in
+    let all = all_of_one instance left right c.in-Some.ensures grid c.args.row.now found c.requires.only c.in_ok-found.ensures.found in
     let is = c.rewrite_each-changed.ensures.rewritten ∙ ap (fold (one_rewritten instance.scan left right) (in_rewrite grid false)) c.items-2.ensures in
-    calm instance left right c.in-Some.ensures grid found all c.rewrite_each-changed.new.level.grid (ap (λ (r : Rewriting). r.grid) (sym is)) c.rewrite_each-changed.ensures.size c.width.ensures.lawful
+    calm instance left right c.in-Some.ensures grid found all c.rewrite_each-changed.new.level.grid (ap (λ (r : Rewriting). r.grid) (sym is)) c.width.ensures.lawful

@@ -23,7 +23,7 @@ loop-item-preserved g c =
     let run : Given → Result (Outcome Grid) StepFault = λ all. fold (λ so_far x. followed_by so_far (runs x)) (Ok (record { level = after; commands = all.commands; changed = all.changed })) (drop (n + 1) items) in
     let only : n ≡ 0 → item ∷ [] ≡ take (n + 1) items = λ first. ap (λ x. x ∷ []) c.item-item.is ∙ ap (λ (k : ℕ). take k items ++ get_or items n item ∷ []) (sym first) ∙ sym (take_more items n item (omega arith)) in
     record {
-      whole = ap run c.and-so_far.ensures ∙ fold_more runs o r items n item (omega arith) c.item-item.is c.in_ok-given.ensures.outcome ∙ c.loop-item.invariant.whole;
+      whole = ap run c.and-so_far.ensures ∙ fold_more runs o (Ok r) items n item (omega arith) c.item-item.is c.in_ok-given.ensures.outcome ∙ c.loop-item.invariant.whole;
       calm = λ calm. (
         omega arith,
         λ one. subst (λ (all : Given). IsCalm (pass_of runs) all.commands after (take (n + 1) items)) (sym c.and-so_far.ensures)
