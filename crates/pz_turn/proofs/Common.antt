@@ -4,7 +4,7 @@ pub use Rattle.std.proofs.lemmas.Bool.{cases_lt, eqb-true, false_from_ne_true, l
 pub use Rattle.std.proofs.lemmas.List.{append-nil, at_drop_more, drop-drop, drop_all, get_or-drop, get_or_default, length-append, length-drop, length-map, length-set, map-append, nil_from_length, set-get_or, take-append-drop, take_all, take_more}
 pub use Rattle.std.proofs.lemmas.Result.{IfOk-weaker, err_from_is_err_and}
 pub use Rattle.std.specs.List.{All, enumerate_from, find, flat_map, list_all, list_any, range_with_len, zip}
-pub use Rattle.std.specs.Prelude.{IfErr, IfOk, IfSome, MatchOption, codes, if◌then◌else◌, nat_lt}
+pub use Rattle.std.specs.Prelude.{IfErr, IfOk, MatchOption, codes, if◌then◌else◌, nat_lt}
 pub use Rattle.pz_game.specs.Pattern.{AreRowsOf, AsksAmong, IsRowOf, RuleRow}
 pub use Rattle.pz_game.specs.declared.direction.Dir.{Dir}
 pub use Rattle.pz_game.specs.declared.game.GameParts.{GameParts}
