@@ -45,7 +45,8 @@ impl<const N: usize> Sheet<N> {
         objects_of(&self.cells[index])
     }
 
-    /// Replaces the cell of this number, and notes where the new one heads and what stands there.
+    /// Replaces the cell of this number, and notes where the new one heads and what stands there. (Inlined: each rewriting comes here.)
+    #[inline(always)]
     pub(crate) fn set_cell(&mut self, index: usize, cell: Cell<N>)
         requires within { index < length self.old.grid.cells }
         requires sound { IsSound (layers_in self.old.grid) cell }

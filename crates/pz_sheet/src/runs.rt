@@ -193,7 +193,8 @@ impl<'a, const N: usize> RunSearch<'a, N> {
         }
     }
 
-    /// The same, where the line and the way are this search's.
+    /// The same, where the line and the way are this search's. (Inlined: it is asked for each place, and then most of it is known.)
+    #[inline(always)]
     fn next_along(&self, line: Line, way: Way, from: u32) -> Option<u32>
         requires line { line ≡ self.now.line }
         requires way { way ≡ self.now.way }
