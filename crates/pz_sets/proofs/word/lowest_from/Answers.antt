@@ -1,25 +1,24 @@
-use Rattle.std.proofs.Common.{◌≡◌, inl, inr, ℕ, ◌<◌, ◌≤◌, ◌^◌, ◌-◌, ◌*◌, ◌%◌, bit_and, true, false, arith, ap, sym, ◌∙◌}
+use Rattle.std.proofs.Common.{◌≡◌, inl, inr, ℕ, ◌<◌, ◌≤◌, ◌^◌, ◌-◌, ◌*◌, ◌%◌, ◌&&◌, Bool, bit_and, true, false, arith, ap, sym, ◌∙◌}
 use Rattle.std.proofs.lemmas.Bool.{cases_lt}
-use Rattle.std.proofs.lemmas.Nat.Bits.{ones_shl}
+use Rattle.std.proofs.lemmas.Nat.Bits.{ones_shl, bit_at_mask_inside, bit_at_mask_below}
 use Rattle.pz_sets.specs.Sets.{in_word}
-use Rattle.pz_sets.proofs.WordLemmas.{rest_inside, rest_below, in_word-zero}
+use Rattle.pz_sets.proofs.WordLemmas.{in_word-and, in_word-zero}
 use Rattle.pz_sets.proofs.word.lowest_from.Goals as goal
 
--- what the code computes keeps the bits from the place on
-shifted : (word start : ℕ) → start < 128 → bit_and word (340282366920938463463374607431768211455 * 2 ^ start % 340282366920938463463374607431768211456) ≡ bit_and word (2 ^ 128 - 2 ^ start)
-shifted word start low = ap (bit_and word) (ones_shl 128 start (omega arith))
+-- what the code computes keeps the bits from the place on, and no other
+inside : (word start bit : ℕ) → start ≤ bit → bit < 128 → in_word (bit_and word (340282366920938463463374607431768211455 * 2 ^ start % 340282366920938463463374607431768211456)) bit ≡ in_word word bit
+inside word start bit from low = grind (arith, ones_shl 128 start (omega arith), in_word-and word (2 ^ 128 - 2 ^ start) bit, bit_at_mask_inside start 128 bit from low)
+
+below : (word start bit : ℕ) → start < 128 → bit < start → in_word (bit_and word (340282366920938463463374607431768211455 * 2 ^ start % 340282366920938463463374607431768211456)) bit ≡ false
+below word start bit low before = grind (arith, ones_shl 128 start (omega arith), in_word-and word (2 ^ 128 - 2 ^ start) bit, bit_at_mask_below start 128 bit before)
 
 pub returns-then-rest-eq0 : goal.returns-then-rest-eq0
-returns-then-rest-eq0 c bit from low =
-    sym (rest_inside c.args.word c.args.start bit from low) ∙ ap (λ (w : ℕ). in_word w bit) (sym (shifted c.args.word c.args.start c.requires) ∙ c.if-rest-eq0.true) ∙ in_word-zero bit
+returns-then-rest-eq0 c bit from low = grind (arith, inside c.args.word c.args.start bit from low, in_word-zero bit)
 
 pub returns-else-rest-eq0 : goal.returns-else-rest-eq0
 returns-else-rest-eq0 c =
     let word = c.args.word in
     let start = c.args.start in
     let found = c.lowest.result in
-    let same = shifted word start c.requires in
-    let there : in_word (bit_and word (2 ^ 128 - 2 ^ start)) found ≡ true = sym (ap (λ (w : ℕ). in_word w found) same) ∙ c.lowest.ensures.there in
-    let from : start ≤ found = (elim (cases_lt found start) [ inl below ↦ absurd (let e : false ≡ true = sym (rest_below word start found below) ∙ there in cc) | inr from ↦ from ]) in
-    let low : found < 128 = c.lowest.ensures.below in
-    (from, low, sym (rest_inside word start found from low) ∙ there, λ bit above below. sym (rest_inside word start bit above (omega arith)) ∙ sym (ap (λ (w : ℕ). in_word w bit) same) ∙ c.lowest.ensures.least bit below)
+    let from : start ≤ found = grind (arith, below word start found) in
+    (from, c.lowest.ensures.below, grind (arith, inside word start found), λ bit above before. grind (arith, inside word start bit above, c.lowest.ensures.least bit before))

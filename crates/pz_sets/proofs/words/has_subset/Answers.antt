@@ -1,29 +1,16 @@
-use Rattle.std.proofs.Common.{◌≡◌, ℕ, Bool, true, false, sym, ◌∙◌, subst, get_or}
-use Rattle.pz_sets.proofs.WordsLemmas.{AtWord, up_to_more, up_to_all, word_of_test}
+use Rattle.std.proofs.Common.{◌%◌, ◌*◌, ◌+◌, arith, refl, sym, ◌∙◌}
+use Rattle.std.proofs.lemmas.Grind.{common_steps}
+use Rattle.pz_sets.proofs.WordsLemmas.{number_at, member_missing}
 use Rattle.pz_sets.proofs.words.has_subset.Goals as goal
 
-abbrev Passes : Bool → Bool → Type 0
-Passes mine theirs = theirs ≡ true → mine ≡ true
-
 pub loop-index-preserved : goal.loop-index-preserved
-loop-index-preserved c =
-    let words = c.args.words.now in
-    let others = c.args.wanted.now in
-    let here : AtWord Passes (get_or words c.loop-index.index 0) (get_or others c.loop-index.index 0) = subst (λ (w : ℕ). AtWord Passes w (get_or others c.loop-index.index 0)) c.word_at.ensures (c.covers.ensures.0 c.if-not-covers.false) in
-    up_to_more Passes words others c.loop-index.index c.loop-index.invariant here
+loop-index-preserved c number low = grind (arith, common_steps, c.loop-index.invariant number, c.covers.ensures.0 c.if-not-covers.false (number % 128) (omega arith))
 
 pub returns-then-not-covers : goal.returns-then-not-covers
-returns-then-not-covers c =
-    let words = c.args.words.now in
-    let others = c.args.wanted.now in (
-      λ t. cc,
-      λ h. (let here : AtWord Passes c.word_at.result (get_or others c.loop-index.index 0) = subst (λ (w : ℕ). AtWord Passes w (get_or others c.loop-index.index 0)) (sym c.word_at.ensures) (word_of_test Passes words others h c.loop-index.index) in
-          let t : c.covers.result ≡ true = c.covers.ensures.1 here in
-          let f : false ≡ true = sym c.if-not-covers.true ∙ t in f),
-    )
+returns-then-not-covers c = (
+  λ t. cc,
+  λ h. sym c.if-not-covers.true ∙ c.covers.ensures.1 (λ bit low. grind (arith, common_steps, number_at c.loop-index.index bit low, h (128 * c.loop-index.index + bit))),
+)
 
 pub returns : goal.returns
-returns c = (
-  λ t. up_to_all Passes c.args.words.now c.args.wanted.now c.loop-index.index c.loop-index-test.false (λ mine number past e t. cc) c.loop-index.invariant,
-  λ h i. true,
-)
+returns c = (λ t number. grind (arith, common_steps, c.loop-index.invariant number, member_missing c.args.wanted.now number), λ h. refl)
