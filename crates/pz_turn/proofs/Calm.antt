@@ -2,18 +2,14 @@
 use Rattle.pz_turn.proofs.Common.{◌≡◌, ℕ, suc, ◌+◌, ◌/◌, ◌<◌, ◌≤◌, Result, Ok, Err, List, [], ◌∷◌, Bool, true, false, cond, ◌||◌, ◌⊎◌, inl, inr, fold, take, drop, length, get_or, refl, ap, sym, ◌∙◌, arith, subst, cases_lt, or_parts, take_more, take_all, take-append-drop, get_or-drop, length-drop, get_or_default, Commands, no_commands, either, StepFault, Outcome, untouched, followed_by, joined, Runs, pass_of, ends, IsCalm, AreCalmFrom}
 use Rattle.std.specs.Int.RustNames.{bit_or}
 use Rattle.std.proofs.lemmas.List.Sums.{fold-append}
-use Rattle.std.proofs.lemmas.Nat.{or_comm, or_shr}
-use lib.Arith.{bin_ind}
-use lib.Bits.{or_step, or_self}
-use Rattle.pz_turn.proofs.Passes.{fold_stops}
+use Rattle.std.proofs.lemmas.Nat.{or_comm}
+use Rattle.std.proofs.lemmas.Nat.Bits.{bit_at_or, same_from_bits}
+use lib.Bits.{or_self}
+use Rattle.pz_turn.proofs.RestLemmas.{fold_stops}
 
 -- ---- the commands of either
 or_assoc : (a b c : ℕ) → bit_or (bit_or a b) c ≡ bit_or a (bit_or b c)
-or_assoc =
-    bin_ind (λ (n : ℕ). (b c : ℕ) → bit_or (bit_or n b) c ≡ bit_or n (bit_or b c)) (λ b c. refl)
-    (λ n ih b c.
-    let halves : bit_or (bit_or n b / 2) (c / 2) ≡ bit_or (n / 2) (bit_or b c / 2) = ap (λ x. bit_or x (c / 2)) (or_shr n b 1) ∙ (ih (b / 2) (c / 2) ∙ sym (ap (bit_or (n / 2)) (or_shr b c 1))) in
-    omega (arith, or_step (bit_or n b) c, or_step n (bit_or b c), halves, or_step n b, or_step b c))
+or_assoc a b c = same_from_bits _ _ (λ i. omega (arith, bit_at_or (bit_or a b) c i, bit_at_or a b i, bit_at_or a (bit_or b c) i, bit_at_or b c i))
 
 abbrev set_of : ℕ → Commands
 set_of n = record { 0 = n }
@@ -71,11 +67,10 @@ module _ {L I : Type 0} (runs : I → Runs L) (items : List I) where
       → (first ≡ n + 1) ⊎ ((first ≡ n) × IsCalm runs r.commands r.level item)
       → Passing start calm_from (n + 1) (record { level = r.level; commands = either o.commands r.commands; changed = o.changed || r.changed }) first
   passing_changed start calm_from n item o r behind first within is p gives changes calm =
-      let never : (o.changed || r.changed) ≡ false → ⊥ = λ none. (let wrong : true ≡ false = sym changes ∙ (or_parts o.changed r.changed none).1 in cc) in
       record {
         so_far = pass_more start n item o r within is p.so_far gives;
-        ahead = λ none. absurd (never none);
-        kept = λ none. absurd (never none);
+        ahead = λ none. absurd (grind (arith, changes, none));
+        kept = λ none. absurd (grind (arith, changes, none));
         calm = λ number other from below. elim calm [
           | inl next ↦ absurd (omega (arith, from, below, next))
           | inr here ↦ (let at : n ≡ number = omega (arith, from, below, here.0) in
@@ -89,35 +84,23 @@ module _ {L I : Type 0} (runs : I → Runs L) (items : List I) where
       → Passing start calm_from (n + 1) (record { level = r.level; commands = either o.commands r.commands; changed = o.changed || r.changed }) behind
   passing_quiet start calm_from n item o r behind within is p goes_on gives quiet keeps = record {
     so_far = pass_more start n item o r within is p.so_far gives;
-    ahead = λ none. (let before = (or_parts o.changed r.changed none).0 in
-        elim (cases_lt n calm_from) [
-          | inl less ↦ omega (arith, less)
-          | inr past ↦ absurd (goes_on (omega (arith, past, p.ahead before)) before)
-        ]);
+    ahead = λ none. grind (arith, p.ahead, goes_on, or_parts o.changed r.changed none);
     kept = λ none. keeps ∙ p.kept (or_parts o.changed r.changed none).0;
     calm = λ number other from below. elim (cases_lt number n) [
       | inl earlier ↦ before number other from earlier
       | inr here ↦ subst (λ (k : ℕ). IsCalm runs (either o.commands r.commands) r.level (get_or items k other)) (let e : n ≡ number = omega (arith, here, below) in e) (last other)
     ];
   } where
-    again : (commands : Commands) (x : I) → runs x o.level ≡ Ok (record { level = o.level; commands = commands; changed = false }) → runs x r.level ≡ Ok (record { level = r.level; commands = commands; changed = false })
-    again commands x = subst (λ (level : L). runs x level ≡ Ok (record { level = level; commands = commands; changed = false })) (sym keeps)
-
     before : (number : ℕ) (other : I) → behind ≤ number → number < n → IsCalm runs (either o.commands r.commands) r.level (get_or items number other)
     before number other from below =
         let calm = p.calm number other from below in
-        record { gives = calm.gives; quiet = again calm.gives (get_or items number other) calm.quiet; known = known_still o.commands r.commands calm.gives calm.known }
+        record { gives = calm.gives; quiet = rw keeps calm.quiet; known = known_still o.commands r.commands calm.gives calm.known }
 
     last : (other : I) → IsCalm runs (either o.commands r.commands) r.level (get_or items n other)
     last other =
         let same : item ≡ get_or items n other = is ∙ get_or_default items n item other within in
-        let here : runs (get_or items n other) o.level ≡ Ok r = subst (λ (x : I). runs x o.level ≡ Ok r) same gives in
-        let shape : r ≡ record { level = o.level; commands = r.commands; changed = false } = ap (λ (level : L). record { level = level; commands = r.commands; changed = r.changed }) keeps ∙ ap (λ (b : Bool). record { level = o.level; commands = r.commands; changed = b }) quiet in
-        record {
-          gives = r.commands;
-          quiet = again r.commands (get_or items n other) (here ∙ ap (λ (q : Outcome L). Ok q) shape);
-          known = known_now o.commands r.commands r.commands (either_self r.commands);
-        }
+        let here : runs (get_or items n other) o.level ≡ Ok r = rw (← same) gives in
+        record { gives = r.commands; quiet = rw (← quiet) (rw (← keeps) at here); known = known_now o.commands r.commands r.commands (either_self r.commands) }
 
   -- the pass, behind its first items
   split : (start : L) (n : ℕ) (o : Outcome L) → pass_of runs (take n items) start ≡ Ok o → pass_of runs items start ≡ fold step (Ok o) (drop n items)
@@ -135,13 +118,7 @@ module _ {L I : Type 0} (runs : I → Runs L) (items : List I) where
       ap (λ (b : Bool). pass_of runs (cond b items (take calm_from items)) start) ends.1 ∙ (ap (λ (k : ℕ). pass_of runs (take k items) start) (sym ends.0) ∙ p.so_far)
 
   pub passing_whole : (start : L) (calm_from n : ℕ) (o : Outcome L) (behind : ℕ) → Passing start calm_from n o behind → length items ≤ n → pass_of runs (cond o.changed items (take calm_from items)) start ≡ Ok o
-  passing_whole start calm_from n o behind p past = by_change o.changed refl where
-    all : pass_of runs items start ≡ Ok o
-    all = ap (λ (xs : List I). pass_of runs xs start) (sym (take_all n items past)) ∙ p.so_far
-
-    by_change : (b : Bool) → o.changed ≡ b → pass_of runs (cond b items (take calm_from items)) start ≡ Ok o
-    by_change true e = all
-    by_change false e = ap (λ (xs : List I). pass_of runs xs start) (take_all calm_from items (omega (arith, p.ahead e, past))) ∙ all
+  passing_whole start calm_from n o behind p past = grind (arith, p.so_far, p.ahead, take_all n items past, take_all calm_from items)
 
   -- ---- calm items give nothing new
   calm_fold : (commands : Commands) (level : L) (xs : List I) → ((number : ℕ) (other : I) → number < length xs → IsCalm runs commands level (get_or xs number other)) → (given : Commands)
@@ -178,12 +155,8 @@ module _ {L I : Type 0} (runs : I → Runs L) (items : List I) where
   calm_more before given level from calm number other at below = calm_known runs before given level _ (calm number other at below)
 
 -- a pass over one item is its run
-after_nothing : {L : Type 0} (level : L) (run : Result (Outcome L) StepFault) → joined (untouched level) run ≡ run
-after_nothing level (Err fault) = refl
-after_nothing level (Ok o) = refl
-
 pub pass_alone : {L I : Type 0} (runs : I → Runs L) (item : I) (level : L) → pass_of runs (item ∷ []) level ≡ runs item level
-pass_alone runs item level = after_nothing level (runs item level)
+pass_alone runs item level = grind arith
 
 pub calm_alone : {L I : Type 0} (runs : I → Runs L) (given : Commands) (level : L) (item : I) → IsCalm runs given level item → IsCalm (pass_of runs) given level (item ∷ [])
 calm_alone runs given level item calm = record { gives = calm.gives; quiet = pass_alone runs item level ∙ calm.quiet; known = calm.known }

@@ -1,7 +1,7 @@
 -- The words of the proofs of this crate: what several of them import.
 pub use Rattle.std.proofs.Common.{Bool, Err, Global, List, None, Ok, Option, Result, Some, Vec, [], add-one, ap, append_assoc, arith, below_more, cond, drop, eqb, false, filter, fold, get_or, get_or-set_other, inl, inr, is_some, length, map, min, nat_eq, not, refl, rules, set, subst, suc, sym, take, true, zero, ℕ, ◌*◌, ◌++◌, ◌+◌, ◌-◌, ◌/◌, ◌<◌, ◌&&◌, ◌||◌, ◌∙◌, ◌∷◌, ◌≡◌, ◌≢◌, ◌≤◌, ◌⊎◌}
 pub use Rattle.std.proofs.lemmas.Bool.{cases_lt, eqb-true, false_from_ne_true, ltb-false, ltb-true, not-false, not-true, or_parts, true_from_ne_false}
-pub use Rattle.std.proofs.lemmas.List.{append-nil, at_drop_more, drop-drop, drop_all, get_or-drop, get_or_default, length-append, length-drop, length-map, length-set, map-append, nil_from_length, set-get_or, take-append-drop, take_all, take_more}
+pub use Rattle.std.proofs.lemmas.List.{append-nil, at_drop_more, drop-drop, drop_all, drop_more, get_or-drop, get_or_default, length-append, length-drop, length-map, length-set, map-append, nil_from_length, set-get_or, take-append-drop, take_all, take_more}
 pub use Rattle.std.proofs.lemmas.Result.{IfOk-weaker, err_from_is_err_and}
 pub use Rattle.std.specs.List.{All, enumerate_from, find, flat_map, list_all, list_any, range_with_len, zip}
 pub use Rattle.std.specs.Prelude.{IfErr, IfOk, MatchOption, codes, if◌then◌else◌, nat_lt}

@@ -1,8 +1,5 @@
 mod Common
-pub mod Applying
 pub mod Combining
-pub mod Limits
-pub mod Passes
 pub mod RestLemmas
 pub mod Calm
 pub mod Taking
@@ -14,5 +11,4 @@ pub mod Effectless
 pub mod Segments
 pub mod Unchanged
 pub mod Stops
-pub mod StepLemmas
 pub mod WorkedTurns

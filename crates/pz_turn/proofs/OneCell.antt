@@ -1,6 +1,6 @@
 -- An instance of one cell rewrites only the cells of its places, and a cell that was rewritten stays if it is rewritten again. So it
 -- needn't be asked at a place whether it still holds there, and run again it changes nothing.
-use Rattle.pz_turn.proofs.Common.{◌≡◌, ◌⊎◌, ℕ, zero, suc, ◌+◌, ◌*◌, List, [], ◌∷◌, map, fold, set, get_or, length, Option, Some, None, Ok, Err, Result, Bool, true, false, ◌&&◌, cond, nat_eq, refl, ap, sym, subst, ◌∙◌, arith, inl, inr, get_or-set_other, zip, list_all, Dir, Instance, RuleRow, AreRowsOf, IsRowOf, Place, Grid, IsLawful, cell_at, row_of_one, still_holds, along, holds_at, places, searched, Rewriting, in_rewrite, rewritten_at, rewritten_row, found_or_stop, applied_at, applied, one_rewritten, IsOfOneCell, IsCalm}
+use Rattle.pz_turn.proofs.Common.{◌≡◌, ◌⊎◌, ℕ, zero, suc, ◌+◌, ◌*◌, ◌<◌, List, [], ◌∷◌, map, fold, set, get_or, length, Option, Some, None, Ok, Err, Result, Bool, true, false, ◌&&◌, cond, nat_eq, refl, ap, sym, subst, ◌∙◌, arith, inl, inr, get_or-set_other, zip, list_all, Dir, Instance, RuleRow, AreRowsOf, IsRowOf, Place, Grid, IsLawful, cell_at, row_of_one, still_holds, along, holds_at, places, searched, Rewriting, in_rewrite, rewritten_at, rewritten_row, found_or_stop, applied_at, outcome_of, applied, one_rewritten, IsOfOneCell, IsCalm}
 use Rattle.std.proofs.lemmas.Grind.{common_steps}
 use Rattle.std.specs.Prelude.{Contains}
 use Rattle.pz_game.specs.declared.pattern.Item.{Item}
@@ -11,7 +11,7 @@ use Rattle.pz_cells.specs.Rewriting.{rewritten_cell}
 use Rattle.pz_grid.specs.declared.placing.GridFault.{GridFault}
 use Rattle.std.proofs.lemmas.Bool.{cases_eq}
 use Rattle.std.proofs.lemmas.List.Elements.{All-head, Contains-append_right}
-use Rattle.std.proofs.Math.Bool.{or-false}
+use Rattle.std.proofs.Math.Bool.{and-true, or-false}
 use Rattle.pz_game.specs.Pattern.{AreOf}
 use Rattle.pz_cells.proofs.SameLemmas.{same_cell_self}
 use Rattle.pz_grid.proofs.CountLemmas.{searched-gapless}
@@ -19,11 +19,7 @@ use Rattle.pz_grid.proofs.FoundLemmas.{searched-gives}
 use Rattle.pz_grid.proofs.PlaceLemmas.{holds_from_place, place_from_holds}
 use Rattle.pz_turn.proofs.Again.{rewritten_again}
 use Rattle.pz_turn.proofs.Calm.{calm_untouched, either_self}
-use Rattle.pz_turn.proofs.SingleRow.{row_nowhere, row_ends}
-
-and_true : (b : Bool) → (b && true) ≡ b
-and_true true = refl
-and_true false = refl
+use Rattle.pz_turn.proofs.SingleRow.{row_applied, row_ends}
 
 -- the only cell of rows of a game
 pub cell_of : (layers : List ℕ) (rows : List RuleRow) (cell : List Item) → rows ≡ row_of_one cell ∷ [] → AreRowsOf layers rows → AreOf layers cell
@@ -119,7 +115,7 @@ module _ (instance : Instance) (left right : List Item) (one : IsOfOneCell insta
   asks_one : (so_far : Rewriting) (place : Place) → asks so_far place ≡ cond (holds so_far.grid place) (rewrites so_far place) so_far
   asks_one so_far place =
       let at : List RuleRow → List RuleRow → Rewriting = λ ls rs. cond (nat_eq 1 (length ls) && list_all (still_holds so_far.grid instance.scan) (zip ls (place ∷ []))) (fold (rewritten_row instance.scan) so_far (zip (place ∷ []) (zip ls rs))) so_far in
-      (λ i. at (one.left i) (one.right i)) ∙ ap (λ (b : Bool). cond b (rewrites so_far place) so_far) (and_true (holds so_far.grid place))
+      (λ i. at (one.left i) (one.right i)) ∙ ap (λ (b : Bool). cond b (rewrites so_far place) so_far) (and-true (holds so_far.grid place))
 
   -- where it is settled that it holds, it is rewritten; where it is settled that it doesn't, it isn't
   asks_settled : (held : Bool) (so_far : Rewriting) (place : Place) → IsSettled held so_far.grid place → asks so_far place ≡ cond held (rewrites so_far place) so_far
@@ -138,7 +134,7 @@ module _ (instance : Instance) (left right : List Item) (one : IsOfOneCell insta
       ap (λ (r : Rewriting). fold (applied_at instance) r (map (λ (p : Place). p ∷ []) found)) (asks_settled false (in_rewrite end false) place (settled place)) ∙ leaves found end settled
 
   -- what was found are all places of the row
-  pub all_of_one : (grid : Grid) (row_now : RuleRow) (found : List Place) → instance.left ≡ row_now ∷ [] → found_or_stop (searched grid row_now instance.scan) ≡ Ok found → found ≡ places grid row instance.scan
+  all_of_one : (grid : Grid) (row_now : RuleRow) (found : List Place) → instance.left ≡ row_now ∷ [] → found_or_stop (searched grid row_now instance.scan) ≡ Ok found → found ≡ places grid row instance.scan
   all_of_one grid row_now found only is = searched-gives grid row instance.scan found (by (searched grid row instance.scan) (ap (λ (r : RuleRow). found_or_stop (searched grid r instance.scan)) same ∙ is)) where
     same : row ≡ row_now
     same = let both : row ∷ [] ≡ row_now ∷ [] = sym one.left ∙ only in cc
@@ -149,11 +145,11 @@ module _ (instance : Instance) (left right : List Item) (one : IsOfOneCell insta
 
   module _ (grid : Grid) (found : List Place) (all : found ≡ places grid row instance.scan) where
     -- it is applied as its cell is rewritten
-    pub applied_unasked : fold (applied_at instance) (in_rewrite grid false) (map (λ (p : Place). p ∷ []) found) ≡ fold rewrites (in_rewrite grid false) found
+    applied_unasked : fold (applied_at instance) (in_rewrite grid false) (map (λ (p : Place). p ∷ []) found) ≡ fold rewrites (in_rewrite grid false) found
     applied_unasked = unasked found (in_rewrite grid false) (λ place in_found. inl (holds_from_place grid row instance.scan place (subst (λ (ps : List Place). Contains ps place) all in_found)))
 
     -- it is calm behind its change
-    pub calm : (now : Grid) → (fold rewrites (in_rewrite grid false) found).grid ≡ now → IsLawful now → IsCalm applied instance.commands now instance
+    calm : (now : Grid) → (fold rewrites (in_rewrite grid false) found).grid ≡ now → IsLawful now → IsCalm applied instance.commands now instance
     calm now is lawful = by (places now row instance.scan) (ap found_or_stop (searched-gapless now row instance.scan lawful refl)) where
       settled : (place : Place) → IsSettled false now place
       settled place = subst (λ (g : Grid). IsSettled false g place) is (settled_end found (in_rewrite grid false) place (at (holds grid place) refl)) where
@@ -162,9 +158,16 @@ module _ (instance : Instance) (left right : List Item) (one : IsOfOneCell insta
         at false fails = inl (inl fails)
 
       by : (held : List Place) → found_or_stop (searched now row instance.scan) ≡ Ok held → IsCalm applied instance.commands now instance
-      by [] found_now = calm_untouched applied instance.commands now instance (row_nowhere instance now row one.left found_now)
+      by [] found_now = calm_untouched applied instance.commands now instance (row_applied instance now row (Ok []) one.left found_now)
       by (place ∷ held) found_now = record {
         gives = instance.commands;
         quiet = row_ends instance now row (place ∷ held) (in_rewrite now false) one.left found_now (omega arith) (sym (leaves (place ∷ held) now settled));
         known = either_self instance.commands;
       }
+
+  -- how it ends, if it has places, and what is left to do then
+  pub cell_ends : (grid : Grid) (row_now : RuleRow) (found : List Place) (end : Rewriting) → instance.left ≡ row_now ∷ [] → found_or_stop (searched grid row_now instance.scan) ≡ Ok found → 0 < length found → end ≡ fold rewrites (in_rewrite grid false) found
+      → (applied instance grid ≡ Ok (outcome_of end instance.commands)) × (IsLawful end.grid → IsCalm applied instance.commands end.grid instance)
+  cell_ends grid row_now found end only is some ends =
+      let all = all_of_one grid row_now found only is in
+      (row_ends instance grid row_now found end only is some (ends ∙ sym (applied_unasked grid found all)), calm grid found all end.grid (ap (λ (r : Rewriting). r.grid) (sym ends)))

@@ -1,25 +1,30 @@
--- When a loop of passes ends.
-use Rattle.pz_turn.proofs.Common.{◌≡◌, ℕ, ◌+◌, ◌<◌, ◌≤◌, Bool, true, false, not, Ok, Err, Some, None, length, get_or, refl, ap, ◌∙◌, arith, add-one, below_more, find, range_with_len, Outcome, followed_by, joined, Runs, passes, ends, ends_after, is_last, up_to, rest_of}
+-- Passes, and when a loop of them ends.
+use Rattle.pz_turn.proofs.Common.{◌≡◌, ℕ, ◌+◌, ◌<◌, ◌≤◌, Bool, List, Result, StepFault, true, false, not, Ok, Err, Some, None, fold, drop, length, get_or, refl, ap, sym, ◌∙◌, at_drop_more, arith, add-one, below_more, find, range_with_len, Outcome, followed_by, joined, Runs, passes, ends, ends_after, is_last, up_to, rest_of}
+use Rattle.std.proofs.lemmas.List.Folds.{fold_stays}
 use Rattle.std.proofs.lemmas.List.FromFn.{length-range_with_len, get_or-range_with_len}
 use Rattle.std.proofs.lemmas.List.Recursion.{found_at, found_nowhere}
 use Rattle.pz_turn.specs.declared.outcome.StepFault.TheVariants.{LoopLimit}
 
--- the first number that passes a test
-pub find_first : (p : ℕ → Bool) (limit n : ℕ) → n < limit → ((k : ℕ) → k < n → p k ≡ false) → p n ≡ true → find p (range_with_len 0 limit) ≡ Some n
-find_first p limit n in_range before here =
-    let numbers = range_with_len 0 limit in
-    let at : (k : ℕ) → k < limit → get_or numbers k 0 ≡ k = λ k below. get_or-range_with_len 0 limit k 0 below ∙ (omega arith) in
-    let same_length : length numbers ≡ limit = length-range_with_len 0 limit in
-    let inside : n < length numbers = omega arith in
-    let earlier : (k : ℕ) → k < n → p (get_or numbers k 0) ≡ false = λ k below. ap p (at k (omega arith)) ∙ before k below in
-    found_at (find p) p Some None refl (λ _ _. refl) numbers n 0 inside earlier (ap p (at n in_range) ∙ here) ∙ ap Some (at n in_range)
+-- one more instance, which may stop
+pub fold_more : {L I : Type 0} (applied : I → Runs L) (o : Outcome L) (r : Result (Outcome L) StepFault) (xs : List I) (i : ℕ) (x : I) → i < length xs → x ≡ get_or xs i x → applied x o.level ≡ r → fold (λ so_far y. followed_by so_far (applied y)) (joined o r) (drop (i + 1) xs) ≡ fold (λ so_far y. followed_by so_far (applied y)) (Ok o) (drop i xs)
+fold_more {L} {I} applied o r xs i x in_range at gives =
+    let run : Result (Outcome L) StepFault → Result (Outcome L) StepFault = λ s. fold (λ so_far y. followed_by so_far (applied y)) s (drop (i + 1) xs) in
+    let here : applied (get_or xs i x) o.level ≡ r = rw (← at) gives in
+    sym (at_drop_more (fold (λ so_far y. followed_by so_far (applied y)) (Ok o)) xs i x in_range ∙ ap (λ s. run (joined o s)) here)
 
-pub find_none : (p : ℕ → Bool) (limit : ℕ) → ((k : ℕ) → k < limit → p k ≡ false) → find p (range_with_len 0 limit) ≡ None
+-- a stop at the next instance is the stop of the rest of the group
+pub fold_stops : {L I : Type 0} (applied : I → Runs L) (o : Outcome L) (xs : List I) (i : ℕ) (x : I) (fault : StepFault) (whole : Result (Outcome L) StepFault) → fold (λ so_far y. followed_by so_far (applied y)) (Ok o) (drop i xs) ≡ whole → i < length xs → x ≡ get_or xs i x → applied x o.level ≡ Err fault → whole ≡ Err fault
+fold_stops applied o xs i x fault whole so_far in_range at stops = sym so_far ∙ sym (fold_more applied o (Err fault) xs i x in_range at stops) ∙ fold_stays (λ so_far y. followed_by so_far (applied y)) (Err fault) (λ y. refl) (drop (i + 1) xs)
+
+-- the first number that passes a test
+find_first : (p : ℕ → Bool) (limit n : ℕ) → n < limit → ((k : ℕ) → k < n → p k ≡ false) → p n ≡ true → find p (range_with_len 0 limit) ≡ Some n
+find_first p limit n in_range before here =
+    let at : (k : ℕ) → k < limit → get_or (range_with_len 0 limit) k 0 ≡ k = λ k below. get_or-range_with_len 0 limit k 0 below ∙ (omega arith) in
+    found_at (find p) p Some None refl (λ _ _. refl) (range_with_len 0 limit) n 0 (omega (arith, length-range_with_len 0 limit)) (λ k below. ap p (at k (omega arith)) ∙ before k below) (ap p (at n in_range) ∙ here) ∙ ap Some (at n in_range)
+
+find_none : (p : ℕ → Bool) (limit : ℕ) → ((k : ℕ) → k < limit → p k ≡ false) → find p (range_with_len 0 limit) ≡ None
 find_none p limit nowhere =
-    let numbers = range_with_len 0 limit in
-    let same_length : length numbers ≡ limit = length-range_with_len 0 limit in
-    let each : (k : ℕ) → k < length numbers → p (get_or numbers k 0) ≡ false = λ k below. ap p (get_or-range_with_len 0 limit k 0 (omega arith) ∙ (omega arith)) ∙ nowhere k (omega arith) in
-    found_nowhere (find p) p Some None refl (λ _ _. refl) numbers 0 each
+    found_nowhere (find p) p Some None refl (λ _ _. refl) (range_with_len 0 limit) 0 (λ k below. ap p (get_or-range_with_len 0 limit k 0 (omega (arith, length-range_with_len 0 limit)) ∙ (omega arith)) ∙ nowhere k (omega (arith, length-range_with_len 0 limit)))
 
 -- n passes were made, and each changed something
 pub record Running {L : Type 0} (pass : Runs L) (start : L) (n : ℕ) (outcome : Outcome L) : Type 0 where

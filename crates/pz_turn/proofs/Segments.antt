@@ -1,30 +1,23 @@
 -- The segments of a group, run one after another, give what its instances give.
-use Rattle.pz_turn.proofs.Common.{◌≡◌, ℕ, Result, Ok, Err, arith, List, [], ◌∷◌, ◌++◌, ◌||◌, inl, inr, fold, get_or, refl, ap, sym, subst, ◌∙◌, All, flat_map, Instance, no_commands, either, Dir, IsInstanceOf, IsGroupOf, RuleRow, IsRowOf, AreRowsOf, AsksAmong, Grid, IsLawful, places, StepFault, applied, Outcome, untouched, followed_by, joined, Runs, pass_of, rest_of}
+use Rattle.pz_turn.proofs.Common.{◌≡◌, ℕ, Result, Ok, Err, arith, List, [], ◌∷◌, ◌++◌, ◌||◌, length, inl, inr, fold, get_or, refl, ap, sym, subst, ◌∙◌, All, flat_map, Instance, no_commands, either, Dir, IsInstanceOf, IsGroupOf, RuleRow, IsRowOf, AreRowsOf, AsksAmong, Grid, IsLawful, places, StepFault, applied, Outcome, untouched, followed_by, joined, Runs, pass_of, rest_of}
 use Rattle.std.proofs.Math.Bool.{or_assoc, or-false}
-use Rattle.std.proofs.lemmas.List.Elements.{All-nil, All-cons, All-head, All-tail}
+use Rattle.std.proofs.lemmas.List.Elements.{All-nil, All-cons, All-head, All-tail, All-take, All-drop}
+use Rattle.std.proofs.lemmas.List.{take_at, drop_at}
+use Rattle.std.proofs.lemmas.List.Folds.{fold_stays}
 use Rattle.std.proofs.lemmas.List.Sums.{fold-append}
 use Rattle.pz_game.specs.Masks.{IsLow}
-use Rattle.pz_program.specs.Segments.{IsIdle, IsMoving, IsLeftOut, instances_of}
+use Rattle.pz_program.specs.Segments.{IsLeftOut, instances_of}
 use Rattle.pz_cells.proofs.HoldLemmas.{low_of_game}
 use Rattle.pz_turn.proofs.Calm.{either_assoc, either_comm}
 use Rattle.pz_turn.proofs.Effectless.{applied_without_effect}
-use Rattle.pz_turn.proofs.Passes.{fold_stopped}
 use Rattle.pz_turn.proofs.Skipping.{IsNoneTaken, none_first, applied_none}
 
 -- ---- what holds of all instances of a group holds of those of each segment
-all_left : {X : Type 0} (P : X → Type 0) (xs ys : List X) → All P (xs ++ ys) → All P xs
-all_left P [] ys all = All-nil P
-all_left P (x ∷ xs) ys all = All-cons P x xs (All-head P x (xs ++ ys) all) (all_left P xs ys (All-tail P x (xs ++ ys) all))
-
-all_right : {X : Type 0} (P : X → Type 0) (xs ys : List X) → All P (xs ++ ys) → All P ys
-all_right P [] ys all = all
-all_right P (x ∷ xs) ys all = all_right P xs ys (All-tail P x (xs ++ ys) all)
-
 pub all_in_each : {X : Type 0} (P : X → Type 0) (segments : List (List X)) → All P (flat_map (λ (segment : List X). segment) segments) → All (All P) segments
 all_in_each P [] all = All-nil (All P)
 all_in_each {X} P (xs ∷ xss) all =
     let rest = flat_map (λ (segment : List X). segment) xss in
-    All-cons (All P) xs xss (all_left P xs rest all) (all_in_each P xss (all_right P xs rest all))
+    All-cons (All P) xs xss (subst (All P) (take_at xs rest _ refl) (All-take P (length xs) (xs ++ rest) all)) (all_in_each P xss (subst (All P) (drop_at xs rest _ refl) (All-drop P (length xs) (xs ++ rest) all)))
 
 -- ---- outcomes one after another
 joined_twice : {L : Type 0} (first second : Outcome L) (third : Result (Outcome L) StepFault)
@@ -48,7 +41,7 @@ module _ {L I : Type 0} (runs : I → Runs L) where
   fold_joined o a (x ∷ xs) = ap (λ (r : Result (Outcome L) StepFault). fold step r xs) (joined_follow o a (runs x)) ∙ fold_joined o (followed_by a (runs x)) xs
 
   follow_pass : (a : Result (Outcome L) StepFault) (xs : List I) → followed_by a (pass_of runs xs) ≡ fold step a xs
-  follow_pass (Err fault) xs = sym (fold_stopped runs fault xs)
+  follow_pass (Err fault) xs = sym (fold_stays step (Err fault) (λ x. refl) xs)
   follow_pass (Ok o) xs = sym (fold_joined o (Ok (untouched o.level)) xs) ∙ ap (λ (r : Result (Outcome L) StepFault). fold step r xs) (joined_none o)
 
   fold_segments : (a : Result (Outcome L) StepFault) (segments : List (List I)) → fold (λ so_far segment. followed_by so_far (pass_of runs segment)) a segments ≡ fold step a (flat_map (λ (segment : List I). segment) segments)
@@ -74,19 +67,14 @@ left_pass grid (x ∷ xs) all =
     ap (λ (r : Result (Outcome Grid) StepFault). fold (λ so_far instance. followed_by so_far (applied instance)) (joined (untouched grid) r) xs) (All-head (λ (y : Instance). applied y grid ≡ Ok (untouched grid)) x xs all)
     ∙ left_pass grid xs (All-tail (λ (y : Instance). applied y grid ≡ Ok (untouched grid)) x xs all)
 
-idle_applied : (grid : Grid) → IsLawful grid → (x : Instance) → IsIdle x → applied x grid ≡ Ok (untouched grid)
-idle_applied grid lawful x idle = applied_without_effect x grid lawful (record { right = idle.right; commands = idle.commands; row = idle.row; left = idle.left; few = inl idle.gapless })
-
--- an instance that asks for what nothing heads in does nothing
-moving_applied : (grid : Grid) (set : List ℕ) → IsLawful grid → ((row : RuleRow) (dir : Dir) → IsRowOf grid.layers row → AsksAmong set row.cells → places grid row dir ≡ []) → (x : Instance) → IsInstanceOf grid.layers x → IsMoving set x → applied x grid ≡ Ok (untouched grid)
-moving_applied grid set lawful nowhere x is_of moving =
+-- an instance that has no effect, or asks for what nothing heads in
+left_out_applied : (grid : Grid) (set : List ℕ) → IsLawful grid → ((row : RuleRow) (dir : Dir) → IsRowOf grid.layers row → AsksAmong set row.cells → places grid row dir ≡ []) → (x : Instance) → IsInstanceOf grid.layers x → IsLeftOut set x → applied x grid ≡ Ok (untouched grid)
+left_out_applied grid set lawful nowhere x is_of (inl idle) = applied_without_effect x grid lawful (record { right = idle.right; commands = idle.commands; row = idle.row; left = idle.left; few = inl idle.gapless })
+left_out_applied grid set lawful nowhere x is_of (inr moving) =
     let row = moving.row in
     let are : IsRowOf grid.layers row = All-head (IsRowOf grid.layers) row moving.rows (subst (AreRowsOf grid.layers) moving.left is_of.left) in
     let low : All (All IsLow) row.cells = λ k d within. low_of_game grid.depth grid.layers (get_or row.cells k d) lawful.layered lawful.few lawful.shallow (are k d within) in
     applied_none x grid (subst (IsNoneTaken grid x.scan) (sym moving.left) (none_first grid x.scan row moving.rows (nowhere row x.scan are (moving.asks low))))
 
 pub left_out_pass : (grid : Grid) (set : List ℕ) (xs : List Instance) → IsLawful grid → IsGroupOf grid.layers xs → All (IsLeftOut set) xs → ((row : RuleRow) (dir : Dir) → IsRowOf grid.layers row → AsksAmong set row.cells → places grid row dir ≡ []) → pass_of applied xs grid ≡ Ok (untouched grid)
-left_out_pass grid set xs lawful are left nowhere = left_pass grid xs (λ k d within. by (get_or xs k d) (are k d within) (left k d within)) where
-  by : (x : Instance) → IsInstanceOf grid.layers x → IsLeftOut set x → applied x grid ≡ Ok (untouched grid)
-  by x is_of (inl idle) = idle_applied grid lawful x idle
-  by x is_of (inr moving) = moving_applied grid set lawful nowhere x is_of moving
+left_out_pass grid set xs lawful are left nowhere = left_pass grid xs (λ k d within. left_out_applied grid set lawful nowhere (get_or xs k d) (are k d within) (left k d within))

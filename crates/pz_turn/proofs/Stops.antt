@@ -1,5 +1,5 @@
 -- The stops of a step are its limits: want of memory is none of them.
-use Rattle.pz_turn.proofs.Common.{◌≢◌, ℕ, zero, suc, arith, List, [], ◌∷◌, Option, Result, Ok, Err, fold, Dir, GameParts, Instance, Program, RuleRow, Grid, searched, StepFault, Outcome, untouched, followed_by, found_or_stop, taken, applied, Runs, pass_of, passes, rest_of, group_runs, block_runs, blocks_run, then_moved, rules_run, given_input, step_of}
+use Rattle.pz_turn.proofs.Common.{◌≢◌, ℕ, zero, suc, arith, List, [], ◌∷◌, Option, Result, Ok, Err, fold, Dir, GameParts, Instance, Program, RuleRow, Grid, searched, StepFault, Outcome, untouched, followed_by, taken, applied, Runs, pass_of, passes, rest_of, group_runs, block_runs, blocks_run, then_moved, rules_run, given_input, step_of}
 use Rattle.pz_game.specs.Game.{players_of}
 use Rattle.pz_program.specs.declared.instance.Block.{Block}
 use Rattle.pz_program.specs.declared.instance.Block.TheVariants.{One, Loop}
@@ -15,13 +15,10 @@ abbrev AllStop : {L : Type 0} → Runs L → Type 0
 AllStop {L} run = (level : L) → Stops (run level)
 
 -- an instance
-found-stops : (level : Grid) (row : RuleRow) (dir : Dir) → Stops (found_or_stop (searched level row dir))
-unfolding searched
-found-stops level row dir e = grind (arith, e)
-
 taken-stops : (level : Grid) (dir : Dir) (rows : List RuleRow) → Stops (taken level dir rows)
+unfolding searched
 taken-stops level dir [] e = cc
-taken-stops level dir (row ∷ rows) e = grind (arith, found-stops level row dir, taken-stops level dir rows, e)
+taken-stops level dir (row ∷ rows) e = grind (arith, taken-stops level dir rows, e)
 
 applied-stops : (instance : Instance) → AllStop (applied instance)
 unfolding applied
@@ -48,20 +45,18 @@ unfolding rest_of
 rest-stops limit pass each level e = grind (arith, λ (n : ℕ). passes-stop pass each (suc n) level, e)
 
 -- a step
+group-stops : (group : List Instance) → AllStop (group_runs PASSES applied group)
+group-stops group = rest-stops PASSES (pass_of applied group) (pass-stops applied applied-stops group)
+
 block-stops : (block : Block) → AllStop (block_runs block)
 unfolding block_runs
-block-stops (One group) = rest-stops PASSES (pass_of applied group) (pass-stops applied applied-stops group)
-block-stops (Loop groups) =
-    rest-stops PASSES (pass_of (group_runs PASSES applied) groups) (pass-stops (group_runs PASSES applied) (λ group. rest-stops PASSES (pass_of applied group) (pass-stops applied applied-stops group)) groups)
-
-blocks-stop : (blocks : List Block) → AllStop (blocks_run blocks)
-unfolding blocks_run
-blocks-stop blocks = pass-stops block_runs block-stops blocks
+block-stops (One group) = group-stops group
+block-stops (Loop groups) = rest-stops PASSES (pass_of (group_runs PASSES applied) groups) (pass-stops (group_runs PASSES applied) group-stops groups)
 
 rules-stop : (program : Program) → AllStop (rules_run program)
-unfolding rules_run
+unfolding rules_run blocks_run
 rules-stop program level =
-    followed_by-stops (then_moved (blocks_run program.early level)) (blocks_run program.late) (λ e. grind (arith, blocks-stop program.early level, e)) (blocks-stop program.late)
+    followed_by-stops (then_moved (blocks_run program.early level)) (blocks_run program.late) (λ e. grind (arith, pass-stops block_runs block-stops program.early level, e)) (pass-stops block_runs block-stops program.late)
 
 pub never_for_memory : (game : GameParts) (program : Program) (level : Grid) (input : Option Dir) → step_of game program level input ≢ Err Memory
 unfolding step_of

@@ -5,7 +5,7 @@ use Rattle.pz_cells.specs.declared.piece.Piece.{Piece}
 use Rattle.pz_cells.specs.Rewriting.{rewritten_cell}
 use Rattle.pz_cells.specs.Sameness.{same_cell}
 use Rattle.pz_cells.proofs.SameLemmas.{same_cell_is}
-use Rattle.pz_turn.proofs.Passes.{fold_stopped}
+use Rattle.std.proofs.lemmas.List.Folds.{fold_stays}
 
 -- if nothing has changed at the end, nothing had at the start, and the level is the same
 abbrev pub Kept : Rewriting → Rewriting → Type 0
@@ -14,13 +14,10 @@ Kept start end = end.changed ≡ false → (start.changed ≡ false) × (end.gri
 kept_at : (so_far : Rewriting) (left right : List Item) (position : Option (ℕ × ℕ)) → Kept so_far (rewritten_at so_far left right position)
 kept_at so_far left right None = λ h. (h, refl)
 kept_at so_far left right (Some (x, y)) = λ h.
-    let grid = so_far.grid in
-    let i = y * grid.width + x in
-    let new = rewritten_cell left right (cell_at grid x y) in
-    let both = or_parts so_far.changed (not (same_cell new (cell_at grid x y))) h in
-    let same : new ≡ cell_at grid x y = same_cell_is new (cell_at grid x y) (not-false (same_cell new (cell_at grid x y)) both.1) in
-    let put : List (List (Option Piece)) → Grid = λ cells. record grid { cells = cells } in
-    (both.0, ap (λ cell. put (set grid.cells i cell)) same ∙ ap put (set-get_or grid.cells i []))
+    let here = cell_at so_far.grid x y in
+    let new = rewritten_cell left right here in
+    let both = or_parts so_far.changed (not (same_cell new here)) h in
+    (both.0, grind (arith, both.1, same_cell_is new here, set-get_or so_far.grid.cells (y * so_far.grid.width + x) []))
 
 kept_fold : {A : Type 0} (f : Rewriting → A → Rewriting) → ((so_far : Rewriting) (x : A) → Kept so_far (f so_far x)) → (xs : List A) (so_far : Rewriting) → Kept so_far (fold f so_far xs)
 kept_fold f keeps [] so_far = λ h. (h, refl)
@@ -56,7 +53,7 @@ fold_leaves : (group : List Instance) (first o : Outcome Grid) → fold (λ so_f
 fold_leaves [] first o e h = let same : first ≡ o = cc in (ap (λ (p : Outcome Grid). p.changed) same ∙ h, sym (ap (λ (p : Outcome Grid). p.level) same))
 fold_leaves (instance ∷ group) first o e h = by_run (λ next q. fold_leaves group next o q h) (applied instance first.level) refl e where
   by_run : ((next : Outcome Grid) → fold (λ so_far i. followed_by so_far (applied i)) (Ok next) group ≡ Ok o → (next.changed ≡ false) × (o.level ≡ next.level)) → (r : Result (Outcome Grid) StepFault) → applied instance first.level ≡ r → fold (λ so_far i. followed_by so_far (applied i)) (joined first r) group ≡ Ok o → (first.changed ≡ false) × (o.level ≡ first.level)
-  by_run rest (Err fault) is q = let stop = sym (fold_stopped applied fault group) ∙ q in cc
+  by_run rest (Err fault) is q = let stop = sym (fold_stays (λ so_far i. followed_by so_far (applied i)) (Err fault) (λ i. refl) group) ∙ q in cc
   by_run rest (Ok second) is q =
       let later = rest _ q in
       let both = or_parts first.changed second.changed later.0 in
@@ -72,10 +69,4 @@ find_passes p (x ∷ xs) n e = grind (arith, find_passes p xs n, e)
 -- a group at rest: one more pass changes nothing
 pub rest_rests : (limit : ℕ) (group : List Instance) (grid : Grid) (o : Outcome Grid) → rest_of limit (pass_of applied group) grid ≡ Ok o → rests (pass_of applied group o.level) ≡ true
 unfolding rest_of
-rest_rests limit group grid o e = by_found (find (is_last (pass_of applied group) grid) (range_with_len 0 limit)) refl e where
-  by_before : (r : Result (Outcome Grid) StepFault) → ends_after (pass_of applied group) r ≡ true → followed_by r (pass_of applied group) ≡ Ok o → rests (pass_of applied group o.level) ≡ true
-  by_before r h q = grind (arith, λ (g : Grid). pass_leaves group g, h, q)
-
-  by_found : (r : Option ℕ) → find (is_last (pass_of applied group) grid) (range_with_len 0 limit) ≡ r → up_to (pass_of applied group) grid r ≡ Ok o → rests (pass_of applied group o.level) ≡ true
-  by_found None is q = cc
-  by_found (Some n) is q = by_before (passes (pass_of applied group) n grid) (find_passes (is_last (pass_of applied group) grid) (range_with_len 0 limit) n is) q
+rest_rests limit group grid o e = grind (arith, λ (n : ℕ). find_passes (is_last (pass_of applied group) grid) (range_with_len 0 limit) n, λ (level : Grid). pass_leaves group level, e)

@@ -1,5 +1,5 @@
-use Rattle.pz_turn.proofs.Common.{arith, sym, ◌∙◌}
-use Rattle.pz_turn.proofs.Skipping.{none_first, none_after, none_more, applied_none, gapless}
+use Rattle.pz_turn.proofs.Common.{◌≡◌, None, arith, drop_more}
+use Rattle.pz_turn.proofs.Skipping.{none_first, none_after, applied_none}
 use Rattle.pz_turn.proofs.Effectless.{applied_without_effect}
 use Rattle.pz_turn.proofs.instance.is_left_out.Goals as goal
 
@@ -8,15 +8,11 @@ returns-then-has_no_effect c _ = applied_without_effect c.args.instance.now c.ar
 
 pub returns-then-not-may_have_place : goal.returns-then-not-may_have_place
 returns-then-not-may_have_place c _ =
-    let grid = c.args.level.now.grid in
-    let instance = c.args.instance.now in
-    let none = c.may_have_place.ensures c.if-not-may_have_place.true instance.scan in
-    applied_none instance grid (c.loop-row.invariant (none_more grid instance.scan c.items-row-items.result.now c.loop-row.row-index c.row-item.result (omega arith) (sym c.row-item.is) (none_first grid instance.scan c.row-item.result _ none)))
+    let row = c.row-item.result in
+    applied_none c.args.instance.now c.args.level.now.grid (c.loop-row.invariant (rw (drop_more c.items-row-items.result.now c.loop-row.row-index row (omega arith), ← c.row-item.is) (none_first _ _ row _ (c.may_have_place.ensures c.if-not-may_have_place.true _))))
 
 pub loop-row-preserved : goal.loop-row-preserved
 loop-row-preserved c rest =
-    let grid = c.args.level.now.grid in
-    let scan = c.args.instance.now.scan in
     let row = c.row-item.result in
-    let plain = gapless row c.gap_at.result c.gap_at.ensures (sym c.is_some.ensures ∙ c.if-is_some.false) in
-    c.loop-row.invariant (none_more grid scan c.items-row-items.result.now c.loop-row.row-index row (omega arith) (sym c.row-item.is) (none_after grid scan row _ c.width.ensures.lawful plain rest))
+    let gapless : row.gap_at ≡ None = grind arith in
+    c.loop-row.invariant (rw (drop_more c.items-row-items.result.now c.loop-row.row-index row (omega arith), ← c.row-item.is) (none_after c.args.level.now.grid _ row _ c.width.ensures.lawful gapless rest))

@@ -1,6 +1,11 @@
-use Rattle.pz_turn.proofs.Common.{ap, sym, ◌∙◌, Ok, err_from_is_err_and, IfOk-weaker, Commands, ended, with_cancel}
-use Rattle.pz_turn.proofs.StepLemmas.{step_gives}
+use Rattle.pz_turn.proofs.Common.{◌≡◌, Option, Result, arith, ap, sym, ◌∙◌, Ok, err_from_is_err_and, IfOk-weaker, Dir, Commands, Program, GameParts, Grid, StepFault, Outcome, ended, given_input, with_cancel, rules_run, step_ended, step_of}
+use Rattle.pz_game.specs.Game.{players_of}
 use Rattle.pz_turn.proofs.stepping.step_in.Goals as goal
+
+-- how a step ends or stops
+step_gives : (game : GameParts) (program : Program) (grid start : Grid) (input : Option Dir) (end : Result (Outcome Grid) StepFault) → start ≡ given_input (players_of game) input grid → rules_run program start ≡ end → step_of game program grid input ≡ step_ended game input grid end
+unfolding step_of
+step_gives game program grid start input end starts ends = grind (arith, starts, ends)
 
 pub returns-in_err-given-clause-fault : goal.returns-in_err-given-clause-fault
 returns-in_err-given-clause-fault c =
