@@ -1,8 +1,5 @@
 -- How many items a session has at most.
 use Rattle.pz_session.proofs.Common.{◌≡◌, ℕ, zero, suc, ◌+◌, ◌*◌, ◌<◌, ◌≤◌, ◌^◌, Bool, true, false, ◌||◌, List, [], ◌∷◌, length, map, Option, Some, None, option_to_list, Result, Ok, Err, IfOk, if◌then◌else◌, refl, ap, ◌∙◌, arith, length-map, length-append, Commands, Grid, Outcome, step_of, has_won, Input, Stop, Frame, FrameKind, level_from, PlanState, Link, Chain, follow, ticks, preceded, Links, Played, played, going_on, showing, after_chain, ticks_after, numbered, items_from, is_idle, State, at_level, keeping, frame_of, restarted, won_link, kept_link, reached_link, effect, pressed_to, ticked_to, tick_link, press_link, undo_link, input_link, begun, start_link, board_links, state_of, played_items}
-use Rattle.pz_program.specs.Commands as command
-use Rattle.pz_turn.specs.declared.outcome.StepFault.{StepFault}
-use Rattle.pz_record.specs.declared.input.Input.TheVariants as input
 use Rattle.pz_case.specs.declared.item.FrameKind.TheVariants.{Move, Tick}
 use Rattle.pz_case.specs.declared.item.Item.TheVariants as item
 use Rattle.pz_session.specs.declared.chain.TheConstants.{MOST_TICKS}
@@ -16,31 +13,20 @@ pub record AreShort {S : Type 0} (r : Links S) : Type 0 where
   pub ticked : (s : S) → IsShort (r.ticked s)
 
 follow_short : {S : Type 0} (later : S → Chain S) (m : ℕ) (r : Result (Link S) Stop) → ((s : S) → length (later s).shown ≤ m) → IsShort r → length (follow later r).shown ≤ 2 + m
-follow_short later m (Err stop) bound short = omega arith
-follow_short {S} later m (Ok link) bound short =
-    let whole : Bool → Chain S = λ b. if b then preceded link.shown (later link.after) else record { shown = link.shown; after = Ok link.after } in
-    let both : (b : Bool) → length (whole b).shown ≤ 2 + m = λ b. elim b as (λ v. length (whole v).shown ≤ 2 + m) [
-      | true ↦ let h = bound link.after in omega (arith, length-append link.shown (later link.after).shown)
-      | false ↦ omega arith
-    ] in
-    both link.goes_on
+follow_short {S} later m r bound short = grind (arith, bound, λ (link : Link S). length-append link.shown (later link.after).shown)
 
 pub ticks_short : {S : Type 0} (ticked : S → Result (Link S) Stop) (n : ℕ) (s : S) → ((t : S) → IsShort (ticked t)) → length (ticks ticked n s).shown ≤ n * 2
 ticks_short ticked zero s short = omega arith
 ticks_short ticked (suc n) s short = let h = follow_short (ticks ticked n) (n * 2) (ticked s) (λ t. ticks_short ticked n t short) (short s) in omega arith
 
 few_ticks : (i : Input) → ticks_after i ≤ MOST_TICKS
-few_ticks (input.Press dir) = omega arith
-few_ticks input.Undo = omega arith
-few_ticks input.Restart = omega arith
-few_ticks input.Tick = omega arith
+few_ticks i = grind arith
 
 showing_length : (at : ℕ) (frames : List Frame) (later : Played) → length (showing at frames later).shown ≡ length frames + length later.shown
 showing_length at frames later = length-append (map (λ frame. (at, frame)) frames) later.shown ∙ ap (λ n. n + length later.shown) (length-map frames (λ frame. (at, frame)))
 
 after_short : {S : Type 0} (r : Links S) (later : S → Played) (m : ℕ) (end : Result S Stop) → ((s : S) → length (later s).shown ≤ m) → length (after_chain r later end).shown ≤ m
-after_short r later m (Err stop) bound = omega arith
-after_short r later m (Ok s) bound = bound (r.settled s)
+after_short r later m end bound = grind (arith, bound)
 
 going_short : {S : Type 0} (r : Links S) (at : ℕ) (later : S → Played) (m k : ℕ) (chain : Chain S) → ((s : S) → length (later s).shown ≤ m) → length chain.shown ≤ k → length (going_on r at later chain).shown ≤ k + m
 going_short r at later m k chain bound h =
@@ -63,8 +49,7 @@ numbered_length n [] = refl
 numbered_length n (f ∷ fs) = ap suc (numbered_length (n + 1) fs)
 
 one_close : {X Y : Type 0} (f : X → Y) (o : Option X) → length (map f (option_to_list o)) ≤ 1
-one_close f None = omega arith
-one_close f (Some x) = omega arith
+one_close f o = grind arith
 
 items_length : (n : ℕ) (p : Played) → length (items_from n p) ≤ length p.shown + 1
 unfolding items_from
@@ -72,66 +57,26 @@ items_length n p =
     let close = one_close item.Close p.close in
     omega (arith, length-append (numbered n p.shown) (map item.Close (option_to_list p.close)), numbered_length n p.shown)
 
-either_short : {X : Type 0} (P : X → Type 0) (b : Bool) (x y : X) → P x → P y → P (if b then x else y)
-either_short P true x y p q = p
-either_short P false x y p q = q
-
-won_short : (won : Frame) (s : State) (next : Option ℕ) → length (won_link won s next).shown ≤ 2
-unfolding won_link
-won_short won s None = omega arith
-won_short won s (Some next) = omega arith
-
-reached_short : (kind : FrameKind) (commands : Commands) (changed : Bool) (s : State) → length (reached_link kind commands changed s).shown ≤ 2
-unfolding reached_link kept_link
-reached_short kind commands changed s =
-    either_short (λ (link : Link State). length link.shown ≤ 2) (command.has commands command.win || has_won s.game s.level) _ _ (won_short (frame_of s kind) s (level_from s.game (s.entry + 1))) (omega arith)
-
-restart_short : (s : State) → length (restarted s).shown ≤ 2
-unfolding restarted
-restart_short s = omega arith
-
 effect_short : (kind : FrameKind) (s : State) (end : Outcome Grid) → length (effect kind s end).shown ≤ 2
-unfolding effect
-effect_short kind s end =
-    let P : Link State → Type 0 = λ link. length link.shown ≤ 2 in
-    either_short P (command.has end.commands command.cancel) _ _ (omega arith)
-    (either_short P (command.has end.commands command.restart) _ _ (restart_short s) (reached_short kind end.commands end.changed (at_level end.level s)))
-
-ticked_short : (s : State) (r : Result (Outcome Grid) StepFault) → IsShort (ticked_to s r)
-ticked_short s (Err fault) = tt
-ticked_short s (Ok end) = either_short (λ (link : Link State). length link.shown ≤ 2) (is_idle end) _ _ (omega arith) (effect_short Tick s end)
+unfolding effect restarted reached_link kept_link won_link
+effect_short kind s end = grind arith
 
 tick_short : (s : State) → IsShort (tick_link s)
 unfolding tick_link
-tick_short s = ticked_short s (step_of s.game s.program s.level None)
-
-pressed_short : (s : State) (r : Result (Outcome Grid) StepFault) → IsShort (pressed_to s r)
-pressed_short s (Err fault) = tt
-pressed_short s (Ok end) = effect_short Move (keeping s) end
-
-input_short : (i : Input) (s : State) → IsShort (input_link i s)
-unfolding press_link undo_link
-input_short (input.Press dir) s = pressed_short s (step_of s.game s.program s.level (Some dir))
-input_short input.Undo s = omega arith
-input_short input.Restart s = restart_short (keeping s)
-input_short input.Tick s = tick_short s
+tick_short s = grind (arith, λ (end : Outcome Grid). effect_short Tick s end)
 
 begun_short : (i : Input) (s : State) → IsShort (begun i s)
-unfolding begun
-begun_short i s = either_short (λ (r : Result (Link State) Stop). IsShort r) s.is_over _ _ (omega arith) (input_short i s)
-
-start_short : (s : State) → IsShort {S = State} (Ok (start_link s))
-unfolding start_link
-start_short s = omega arith
+unfolding begun press_link undo_link restarted
+begun_short i s = grind (arith, tick_short s, λ (end : Outcome Grid). effect_short Move (keeping s) end)
 
 -- the items of a session can be numbered
 pub items_bound : (plan : PlanState) → length plan.inputs ≤ 65536 → length (played_items plan) < 2 ^ 63
-unfolding played_items
+unfolding played_items start_link
 items_bound plan few =
     let short : AreShort board_links = record { begun = begun_short; ticked = tick_short } in
     let link = Ok (start_link (state_of plan)) in
     let chain = follow (ticks board_links.ticked MOST_TICKS) link in
-    let one : length chain.shown ≤ 2 + MOST_TICKS * 2 = follow_short (ticks board_links.ticked MOST_TICKS) (MOST_TICKS * 2) link (λ t. ticks_short board_links.ticked MOST_TICKS t short.ticked) (start_short (state_of plan)) in
+    let one : length chain.shown ≤ 2 + MOST_TICKS * 2 = follow_short (ticks board_links.ticked MOST_TICKS) (MOST_TICKS * 2) link (λ t. ticks_short board_links.ticked MOST_TICKS t short.ticked) (omega arith) in
     let all = going_short board_links 0 (played board_links 0 plan.inputs) (length plan.inputs * 1002) 1002 chain (λ t. played_short board_links 0 plan.inputs t short) one in
     let items = items_length 0 (going_on board_links 0 (played board_links 0 plan.inputs) chain) in
     omega arith

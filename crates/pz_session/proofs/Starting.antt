@@ -7,19 +7,12 @@ use Rattle.pz_session.proofs.Bounds.{items_bound}
 pub starts : (plan : PlanState) (state : State) (game : GameParts) (program : Program) (order : Order) (recorded : List (List (List ℕ))) (first : ℕ)
     → state ≡ loaded_at game program order recorded first
     → game ≡ plan.game → program ≡ plan.program → order ≡ plan.order → recorded ≡ plan.recorded → first ≡ plan.first → state ≡ state_of plan
-starts plan state game program order recorded first is e p f g h =
-    is ∙ ap (λ x. loaded_at x program order recorded first) e ∙ ap (λ x. loaded_at plan.game x order recorded first) p
-    ∙ ap (λ x. loaded_at plan.game plan.program x recorded first) f
-    ∙ ap (λ x. loaded_at plan.game plan.program plan.order x first) g ∙ ap (loaded_at plan.game plan.program plan.order plan.recorded) h
-
-begins : (plan : PlanState) (state : State) (inputs : List Input) (items : List Item) → state ≡ state_of plan → inputs ≡ plan.inputs
-    → items ≡ left_with MOST_TICKS 0 0 inputs (Ok (start_link state)) → items ≡ played_items plan
-unfolding played_items
-begins plan state inputs items e f g = g ∙ ap₂ (λ i s. left_with MOST_TICKS 0 0 i (Ok (start_link s))) f e
+starts plan state game program order recorded first is e p f g h = cc
 
 pub begins_if_ok : {E : Type 0} (plan : PlanState) (state : State) (inputs : List Input) (result : Result Player E) → state ≡ state_of plan → inputs ≡ plan.inputs
     → IfOk result (λ player. left player ≡ left_with MOST_TICKS 0 0 inputs (Ok (start_link state))) → IfOk result (λ player. left player ≡ played_items plan)
-begins_if_ok plan state inputs (Ok player) e f g = begins plan state inputs (left player) e f g
+unfolding played_items
+begins_if_ok plan state inputs (Ok player) e f g = g ∙ ap₂ (λ i s. left_with MOST_TICKS 0 0 i (Ok (start_link s))) f e
 begins_if_ok plan state inputs (Err fault) e f g = g
 
 -- a session that begins with the number 0 can be numbered to its end
