@@ -1,7 +1,6 @@
 -- Going through all combinations in order.
-use Rattle.pz_turn.proofs.Common.{◌≡◌, ℕ, ◌+◌, ◌*◌, ◌<◌, List, [], ◌∷◌, ◌++◌, map, take, drop, length, get_or, set, fold, refl, ap, sym, ◌∙◌, append_assoc, arith, flat_map, take_more, append-nil, map-append, drop-drop, combinations}
+use Rattle.pz_turn.proofs.Common.{◌≡◌, ℕ, ◌+◌, ◌*◌, ◌<◌, List, [], ◌∷◌, ◌++◌, map, take, drop, length, get_or, set, fold, refl, ap, sym, ◌∙◌, append_assoc, arith, flat_map, take_more, append-nil, map-append, drop-drop, combinations, common_steps, fold-append, drop-set_at}
 use Rattle.std.proofs.lemmas.List.Concat.{flat_map-append}
-use Rattle.std.proofs.lemmas.Grind.{common_steps, fold-append, drop-set_at}
 use Rattle.pz_base.specs.Lists.{product_of}
 
 -- a last element put behind each of these
@@ -22,13 +21,11 @@ map-behind y (x ∷ xs) rest = ap (λ cs. (x ∷ (rest ++ y ∷ [])) ∷ cs) (ma
 
 headed-behind : {X : Type 0} (xs : List X) (y : X) (rests : List (List X)) → headed xs (behind y rests) ≡ behind y (headed xs rests)
 headed-behind xs y [] = refl
-headed-behind xs y (rest ∷ rests) =
-    ap (λ cs. cs ++ headed xs (behind y rests)) (map-behind y xs rest) ∙ ap (λ cs. behind y (map (λ x. x ∷ rest) xs) ++ cs) (headed-behind xs y rests) ∙ sym (map-append (λ c. c ++ y ∷ []) (map (λ x. x ∷ rest) xs) (headed xs rests))
+headed-behind xs y (rest ∷ rests) = grind (arith, map-behind y xs rest, headed-behind xs y rests, map-append (λ c. c ++ y ∷ []) (map (λ x. x ∷ rest) xs) (headed xs rests))
 
 headed-ending : {X : Type 0} (xs : List X) (lists : List (List X)) (last : List X) → headed xs (ending lists last) ≡ ending (xs ∷ lists) last
 headed-ending xs lists [] = refl
-headed-ending xs lists (y ∷ last) =
-    flat_map-append (λ rest. map (λ x. x ∷ rest) xs) (behind y (combinations lists)) (ending lists last) ∙ ap (λ cs. cs ++ headed xs (ending lists last)) (headed-behind xs y (combinations lists)) ∙ ap (λ cs. behind y (combinations (xs ∷ lists)) ++ cs) (headed-ending xs lists last)
+headed-ending xs lists (y ∷ last) = grind (arith, flat_map-append (λ rest. map (λ x. x ∷ rest) xs) (behind y (combinations lists)) (ending lists last), headed-behind xs y (combinations lists), headed-ending xs lists last)
 
 only_last : {X : Type 0} (last : List X) → combinations (last ∷ []) ≡ ending [] last
 only_last [] = refl
@@ -52,13 +49,10 @@ map-behind_before tail y (c ∷ cs) = rw (map-behind_before tail y cs, append_as
 
 -- one more last element
 pub fold-ending_more : {X K : Type 0} (f : K → List X → K) (start k : K) (tail : List X) (lists : List (List X)) (xs : List X) (i : ℕ) (x : X) → i < length xs → get_or xs i x ≡ x → k ≡ fold f start (map (λ c. c ++ tail) (ending lists (take i xs))) → fold f start (map (λ c. c ++ tail) (ending lists (take (i + 1) xs))) ≡ fold f k (map (λ c. c ++ x ∷ tail) (combinations lists))
-fold-ending_more {X} {K} f start k tail lists xs i x in_range at so_far =
-    let before : List X → List X = λ c. c ++ tail in
+fold-ending_more f start k tail lists xs i x in_range at so_far =
     let here = behind x (combinations lists) in
-    let more : take (i + 1) xs ≡ take i xs ++ x ∷ [] = take_more xs i x in_range ∙ ap (λ y. take i xs ++ y ∷ []) at in
-    let split : ending lists (take (i + 1) xs) ≡ ending lists (take i xs) ++ here =
-    ap (ending lists) more ∙ flat_map-append _ (take i xs) (x ∷ []) ∙ ap (λ l. ending lists (take i xs) ++ l) (append-nil here) in
-    ap (λ l. fold f start (map before l)) split ∙ ap (fold f start) (map-append before (ending lists (take i xs)) here) ∙ fold-append f start (map before (ending lists (take i xs))) (map before here) ∙ ap (λ j. fold f j (map before here)) (sym so_far) ∙ ap (fold f k) (map-behind_before tail x (combinations lists))
+    let before = ending lists (take i xs) in
+    grind (arith, so_far, at, take_more xs i x in_range, flat_map-append (λ y. behind y (combinations lists)) (take i xs) (x ∷ []), append-nil here, map-append (λ c. c ++ tail) before here, fold-append f start (map (λ c. c ++ tail) before) (map (λ c. c ++ tail) here), map-behind_before tail x (combinations lists))
 
 -- the places after a place that is written
 pub drop_after : {X : Type 0} (xs ys : List X) (n : ℕ) (x : X) → n < length xs → drop n ys ≡ drop n (set xs n x) → drop (n + 1) ys ≡ drop (n + 1) xs

@@ -1,8 +1,6 @@
 -- An instance without effect leaves a level as it is.
-use Rattle.pz_turn.proofs.Common.{◌≡◌, ◌⊎◌, ◌*◌, ◌≤◌, List, [], ◌∷◌, map, refl, ap, sym, ◌∙◌, arith, false, Ok, None, inl, inr, fold, zip, Commands, Instance, RuleRow, Place, Grid, IsLawful, places, searched, Rewriting, in_rewrite, rewritten, rewritten_row, untouched, found_or_stop, applied_at, outcome_of, applied, HasNoEffect}
-use Rattle.pz_grid.proofs.CountLemmas.{searched-gapless, searched-small}
+use Rattle.pz_turn.proofs.Common.{◌≡◌, List, [], ◌∷◌, map, refl, ap, sym, ◌∙◌, arith, false, Ok, inl, inr, zip, Commands, Instance, RuleRow, Place, Grid, IsLawful, places, searched, Rewriting, in_rewrite, rewritten, untouched, found_or_stop, applied_at, outcome_of, applied, HasNoEffect, searched-gapless, searched-small, fold_stays}
 use Rattle.pz_turn.proofs.SingleRow.{row_applied, row_ends}
-use Rattle.std.proofs.lemmas.List.Folds.{fold_stays}
 
 nothing_beside : (A B : Type 0) (xs : List A) → zip {K = A} {X = B} xs [] ≡ []
 nothing_beside A B [] = refl

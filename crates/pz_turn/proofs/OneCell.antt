@@ -1,25 +1,37 @@
 -- An instance of one cell rewrites only the cells of its places, and a cell that was rewritten stays if it is rewritten again. So it
 -- needn't be asked at a place whether it still holds there, and run again it changes nothing.
-use Rattle.pz_turn.proofs.Common.{◌≡◌, ◌⊎◌, ℕ, zero, suc, ◌+◌, ◌*◌, ◌<◌, List, [], ◌∷◌, map, fold, set, get_or, length, Option, Some, None, Ok, Err, Result, Bool, true, false, ◌&&◌, cond, nat_eq, refl, ap, sym, subst, ◌∙◌, arith, inl, inr, get_or-set_other, zip, list_all, Dir, Instance, RuleRow, AreRowsOf, IsRowOf, Place, Grid, IsLawful, cell_at, row_of_one, still_holds, along, holds_at, places, searched, Rewriting, in_rewrite, rewritten_at, rewritten_row, found_or_stop, applied_at, outcome_of, applied, one_rewritten, IsOfOneCell, IsCalm}
-use Rattle.std.proofs.lemmas.Grind.{common_steps}
+use Rattle.pz_turn.proofs.Common.{◌≡◌, ◌⊎◌, ℕ, zero, suc, ◌+◌, ◌*◌, ◌<◌, List, [], ◌∷◌, map, fold, set, get_or, length, Option, Some, None, Ok, Bool, true, false, ◌&&◌, cond, nat_eq, refl, ap, sym, subst, ◌∙◌, arith, inl, inr, get_or-set_other, Dir, Instance, RuleRow, AreRowsOf, IsRowOf, Place, Grid, IsLawful, cell_at, row_of_one, still_holds, along, holds_at, places, searched, Rewriting, in_rewrite, rewritten_at, found_or_stop, applied_at, outcome_of, applied, one_rewritten, IsOfOneCell, IsCalm, common_steps, Item, Piece, kept, replaced, new_heading, rewritten_place, rewritten_cell, Word, ext_get_or, get_or-map-range_with_len, length-map-range_with_len, cases_eq, cases_Bool, All-head, Contains-append_right, and-true, or-false, same_cell_self, searched-gapless, searched-gives}
 use Rattle.std.specs.Prelude.{Contains}
-use Rattle.pz_game.specs.declared.pattern.Item.{Item}
-use Rattle.pz_cells.specs.declared.piece.Piece.{Piece}
-use Rattle.pz_game.specs.declared.direction.Dir.TheVariants.{Up, Down, Left, Right, Action}
 use Rattle.pz_cells.specs.Pattern.{pattern_holds}
-use Rattle.pz_cells.specs.Rewriting.{rewritten_cell}
-use Rattle.pz_grid.specs.declared.placing.GridFault.{GridFault}
-use Rattle.std.proofs.lemmas.Bool.{cases_eq}
-use Rattle.std.proofs.lemmas.List.Elements.{All-head, Contains-append_right}
-use Rattle.std.proofs.Math.Bool.{and-true, or-false}
+use Rattle.pz_game.specs.Items.{placed_on, tells_of}
 use Rattle.pz_game.specs.Pattern.{AreOf}
-use Rattle.pz_cells.proofs.SameLemmas.{same_cell_self}
-use Rattle.pz_grid.proofs.CountLemmas.{searched-gapless}
-use Rattle.pz_grid.proofs.FoundLemmas.{searched-gives}
 use Rattle.pz_grid.proofs.PlaceLemmas.{holds_from_place, place_from_holds}
-use Rattle.pz_turn.proofs.Again.{rewritten_again}
 use Rattle.pz_turn.proofs.Calm.{calm_untouched, either_self}
 use Rattle.pz_turn.proofs.SingleRow.{row_applied, row_ends}
+
+heads_again : (word : Word) (told : Bool) (here : Option Piece) (object : ℕ) → new_heading word told (Some (record { object = object; heading = new_heading word told here })) ≡ new_heading word told here
+heads_again word told here object = grind arith
+
+kept_again : (left right : List Item) (here : Option Piece) → kept left right (kept left right here) ≡ kept left right here
+kept_again left right here = grind arith
+
+replaced_again : (placed : Option Item) (told : Bool) (left right : List Item) (here : Option Piece) → replaced placed told left right (replaced placed told left right here) ≡ replaced placed told left right here
+replaced_again None told left right here = kept_again left right here
+replaced_again (Some item) told left right here = ap (λ (heading : Option Dir). Some (record { object = item.object; heading = heading })) (heads_again item.word told here item.object)
+
+-- a cell that is rewritten twice from the same left to the same right is as it was after the first time
+rewritten_again : (left right : List Item) (cell : List (Option Piece)) → rewritten_cell left right (rewritten_cell left right cell) ≡ rewritten_cell left right cell
+rewritten_again left right cell = ext_get_or None _ _ (size (rewritten_cell left right cell)) (λ layer within.
+    let deep : layer < length cell = omega (arith, within, size (rewritten_cell left right cell), size cell) in
+    at (rewritten_cell left right cell) layer (omega (arith, deep, size cell))
+    ∙ ap (rewritten_place left right layer) (at cell layer deep)
+    ∙ replaced_again (placed_on layer right) (tells_of layer left) left right (get_or cell layer None)
+    ∙ sym (at cell layer deep)) where
+      size : (c : List (Option Piece)) → length (rewritten_cell left right c) ≡ length c
+      size c = length-map-range_with_len (λ layer. rewritten_place left right layer (get_or c layer None)) 0 (length c)
+
+      at : (c : List (Option Piece)) (layer : ℕ) → layer < length c → get_or (rewritten_cell left right c) layer None ≡ rewritten_place left right layer (get_or c layer None)
+      at c layer within = get_or-map-range_with_len (λ k. rewritten_place left right k (get_or c k None)) 0 (length c) layer layer None within (omega arith)
 
 -- the only cell of rows of a game
 pub cell_of : (layers : List ℕ) (rows : List RuleRow) (cell : List Item) → rows ≡ row_of_one cell ∷ [] → AreRowsOf layers rows → AreOf layers cell
@@ -27,11 +39,7 @@ cell_of layers rows cell only of = All-head (AreOf layers) cell [] (All-head (Is
 
 -- where a row starts doesn't depend on the cells of the level
 along_same : (grid : Grid) (cells : List (List (Option Piece))) (dir : Dir) (x y : ℕ) → along (record grid { cells = cells }) dir x y 0 ≡ along grid dir x y 0
-along_same grid cells Up x y = refl
-along_same grid cells Down x y = refl
-along_same grid cells Left x y = refl
-along_same grid cells Right x y = refl
-along_same grid cells Action x y = refl
+along_same grid cells dir x y = grind arith
 
 -- what stands at a position; off the map nothing does
 abbrev cell_there : Grid → Option (ℕ × ℕ) → List (Option Piece)
@@ -113,9 +121,7 @@ module _ (instance : Instance) (left right : List Item) (one : IsOfOneCell insta
 
   -- what is applied at a place is the rewriting, if it holds there
   asks_one : (so_far : Rewriting) (place : Place) → asks so_far place ≡ cond (holds so_far.grid place) (rewrites so_far place) so_far
-  asks_one so_far place =
-      let at : List RuleRow → List RuleRow → Rewriting = λ ls rs. cond (nat_eq 1 (length ls) && list_all (still_holds so_far.grid instance.scan) (zip ls (place ∷ []))) (fold (rewritten_row instance.scan) so_far (zip (place ∷ []) (zip ls rs))) so_far in
-      (λ i. at (one.left i) (one.right i)) ∙ ap (λ (b : Bool). cond b (rewrites so_far place) so_far) (and-true (holds so_far.grid place))
+  asks_one so_far place = grind (arith, one.left, one.right, and-true (holds so_far.grid place))
 
   -- where it is settled that it holds, it is rewritten; where it is settled that it doesn't, it isn't
   asks_settled : (held : Bool) (so_far : Rewriting) (place : Place) → IsSettled held so_far.grid place → asks so_far place ≡ cond held (rewrites so_far place) so_far
@@ -135,13 +141,7 @@ module _ (instance : Instance) (left right : List Item) (one : IsOfOneCell insta
 
   -- what was found are all places of the row
   all_of_one : (grid : Grid) (row_now : RuleRow) (found : List Place) → instance.left ≡ row_now ∷ [] → found_or_stop (searched grid row_now instance.scan) ≡ Ok found → found ≡ places grid row instance.scan
-  all_of_one grid row_now found only is = searched-gives grid row instance.scan found (by (searched grid row instance.scan) (ap (λ (r : RuleRow). found_or_stop (searched grid r instance.scan)) same ∙ is)) where
-    same : row ≡ row_now
-    same = let both : row ∷ [] ≡ row_now ∷ [] = sym one.left ∙ only in cc
-
-    by : (r : Result (List Place) GridFault) → found_or_stop r ≡ Ok found → r ≡ Ok found
-    by (Err fault) e = cc
-    by (Ok places) e = cc
+  all_of_one grid row_now found only is = searched-gives grid row instance.scan found (grind (arith, one.left, only, is))
 
   module _ (grid : Grid) (found : List Place) (all : found ≡ places grid row instance.scan) where
     -- it is applied as its cell is rewritten
@@ -152,10 +152,10 @@ module _ (instance : Instance) (left right : List Item) (one : IsOfOneCell insta
     calm : (now : Grid) → (fold rewrites (in_rewrite grid false) found).grid ≡ now → IsLawful now → IsCalm applied instance.commands now instance
     calm now is lawful = by (places now row instance.scan) (ap found_or_stop (searched-gapless now row instance.scan lawful refl)) where
       settled : (place : Place) → IsSettled false now place
-      settled place = subst (λ (g : Grid). IsSettled false g place) is (settled_end found (in_rewrite grid false) place (at (holds grid place) refl)) where
-        at : (b : Bool) → holds grid place ≡ b → IsSettled false grid place ⊎ Contains found place
-        at true held = inr (subst (λ (ps : List Place). Contains ps place) (sym all) (place_from_holds grid row instance.scan place (record { some = omega arith; short = omega arith; between = tt }) held))
-        at false fails = inl (inl fails)
+      settled place = subst (λ (g : Grid). IsSettled false g place) is (settled_end found (in_rewrite grid false) place (elim (cases_Bool (holds grid place)) [
+        | inl held ↦ inr (subst (λ (ps : List Place). Contains ps place) (sym all) (place_from_holds grid row instance.scan place (record { some = omega arith; short = omega arith; between = tt }) held))
+        | inr fails ↦ inl (inl fails)
+      ]))
 
       by : (held : List Place) → found_or_stop (searched now row instance.scan) ≡ Ok held → IsCalm applied instance.commands now instance
       by [] found_now = calm_untouched applied instance.commands now instance (row_applied instance now row (Ok []) one.left found_now)

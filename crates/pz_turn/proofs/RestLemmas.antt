@@ -1,9 +1,6 @@
 -- Passes, and when a loop of them ends.
-use Rattle.pz_turn.proofs.Common.{◌≡◌, ℕ, ◌+◌, ◌<◌, ◌≤◌, Bool, List, Result, StepFault, true, false, not, Ok, Err, Some, None, fold, drop, length, get_or, refl, ap, sym, ◌∙◌, at_drop_more, arith, add-one, below_more, find, range_with_len, Outcome, followed_by, joined, Runs, passes, ends, ends_after, is_last, up_to, rest_of}
-use Rattle.std.proofs.lemmas.List.Folds.{fold_stays}
-use Rattle.std.proofs.lemmas.List.FromFn.{length-range_with_len, get_or-range_with_len}
+use Rattle.pz_turn.proofs.Common.{◌≡◌, ℕ, ◌+◌, ◌<◌, ◌≤◌, Bool, List, Result, StepFault, true, false, not, Ok, Err, Some, None, fold, drop, length, get_or, refl, ap, sym, ◌∙◌, at_drop_more, arith, add-one, below_more, find, range_with_len, Outcome, followed_by, joined, Runs, passes, ends, ends_after, is_last, up_to, rest_of, fold_stays, length-range_with_len, get_or-range_with_len, LoopLimit}
 use Rattle.std.proofs.lemmas.List.Recursion.{found_at, found_nowhere}
-use Rattle.pz_turn.specs.declared.outcome.StepFault.TheVariants.{LoopLimit}
 
 -- one more instance, which may stop
 pub fold_more : {L I : Type 0} (applied : I → Runs L) (o : Outcome L) (r : Result (Outcome L) StepFault) (xs : List I) (i : ℕ) (x : I) → i < length xs → x ≡ get_or xs i x → applied x o.level ≡ r → fold (λ so_far y. followed_by so_far (applied y)) (joined o r) (drop (i + 1) xs) ≡ fold (λ so_far y. followed_by so_far (applied y)) (Ok o) (drop i xs)

@@ -1,10 +1,5 @@
 -- The segments of a group, run one after another, give what its instances give.
-use Rattle.pz_turn.proofs.Common.{◌≡◌, ℕ, Result, Ok, Err, arith, List, [], ◌∷◌, ◌++◌, ◌||◌, length, inl, inr, fold, get_or, refl, ap, sym, subst, ◌∙◌, All, flat_map, Instance, no_commands, either, Dir, IsInstanceOf, IsGroupOf, RuleRow, IsRowOf, AreRowsOf, AsksAmong, Grid, IsLawful, places, StepFault, applied, Outcome, untouched, followed_by, joined, Runs, pass_of, rest_of}
-use Rattle.std.proofs.Math.Bool.{or_assoc, or-false}
-use Rattle.std.proofs.lemmas.List.Elements.{All-nil, All-cons, All-head, All-tail, All-take, All-drop}
-use Rattle.std.proofs.lemmas.List.{take_at, drop_at}
-use Rattle.std.proofs.lemmas.List.Folds.{fold_stays}
-use Rattle.std.proofs.lemmas.List.Sums.{fold-append}
+use Rattle.pz_turn.proofs.Common.{◌≡◌, ℕ, Result, Ok, Err, arith, List, [], ◌∷◌, ◌++◌, ◌||◌, length, inl, inr, fold, get_or, refl, ap, sym, subst, ◌∙◌, All, flat_map, Instance, no_commands, either, Dir, IsInstanceOf, IsGroupOf, RuleRow, IsRowOf, AreRowsOf, AsksAmong, Grid, IsLawful, places, StepFault, applied, Outcome, untouched, followed_by, joined, Runs, pass_of, rest_of, or_assoc, or-false, All-nil, All-cons, All-head, All-tail, All-take, All-drop, take_at, drop_at, fold_stays, fold-append}
 use Rattle.pz_game.specs.Masks.{IsLow}
 use Rattle.pz_program.specs.Segments.{IsLeftOut, instances_of}
 use Rattle.pz_cells.proofs.HoldLemmas.{low_of_game}

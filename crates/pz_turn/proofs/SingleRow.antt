@@ -1,8 +1,5 @@
 -- An instance applied at all its combinations. If it has one row, each place of the row is one.
-use Rattle.pz_turn.proofs.Common.{◌≡◌, ◌<◌, ◌≤◌, List, [], ◌∷◌, ◌++◌, map, length, ap, ◌∙◌, arith, Result, Ok, Err, fold, refl, false, append-nil, length-map, Dir, Commands, Instance, RuleRow, Place, Grid, searched, Rewriting, in_rewrite, StepFault, combinations, found_or_stop, after_row, taken, applied_at, applied_to, applied_with, given, outcome_of, applied}
-use Rattle.std.proofs.lemmas.Bool.{lt-ltb, le-ltb}
-use Rattle.std.proofs.lemmas.Bool.Decides.{nat_tests}
-use Rattle.pz_turn.specs.declared.outcome.StepFault.TheVariants.{MatchLimit}
+use Rattle.pz_turn.proofs.Common.{◌≡◌, ◌<◌, ◌≤◌, List, [], ◌∷◌, ◌++◌, map, length, ap, ◌∙◌, arith, Result, Ok, Err, fold, refl, false, append-nil, length-map, Dir, Commands, Instance, RuleRow, Place, Grid, searched, Rewriting, in_rewrite, StepFault, combinations, found_or_stop, after_row, taken, applied_at, applied_to, applied_with, given, outcome_of, applied, lt-ltb, le-ltb, nat_tests, MatchLimit}
 
 pub applied_stops : (instance : Instance) (grid : Grid) (fault : StepFault) → taken grid instance.scan instance.left ≡ Err fault → applied instance grid ≡ Err fault
 unfolding applied

@@ -1,10 +1,6 @@
 -- The stops of a step are its limits: want of memory is none of them.
-use Rattle.pz_turn.proofs.Common.{◌≢◌, ℕ, zero, suc, arith, List, [], ◌∷◌, Option, Result, Ok, Err, fold, Dir, GameParts, Instance, Program, RuleRow, Grid, searched, StepFault, Outcome, untouched, followed_by, taken, applied, Runs, pass_of, passes, rest_of, group_runs, block_runs, blocks_run, then_moved, rules_run, given_input, step_of}
-use Rattle.pz_game.specs.Game.{players_of}
+use Rattle.pz_turn.proofs.Common.{◌≢◌, ℕ, zero, suc, arith, List, [], ◌∷◌, Option, Result, Ok, Err, fold, Dir, GameParts, Instance, Program, RuleRow, Grid, searched, StepFault, Outcome, untouched, followed_by, taken, applied, Runs, pass_of, passes, rest_of, group_runs, block_runs, blocks_run, then_moved, rules_run, given_input, step_of, players_of, One, Loop, Memory, PASSES}
 use Rattle.pz_program.specs.declared.instance.Block.{Block}
-use Rattle.pz_program.specs.declared.instance.Block.TheVariants.{One, Loop}
-use Rattle.pz_turn.specs.declared.outcome.StepFault.TheVariants.{Memory}
-use Rattle.pz_turn.specs.declared.resting.TheConstants.{PASSES}
 
 -- a stop is none for want of memory
 abbrev Stops : {A : Type 0} → Result A StepFault → Type 0

@@ -1,11 +1,6 @@
 -- What has not changed is as it was.
-use Rattle.pz_turn.proofs.Common.{arith, ◌≡◌, ℕ, ◌+◌, ◌*◌, List, [], ◌∷◌, Option, Some, None, Bool, true, false, not, set, fold, Result, Ok, Err, refl, ap, sym, ◌∙◌, IfOk, enumerate_from, zip, find, range_with_len, not-false, or_parts, set-get_or, Dir, Instance, RuleRow, Place, Grid, cell_at, position_of, Rewriting, in_rewrite, rewritten_at, rewritten_along, rewritten_row, StepFault, Given, Outcome, followed_by, joined, GivesOutcome, applied_at, given, applied, pass_of, passes, ends_after, is_last, up_to, rest_of, rests}
-use Rattle.pz_game.specs.declared.pattern.Item.{Item}
-use Rattle.pz_cells.specs.declared.piece.Piece.{Piece}
-use Rattle.pz_cells.specs.Rewriting.{rewritten_cell}
+use Rattle.pz_turn.proofs.Common.{arith, ◌≡◌, ℕ, ◌+◌, ◌*◌, List, [], ◌∷◌, Option, Some, None, Bool, true, false, not, fold, Result, Ok, Err, refl, ap, sym, ◌∙◌, IfOk, enumerate_from, zip, find, range_with_len, or_parts, set-get_or, Dir, Instance, RuleRow, Place, Grid, cell_at, position_of, Rewriting, in_rewrite, rewritten_at, rewritten_along, rewritten_row, StepFault, Given, Outcome, followed_by, joined, GivesOutcome, applied_at, given, applied, pass_of, is_last, rest_of, rests, Item, rewritten_cell, same_cell_is, fold_stays}
 use Rattle.pz_cells.specs.Sameness.{same_cell}
-use Rattle.pz_cells.proofs.SameLemmas.{same_cell_is}
-use Rattle.std.proofs.lemmas.List.Folds.{fold_stays}
 
 -- if nothing has changed at the end, nothing had at the start, and the level is the same
 abbrev pub Kept : Rewriting → Rewriting → Type 0
@@ -21,10 +16,7 @@ kept_at so_far left right (Some (x, y)) = λ h.
 
 kept_fold : {A : Type 0} (f : Rewriting → A → Rewriting) → ((so_far : Rewriting) (x : A) → Kept so_far (f so_far x)) → (xs : List A) (so_far : Rewriting) → Kept so_far (fold f so_far xs)
 kept_fold f keeps [] so_far = λ h. (h, refl)
-kept_fold f keeps (x ∷ xs) so_far = λ h.
-    let later = kept_fold f keeps xs (f so_far x) h in
-    let here = keeps so_far x later.0 in
-    (here.0, later.1 ∙ here.1)
+kept_fold f keeps (x ∷ xs) so_far = λ h. grind (arith, kept_fold f keeps xs (f so_far x) h, keeps so_far x)
 
 kept_along : (dir : Dir) (gap_at : Option ℕ) (place : Place) (so_far : Rewriting) (cell : ℕ × (List Item × List Item)) → Kept so_far (rewritten_along dir gap_at place so_far cell)
 kept_along dir gap_at place so_far (k, (left, right)) = kept_at so_far left right (position_of so_far.grid dir gap_at place k)

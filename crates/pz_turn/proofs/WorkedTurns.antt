@@ -1,5 +1,5 @@
 -- Worked cases of instances, groups, steps and wins.
-use Rattle.pz_turn.proofs.Common.{◌≡◌, ℕ, List, [], ◌∷◌, Option, Some, None, Bool, true, false, Ok, Err, length, refl, codes, GameParts, Commands, Instance, Program, RuleRow, Grid, searched, combinations, cancel, no_commands, applied, pass_of, rest_of, group_runs, block_runs, blocks_run, rules_run, step_of, has_won}
+use Rattle.pz_turn.proofs.Common.{◌≡◌, ℕ, List, [], ◌∷◌, Option, Some, None, Bool, true, false, Ok, Err, length, refl, codes, GameParts, Commands, Instance, Program, RuleRow, Grid, searched, combinations, cancel, no_commands, applied, pass_of, rest_of, group_runs, block_runs, blocks_run, rules_run, step_of, has_won, Item, Word, One, Piece, LoopLimit, PASSES}
 use Rattle.pz_game.specs.declared.denotation.Denotation.{Denotation}
 use Rattle.pz_game.specs.declared.denotation.Kind.{Kind}
 use Rattle.pz_game.specs.declared.denotation.Kind.TheVariants.{Object, Property, Aggregate}
@@ -7,13 +7,7 @@ use Rattle.pz_game.specs.declared.direction.Dir.TheVariants.{Right}
 use Rattle.pz_game.specs.declared.win_line.Quantifier.{Quantifier}
 use Rattle.pz_game.specs.declared.win_line.Quantifier.TheVariants as quantifier
 use Rattle.pz_game.specs.declared.win_line.WinLine.{WinLine}
-use Rattle.pz_game.specs.declared.pattern.Item.{Item}
-use Rattle.pz_game.specs.declared.pattern.Word.{Word}
 use Rattle.pz_game.specs.declared.pattern.Word.TheVariants.{Present, Toward, Absent}
-use Rattle.pz_program.specs.declared.instance.Block.TheVariants.{One}
-use Rattle.pz_cells.specs.declared.piece.Piece.{Piece}
-use Rattle.pz_turn.specs.declared.outcome.StepFault.TheVariants.{LoopLimit}
-use Rattle.pz_turn.specs.declared.resting.TheConstants.{PASSES}
 
 -- the first list varies fastest
 in_order : combinations {X = ℕ} ((1 ∷ 2 ∷ []) ∷ (3 ∷ 4 ∷ []) ∷ []) ≡ ((1 ∷ 3 ∷ []) ∷ (2 ∷ 3 ∷ []) ∷ (1 ∷ 4 ∷ []) ∷ (2 ∷ 4 ∷ []) ∷ [])
@@ -72,26 +66,6 @@ push = rule (row ((item 1 (Toward Right) ∷ []) ∷ (item 2 Present ∷ []) ∷
 abbrev pushing : Program
 pushing = record { early = One (push ∷ []) ∷ []; late = [] }
 
--- the player pushes a crate to the right
-pushes : step_of game pushing (strip (one 1 ∷ one 2 ∷ bare ∷ [])) (Some Right) ≡ Ok (record { level = strip (bare ∷ one 1 ∷ one 2 ∷ []); commands = no_commands; changed = true })
-unfolding step_of rules_run blocks_run block_runs rest_of applied searched
-pushes = refl
-
--- a crate against a wall doesn't move; since the player has to, the step is cancelled and ends with the level before it
-pushes_against_a_wall : step_of game pushing (strip (one 1 ∷ one 2 ∷ one 3 ∷ [])) (Some Right) ≡ Ok (record { level = strip (one 1 ∷ one 2 ∷ one 3 ∷ []); commands = cancel; changed = false })
-unfolding step_of rules_run blocks_run block_runs rest_of applied searched
-pushes_against_a_wall = refl
-
--- if the player needn't move, nothing has changed and nothing is cancelled
-needs_no_movement : step_of (game_with false []) pushing (strip (one 1 ∷ one 2 ∷ one 3 ∷ [])) (Some Right) ≡ Ok (record { level = strip (one 1 ∷ one 2 ∷ one 3 ∷ []); commands = no_commands; changed = false })
-unfolding step_of rules_run blocks_run block_runs rest_of applied searched
-needs_no_movement = refl
-
--- a step without an input isn't cancelled
-ticks : step_of game pushing (strip (one 1 ∷ one 2 ∷ one 3 ∷ [])) None ≡ Ok (record { level = strip (one 1 ∷ one 2 ∷ one 3 ∷ []); commands = no_commands; changed = false })
-unfolding step_of rules_run blocks_run block_runs rest_of applied searched
-ticks = refl
-
 -- late [ Player | Crate ] -> [ Player | ] cancel: the rewritten level isn't kept
 abbrev taking : Program
 taking = record {
@@ -99,77 +73,68 @@ taking = record {
   late = One (rule (row ((item 1 Present ∷ []) ∷ (item 2 Present ∷ []) ∷ []) ∷ []) (row ((item 1 Present ∷ []) ∷ [] ∷ []) ∷ []) cancel ∷ []) ∷ [];
 }
 
-is_cancelled : step_of game taking (strip (one 1 ∷ bare ∷ one 2 ∷ [])) (Some Right) ≡ Ok (record { level = strip (one 1 ∷ bare ∷ one 2 ∷ []); commands = cancel; changed = false })
+steps :
+    -- the player pushes a crate to the right
+    (step_of game pushing (strip (one 1 ∷ one 2 ∷ bare ∷ [])) (Some Right) ≡ Ok (record { level = strip (bare ∷ one 1 ∷ one 2 ∷ []); commands = no_commands; changed = true }))
+    -- a crate against a wall doesn't move; since the player has to, the step is cancelled and ends with the level before it
+    × (step_of game pushing (strip (one 1 ∷ one 2 ∷ one 3 ∷ [])) (Some Right) ≡ Ok (record { level = strip (one 1 ∷ one 2 ∷ one 3 ∷ []); commands = cancel; changed = false }))
+    -- if the player needn't move, nothing has changed and nothing is cancelled
+    × (step_of (game_with false []) pushing (strip (one 1 ∷ one 2 ∷ one 3 ∷ [])) (Some Right) ≡ Ok (record { level = strip (one 1 ∷ one 2 ∷ one 3 ∷ []); commands = no_commands; changed = false }))
+    -- a step without an input isn't cancelled
+    × (step_of game pushing (strip (one 1 ∷ one 2 ∷ one 3 ∷ [])) None ≡ Ok (record { level = strip (one 1 ∷ one 2 ∷ one 3 ∷ []); commands = no_commands; changed = false }))
+    -- a step that is cancelled by a rule ends with the level before it
+    × (step_of game taking (strip (one 1 ∷ bare ∷ one 2 ∷ [])) (Some Right) ≡ Ok (record { level = strip (one 1 ∷ bare ∷ one 2 ∷ []); commands = cancel; changed = false }))
 unfolding step_of rules_run blocks_run block_runs rest_of applied searched
-is_cancelled = refl
+steps = (refl, refl, refl, refl, refl)
 
 -- [ Crate ] [ Player ] -> [ ] [ Player ]: both places of the first row, each with the player's, tested again
 abbrev eat : Instance
 eat = rule (row ((item 2 Present ∷ []) ∷ []) ∷ row ((item 1 Present ∷ []) ∷ []) ∷ []) (row ([] ∷ []) ∷ row ((item 1 Present ∷ []) ∷ []) ∷ []) cancel
-
-eats : applied eat (strip (one 2 ∷ one 1 ∷ one 2 ∷ [])) ≡ Ok (record { level = strip (bare ∷ one 1 ∷ bare ∷ []); commands = cancel; changed = true })
-unfolding applied searched
-eats = refl
-
--- without a crate there is no combination, and no command
-eats_nothing : applied eat (strip (bare ∷ one 1 ∷ [])) ≡ Ok (record { level = strip (bare ∷ one 1 ∷ []); commands = no_commands; changed = false })
-unfolding applied searched
-eats_nothing = refl
 
 -- [ Player ] [ Player ] -> [ Crate ] [ Player ]: the combinations are (0, 0), (1, 0), (0, 1), (1, 1); at (0, 0) the cell becomes
 -- a crate and then the player again, at (1, 0) the other cell a crate, and the last two no longer hold
 abbrev turn_one : Instance
 turn_one = rule (row ((item 1 Present ∷ []) ∷ []) ∷ row ((item 1 Present ∷ []) ∷ []) ∷ []) (row ((item 2 Present ∷ []) ∷ []) ∷ row ((item 1 Present ∷ []) ∷ []) ∷ []) no_commands
 
-turns : applied turn_one (strip (one 1 ∷ one 1 ∷ bare ∷ [])) ≡ Ok (record { level = strip (one 1 ∷ one 2 ∷ bare ∷ []); commands = no_commands; changed = true })
+applies :
+    -- each crate is eaten once
+    (applied eat (strip (one 2 ∷ one 1 ∷ one 2 ∷ [])) ≡ Ok (record { level = strip (bare ∷ one 1 ∷ bare ∷ []); commands = cancel; changed = true }))
+    -- without a crate there is no combination, and no command
+    × (applied eat (strip (bare ∷ one 1 ∷ [])) ≡ Ok (record { level = strip (bare ∷ one 1 ∷ []); commands = no_commands; changed = false }))
+    × (applied turn_one (strip (one 1 ∷ one 1 ∷ bare ∷ [])) ≡ Ok (record { level = strip (one 1 ∷ one 2 ∷ bare ∷ []); commands = no_commands; changed = true }))
+    -- [ Player ] -> [ Player ] cancel: the command is given though nothing changes
+    × (applied (rule (row ((item 1 Present ∷ []) ∷ []) ∷ []) (row ((item 1 Present ∷ []) ∷ []) ∷ []) cancel) (strip (one 1 ∷ [])) ≡ Ok (record { level = strip (one 1 ∷ []); commands = cancel; changed = false }))
 unfolding applied searched
-turns = refl
-
--- [ Player ] -> [ Player ] cancel: the command is given though nothing changes
-says_only : applied (rule (row ((item 1 Present ∷ []) ∷ []) ∷ []) (row ((item 1 Present ∷ []) ∷ []) ∷ []) cancel) (strip (one 1 ∷ [])) ≡ Ok (record { level = strip (one 1 ∷ []); commands = cancel; changed = false })
-unfolding applied searched
-says_only = refl
+applies = (refl, refl, refl, refl)
 
 -- [ Player ] -> [ Crate ] and + [ Crate ] -> [ Player ]: each pass gives the level before it, and yet the group is not at rest
 abbrev to_and_fro : List Instance
 to_and_fro = rule (row ((item 1 Present ∷ []) ∷ []) ∷ []) (row ((item 2 Present ∷ []) ∷ []) ∷ []) no_commands ∷ rule (row ((item 2 Present ∷ []) ∷ []) ∷ []) (row ((item 1 Present ∷ []) ∷ []) ∷ []) no_commands ∷ []
 
-never_rests : rest_of 4 (pass_of applied to_and_fro) (strip (one 1 ∷ [])) ≡ Err LoopLimit
-unfolding rest_of applied searched
-never_rests = refl
-
 -- [ Player | no Player no Crate no Wall ] -> [ Player | Crate ], and in a group of its own [ Crate ] -> [ Player ]
 abbrev spread : List (List Instance)
 spread = (rule (row ((item 1 Present ∷ []) ∷ (item 1 Absent ∷ item 2 Absent ∷ item 3 Absent ∷ []) ∷ []) ∷ []) (row ((item 1 Present ∷ []) ∷ (item 2 Present ∷ []) ∷ []) ∷ []) no_commands ∷ []) ∷ (rule (row ((item 2 Present ∷ []) ∷ []) ∷ []) (row ((item 1 Present ∷ []) ∷ []) ∷ []) no_commands ∷ []) ∷ []
 
--- one after another the groups spread once
-spreads_once : pass_of (group_runs PASSES applied) spread (strip (one 1 ∷ bare ∷ bare ∷ bare ∷ [])) ≡ Ok (record { level = strip (one 1 ∷ one 1 ∷ bare ∷ bare ∷ []); commands = no_commands; changed = true })
+rests_and_loops :
+    (rest_of 4 (pass_of applied to_and_fro) (strip (one 1 ∷ [])) ≡ Err LoopLimit)
+    -- one after another the groups spread once
+    × (pass_of (group_runs PASSES applied) spread (strip (one 1 ∷ bare ∷ bare ∷ bare ∷ [])) ≡ Ok (record { level = strip (one 1 ∷ one 1 ∷ bare ∷ bare ∷ []); commands = no_commands; changed = true }))
+    -- as a loop they spread over the level
+    × (rest_of PASSES (pass_of (group_runs PASSES applied) spread) (strip (one 1 ∷ bare ∷ bare ∷ bare ∷ [])) ≡ Ok (record { level = strip (one 1 ∷ one 1 ∷ one 1 ∷ one 1 ∷ []); commands = no_commands; changed = true }))
 unfolding rest_of applied searched
-spreads_once = refl
-
--- as a loop they spread over the level
-spreads_over_the_level : rest_of PASSES (pass_of (group_runs PASSES applied) spread) (strip (one 1 ∷ bare ∷ bare ∷ bare ∷ [])) ≡ Ok (record { level = strip (one 1 ∷ one 1 ∷ one 1 ∷ one 1 ∷ []); commands = no_commands; changed = true })
-unfolding rest_of applied searched
-spreads_over_the_level = refl
+rests_and_loops = (refl, refl, refl)
 
 abbrev crates : Grid
 crates = strip (one 1 ∷ one 2 ∷ one 3 ∷ [])
 
-won_without_lines : has_won game crates ≡ false
+wins :
+    -- without a line nothing is won
+    (has_won game crates ≡ false)
+    -- All Crate on Solid; Some Solid on Crate; No Player on Solid; All Wall; Some @; No @ on Wall
+    × (has_won (game_with false (line quantifier.All 2 (Some 4) ∷ line quantifier.Some 4 (Some 2) ∷ line quantifier.No 1 (Some 4) ∷ line quantifier.All 3 None ∷ line quantifier.Some 5 None ∷ line quantifier.No 5 (Some 3) ∷ [])) crates ≡ true)
+    -- All Solid on Crate: one solid on a crate is not enough
+    × (has_won (game_with false (line quantifier.All 4 (Some 2) ∷ [])) crates ≡ false)
+    -- Some @ where no cell holds both the background and a crate
+    × (has_won (game_with false (line quantifier.Some 5 None ∷ [])) (strip (one 1 ∷ one 3 ∷ [])) ≡ false)
 unfolding has_won
-won_without_lines = refl
-
--- All Crate on Solid; Some Solid on Crate; No Player on Solid; All Wall; Some @; No @ on Wall
-won_by_all : has_won (game_with false (line quantifier.All 2 (Some 4) ∷ line quantifier.Some 4 (Some 2) ∷ line quantifier.No 1 (Some 4) ∷ line quantifier.All 3 None ∷ line quantifier.Some 5 None ∷ line quantifier.No 5 (Some 3) ∷ [])) crates ≡ true
-unfolding has_won
-won_by_all = refl
-
--- All Solid on Crate: one solid on a crate is not enough
-all_means_each : has_won (game_with false (line quantifier.All 4 (Some 2) ∷ [])) crates ≡ false
-unfolding has_won
-all_means_each = refl
-
--- Some @ where no cell holds both the background and a crate
-whole_means_each : has_won (game_with false (line quantifier.Some 5 None ∷ [])) (strip (one 1 ∷ one 3 ∷ [])) ≡ false
-unfolding has_won
-whole_means_each = refl
+wins = (refl, refl, refl, refl)

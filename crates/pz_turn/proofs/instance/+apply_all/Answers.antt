@@ -1,5 +1,4 @@
-use Rattle.pz_turn.proofs.Common.{◌≡◌, ℕ, ◌+◌, ◌<◌, List, ◌∷◌, ◌++◌, map, fold, take, drop, set, length, get_or, refl, ap, sym, ◌∙◌, arith, get_or_default, take_all, length-set, Place, Rewriting, in_rewrite, same_size_on, combinations, applied_at}
-use Rattle.std.proofs.lemmas.Grind.{drop-set_at}
+use Rattle.pz_turn.proofs.Common.{◌≡◌, ℕ, ◌+◌, ◌<◌, List, ◌∷◌, ◌++◌, map, fold, take, drop, set, length, get_or, refl, ap, sym, ◌∙◌, arith, get_or_default, take_all, length-set, Place, Rewriting, in_rewrite, same_size_on, combinations, applied_at, drop-set_at}
 use Rattle.pz_turn.proofs.Combining.{fold-ending_more, combinations-last, ending, drop_after}
 use Rattle.pz_turn.proofs.instance.+apply_all.Goals as goal
 

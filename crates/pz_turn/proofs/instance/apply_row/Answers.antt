@@ -1,6 +1,4 @@
-use Rattle.pz_turn.proofs.Common.{◌≡◌, ◌<◌, ◌∷◌, [], List, Ok, Err, map, fold, length, arith, subst, ap, sym, ◌∙◌, err_from_is_err_and, nil_from_length, false, IsRowOf, AreRowsOf, Place, Rewriting, in_rewrite, applied_at}
-use Rattle.std.proofs.lemmas.Bool.Decides.{nat_tests}
-use Rattle.std.proofs.lemmas.List.Elements.{All-head}
+use Rattle.pz_turn.proofs.Common.{◌≡◌, ◌<◌, ◌∷◌, [], List, Ok, Err, map, fold, length, arith, subst, ap, sym, ◌∙◌, err_from_is_err_and, nil_from_length, false, IsRowOf, AreRowsOf, Place, Rewriting, in_rewrite, applied_at, nat_tests, All-head}
 use Rattle.pz_turn.proofs.SingleRow.{row_applied, row_ends}
 use Rattle.pz_turn.proofs.OneCell.{cell_of, cell_ends}
 use Rattle.pz_turn.proofs.instance.apply_row.Goals as goal

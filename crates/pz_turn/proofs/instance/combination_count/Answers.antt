@@ -1,5 +1,4 @@
-use Rattle.pz_turn.proofs.Common.{◌≡◌, ℕ, ◌*◌, length, take, min, arith, combinations}
-use Rattle.std.proofs.lemmas.Grind.{common_steps}
+use Rattle.pz_turn.proofs.Common.{◌≡◌, ℕ, ◌*◌, length, take, min, arith, combinations, common_steps}
 use Rattle.pz_turn.proofs.Combining.{length-combinations-last}
 use Rattle.pz_turn.proofs.instance.combination_count.Goals as goal
 

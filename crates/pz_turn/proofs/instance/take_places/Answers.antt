@@ -1,6 +1,5 @@
-use Rattle.pz_turn.proofs.Common.{◌≡◌, ◌∙◌, [], Ok, arith, ap, sym, err_from_is_err_and, nil_from_length}
-use Rattle.std.proofs.lemmas.Bool.Decides.{nat_tests}
-use Rattle.pz_turn.proofs.Taking.{following_more, following_stop, applied_until}
+use Rattle.pz_turn.proofs.Common.{◌≡◌, ◌∙◌, [], Ok, arith, ap, sym, err_from_is_err_and, nil_from_length, nat_tests}
+use Rattle.pz_turn.proofs.Skipping.{following_more, following_stop, applied_until}
 use Rattle.pz_turn.proofs.instance.take_places.Goals as goal
 
 pub returns-then-is_empty-clause-taken : goal.returns-then-is_empty-clause-taken

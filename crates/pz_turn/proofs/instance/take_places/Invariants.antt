@@ -1,5 +1,5 @@
 use Rattle.pz_turn.proofs.Common.{◌≡◌, drop, taken}
-use Rattle.pz_turn.proofs.Taking.{following}
+use Rattle.pz_turn.proofs.Skipping.{following}
 use Rattle.pz_turn.proofs.instance.take_places.Given as goal
 
 abbrev pub invariant-loop-row : goal.invariant-loop-row

@@ -1,13 +1,12 @@
-use Rattle.pz_turn.proofs.Common.{◌≡◌, ◌+◌, ℕ, true, false, not, ◌||◌, inl, inr, refl, sym, ◌∙◌, subst, ap, err_from_is_err_and, either, Grid, same_size_on, Outcome, Given}
-use Rattle.pz_turn.proofs.Calm.{Passing, passing_changed, passing_quiet, passing_stops}
+use Rattle.pz_turn.proofs.Common.{◌≡◌, ◌+◌, false, inl, inr, refl, arith, err_from_is_err_and, Grid, same_size_on, Outcome}
+use Rattle.pz_turn.proofs.Calm.{passing_changed, passing_quiet, passing_stops}
 use Rattle.pz_turn.proofs.resting.pass_after.Goals.{then-given+then-given-2, then-given+else-given-2, else-given, else-index-calm_from-via-then-index-calm_from+else-not-so_far, else-index-calm_from-via-else-index-calm_from}
 use Rattle.pz_turn.proofs.resting.pass_after.Goals as goal
 
 pub returns-in_err-given-clause-fault : goal.returns-in_err-given-clause-fault
 returns-in_err-given-clause-fault g c =
     let p = err_from_is_err_and c.from_residual.result c.from_residual.ensures.1 in
-    rw (p.1, p.2)
-    (λ not_memory. passing_stops g.T.Runnable.runs c.args.items.now c.args.level.now.grid c.args.calm_from c.loop-index.index c.index-items-index.result _ c.loop-index.first_calm _ c.loop-index-test.true c.index-items-index.is c.loop-index.invariant.passing (c.in_err-given.ensures.outcome not_memory))
+    rw (p.1, p.2) (λ not_memory. passing_stops g.T.Runnable.runs _ _ c.args.calm_from _ c.index-items-index.result _ c.loop-index.first_calm _ c.loop-index-test.true c.index-items-index.is c.loop-index.invariant.passing (c.in_err-given.ensures.outcome not_memory))
 
 pub loop-index-preserved : goal.loop-index-preserved
 loop-index-preserved g c =
@@ -22,19 +21,15 @@ loop-index-preserved g c =
     let o : Outcome Grid = record { level = c.loop-index.level.grid; commands = before.commands; changed = before.changed } in
     let r : Outcome Grid = record { level = c.run.new.level.grid; commands = given.commands; changed = given.changed } in
     let behind = c.loop-index.first_calm in
-    let Goes : Given → ℕ → Type 0 = λ all next. Passing runs items start calm_from (n + 1) (record { level = r.level; commands = all.commands; changed = all.changed }) next in
     let goes_on : n ≡ calm_from → before.changed ≡ false → ⊥ = λ there none. elim c.else-index-calm_from.branch [
-      | else-index-calm_from-via-then-index-calm_from+else-not-so_far w ↦ (let wrong : false ≡ true = sym w.if-not-so_far.false ∙ ap not none in cc)
+      | else-index-calm_from-via-then-index-calm_from+else-not-so_far w ↦ grind (arith, w.if-not-so_far.false, none)
       | else-index-calm_from-via-else-index-calm_from w ↦ w.if-index-calm_from.false there
     ] in
     record {
-      passing = subst (λ (all : Given). Goes all c.if-given.first_calm) (sym c.and-so_far.ensures) (elim c.if-given.branch [
-        | then-given+then-given-2 w ↦ subst (Goes (record { commands = either before.commands given.commands; changed = before.changed || given.changed; calm = false })) (sym w.first_calm-is)
-            (passing_changed runs items start calm_from n item o r behind n c.loop-index-test.true c.index-items-index.is c.loop-index.invariant.passing c.in_ok-given.ensures.outcome w.if-given.true (inr (refl, c.in_ok-given.ensures.calm w.if-given-2.true)))
-        | then-given+else-given-2 w ↦ subst (Goes (record { commands = either before.commands given.commands; changed = before.changed || given.changed; calm = false })) (sym w.first_calm-is)
-            (passing_changed runs items start calm_from n item o r behind (n + 1) c.loop-index-test.true c.index-items-index.is c.loop-index.invariant.passing c.in_ok-given.ensures.outcome w.if-given.true (inl refl))
-        | else-given w ↦ subst (Goes (record { commands = either before.commands given.commands; changed = before.changed || given.changed; calm = false })) (sym w.first_calm-is)
-            (passing_quiet runs items start calm_from n item o r behind c.loop-index-test.true c.index-items-index.is c.loop-index.invariant.passing goes_on c.in_ok-given.ensures.outcome w.if-given.false (c.in_ok-given.ensures.kept w.if-given.false))
+      passing = rw c.and-so_far.ensures (elim c.if-given.branch [
+        | then-given+then-given-2 w ↦ rw w.first_calm-is (passing_changed runs items start calm_from n item o r behind n c.loop-index-test.true c.index-items-index.is c.loop-index.invariant.passing c.in_ok-given.ensures.outcome w.if-given.true (inr (refl, c.in_ok-given.ensures.calm w.if-given-2.true)))
+        | then-given+else-given-2 w ↦ rw w.first_calm-is (passing_changed runs items start calm_from n item o r behind (n + 1) c.loop-index-test.true c.index-items-index.is c.loop-index.invariant.passing c.in_ok-given.ensures.outcome w.if-given.true (inl refl))
+        | else-given w ↦ rw w.first_calm-is (passing_quiet runs items start calm_from n item o r behind c.loop-index-test.true c.index-items-index.is c.loop-index.invariant.passing goes_on c.in_ok-given.ensures.outcome w.if-given.false (c.in_ok-given.ensures.kept w.if-given.false))
       ]);
       size = same_size_on _ _ _ c.loop-index.invariant.size c.in_ok-given.ensures.size;
     }

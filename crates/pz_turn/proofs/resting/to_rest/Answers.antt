@@ -1,4 +1,4 @@
-use Rattle.pz_turn.proofs.Common.{◌≡◌, Bool, true, false, cond, take, Ok, arith, ap, sym, ◌∙◌, subst, or_parts, err_from_is_err_and, same_size_on, Grid, Given, AreCalmFrom, Outcome, joined, pass_of, ends, not-false, not-true}
+use Rattle.pz_turn.proofs.Common.{◌≡◌, Bool, true, false, cond, take, Ok, arith, ap, sym, ◌∙◌, subst, err_from_is_err_and, same_size_on, Grid, Given, AreCalmFrom, Outcome, joined, pass_of, ends, not-false, not-true}
 use Rattle.pz_turn.proofs.Calm.{calm_rest, calm_more}
 use Rattle.pz_turn.proofs.RestLemmas.{rest_ends, rest_never_ends, running_more}
 use Rattle.pz_turn.proofs.resting.to_rest.Goals as goal
@@ -6,10 +6,9 @@ use Rattle.pz_turn.proofs.resting.to_rest.Goals as goal
 pub returns-in_err-passed-clause-outcome : goal.returns-in_err-passed-clause-outcome
 returns-in_err-passed-clause-outcome g c =
     let p = err_from_is_err_and c.from_residual.result c.from_residual.ensures.1 in
-    rw (p.1, p.2)
-    (λ not_memory.
-    let stops = c.in_err-passed.ensures.fault not_memory in
-    rest_ends _ _ _ _ _ c.passes.invariant.running (omega arith) (ap ends stops) ∙ ap (joined (record { level = c.passes.level.grid; commands = c.passes.so_far.commands; changed = c.passes.so_far.changed })) stops)
+    rw (p.1, p.2) (λ not_memory.
+      let stops = c.in_err-passed.ensures.fault not_memory in
+      rest_ends _ _ _ _ _ c.passes.invariant.running (omega arith) (ap ends stops) ∙ ap (joined (record { level = c.passes.level.grid; commands = c.passes.so_far.commands; changed = c.passes.so_far.changed })) stops)
 
 pub returns-then-not-passed-clause-outcome : goal.returns-then-not-passed-clause-outcome
 returns-then-not-passed-clause-outcome g c =
@@ -35,8 +34,7 @@ passes-preserved g c =
           (subst (λ (b : Bool). pass_of runs (cond b items (take now.calm_from items)) o.level ≡ Ok p) changes c.in_ok-passed.ensures.outcome) changes
           (ap (λ (all : Given). Ok (record { level = after; commands = all.commands; changed = all.changed })) (sym c.and-so_far.ensures));
       calm = subst (λ (all : Given). AreCalmFrom runs all.commands after items passed.calm_from) (sym c.and-so_far.ensures) (calm_more runs items now.so_far.commands passed.given.commands after passed.calm_from (c.in_ok-passed.ensures.calm changes));
-      kept = λ none. (let quiet = (or_parts now.so_far.changed passed.given.changed (sym (ap (λ (all : Given). all.changed) c.and-so_far.ensures) ∙ none)).1 in
-          let wrong : true ≡ false = sym changes ∙ quiet in cc);
+      kept = λ none. absurd (grind (arith, changes, none));
       size = same_size_on _ _ _ now.invariant.size c.in_ok-passed.ensures.size;
     }
 

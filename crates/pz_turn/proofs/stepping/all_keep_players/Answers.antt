@@ -1,5 +1,4 @@
-use Rattle.pz_turn.proofs.Common.{[], arith}
-use Rattle.std.proofs.lemmas.Grind.{common_steps}
+use Rattle.pz_turn.proofs.Common.{[], arith, common_steps}
 use Rattle.std.proofs.lemmas.Slice.Zip.{length-zip, get_or-zip}
 use Rattle.pz_turn.proofs.stepping.all_keep_players.Goals as goal
 

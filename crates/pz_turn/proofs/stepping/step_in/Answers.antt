@@ -1,5 +1,4 @@
-use Rattle.pz_turn.proofs.Common.{◌≡◌, Option, Result, arith, ap, sym, ◌∙◌, Ok, err_from_is_err_and, IfOk-weaker, Dir, Commands, Program, GameParts, Grid, StepFault, Outcome, ended, given_input, with_cancel, rules_run, step_ended, step_of}
-use Rattle.pz_game.specs.Game.{players_of}
+use Rattle.pz_turn.proofs.Common.{◌≡◌, Option, Result, arith, ap, sym, ◌∙◌, Ok, err_from_is_err_and, IfOk-weaker, Dir, Commands, Program, GameParts, Grid, StepFault, Outcome, ended, given_input, with_cancel, rules_run, step_ended, step_of, players_of}
 use Rattle.pz_turn.proofs.stepping.step_in.Goals as goal
 
 -- how a step ends or stops
@@ -10,8 +9,7 @@ step_gives game program grid start input end starts ends = grind (arith, starts,
 pub returns-in_err-given-clause-fault : goal.returns-in_err-given-clause-fault
 returns-in_err-given-clause-fault c =
     let p = err_from_is_err_and c.from_residual-in_err-given.result c.from_residual-in_err-given.ensures.1 in
-    rw (p.1, p.2)
-    (λ not_memory. step_gives c.args.game.now c.args.program.now c.args.level.now.grid _ c.args.input _ c.in_ok-work.ensures.given (c.in_err-given.ensures.outcome not_memory))
+    rw (p.1, p.2) (λ not_memory. step_gives c.args.game.now c.args.program.now c.args.level.now.grid _ c.args.input _ c.in_ok-work.ensures.given (c.in_err-given.ensures.outcome not_memory))
 
 pub returns-clause-end : goal.returns-clause-end
 returns-clause-end c =
