@@ -45,21 +45,9 @@ module _ {L I : Type 0} (runs : I → Runs L) (items : List I) where
     pub kept : o.changed ≡ false → o.level ≡ start
     pub calm : (number : ℕ) (other : I) → behind ≤ number → number < n → IsCalm runs o.commands o.level (get_or items number other)
 
-  pub passing_none : (start : L) (calm_from : ℕ) → Passing start calm_from 0 (untouched start) 0
-  passing_none start calm_from = record {
-    so_far = refl;
-    ahead = λ _. omega arith;
-    kept = λ _. refl;
-    calm = λ number other from below. absurd (omega (arith, below));
-  }
-
   -- one item more
   pass_more : (start : L) (n : ℕ) (item : I) (o r : Outcome L) → n < length items → item ≡ get_or items n item → pass_of runs (take n items) start ≡ Ok o → runs item o.level ≡ Ok r → pass_of runs (take (n + 1) items) start ≡ joined o (Ok r)
-  pass_more start n item o r within is so_far gives =
-      let at : runs (get_or items n item) o.level ≡ Ok r = rw (← is) gives in
-      ap (fold step (Ok (untouched start))) (take_more items n item within)
-      ∙ (fold-append step (Ok (untouched start)) (take n items) (get_or items n item ∷ [])
-      ∙ (ap (λ (s : Result (Outcome L) StepFault). step s (get_or items n item)) so_far ∙ ap (joined o) at))
+  pass_more start n item o r within is so_far gives = grind (arith, take_more items n item within, fold-append step (Ok (untouched start)) (take n items) (get_or items n item ∷ []), is, so_far, gives)
 
   -- where it changed something, only those behind it may be calm, and the item itself
   pub passing_changed : (start : L) (calm_from n : ℕ) (item : I) (o r : Outcome L) (behind first : ℕ) → n < length items → item ≡ get_or items n item → Passing start calm_from n o behind → runs item o.level ≡ Ok r → r.changed ≡ true
@@ -86,15 +74,11 @@ module _ {L I : Type 0} (runs : I → Runs L) (items : List I) where
     ahead = λ none. grind (arith, p.ahead, goes_on, or_parts o.changed r.changed none);
     kept = λ none. keeps ∙ p.kept (or_parts o.changed r.changed none).0;
     calm = λ number other from below. elim (cases_lt number n) [
-      | inl earlier ↦ before number other from earlier
+      | inl earlier ↦ (let calm = p.calm number other from earlier in
+          record { gives = calm.gives; quiet = rw keeps calm.quiet; known = known_still o.commands r.commands calm.gives calm.known })
       | inr here ↦ subst (λ (k : ℕ). IsCalm runs (either o.commands r.commands) r.level (get_or items k other)) (let e : n ≡ number = omega (arith, here, below) in e) (last other)
     ];
   } where
-    before : (number : ℕ) (other : I) → behind ≤ number → number < n → IsCalm runs (either o.commands r.commands) r.level (get_or items number other)
-    before number other from below =
-        let calm = p.calm number other from below in
-        record { gives = calm.gives; quiet = rw keeps calm.quiet; known = known_still o.commands r.commands calm.gives calm.known }
-
     last : (other : I) → IsCalm runs (either o.commands r.commands) r.level (get_or items n other)
     last other =
         let same : item ≡ get_or items n other = is ∙ get_or_default items n item other within in
@@ -103,21 +87,11 @@ module _ {L I : Type 0} (runs : I → Runs L) (items : List I) where
 
   -- the pass, behind its first items
   split : (start : L) (n : ℕ) (o : Outcome L) → pass_of runs (take n items) start ≡ Ok o → pass_of runs items start ≡ fold step (Ok o) (drop n items)
-  split start n o so_far =
-      ap (fold step (Ok (untouched start))) (sym (take-append-drop n items))
-      ∙ (fold-append step (Ok (untouched start)) (take n items) (drop n items) ∙ ap (λ (s : Result (Outcome L) StepFault). fold step s (drop n items)) so_far)
+  split start n o so_far = grind (arith, take-append-drop n items, fold-append step (Ok (untouched start)) (take n items) (drop n items), so_far)
 
   -- a stop at the next item is the pass's
   pub passing_stops : (start : L) (calm_from n : ℕ) (item : I) (o : Outcome L) (behind : ℕ) (fault : StepFault) → n < length items → item ≡ get_or items n item → Passing start calm_from n o behind → runs item o.level ≡ Err fault → pass_of runs items start ≡ Err fault
   passing_stops start calm_from n item o behind fault within is p stops = fold_stops runs o items n item fault (pass_of runs items start) (sym (split start n o p.so_far)) within is stops
-
-  -- the items of a pass that was ended before calm ones, or wasn't
-  pub passing_ended : (start : L) (calm_from n : ℕ) (o : Outcome L) (behind : ℕ) → Passing start calm_from n o behind → (n ≡ calm_from) × (o.changed ≡ false) → pass_of runs (cond o.changed items (take calm_from items)) start ≡ Ok o
-  passing_ended start calm_from n o behind p ends =
-      ap (λ (b : Bool). pass_of runs (cond b items (take calm_from items)) start) ends.1 ∙ (ap (λ (k : ℕ). pass_of runs (take k items) start) (sym ends.0) ∙ p.so_far)
-
-  pub passing_whole : (start : L) (calm_from n : ℕ) (o : Outcome L) (behind : ℕ) → Passing start calm_from n o behind → length items ≤ n → pass_of runs (cond o.changed items (take calm_from items)) start ≡ Ok o
-  passing_whole start calm_from n o behind p past = grind (arith, p.so_far, p.ahead, take_all n items past, take_all calm_from items)
 
   -- ---- calm items give nothing new
   calm_fold : (commands : Commands) (level : L) (xs : List I) → ((number : ℕ) (other : I) → number < length xs → IsCalm runs commands level (get_or xs number other)) → (given : Commands)
@@ -143,12 +117,8 @@ module _ {L I : Type 0} (runs : I → Runs L) (items : List I) where
       → (ends (pass_of runs items o.level) ≡ true) × (joined o (pass_of runs items o.level) ≡ Ok (record { level = after; commands = either o.commands given; changed = o.changed || changed }))
   calm_rest o given true after calm_from calm is quiet keeps = cc
   calm_rest o given false after calm_from calm is quiet keeps =
-      let rest = calm_pass o.commands given o.level calm_from calm (is ∙ ap (λ (level : L). Ok (record { level = level; commands = given; changed = false })) keeps) in (
-        ap ends rest.1,
-        ap (joined o) rest.1
-            ∙ (ap (λ (commands : Commands). Ok (record { level = o.level; commands = commands; changed = o.changed || false })) rest.2
-            ∙ ap (λ (level : L). Ok (record { level = level; commands = either o.commands given; changed = o.changed || false })) (sym keeps)),
-      )
+      let rest = calm_pass o.commands given o.level calm_from calm (is ∙ ap (λ (level : L). Ok (record { level = level; commands = given; changed = false })) keeps) in
+      (ap ends rest.1, grind (arith, rest.1, rest.2, keeps))
 
   pub calm_more : (before given : Commands) (level : L) (from : ℕ) → AreCalmFrom runs given level items from → AreCalmFrom runs (either before given) level items from
   calm_more before given level from calm number other at below = calm_known runs before given level _ (calm number other at below)

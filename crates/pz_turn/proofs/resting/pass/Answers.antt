@@ -20,14 +20,12 @@ loop-item-preserved g c =
     let after = c.run.new.level.grid in
     let o : Outcome Grid = record { level = c.loop-item.level.grid; commands = before.commands; changed = before.changed } in
     let r : Outcome Grid = record { level = after; commands = given.commands; changed = given.changed } in
-    let run : Given → Result (Outcome Grid) StepFault = λ all. fold (λ so_far x. followed_by so_far (runs x)) (Ok (record { level = after; commands = all.commands; changed = all.changed })) (drop (n + 1) items) in
     let only : n ≡ 0 → item ∷ [] ≡ take (n + 1) items = λ first. ap (λ x. x ∷ []) c.item-item.is ∙ ap (λ (k : ℕ). take k items ++ get_or items n item ∷ []) (sym first) ∙ sym (take_more items n item (omega arith)) in
     record {
-      whole = ap run c.and-so_far.ensures ∙ fold_more runs o (Ok r) items n item (omega arith) c.item-item.is c.in_ok-given.ensures.outcome ∙ c.loop-item.invariant.whole;
+      whole = rw c.and-so_far.ensures (fold_more runs o (Ok r) items n item (omega arith) c.item-item.is c.in_ok-given.ensures.outcome ∙ c.loop-item.invariant.whole);
       calm = λ calm. (
         omega arith,
-        λ one. subst (λ (all : Given). IsCalm (pass_of runs) all.commands after (take (n + 1) items)) (sym c.and-so_far.ensures)
-            (subst (IsCalm (pass_of runs) (either before.commands given.commands) after) (only (omega (arith, one))) (calm_known (pass_of runs) before.commands given.commands after (item ∷ []) (calm_alone runs given.commands after item (c.in_ok-given.ensures.calm calm)))),
+        λ one. rw (c.and-so_far.ensures, ← only (omega (arith, one))) (calm_known (pass_of runs) before.commands given.commands after (item ∷ []) (calm_alone runs given.commands after item (c.in_ok-given.ensures.calm calm))),
       );
       size = same_size_on _ _ _ c.loop-item.invariant.size c.in_ok-given.ensures.size;
     }

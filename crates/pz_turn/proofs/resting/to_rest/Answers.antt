@@ -1,4 +1,4 @@
-use Rattle.pz_turn.proofs.Common.{◌≡◌, Bool, true, false, cond, take, Ok, arith, ap, sym, ◌∙◌, subst, err_from_is_err_and, same_size_on, Grid, Given, AreCalmFrom, Outcome, joined, pass_of, ends, not-false, not-true}
+use Rattle.pz_turn.proofs.Common.{refl, ◌≡◌, Bool, true, false, cond, take, Ok, arith, ap, sym, ◌∙◌, subst, err_from_is_err_and, same_size_on, Grid, Given, AreCalmFrom, Outcome, joined, pass_of, ends, not-false, not-true}
 use Rattle.pz_turn.proofs.Calm.{calm_rest, calm_more}
 use Rattle.pz_turn.proofs.RestLemmas.{rest_ends, rest_never_ends, running_more}
 use Rattle.pz_turn.proofs.resting.to_rest.Goals as goal
@@ -17,7 +17,7 @@ returns-then-not-passed-clause-outcome g c =
     let o : Outcome Grid = record { level = now.level.grid; commands = now.so_far.commands; changed = now.so_far.changed } in
     let quiet = not-true given.changed c.if-not-passed.true in
     let rest = calm_rest g.T.Runnable.runs c.args.items.now o given.commands given.changed c.pass_after.new.level.grid now.calm_from now.invariant.calm c.in_ok-passed.ensures.outcome quiet (c.in_ok-passed.ensures.kept quiet) in
-    rest_ends _ _ _ _ _ now.invariant.running (omega arith) rest.0 ∙ (rest.1 ∙ ap (λ (all : Given). Ok (record { level = c.pass_after.new.level.grid; commands = all.commands; changed = all.changed })) (sym c.and-so_far.ensures))
+    rw c.and-so_far.ensures (rest_ends _ _ _ _ _ now.invariant.running (omega arith) rest.0 ∙ rest.1)
 
 pub passes-preserved : goal.passes-preserved
 passes-preserved g c =
@@ -30,10 +30,8 @@ passes-preserved g c =
     let p : Outcome Grid = record { level = after; commands = passed.given.commands; changed = passed.given.changed } in
     let changes = not-false passed.given.changed c.if-not-passed.false in
     record {
-      running = running_more (pass_of runs items) c.args.level.now.grid now.counter o p _ now.invariant.running
-          (subst (λ (b : Bool). pass_of runs (cond b items (take now.calm_from items)) o.level ≡ Ok p) changes c.in_ok-passed.ensures.outcome) changes
-          (ap (λ (all : Given). Ok (record { level = after; commands = all.commands; changed = all.changed })) (sym c.and-so_far.ensures));
-      calm = subst (λ (all : Given). AreCalmFrom runs all.commands after items passed.calm_from) (sym c.and-so_far.ensures) (calm_more runs items now.so_far.commands passed.given.commands after passed.calm_from (c.in_ok-passed.ensures.calm changes));
+      running = rw c.and-so_far.ensures (running_more (pass_of runs items) c.args.level.now.grid now.counter o p _ now.invariant.running (subst (λ (b : Bool). pass_of runs (cond b items (take now.calm_from items)) o.level ≡ Ok p) changes c.in_ok-passed.ensures.outcome) changes refl);
+      calm = rw c.and-so_far.ensures (calm_more runs items now.so_far.commands passed.given.commands after passed.calm_from (c.in_ok-passed.ensures.calm changes));
       kept = λ none. absurd (grind (arith, changes, none));
       size = same_size_on _ _ _ now.invariant.size c.in_ok-passed.ensures.size;
     }
