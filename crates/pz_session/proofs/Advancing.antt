@@ -4,20 +4,13 @@ use Rattle.pz_case.specs.declared.item.Stop.TheVariants.{AgainLimit}
 use Rattle.pz_session.specs.declared.player.Phase.TheVariants as phase
 use Rattle.pz_session.proofs.Leaving.{left-at, left-of_stopped}
 
-none-from : {X : Type 0} (o : Option X) → is_none o ≡ true → o ≡ None
-none-from None e = refl
-none-from (Some x) e = absurd (false≢true e)
-
 pub record Waiting (p : Player) : Type 0 where
   pub first : p.first ≡ None
   pub second : p.second ≡ None
   pub here : is_waiting_in p.phase p.taken p.inputs ≡ true
 
 pub waiting-parts : (p : Player) → is_waiting p ≡ true → Waiting p
-waiting-parts p h =
-    let a = and_parts (is_none p.first && is_none p.second) (is_waiting_in p.phase p.taken p.inputs) h in
-    let b = and_parts (is_none p.first) (is_none p.second) a.0 in
-    record { first = none-from p.first b.0; second = none-from p.second b.1; here = a.1 }
+waiting-parts p h = record { first = grind (arith, h); second = grind (arith, h); here = grind (arith, h) }
 
 -- no tick is allowed any more
 pub left-no_tick : (p q : Player) (allowed : ℕ) → Waiting p → p.phase ≡ phase.Ticking allowed → allowed ≡ 0 → q.phase ≡ phase.Stopped AgainLimit → q.first ≡ None → q.second ≡ None → left q ≡ left p

@@ -1,8 +1,7 @@
 -- How many items a session has at most.
-use Rattle.pz_session.proofs.Common.{◌≡◌, ℕ, zero, suc, ◌+◌, ◌*◌, ◌<◌, ◌≤◌, ◌^◌, Bool, true, false, ◌||◌, List, [], ◌∷◌, length, map, Option, Some, None, option_to_list, Result, Ok, Err, IfOk, if◌then◌else◌, refl, ap, ◌∙◌, arith, length-map, length-append, Commands, Grid, Outcome, step_of, has_won, Input, Stop, Frame, FrameKind, level_from, PlanState, Link, Chain, follow, ticks, preceded, Links, Played, played, going_on, showing, after_chain, ticks_after, numbered, items_from, is_idle, State, at_level, keeping, frame_of, restarted, won_link, kept_link, reached_link, effect, pressed_to, ticked_to, tick_link, press_link, undo_link, input_link, begun, start_link, board_links, state_of, played_items}
+use Rattle.pz_session.proofs.Common.{◌≡◌, ℕ, zero, suc, ◌+◌, ◌*◌, ◌<◌, ◌≤◌, ◌^◌, Bool, true, false, ◌||◌, List, [], ◌∷◌, length, map, Option, Some, None, option_to_list, Result, Ok, Err, IfOk, if◌then◌else◌, refl, ap, ◌∙◌, arith, length-map, length-append, Commands, Grid, Outcome, step_of, has_won, Input, Stop, Frame, FrameKind, level_from, PlanState, Link, Chain, follow, ticks, preceded, Links, Played, played, going_on, showing, after_chain, ticks_after, numbered, items_from, is_idle, State, at_level, keeping, frame_of, restarted, won_link, kept_link, reached_link, effect, pressed_to, ticked_to, tick_link, press_link, undo_link, input_link, begun, start_link, board_links, state_of, played_items, MOST_TICKS}
 use Rattle.pz_case.specs.declared.item.FrameKind.TheVariants.{Move, Tick}
 use Rattle.pz_case.specs.declared.item.Item.TheVariants as item
-use Rattle.pz_session.specs.declared.chain.TheConstants.{MOST_TICKS}
 
 -- a link shows two frames at most
 abbrev pub IsShort : {S : Type 0} → Result (Link S) Stop → Type 0

@@ -1,10 +1,8 @@
 -- A session that is played closes once, behind its frames.
-use Rattle.pz_session.proofs.Common.{◌≡◌, ℕ, ◌+◌, List, [], ◌∷◌, ◌++◌, map, Option, Some, option_to_list, Result, Ok, Err, refl, ap, Input, Frame, Item, Stop, PlanState, follow, ticks, Links, Played, played, going_on, after_chain, ticks_after, numbered, items_from, board_links, start_link, state_of, played_items, items_of_plan}
+use Rattle.pz_session.proofs.Common.{◌≡◌, ℕ, ◌+◌, List, [], ◌∷◌, ◌++◌, map, Option, Some, option_to_list, Result, Ok, Err, refl, ap, Input, Frame, Item, Stop, PlanState, follow, ticks, Links, Played, played, going_on, after_chain, ticks_after, numbered, items_from, board_links, start_link, state_of, played_items, items_of_plan, Stopped, Refused, MOST_TICKS}
 use Rattle.pz_case.specs.declared.item.Item.TheVariants as item
 use Rattle.pz_case.specs.declared.item.Refusal.{Refusal}
 use Rattle.pz_case.specs.declared.item.Verdict.{Verdict}
-use Rattle.pz_case.specs.declared.item.Verdict.TheVariants.{Stopped, Refused}
-use Rattle.pz_session.specs.declared.chain.TheConstants.{MOST_TICKS}
 use Rattle.pz_session.specs.Laws.{CloseOnce}
 
 abbrev Closes : Played → Type 0

@@ -1,6 +1,5 @@
 -- The labels that a writer keeps stay those of a level, wherever the level goes.
-use Rattle.pz_session.proofs.Common.{◌≡◌, Option, Some, sym, subst, Grid, HasLabels}
-use Rattle.pz_level_text.specs.Labels.{WriterView}
+use Rattle.pz_session.proofs.Common.{◌≡◌, Option, Some, sym, subst, Grid, HasLabels, WriterView}
 use Rattle.pz_session.specs.declared.labelled.Labelled.{Labelled}
 use Rattle.pz_session.specs.declared.labelled.Labelled.TheVariants.{Level, Before, Spare, Nothing}
 use Rattle.pz_session.specs.Labelled.{labelled_of, moved_to}

@@ -1,28 +1,14 @@
 -- What an item takes from what is left.
-use Rattle.pz_session.proofs.Common.{◌≡◌, ℕ, ◌+◌, Bool, true, false, ◌&&◌, List, [], ◌∷◌, ◌++◌, Option, Some, None, option_to_list, is_none, drop, length, map, subst, Ok, Err, Result, if◌then◌else◌, refl, ap, ap₂, sym, ◌∙◌, ltb-false, drop_all, map-append, append_assoc, Input, Stop, Frame, Item, Played, items_from, numbered, played, showing, going_on, after_chain, State, board_links, settled, tick_link, verdict_of, Link, follow, ticks, preceded, GivesLink, shown_frames, Player, pending, left_in, to_come, to_follow, left_with, left, is_waiting, is_waiting_in}
-use Rattle.pz_case.specs.declared.item.Verdict.TheVariants.{Stopped}
+use Rattle.pz_session.proofs.Common.{◌≡◌, ℕ, ◌+◌, ◌≤◌, arith, Bool, true, false, ◌&&◌, List, [], ◌∷◌, ◌++◌, Option, Some, None, option_to_list, is_none, drop, length, map, subst, Ok, Err, Result, if◌then◌else◌, refl, ap, ap₂, sym, ◌∙◌, ltb-false, drop_all, map-append, append_assoc, Input, Stop, Frame, Item, Played, items_from, numbered, played, showing, going_on, after_chain, State, board_links, settled, tick_link, verdict_of, Link, follow, ticks, preceded, GivesLink, shown_frames, Player, pending, left_in, to_come, to_follow, left_with, left, is_waiting, is_waiting_in, Stopped, Shown, PlayFault}
+use Rattle.std.proofs.lemmas.Bool.Decides.{nat_tests}
 use Rattle.pz_case.specs.declared.item.Item.TheVariants as item
 use Rattle.pz_session.specs.declared.player.Phase.{Phase}
 use Rattle.pz_session.specs.declared.player.Phase.TheVariants as phase
-use Rattle.pz_session.specs.declared.chain.Shown.{Shown}
-use Rattle.pz_session.specs.declared.chain.PlayFault.{PlayFault}
 use Rattle.pz_session.specs.declared.chain.PlayFault.TheVariants as fault
 
 pub left-first : (at : Phase) (n : ℕ) (frame : Frame) (first : Option Frame) (second : List Frame) (taken : ℕ) (inputs : List Input) (state : State) → first ≡ Some frame → left_in at n (option_to_list first ++ second) taken inputs state ≡ item.Frame n taken frame ∷ left_in at (n + 1) second taken inputs state
 unfolding left_in items_from numbered
 left-first at n frame first second taken inputs state e = ap (λ o. left_in at n (option_to_list o ++ second) taken inputs state) e
-
-pub left-stopped : (stop : Stop) (n : ℕ) (taken : ℕ) (inputs : List Input) (state : State) → left_in (phase.Stopped stop) n [] taken inputs state ≡ item.Close (Stopped stop) ∷ []
-unfolding left_in items_from numbered to_come
-left-stopped stop n taken inputs state = refl
-
-pub left-over : (n : ℕ) (taken : ℕ) (state : State) → left_in phase.Between n [] taken [] state ≡ item.Close (verdict_of state) ∷ []
-unfolding left_in items_from numbered to_come played
-left-over n taken state = refl
-
-pub left-closed : (n : ℕ) (taken : ℕ) (inputs : List Input) (state : State) → left_in phase.Closed n [] taken inputs state ≡ []
-unfolding left_in items_from numbered to_come
-left-closed n taken inputs state = refl
 
 -- what is left, where the pending frames are known
 pub left-at : (p : Player) (first second : Option Frame) → p.first ≡ first → p.second ≡ second → left p ≡ left_in p.phase p.number (option_to_list first ++ option_to_list second) p.taken (drop p.taken p.inputs) p.board
@@ -35,40 +21,29 @@ pub left-numbered : (p : Player) (frame : Frame) (shown : Item) (next : ℕ) →
     → item.Frame p.number p.taken frame ∷ left_in p.phase (p.number + 1) (pending p) p.taken (drop p.taken p.inputs) p.board ≡ shown ∷ left (record p { number = next })
 left-numbered p frame shown next is after = ap₂ (λ i n. i ∷ left_in p.phase n (pending p) p.taken (drop p.taken p.inputs) p.board) (sym is) (sym after)
 
--- no link is needed: with nothing pending, the phase says so
-pub ready-in : (p : Player) → is_waiting p ≡ false → p.first ≡ None → p.second ≡ None → is_waiting_in p.phase p.taken p.inputs ≡ false
-ready-in p ready e f =
-    sym (ap (λ o. is_none o && is_none p.second && is_waiting_in p.phase p.taken p.inputs) e ∙ ap (λ o. is_none o && is_waiting_in p.phase p.taken p.inputs) f) ∙ ready
-
 pub left-of_closed : (p : Player) → p.phase ≡ phase.Closed → p.first ≡ None → p.second ≡ None → left p ≡ []
-left-of_closed p at e f =
-    left-at p None None e f ∙ ap (λ q. left_in q p.number [] p.taken (drop p.taken p.inputs) p.board) at ∙ left-closed p.number p.taken _ p.board
+unfolding left_in items_from numbered to_come
+left-of_closed p at e f = left-at p None None e f ∙ ap (λ q. left_in q p.number [] p.taken (drop p.taken p.inputs) p.board) at
 
 pub left-of_stopped : (p : Player) (stop : Stop) → p.phase ≡ phase.Stopped stop → p.first ≡ None → p.second ≡ None → left p ≡ item.Close (Stopped stop) ∷ []
-left-of_stopped p stop at e f =
-    left-at p None None e f ∙ ap (λ q. left_in q p.number [] p.taken (drop p.taken p.inputs) p.board) at ∙ left-stopped stop p.number p.taken _ p.board
+unfolding left_in items_from numbered to_come
+left-of_stopped p stop at e f = left-at p None None e f ∙ ap (λ q. left_in q p.number [] p.taken (drop p.taken p.inputs) p.board) at
 
+-- no link is needed: with nothing pending, the phase says so
 pub left-of_over : (p : Player) → p.phase ≡ phase.Between → p.first ≡ None → p.second ≡ None → is_waiting p ≡ false → left p ≡ item.Close (verdict_of p.board) ∷ []
+unfolding left_in items_from numbered to_come played
 left-of_over p at e f ready =
-    let none_left : is_waiting_in phase.Between p.taken p.inputs ≡ false = ap (λ q. is_waiting_in q p.taken p.inputs) (sym at) ∙ ready-in p ready e f in
-    let past = ltb-false p.taken (length p.inputs) none_left in
+    let past : length p.inputs ≤ p.taken = grind (arith, nat_tests, at, e, f, ready) in
     left-at p None None e f ∙ ap (λ q. left_in q p.number [] p.taken (drop p.taken p.inputs) p.board) at
-    ∙ ap (λ l. left_in phase.Between p.number [] p.taken l p.board) (drop_all p.taken p.inputs past) ∙ left-over p.number p.taken p.board
+    ∙ ap (λ l. left_in phase.Between p.number [] p.taken l p.board) (drop_all p.taken p.inputs past)
 
 -- the frames of a link come first
 pub going_on-link : (n taken : ℕ) (inputs : List Input) (link : Link State) → going_on board_links taken (played board_links taken inputs) (follow (ticks tick_link n) (Ok link)) ≡ showing taken link.shown (to_follow link.goes_on n taken inputs link.after)
 going_on-link n taken inputs link =
     let at : Frame → ℕ × Frame = λ frame. (taken, frame) in
     let chain = ticks tick_link n link.after in
-    let later = played board_links taken inputs in
-    let rest = after_chain board_links later chain.after in
-    let whole : Bool → Played = λ b. going_on board_links taken later (if b then preceded link.shown chain else record { shown = link.shown; after = Ok link.after }) in
-    let parts : Bool → Played = λ b. showing taken link.shown (to_follow b n taken inputs link.after) in
-    let both : (b : Bool) → whole b ≡ parts b = λ b. elim b as (λ v. whole v ≡ parts v) [
-      | true ↦ ap (λ l. record { shown = l; close = rest.close }) (ap (λ l. l ++ rest.shown) (map-append at link.shown chain.shown) ∙ append_assoc (map at link.shown) (map at chain.shown) rest.shown)
-      | false ↦ refl
-    ] in
-    both link.goes_on
+    let rest = after_chain board_links (played board_links taken inputs) chain.after in
+    grind (arith, map-append at link.shown chain.shown, append_assoc (map at link.shown) (map at chain.shown) rest.shown)
 
 pub to_come-ticking : (goes_on : Bool) (n : ℕ) (state : State) → goes_on ≡ true → (taken : ℕ) (inputs : List Input) → to_come (phase.Ticking n) taken inputs state ≡ to_follow goes_on n taken inputs state
 unfolding to_come

@@ -1,27 +1,15 @@
 -- Worked sessions, computed.
-use Rattle.pz_session.proofs.Common.{◌≡◌, ℕ, List, [], ◌∷◌, Option, Some, None, Err, false, if◌then◌else◌, refl, codes, GameParts, Program, Grid, step_of, rules_run, blocks_run, block_runs, has_won, Input, FrameKind, Item, level_from, PlanState, played, numbered, items_from, frame_of, start_link, press_link, tick_link, undo_link, restarted, won_link, kept_link, reached_link, effect, begun, settled, played_items, items_of_plan}
-use Rattle.pz_game.specs.declared.denotation.Denotation.{Denotation}
-use Rattle.pz_game.specs.declared.denotation.Kind.TheVariants.{Object}
-use Rattle.pz_game.specs.declared.direction.Dir.TheVariants.{Left, Right}
-use Rattle.pz_game.specs.declared.level.LevelEntry.{LevelEntry}
-use Rattle.pz_game.specs.declared.level.LevelEntry.TheVariants.{Message, Level}
+use Rattle.pz_session.proofs.Common.{◌≡◌, ℕ, List, [], ◌∷◌, Option, Some, None, Err, false, if◌then◌else◌, refl, codes, GameParts, Program, Grid, step_of, rules_run, blocks_run, block_runs, has_won, Input, FrameKind, Item, level_from, PlanState, played, numbered, items_from, frame_of, start_link, press_link, tick_link, undo_link, restarted, won_link, kept_link, reached_link, effect, begun, settled, played_items, items_of_plan, Denotation, Object, Left, Right, LevelEntry, Message, Level, Piece, Press, Undo, Restart, Tick, Rows, equals_recorded, text_of_level, NoLevel, Passed, Differs, Refused}
 use Rattle.pz_game.specs.declared.win_line.Quantifier.TheVariants.{No}
 use Rattle.pz_game.specs.declared.win_line.WinLine.{WinLine}
 use Rattle.pz_program.specs.declared.instance.Block.TheVariants.{One}
 use Rattle.pz_game.specs.declared.pattern.Word.TheVariants.{Toward}
 use Rattle.pz_game.specs.Pattern.{RuleRow}
-use Rattle.pz_cells.specs.declared.piece.Piece.{Piece}
 use Rattle.pz_grid.specs.Places.{searched}
 use Rattle.pz_turn.specs.Instance.{applied}
 use Rattle.pz_turn.specs.Rest.{rest_of}
-use Rattle.pz_record.specs.declared.input.Input.TheVariants.{Press, Undo, Restart, Tick}
-use Rattle.pz_record.specs.declared.order.Order.TheVariants.{Rows}
-use Rattle.pz_level_text.specs.Equality.{equals_recorded}
-use Rattle.pz_level_text.specs.LevelText.{text_of_level}
 use Rattle.pz_case.specs.declared.item.FrameKind.TheVariants as kind
 use Rattle.pz_case.specs.declared.item.Item.TheVariants.{Frame, Close}
-use Rattle.pz_case.specs.declared.item.Refusal.TheVariants.{NoLevel}
-use Rattle.pz_case.specs.declared.item.Verdict.TheVariants.{Passed, Differs, Refused}
 
 abbrev named : ℕ → Denotation
 named object = record { kind = Object; members = object ∷ []; number = object }
@@ -90,12 +78,6 @@ closes entry grid = closed (game (entry ∷ [])) grid
 abbrev walled : LevelEntry
 walled = row 4 (4 ∷ 5 ∷ 3 ∷ 4 ∷ [])
 
-pub walk : played_items (session walled (Press Right ∷ Press Right ∷ []))
-    ≡ shows walled 0 0 kind.Start (level 4 (wall ∷ player ∷ floor ∷ wall ∷ [])) ∷ shows walled 1 1 kind.Move (level 4 (wall ∷ floor ∷ player ∷ wall ∷ []))
-    ∷ shows walled 2 2 kind.Move (level 4 (wall ∷ floor ∷ player ∷ wall ∷ [])) ∷ closes walled (level 4 (wall ∷ floor ∷ player ∷ wall ∷ [])) ∷ []
-unfolding played_items played numbered items_from frame_of start_link press_link tick_link undo_link restarted won_link kept_link reached_link effect begun settled level_from step_of rules_run blocks_run block_runs has_won
-walk = refl
-
 -- p..: an undo takes back a press if there is one, and else shows the level as it is
 abbrev free : LevelEntry
 free = row 3 (5 ∷ 3 ∷ 3 ∷ [])
@@ -106,23 +88,21 @@ at_start = level 3 (player ∷ floor ∷ floor ∷ [])
 abbrev one_on : Grid
 one_on = level 3 (floor ∷ player ∷ floor ∷ [])
 
-pub undoes : played_items (session free (Undo ∷ Press Right ∷ Undo ∷ []))
-    ≡ shows free 0 0 kind.Start at_start ∷ shows free 1 1 kind.Undo at_start ∷ shows free 2 2 kind.Move one_on ∷ shows free 3 3 kind.Undo at_start ∷ closes free at_start ∷ []
+plays :
+    (played_items (session walled (Press Right ∷ Press Right ∷ []))
+      ≡ shows walled 0 0 kind.Start (level 4 (wall ∷ player ∷ floor ∷ wall ∷ [])) ∷ shows walled 1 1 kind.Move (level 4 (wall ∷ floor ∷ player ∷ wall ∷ []))
+      ∷ shows walled 2 2 kind.Move (level 4 (wall ∷ floor ∷ player ∷ wall ∷ [])) ∷ closes walled (level 4 (wall ∷ floor ∷ player ∷ wall ∷ [])) ∷ [])
+    × (played_items (session free (Undo ∷ Press Right ∷ Undo ∷ []))
+      ≡ shows free 0 0 kind.Start at_start ∷ shows free 1 1 kind.Undo at_start ∷ shows free 2 2 kind.Move one_on ∷ shows free 3 3 kind.Undo at_start ∷ closes free at_start ∷ [])
+    -- a restart can be undone; one that changes nothing shows the level, and leaves the past
+    × (played_items (session free (Press Right ∷ Restart ∷ Restart ∷ Undo ∷ []))
+      ≡ shows free 0 0 kind.Start at_start ∷ shows free 1 1 kind.Move one_on ∷ shows free 2 2 kind.Restart at_start ∷ shows free 3 3 kind.Restart at_start
+      ∷ shows free 4 4 kind.Undo one_on ∷ closes free one_on ∷ [])
+    -- a press that moves nothing shows the level, and leaves the past; an idle tick shows nothing, and counts as an input
+    × (played_items (session free (Press Left ∷ Tick ∷ Undo ∷ []))
+      ≡ shows free 0 0 kind.Start at_start ∷ shows free 1 1 kind.Move at_start ∷ shows free 2 3 kind.Undo at_start ∷ closes free at_start ∷ [])
 unfolding played_items played numbered items_from frame_of start_link press_link tick_link undo_link restarted won_link kept_link reached_link effect begun settled level_from step_of rules_run blocks_run block_runs has_won
-undoes = refl
-
--- a restart can be undone; one that changes nothing shows the level, and leaves the past
-pub restarts : played_items (session free (Press Right ∷ Restart ∷ Restart ∷ Undo ∷ []))
-    ≡ shows free 0 0 kind.Start at_start ∷ shows free 1 1 kind.Move one_on ∷ shows free 2 2 kind.Restart at_start ∷ shows free 3 3 kind.Restart at_start
-    ∷ shows free 4 4 kind.Undo one_on ∷ closes free one_on ∷ []
-unfolding played_items played numbered items_from frame_of start_link press_link tick_link undo_link restarted won_link kept_link reached_link effect begun settled level_from step_of rules_run blocks_run block_runs has_won
-restarts = refl
-
--- a press that moves nothing shows the level, and leaves the past; an idle tick shows nothing, and counts as an input
-pub stays : played_items (session free (Press Left ∷ Tick ∷ Undo ∷ []))
-    ≡ shows free 0 0 kind.Start at_start ∷ shows free 1 1 kind.Move at_start ∷ shows free 2 3 kind.Undo at_start ∷ closes free at_start ∷ []
-unfolding played_items played numbered items_from frame_of start_link press_link tick_link undo_link restarted won_link kept_link reached_link effect begun settled level_from step_of rules_run blocks_run block_runs has_won
-stays = refl
+plays = (refl, refl, refl, refl)
 
 -- right [ > Player ] -> [ > Player ], which gives commands
 abbrev moving : RuleRow
@@ -134,29 +114,21 @@ giving commands = record {
   late = [];
 }
 
--- a checkpoint is the end of its step, and an undo doesn't take it back
-pub keeps_checkpoint : played_items (playing (game (free ∷ [])) (giving 4) (Press Right ∷ Undo ∷ Restart ∷ []))
-    ≡ shows free 0 0 kind.Start at_start ∷ shows free 1 1 kind.Move one_on ∷ shows free 2 2 kind.Undo at_start ∷ shows free 3 3 kind.Restart one_on ∷ closes free one_on ∷ []
+gives_commands :
+    -- a checkpoint is the end of its step, and an undo doesn't take it back
+    (played_items (playing (game (free ∷ [])) (giving 4) (Press Right ∷ Undo ∷ Restart ∷ []))
+      ≡ shows free 0 0 kind.Start at_start ∷ shows free 1 1 kind.Move one_on ∷ shows free 2 2 kind.Undo at_start ∷ shows free 3 3 kind.Restart one_on ∷ closes free one_on ∷ [])
+    -- a step that restarts shows the target in its place
+    × (played_items (playing (game (free ∷ [])) (giving 8) (Press Left ∷ Press Right ∷ []))
+      ≡ shows free 0 0 kind.Start at_start ∷ shows free 1 1 kind.Move at_start ∷ shows free 2 2 kind.Restart at_start ∷ closes free at_start ∷ [])
+    -- `again` asks for a tick if the step changed the level; an idle tick isn't shown
+    × (played_items (playing (game (free ∷ [])) (giving 1) (Press Right ∷ []))
+      ≡ shows free 0 0 kind.Start at_start ∷ shows free 1 1 kind.Move one_on ∷ closes free one_on ∷ [])
+    -- a cancelled press shows the level that stays
+    × (played_items (playing (game (free ∷ [])) (giving 10) (Press Right ∷ []))
+      ≡ shows free 0 0 kind.Start at_start ∷ shows free 1 1 kind.Move at_start ∷ closes free at_start ∷ [])
 unfolding played_items played numbered items_from frame_of start_link press_link tick_link undo_link restarted won_link kept_link reached_link effect begun settled level_from step_of rules_run blocks_run block_runs rest_of applied searched has_won
-keeps_checkpoint = refl
-
--- a step that restarts shows the target in its place
-pub restarts_by_rule : played_items (playing (game (free ∷ [])) (giving 8) (Press Left ∷ Press Right ∷ []))
-    ≡ shows free 0 0 kind.Start at_start ∷ shows free 1 1 kind.Move at_start ∷ shows free 2 2 kind.Restart at_start ∷ closes free at_start ∷ []
-unfolding played_items played numbered items_from frame_of start_link press_link tick_link undo_link restarted won_link kept_link reached_link effect begun settled level_from step_of rules_run blocks_run block_runs rest_of applied searched has_won
-restarts_by_rule = refl
-
--- `again` asks for a tick if the step changed the level; an idle tick isn't shown
-pub runs_again : played_items (playing (game (free ∷ [])) (giving 1) (Press Right ∷ []))
-    ≡ shows free 0 0 kind.Start at_start ∷ shows free 1 1 kind.Move one_on ∷ closes free one_on ∷ []
-unfolding played_items played numbered items_from frame_of start_link press_link tick_link undo_link restarted won_link kept_link reached_link effect begun settled level_from step_of rules_run blocks_run block_runs rest_of applied searched has_won
-runs_again = refl
-
--- a cancelled press shows the level that stays
-pub is_cancelled : played_items (playing (game (free ∷ [])) (giving 10) (Press Right ∷ []))
-    ≡ shows free 0 0 kind.Start at_start ∷ shows free 1 1 kind.Move at_start ∷ closes free at_start ∷ []
-unfolding played_items played numbered items_from frame_of start_link press_link tick_link undo_link restarted won_link kept_link reached_link effect begun settled level_from step_of rules_run blocks_run block_runs rest_of applied searched has_won
-is_cancelled = refl
+gives_commands = (refl, refl, refl, refl)
 
 -- no Wall: each press wins; a load shows the next level, which has no past, and after the last one each input shows it
 abbrev no_wall : WinLine
@@ -171,8 +143,3 @@ pub wins : played_items (playing two_levels no_rules (Press Right ∷ Undo ∷ P
     ∷ shown two_levels 5 4 kind.Over (level 2 (floor ∷ player ∷ [])) ∷ closed two_levels (level 2 (floor ∷ player ∷ [])) ∷ []
 unfolding played_items played numbered items_from frame_of start_link press_link tick_link undo_link restarted won_link kept_link reached_link effect begun settled level_from step_of rules_run blocks_run block_runs has_won
 wins = refl
-
--- a refused session has only its close
-pub refused : items_of_plan (Err NoLevel) ≡ Close (Refused NoLevel) ∷ []
-unfolding items_of_plan
-refused = refl

@@ -1,7 +1,6 @@
 -- The items of a session that begins.
-use Rattle.pz_session.proofs.Common.{◌≡◌, ℕ, ◌+◌, ◌<◌, ◌≤◌, ◌^◌, List, length, Result, Ok, Err, IfOk, ap, ap₂, ◌∙◌, arith, GameParts, Program, Input, Item, PlanState, Player, left, left_with, State, start_link, loaded_at, state_of, played_items}
+use Rattle.pz_session.proofs.Common.{◌≡◌, ℕ, ◌+◌, ◌<◌, ◌≤◌, ◌^◌, List, length, Result, Ok, Err, IfOk, ap, ap₂, ◌∙◌, arith, GameParts, Program, Input, Item, PlanState, Player, left, left_with, State, start_link, loaded_at, state_of, played_items, MOST_TICKS}
 use Rattle.pz_record.specs.declared.order.Order.{Order}
-use Rattle.pz_session.specs.declared.chain.TheConstants.{MOST_TICKS}
 use Rattle.pz_session.proofs.Bounds.{items_bound}
 
 pub starts : (plan : PlanState) (state : State) (game : GameParts) (program : Program) (order : Order) (recorded : List (List (List ℕ))) (first : ℕ)

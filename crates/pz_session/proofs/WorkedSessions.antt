@@ -1,25 +1,13 @@
 -- Worked cases of sessions: undo and restart, what commands make of a step, the order of the items, and the close.
-use Rattle.pz_session.proofs.Common.{◌≡◌, ℕ, suc, List, [], ◌∷◌, length, Option, Some, None, Bool, true, false, Ok, Err, refl, codes, map, nat_lt, ◌==◌, if◌then◌else◌, GameParts, Commands, either, Program, Grid, Outcome, blocks_run, rules_run, step_of, has_won, FrameKind, Frame, level_from, PlanState, State, frame_of, start_link, restarted, won_link, kept_link, reached_link, effect, press_link, undo_link, begun, settled, played_items, items_of_plan, Links, closing, played, numbered, items_from, is_idle}
+use Rattle.pz_session.proofs.Common.{◌≡◌, ℕ, suc, List, [], ◌∷◌, length, Option, Some, None, Bool, true, false, Ok, Err, refl, codes, map, nat_lt, ◌==◌, if◌then◌else◌, GameParts, Commands, either, Program, Grid, Outcome, blocks_run, rules_run, step_of, has_won, FrameKind, Frame, level_from, PlanState, State, frame_of, start_link, restarted, won_link, kept_link, reached_link, effect, press_link, undo_link, begun, settled, played_items, items_of_plan, Links, closing, played, numbered, items_from, is_idle, Denotation, Object, Up, Right, LevelEntry, Message, Level, Piece, Press, Undo, Restart, Tick, Rows, equals_recorded, text_of_level, NoLevel, Passed, Differs, Stopped, Refused}
 use Rattle.std.specs.Fmt.{digits}
-use Rattle.pz_game.specs.declared.denotation.Denotation.{Denotation}
-use Rattle.pz_game.specs.declared.denotation.Kind.TheVariants.{Object}
-use Rattle.pz_game.specs.declared.direction.Dir.TheVariants.{Up, Right}
-use Rattle.pz_game.specs.declared.level.LevelEntry.{LevelEntry}
-use Rattle.pz_game.specs.declared.level.LevelEntry.TheVariants.{Message, Level}
 use Rattle.pz_program.specs.Commands as command
-use Rattle.pz_cells.specs.declared.piece.Piece.{Piece}
-use Rattle.pz_record.specs.declared.input.Input.TheVariants.{Press, Undo, Restart, Tick}
-use Rattle.pz_record.specs.declared.order.Order.TheVariants.{Rows}
 use Rattle.pz_record.specs.CellNames.{with_name, same_set}
-use Rattle.pz_level_text.specs.Equality.{equals_recorded}
 use Rattle.pz_level_text.specs.LevelNames.{standing_names}
 use Rattle.pz_record.specs.CellTexts.{with_cell, piece}
-use Rattle.pz_level_text.specs.LevelText.{text_of_level}
 use Rattle.pz_case.specs.declared.item.FrameKind.TheVariants as kind
 use Rattle.pz_case.specs.declared.item.Item.TheVariants as item
-use Rattle.pz_case.specs.declared.item.Refusal.TheVariants.{NoLevel}
 use Rattle.pz_case.specs.declared.item.Stop.TheVariants as stop
-use Rattle.pz_case.specs.declared.item.Verdict.TheVariants.{Passed, Differs, Stopped, Refused}
 
 -- the objects 0 background, alone on its layer, and 1 player and 2 crate on another
 abbrev object : ℕ → Denotation
@@ -90,25 +78,17 @@ shows kind level = record { kind = kind; level_text = text_of_level game Rows le
 
 -- undo
 
--- with no past an undo shows the level as it is
-undo_without_a_past : undo_link (session here there []) ≡ record { shown = shows kind.Undo here ∷ []; after = session here there []; goes_on = false }
-unfolding undo_link frame_of
-undo_without_a_past = refl
-
--- the last of the past is taken, and the target stays
-undo_takes_the_last : undo_link (session here here (there ∷ here ∷ []))
-    ≡ record { shown = shows kind.Undo there ∷ []; after = session there here (here ∷ []); goes_on = false }
-unfolding undo_link frame_of
-undo_takes_the_last = refl
-
--- the level before an input is put on the past if the level differs, and only then
-moved_is_past : settled (record (session there here []) { before = Some here }) ≡ session there here (here ∷ [])
-unfolding settled
-moved_is_past = refl
-
-unmoved_is_not : settled (record (session here here (there ∷ [])) { before = Some here }) ≡ session here here (there ∷ [])
-unfolding settled
-unmoved_is_not = refl
+undoes :
+    -- with no past an undo shows the level as it is
+    (undo_link (session here there []) ≡ record { shown = shows kind.Undo here ∷ []; after = session here there []; goes_on = false })
+    -- the last of the past is taken, and the target stays
+    × (undo_link (session here here (there ∷ here ∷ []))
+      ≡ record { shown = shows kind.Undo there ∷ []; after = session there here (here ∷ []); goes_on = false })
+    -- the level before an input is put on the past if the level differs, and only then
+    × (settled (record (session there here []) { before = Some here }) ≡ session there here (here ∷ []))
+    × (settled (record (session here here (there ∷ [])) { before = Some here }) ≡ session here here (there ∷ []))
+unfolding undo_link frame_of settled
+undoes = (refl, refl, refl, refl)
 
 -- restart
 
@@ -118,51 +98,38 @@ restart_is_kept : begun Restart (session here there [])
 unfolding begun restarted frame_of
 restart_is_kept = refl
 
--- with `run_rules_on_level_start` a tick follows a restart, and none an undo
-restart_with_a_tick : restarted (session_of (game_with true (entry ∷ [])) here there [])
-    ≡ record { shown = shows kind.Restart there ∷ []; after = session_of (game_with true (entry ∷ [])) there there []; goes_on = true }
-unfolding restarted frame_of text_of_level
-restart_with_a_tick = refl
-
-undo_without_a_tick : undo_link (session_of (game_with true (entry ∷ [])) here here (there ∷ []))
-    ≡ record { shown = shows kind.Undo there ∷ []; after = session_of (game_with true (entry ∷ [])) there here []; goes_on = false }
-unfolding undo_link frame_of text_of_level
-undo_without_a_tick = refl
+ticks_at_start :
+    -- with `run_rules_on_level_start` a tick follows a restart, and none an undo
+    (restarted (session_of (game_with true (entry ∷ [])) here there [])
+      ≡ record { shown = shows kind.Restart there ∷ []; after = session_of (game_with true (entry ∷ [])) there there []; goes_on = true })
+    × (undo_link (session_of (game_with true (entry ∷ [])) here here (there ∷ []))
+      ≡ record { shown = shows kind.Undo there ∷ []; after = session_of (game_with true (entry ∷ [])) there here []; goes_on = false })
+unfolding restarted frame_of text_of_level undo_link
+ticks_at_start = (refl, refl)
 
 -- what commands make of a step
 
--- cancel goes before restart: the level stays, and the frame is that of the step
-cancel_before_restart : effect kind.Move (session here there [])
-    (record { level = here; commands = either command.restart command.cancel; changed = false })
-    ≡ record { shown = shows kind.Move here ∷ []; after = session here there []; goes_on = false }
-unfolding effect frame_of
-cancel_before_restart = refl
-
--- restart goes before win, and is shown in place of the step
-restart_before_win : effect kind.Move (session here here [])
-    (record { level = there; commands = either command.win command.restart; changed = true })
-    ≡ record { shown = shows kind.Restart here ∷ []; after = session here here []; goes_on = false }
-unfolding effect restarted frame_of
-restart_before_win = refl
-
--- checkpoint and again of one step both count
-checkpoint_and_again : effect kind.Move (session here here [])
-    (record { level = there; commands = either command.again command.checkpoint; changed = true })
-    ≡ record { shown = shows kind.Move there ∷ []; after = session there there []; goes_on = true }
-unfolding effect reached_link kept_link has_won frame_of
-checkpoint_and_again = refl
-
--- again without a change asks for no tick
-again_without_a_change : effect kind.Move (session here there []) (record { level = here; commands = command.again; changed = false })
-    ≡ record { shown = shows kind.Move here ∷ []; after = session here there []; goes_on = false }
-unfolding effect reached_link kept_link has_won frame_of
-again_without_a_change = refl
-
--- only a message comes after the won level: play is over, and the level stays
-last_level_won : effect kind.Move (session here here []) (record { level = there; commands = command.win; changed = true })
-    ≡ record { shown = shows kind.Move there ∷ []; after = record (session there here []) { is_over = true }; goes_on = false }
-unfolding effect reached_link won_link has_won level_from frame_of
-last_level_won = refl
+makes :
+    -- cancel goes before restart: the level stays, and the frame is that of the step
+    (effect kind.Move (session here there [])
+      (record { level = here; commands = either command.restart command.cancel; changed = false })
+      ≡ record { shown = shows kind.Move here ∷ []; after = session here there []; goes_on = false })
+    -- restart goes before win, and is shown in place of the step
+    × (effect kind.Move (session here here [])
+      (record { level = there; commands = either command.win command.restart; changed = true })
+      ≡ record { shown = shows kind.Restart here ∷ []; after = session here here []; goes_on = false })
+    -- checkpoint and again of one step both count
+    × (effect kind.Move (session here here [])
+      (record { level = there; commands = either command.again command.checkpoint; changed = true })
+      ≡ record { shown = shows kind.Move there ∷ []; after = session there there []; goes_on = true })
+    -- again without a change asks for no tick
+    × (effect kind.Move (session here there []) (record { level = here; commands = command.again; changed = false })
+      ≡ record { shown = shows kind.Move here ∷ []; after = session here there []; goes_on = false })
+    -- only a message comes after the won level: play is over, and the level stays
+    × (effect kind.Move (session here here []) (record { level = there; commands = command.win; changed = true })
+      ≡ record { shown = shows kind.Move there ∷ []; after = record (session there here []) { is_over = true }; goes_on = false })
+unfolding effect frame_of restarted reached_link kept_link has_won won_link level_from
+makes = (refl, refl, refl, refl, refl)
 
 -- after that even an undo only shows the won level
 over_means_over : begun Undo (record (session there here (here ∷ [])) { is_over = true })
@@ -186,14 +153,13 @@ next_level = refl
 abbrev tick_with : Bool → Commands → Outcome Grid
 tick_with changed commands = record { level = here; commands = commands; changed = changed }
 
--- a tick that changes nothing is idle, though it gives checkpoint or again; restart or win make it count, and cancel doesn't
-without_a_change : map (λ c. is_idle (tick_with false c)) (command.checkpoint ∷ command.again ∷ command.restart ∷ command.win
-    ∷ command.cancel ∷ [])
-    ≡ true ∷ true ∷ false ∷ false ∷ true ∷ []
-without_a_change = refl
-
-cancelled_with_win : is_idle (tick_with false (either command.cancel command.win)) ≡ true
-cancelled_with_win = refl
+idle_ticks :
+    -- a tick that changes nothing is idle, though it gives checkpoint or again; restart or win make it count, and cancel doesn't
+    (map (λ c. is_idle (tick_with false c)) (command.checkpoint ∷ command.again ∷ command.restart ∷ command.win
+      ∷ command.cancel ∷ [])
+      ≡ true ∷ true ∷ false ∷ false ∷ true ∷ [])
+    × (is_idle (tick_with false (either command.cancel command.win)) ≡ true)
+idle_ticks = (refl, refl)
 
 -- the order of the items
 
@@ -209,20 +175,15 @@ counting = record {
   verdict = λ n. if n == 2 then Passed else Differs;
 }
 
--- frames are numbered from 0, each with the number of inputs taken, and the close follows
-two_inputs : items_from 0 (played counting 0 (Undo ∷ Restart ∷ []) 0) ≡ item.Frame 0 1 shown ∷ item.Frame 1 2 shown ∷ item.Close Passed ∷ []
+items_in_order :
+    -- frames are numbered from 0, each with the number of inputs taken, and the close follows
+    (items_from 0 (played counting 0 (Undo ∷ Restart ∷ []) 0) ≡ item.Frame 0 1 shown ∷ item.Frame 1 2 shown ∷ item.Close Passed ∷ [])
+    -- at a stop the frames so far stand, and no later input is played
+    × (items_from 0 (played counting 0 (Undo ∷ Undo ∷ Undo ∷ Undo ∷ []) 0)
+      ≡ item.Frame 0 1 shown ∷ item.Frame 1 2 shown ∷ item.Close (Stopped stop.LoopLimit) ∷ [])
+    × (items_from 3 (played counting 7 [] 0) ≡ item.Close Differs ∷ [])
 unfolding played items_from numbered
-two_inputs = refl
-
--- at a stop the frames so far stand, and no later input is played
-stopped : items_from 0 (played counting 0 (Undo ∷ Undo ∷ Undo ∷ Undo ∷ []) 0)
-    ≡ item.Frame 0 1 shown ∷ item.Frame 1 2 shown ∷ item.Close (Stopped stop.LoopLimit) ∷ []
-unfolding played items_from numbered
-stopped = refl
-
-no_input : items_from 3 (played counting 7 [] 0) ≡ item.Close Differs ∷ []
-unfolding played items_from numbered
-no_input = refl
+items_in_order = (refl, refl, refl)
 
 -- an input's first link asks for a tick, and so does each tick before the 500th
 abbrev ticking : Links ℕ
@@ -233,14 +194,12 @@ ticking = record {
   verdict = λ n. if n == 500 then Passed else Differs;
 }
 
--- 500 ticks may follow a press; a tick input is itself one of the 500
-ticks_after_a_press : played ticking 0 (Press Up ∷ []) 0 ≡ closing Passed
+counts_ticks :
+    -- 500 ticks may follow a press; a tick input is itself one of the 500
+    (played ticking 0 (Press Up ∷ []) 0 ≡ closing Passed)
+    × (played ticking 0 (Tick ∷ []) 0 ≡ closing (Stopped stop.AgainLimit))
 unfolding played
-ticks_after_a_press = refl
-
-ticks_after_a_tick : played ticking 0 (Tick ∷ []) 0 ≡ closing (Stopped stop.AgainLimit)
-unfolding played
-ticks_after_a_tick = refl
+counts_ticks = (refl, refl)
 
 -- whole sessions
 
@@ -263,19 +222,14 @@ plan = record {
   order = Rows;
 }
 
--- a step to the right is taken back, the second undo finds nothing, and the last level is the recorded one
-taken_back : items_of_plan (Ok plan)
-    ≡ item.Frame 0 0 (frame kind.Start here_text) ∷ item.Frame 1 1 (frame kind.Move there_text)
-    ∷ item.Frame 2 2 (frame kind.Undo here_text) ∷ item.Frame 3 3 (frame kind.Undo here_text) ∷ item.Close Passed ∷ []
+whole_sessions :
+    -- a step to the right is taken back, the second undo finds nothing, and the last level is the recorded one
+    (items_of_plan (Ok plan)
+      ≡ item.Frame 0 0 (frame kind.Start here_text) ∷ item.Frame 1 1 (frame kind.Move there_text)
+      ∷ item.Frame 2 2 (frame kind.Undo here_text) ∷ item.Frame 3 3 (frame kind.Undo here_text) ∷ item.Close Passed ∷ [])
+    -- without an input there is the start, and the close
+    × (items_of_plan (Ok (record plan { inputs = []; recorded = [] })) ≡ item.Frame 0 0 (frame kind.Start here_text) ∷ item.Close Differs ∷ [])
+    -- a refused session has its close alone
+    × (items_of_plan (Err NoLevel) ≡ item.Close (Refused NoLevel) ∷ [])
 unfolding items_of_plan played_items items_from numbered played begun start_link press_link undo_link effect reached_link kept_link settled frame_of text_of_level standing_names with_name with_cell piece digits step_of rules_run blocks_run has_won equals_recorded same_set
-taken_back = refl
-
--- without an input there is the start, and the close
-start_alone : items_of_plan (Ok (record plan { inputs = []; recorded = [] })) ≡ item.Frame 0 0 (frame kind.Start here_text) ∷ item.Close Differs ∷ []
-unfolding items_of_plan played_items items_from numbered played start_link settled frame_of text_of_level standing_names with_name with_cell piece digits equals_recorded same_set
-start_alone = refl
-
--- a refused session has its close alone
-refused : items_of_plan (Err NoLevel) ≡ item.Close (Refused NoLevel) ∷ []
-unfolding items_of_plan
-refused = refl
+whole_sessions = (refl, refl, refl)

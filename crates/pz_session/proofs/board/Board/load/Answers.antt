@@ -1,6 +1,4 @@
-use Rattle.pz_session.proofs.Common.{[], ap, IsOfGame}
-use Rattle.std.proofs.lemmas.List.Elements.{All-same, All-nil}
-use Rattle.pz_level_text.specs.Labels.{WriterView}
+use Rattle.pz_session.proofs.Common.{[], ap, IsOfGame, All-same, All-nil, WriterView}
 use Rattle.pz_session.proofs.BoardLemmas.{loaded_of_game}
 use Rattle.pz_session.proofs.board.Board.load.Goals as goal
 

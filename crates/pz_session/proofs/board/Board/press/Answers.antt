@@ -1,5 +1,4 @@
-use Rattle.pz_session.proofs.Common.{◌≡◌, Option, Some, option_map, not, rules, ap, ap₂, sym, subst, ◌∙◌, IfSome, Grid, LevelState, State, at_level, keeping, state_in}
-use Rattle.pz_sheet.specs.Sameness.{same_grid}
+use Rattle.pz_session.proofs.Common.{◌≡◌, Option, Some, option_map, not, rules, ap, ap₂, sym, subst, ◌∙◌, IfSome, Grid, LevelState, State, at_level, keeping, state_in, same_grid}
 use Rattle.pz_session.proofs.BoardLemmas.{pressed, tells}
 use Rattle.pz_session.proofs.LabelledLemmas.{kept_before}
 use Rattle.pz_session.proofs.board.Board.press.Goals as goal

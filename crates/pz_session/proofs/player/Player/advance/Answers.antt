@@ -1,7 +1,4 @@
-use Rattle.pz_session.proofs.Common.{◌≡◌, ◌<◌, length, ap, refl, sym, ◌∙◌, nat_lt, true, get_or, get_or_default, Input, ltb-true, is_waiting_in}
-use Rattle.pz_record.specs.declared.input.Input.TheVariants.{Press}
-use Rattle.pz_game.specs.declared.direction.Dir.TheVariants.{Up}
-use Rattle.std.proofs.lemmas.Result.{on_ok_weaker}
+use Rattle.pz_session.proofs.Common.{◌≡◌, ◌<◌, length, ap, refl, sym, ◌∙◌, nat_lt, true, get_or, get_or_default, Input, ltb-true, is_waiting_in, Press, Up, on_ok_weaker}
 use Rattle.pz_session.proofs.Advancing.{waiting-parts, left-no_tick, left-tick, left-begin}
 use Rattle.pz_session.proofs.player.Player.advance.Goals as goal
 
