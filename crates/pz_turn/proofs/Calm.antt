@@ -1,5 +1,5 @@
 -- A pass that leaves calm items out gives what the whole pass gives.
-use Rattle.pz_turn.proofs.Common.{◌≡◌, ℕ, suc, ◌+◌, ◌<◌, ◌≤◌, Result, Ok, Err, List, [], ◌∷◌, Bool, true, false, cond, ◌||◌, ◌⊎◌, inl, inr, fold, take, drop, length, get_or, refl, ap, sym, ◌∙◌, arith, subst, cases_lt, or_parts, take_more, take_all, take-append-drop, get_or-drop, length-drop, get_or_default, Commands, no_commands, either, StepFault, Outcome, untouched, followed_by, joined, Runs, pass_of, ends, IsCalm, AreCalmFrom, fold-append}
+use Rattle.pz_turn.proofs.Common.{◌≡◌, ℕ, suc, ◌+◌, ◌<◌, ◌≤◌, Result, Ok, Err, List, [], ◌∷◌, Bool, true, false, cond, ◌||◌, ◌⊎◌, inl, inr, fold, take, drop, length, get_or, refl, ap, sym, ◌∙◌, arith, subst, cases_lt, or_parts, take_more, take-append-drop, get_or-drop, length-drop, get_or_default, Commands, no_commands, either, StepFault, Outcome, untouched, followed_by, joined, Runs, pass_of, ends, IsCalm, AreCalmFrom, fold-append}
 use Rattle.std.specs.Int.RustNames.{bit_or}
 use Rattle.std.proofs.lemmas.Nat.{or_comm}
 use Rattle.std.proofs.lemmas.Nat.Bits.{bit_at_or, same_from_bits}

@@ -1,16 +1,16 @@
 -- The words of the proofs of this crate: what several of them import.
-pub use Rattle.std.proofs.Common.{Bool, Err, Global, List, None, Ok, Option, Result, Some, Vec, [], add-one, ap, append_assoc, arith, below_more, cond, drop, eqb, false, filter, fold, get_or, get_or-set_other, inl, inr, is_some, length, map, min, nat_eq, not, refl, rules, set, subst, suc, sym, take, true, zero, ℕ, ◌*◌, ◌++◌, ◌+◌, ◌-◌, ◌/◌, ◌<◌, ◌&&◌, ◌||◌, ◌∙◌, ◌∷◌, ◌≡◌, ◌≢◌, ◌≤◌, ◌⊎◌}
+pub use Rattle.std.proofs.Common.{Bool, Err, List, None, Ok, Option, Result, Some, [], add-one, ap, append_assoc, arith, below_more, cond, drop, eqb, false, fold, get_or, inl, inr, length, map, min, nat_eq, not, refl, set, subst, suc, sym, take, true, zero, ℕ, ◌*◌, ◌++◌, ◌+◌, ◌<◌, ◌&&◌, ◌||◌, ◌∙◌, ◌∷◌, ◌≡◌, ◌≢◌, ◌≤◌, ◌⊎◌}
 pub use Rattle.std.proofs.Math.Bool.{and-true, or-false, or_assoc}
 pub use Rattle.std.proofs.lemmas.Bool.Decides.{nat_tests}
-pub use Rattle.std.proofs.lemmas.Bool.{cases_Bool, cases_eq, cases_lt, eqb-true, false_from_ne_true, le-ltb, lt-ltb, ltb-false, ltb-true, not-false, not-true, or_parts, true_from_ne_false}
+pub use Rattle.std.proofs.lemmas.Bool.{cases_Bool, cases_lt, le-ltb, lt-ltb, not-false, not-true, or_parts}
 pub use Rattle.std.proofs.lemmas.Grind.{common_steps, drop-set_at, fold-append}
 pub use Rattle.std.proofs.lemmas.List.Elements.{All-cons, All-drop, All-head, All-nil, All-tail, All-take, Contains-append_right}
 pub use Rattle.std.proofs.lemmas.List.Folds.{fold_stays}
 pub use Rattle.std.proofs.lemmas.List.FromFn.{get_or-map-range_with_len, get_or-range_with_len, length-map-range_with_len, length-range_with_len}
-pub use Rattle.std.proofs.lemmas.List.{append-nil, at_drop_more, drop-drop, drop_all, drop_at, drop_more, ext_get_or, get_or-drop, get_or_default, length-append, length-drop, length-map, length-set, map-append, nil_from_length, set-get_or, take-append-drop, take_all, take_at, take_more}
+pub use Rattle.std.proofs.lemmas.List.{append-nil, at_drop_more, drop-drop, drop_all, drop_at, drop_more, ext_get_or, get_or-drop, get_or_default, length-drop, length-map, length-set, map-append, nil_from_length, set-get_or, take-append-drop, take_all, take_at, take_more}
 pub use Rattle.std.proofs.lemmas.Result.{IfOk-weaker, err_from_is_err_and}
 pub use Rattle.std.specs.List.{All, enumerate_from, find, flat_map, list_all, list_any, range_with_len, zip}
-pub use Rattle.std.specs.Prelude.{IfErr, IfOk, MatchOption, codes, if◌then◌else◌, nat_lt}
+pub use Rattle.std.specs.Prelude.{IfOk, codes}
 pub use Rattle.pz_cells.proofs.SameLemmas.{same_cell_is, same_cell_self}
 pub use Rattle.pz_cells.specs.Rewriting.{kept, new_heading, replaced, rewritten_cell, rewritten_place}
 pub use Rattle.pz_cells.specs.declared.piece.Piece.{Piece}
@@ -23,7 +23,7 @@ pub use Rattle.pz_game.specs.declared.pattern.Word.{Word}
 pub use Rattle.pz_grid.proofs.CountLemmas.{searched-gapless, searched-small}
 pub use Rattle.pz_grid.proofs.FoundLemmas.{searched-gives, searched-within}
 pub use Rattle.pz_grid.proofs.MovementLemmas.{same_size_on}
-pub use Rattle.pz_grid.specs.Places.{along, holds_at, line_count, line_length, place_in, places, position_of, row_holds, row_of_one, still_holds, still_matches}
+pub use Rattle.pz_grid.specs.Places.{along, holds_at, places, position_of, row_of_one, still_holds}
 unfoldable pub use Rattle.pz_grid.specs.Places.{searched}
 pub use Rattle.pz_grid.specs.Rewriting.{Rewriting, in_rewrite, rewritten, rewritten_along, rewritten_at, rewritten_row}
 pub use Rattle.pz_grid.specs.declared.placing.Place.{Place}
@@ -42,7 +42,7 @@ pub use Rattle.pz_turn.specs.Outcome.{GivesOutcome, Outcome, followed_by, joined
 pub use Rattle.pz_turn.specs.Rest.{Runs, ends, ends_after, group_runs, is_last, pass_of, passes, rests, up_to}
 unfoldable pub use Rattle.pz_turn.specs.Rest.{rest_of}
 unfoldable pub use Rattle.pz_turn.specs.Step.{block_runs, blocks_run, rules_run, step_of}
-pub use Rattle.pz_turn.specs.Step.{ended, given_input, keeps_player, must_cancel, step_ended, then_moved, with_cancel}
+pub use Rattle.pz_turn.specs.Step.{ended, given_input, keeps_player, step_ended, then_moved, with_cancel}
 pub use Rattle.pz_turn.specs.Win.{fits_both, fits_if, line_holds}
 unfoldable pub use Rattle.pz_turn.specs.Win.{has_won}
 pub use Rattle.pz_turn.specs.declared.outcome.Given.{Given}

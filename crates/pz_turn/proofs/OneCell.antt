@@ -1,8 +1,7 @@
 -- An instance of one cell rewrites only the cells of its places, and a cell that was rewritten stays if it is rewritten again. So it
 -- needn't be asked at a place whether it still holds there, and run again it changes nothing.
-use Rattle.pz_turn.proofs.Common.{◌≡◌, ◌⊎◌, ℕ, zero, suc, ◌+◌, ◌*◌, ◌<◌, List, [], ◌∷◌, map, fold, set, get_or, length, Option, Some, None, Ok, Bool, true, false, ◌&&◌, cond, nat_eq, refl, ap, sym, subst, ◌∙◌, arith, inl, inr, get_or-set_other, Dir, Instance, RuleRow, AreRowsOf, IsRowOf, Place, Grid, IsLawful, cell_at, row_of_one, still_holds, along, holds_at, places, searched, Rewriting, in_rewrite, rewritten_at, found_or_stop, applied_at, outcome_of, applied, one_rewritten, IsOfOneCell, IsCalm, common_steps, Item, Piece, kept, replaced, new_heading, rewritten_place, rewritten_cell, Word, ext_get_or, get_or-map-range_with_len, length-map-range_with_len, cases_eq, cases_Bool, All-head, Contains-append_right, and-true, or-false, same_cell_self, searched-gapless, searched-gives}
+use Rattle.pz_turn.proofs.Common.{◌≡◌, ◌⊎◌, ℕ, zero, suc, ◌<◌, List, [], ◌∷◌, map, fold, get_or, length, Option, Some, None, Ok, Bool, true, false, ◌&&◌, cond, nat_eq, refl, ap, sym, subst, ◌∙◌, arith, inl, inr, Dir, Instance, RuleRow, AreRowsOf, IsRowOf, Place, Grid, IsLawful, cell_at, row_of_one, still_holds, along, holds_at, places, searched, Rewriting, in_rewrite, rewritten_at, found_or_stop, applied_at, outcome_of, applied, one_rewritten, IsOfOneCell, IsCalm, common_steps, Item, Piece, kept, replaced, new_heading, rewritten_place, rewritten_cell, Word, ext_get_or, get_or-map-range_with_len, length-map-range_with_len, cases_Bool, All-head, Contains-append_right, and-true, or-false, same_cell_self, searched-gapless, searched-gives}
 use Rattle.std.specs.Prelude.{Contains}
-use Rattle.pz_cells.specs.Pattern.{pattern_holds}
 use Rattle.pz_game.specs.Items.{placed_on, tells_of}
 use Rattle.pz_game.specs.Pattern.{AreOf}
 use Rattle.pz_grid.proofs.PlaceLemmas.{holds_from_place, place_from_holds}
@@ -37,10 +36,6 @@ rewritten_again left right cell = ext_get_or None _ _ (size (rewritten_cell left
 pub cell_of : (layers : List ℕ) (rows : List RuleRow) (cell : List Item) → rows ≡ row_of_one cell ∷ [] → AreRowsOf layers rows → AreOf layers cell
 cell_of layers rows cell only of = All-head (AreOf layers) cell [] (All-head (IsRowOf layers) (row_of_one cell) [] (subst (AreRowsOf layers) only of))
 
--- where a row starts doesn't depend on the cells of the level
-along_same : (grid : Grid) (cells : List (List (Option Piece))) (dir : Dir) (x y : ℕ) → along (record grid { cells = cells }) dir x y 0 ≡ along grid dir x y 0
-along_same grid cells dir x y = grind arith
-
 -- what stands at a position; off the map nothing does
 abbrev cell_there : Grid → Option (ℕ × ℕ) → List (Option Piece)
 cell_there grid None = []
@@ -55,22 +50,20 @@ module _ (left right : List Item) where
   abbrev SettledAt : Bool → Bool → Grid → Option (ℕ × ℕ) → Type 0
   SettledAt holds gapless grid at = ((gapless && (holds_at grid left at && true)) ≡ holds) ⊎ Stays (cell_there grid at)
 
-  written_stays : (cells : List (List (Option Piece))) (i : ℕ) (cell : List (Option Piece)) → Stays (get_or (set cells i (rewritten_cell left right cell)) i [])
-  written_stays cells i cell = grind (arith, common_steps, rewritten_again left right cell)
+  stays_there : (so_far : Rewriting) (at : Option (ℕ × ℕ)) → Stays (cell_there (rewritten_at so_far left right at).grid at)
+  stays_there so_far None = refl
+  stays_there so_far (Some (x, y)) = grind (arith, common_steps, rewritten_again left right (cell_at so_far.grid x y))
 
   -- that stays so where another cell is rewritten
   settled_at : (holds gapless : Bool) (so_far : Rewriting) (from at : Option (ℕ × ℕ)) → SettledAt holds gapless so_far.grid at → SettledAt holds gapless (rewritten_at so_far left right from).grid at
   settled_at holds gapless so_far None at settled = settled
   settled_at holds gapless so_far (Some (x, y)) None settled = inr refl
   settled_at holds gapless so_far (Some (x, y)) (Some (other_x, other_y)) settled =
-      let cells = so_far.grid.cells in
-      let i = y * so_far.grid.width + x in
-      let j = other_y * so_far.grid.width + other_x in
-      let cell = rewritten_cell left right (get_or cells i []) in
-      elim (cases_eq j i) [
-        | inl same ↦ inr (subst (λ (k : ℕ). Stays (get_or (set cells i cell) k [])) (sym same) (written_stays cells i (get_or cells i [])))
-        | inr apart ↦ subst (λ (c : List (Option Piece)). ((gapless && (pattern_holds c left && true)) ≡ holds) ⊎ Stays c) (sym (get_or-set_other cells i j cell [] apart)) settled
-      ]
+      grind (arith, common_steps, settled, rewritten_again left right (cell_at so_far.grid x y))
+
+  -- where a row starts doesn't depend on the cells of the level
+  along_kept : (so_far : Rewriting) (from : Option (ℕ × ℕ)) (dir : Dir) (x y : ℕ) → along (rewritten_at so_far left right from).grid dir x y 0 ≡ along so_far.grid dir x y 0
+  along_kept so_far from dir x y = grind arith
 
   -- rewriting a cell that stays leaves the level
   stays_at : (so_far : Rewriting) (at : Option (ℕ × ℕ)) → Stays (cell_there so_far.grid at) → rewritten_at so_far left right at ≡ so_far
@@ -96,21 +89,15 @@ module _ (instance : Instance) (left right : List Item) (one : IsOfOneCell insta
 
   -- that stays so where the cell is rewritten at a place
   settled_more : (held : Bool) (so_far : Rewriting) (place other : Place) → IsSettled held so_far.grid other → IsSettled held (rewrites so_far place).grid other
-  settled_more held so_far place other settled = by (along so_far.grid instance.scan place.x place.y 0) where
-    by : (from : Option (ℕ × ℕ)) → IsSettled held (rewritten_at so_far left right from).grid other
-    by None = settled
-    by (Some (x, y)) =
-        let next = (rewritten_at so_far left right (Some (x, y))).grid in
-        subst (SettledAt left right held (nat_eq other.gap 0) next) (sym (along_same so_far.grid next.cells instance.scan other.x other.y)) (settled_at left right held (nat_eq other.gap 0) so_far (Some (x, y)) (along so_far.grid instance.scan other.x other.y 0) settled)
+  settled_more held so_far place other settled =
+      let from = along so_far.grid instance.scan place.x place.y 0 in
+      subst (SettledAt left right held (nat_eq other.gap 0) (rewrites so_far place).grid) (sym (along_kept left right so_far from instance.scan other.x other.y)) (settled_at left right held (nat_eq other.gap 0) so_far from (along so_far.grid instance.scan other.x other.y 0) settled)
 
   -- and there nothing more is to do
   settled_here : (held : Bool) (so_far : Rewriting) (place : Place) → IsSettled held (rewrites so_far place).grid place
-  settled_here held so_far place = by (along so_far.grid instance.scan place.x place.y 0) refl where
-    by : (at : Option (ℕ × ℕ)) → along so_far.grid instance.scan place.x place.y 0 ≡ at → IsSettled held (rewritten_at so_far left right at).grid place
-    by None is = inr (ap (λ (there : Option (ℕ × ℕ)). rewritten_cell left right (cell_there so_far.grid there)) is ∙ sym (ap (cell_there so_far.grid) is))
-    by (Some (x, y)) is =
-        let next = (rewritten_at so_far left right (Some (x, y))).grid in
-        inr (subst (Stays left right) (sym (ap (cell_there next) (along_same so_far.grid next.cells instance.scan place.x place.y ∙ is))) (written_stays left right so_far.grid.cells (y * so_far.grid.width + x) (cell_at so_far.grid x y)))
+  settled_here held so_far place =
+      let from = along so_far.grid instance.scan place.x place.y 0 in
+      inr (subst (λ (at : Option (ℕ × ℕ)). Stays left right (cell_there (rewrites so_far place).grid at)) (sym (along_kept left right so_far from instance.scan place.x place.y)) (stays_there left right so_far from))
 
   settled_end : (found : List Place) (so_far : Rewriting) (other : Place) → IsSettled false so_far.grid other ⊎ Contains found other → IsSettled false (fold rewrites so_far found).grid other
   settled_end [] so_far other (inl settled) = settled

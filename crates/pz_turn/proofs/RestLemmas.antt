@@ -4,10 +4,7 @@ use Rattle.std.proofs.lemmas.List.Recursion.{found_at, found_nowhere}
 
 -- one more instance, which may stop
 pub fold_more : {L I : Type 0} (applied : I → Runs L) (o : Outcome L) (r : Result (Outcome L) StepFault) (xs : List I) (i : ℕ) (x : I) → i < length xs → x ≡ get_or xs i x → applied x o.level ≡ r → fold (λ so_far y. followed_by so_far (applied y)) (joined o r) (drop (i + 1) xs) ≡ fold (λ so_far y. followed_by so_far (applied y)) (Ok o) (drop i xs)
-fold_more {L} {I} applied o r xs i x in_range at gives =
-    let run : Result (Outcome L) StepFault → Result (Outcome L) StepFault = λ s. fold (λ so_far y. followed_by so_far (applied y)) s (drop (i + 1) xs) in
-    let here : applied (get_or xs i x) o.level ≡ r = rw (← at) gives in
-    sym (at_drop_more (fold (λ so_far y. followed_by so_far (applied y)) (Ok o)) xs i x in_range ∙ ap (λ s. run (joined o s)) here)
+fold_more applied o r xs i x in_range at gives = grind (arith, at_drop_more (fold (λ so_far y. followed_by so_far (applied y)) (Ok o)) xs i x in_range, at, gives)
 
 -- a stop at the next instance is the stop of the rest of the group
 pub fold_stops : {L I : Type 0} (applied : I → Runs L) (o : Outcome L) (xs : List I) (i : ℕ) (x : I) (fault : StepFault) (whole : Result (Outcome L) StepFault) → fold (λ so_far y. followed_by so_far (applied y)) (Ok o) (drop i xs) ≡ whole → i < length xs → x ≡ get_or xs i x → applied x o.level ≡ Err fault → whole ≡ Err fault

@@ -43,8 +43,7 @@ module _ {L I : Type 0} (runs : I → Runs L) where
   fold_segments a [] = refl
   fold_segments a (xs ∷ xss) =
       let rest = flat_map (λ (segment : List I). segment) xss in
-      fold_segments (followed_by a (pass_of runs xs)) xss
-      ∙ (ap (λ (r : Result (Outcome L) StepFault). fold step r rest) (follow_pass a xs) ∙ sym (fold-append step a xs rest))
+      grind (arith, fold_segments (followed_by a (pass_of runs xs)) xss, follow_pass a xs, fold-append step a xs rest)
 
   pub pass_by_segments : (segments : List (List I)) (level : L) → pass_of (pass_of runs) segments level ≡ pass_of runs (flat_map (λ (segment : List I). segment) segments) level
   pass_by_segments segments level = fold_segments (Ok (untouched level)) segments
@@ -58,9 +57,7 @@ rest_by_segments limit segments group level is =
 -- ---- instances that leave a level as it is
 pub left_pass : (grid : Grid) (xs : List Instance) → All (λ (x : Instance). applied x grid ≡ Ok (untouched grid)) xs → pass_of applied xs grid ≡ Ok (untouched grid)
 left_pass grid [] all = refl
-left_pass grid (x ∷ xs) all =
-    ap (λ (r : Result (Outcome Grid) StepFault). fold (λ so_far instance. followed_by so_far (applied instance)) (joined (untouched grid) r) xs) (All-head (λ (y : Instance). applied y grid ≡ Ok (untouched grid)) x xs all)
-    ∙ left_pass grid xs (All-tail (λ (y : Instance). applied y grid ≡ Ok (untouched grid)) x xs all)
+left_pass grid (x ∷ xs) all = grind (arith, All-head (λ (y : Instance). applied y grid ≡ Ok (untouched grid)) x xs all, left_pass grid xs (All-tail (λ (y : Instance). applied y grid ≡ Ok (untouched grid)) x xs all))
 
 -- an instance that has no effect, or asks for what nothing heads in
 left_out_applied : (grid : Grid) (set : List ℕ) → IsLawful grid → ((row : RuleRow) (dir : Dir) → IsRowOf grid.layers row → AsksAmong set row.cells → places grid row dir ≡ []) → (x : Instance) → IsInstanceOf grid.layers x → IsLeftOut set x → applied x grid ≡ Ok (untouched grid)

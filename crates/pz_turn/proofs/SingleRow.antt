@@ -1,14 +1,6 @@
 -- An instance applied at all its combinations. If it has one row, each place of the row is one.
 use Rattle.pz_turn.proofs.Common.{◌≡◌, ◌<◌, ◌≤◌, List, [], ◌∷◌, ◌++◌, map, length, ap, ◌∙◌, arith, Result, Ok, Err, fold, refl, false, append-nil, length-map, Dir, Commands, Instance, RuleRow, Place, Grid, searched, Rewriting, in_rewrite, StepFault, combinations, found_or_stop, after_row, taken, applied_at, applied_to, applied_with, given, outcome_of, applied, lt-ltb, le-ltb, nat_tests, MatchLimit}
 
-pub applied_stops : (instance : Instance) (grid : Grid) (fault : StepFault) → taken grid instance.scan instance.left ≡ Err fault → applied instance grid ≡ Err fault
-unfolding applied
-applied_stops instance grid fault stops = ap (applied_with instance grid) stops
-
-pub applied_too_often : (instance : Instance) (grid : Grid) (lists : List (List Place)) → taken grid instance.scan instance.left ≡ Ok lists → 1048576 < length (combinations lists) → applied instance grid ≡ Err MatchLimit
-unfolding applied
-applied_too_often instance grid lists found over = grind (arith, found, lt-ltb 1048576 (length (combinations lists)) over)
-
 map-nothing_behind : (all : List (List Place)) (behind : List Place) → behind ≡ [] → map (λ places. places ++ behind) all ≡ all
 map-nothing_behind [] behind none = refl
 map-nothing_behind (places ∷ all) behind none = rw (map-nothing_behind all behind none) (ap (λ (ps : List Place). ps ∷ all) (ap (λ b. places ++ b) none ∙ append-nil places))

@@ -12,22 +12,14 @@ pub record IsNoneTaken (grid : Grid) (dir : Dir) (rows : List RuleRow) : Type 0 
 pub none_first : (grid : Grid) (dir : Dir) (row : RuleRow) (rows : List RuleRow) → places grid row dir ≡ [] → IsNoneTaken grid dir (row ∷ rows)
 none_first grid dir row rows none =
     let found = searched-within grid row dir (omega (arith, ap length none)) ∙ ap Ok none in
-    record {
-      lists = [] ∷ [];
-      takes = ap (λ r. after_row (found_or_stop r) (taken grid dir rows)) found;
-      none = refl;
-    }
+    record { lists = [] ∷ []; takes = ap (λ r. after_row (found_or_stop r) (taken grid dir rows)) found; none = refl }
 
 -- a row without a gap before such rows
 pub none_after : (grid : Grid) (dir : Dir) (row : RuleRow) (rows : List RuleRow) → IsLawful grid → row.gap_at ≡ None → IsNoneTaken grid dir rows → IsNoneTaken grid dir (row ∷ rows)
 none_after grid dir row rows lawful gapless rest = by (places grid row dir) refl where
   by : (found : List Place) → places grid row dir ≡ found → IsNoneTaken grid dir (row ∷ rows)
   by [] e = none_first grid dir row rows e
-  by (place ∷ found) e = record {
-    lists = (place ∷ found) ∷ rest.lists;
-    takes = ap (λ r. after_row (found_or_stop r) (taken grid dir rows)) (searched-gapless grid row dir lawful gapless ∙ ap Ok e) ∙ ap (after_row (Ok (place ∷ found))) rest.takes;
-    none = ap (flat_map (λ (others : List Place). map (λ (p : Place). p ∷ others) (place ∷ found))) rest.none;
-  }
+  by (place ∷ found) e = record { lists = (place ∷ found) ∷ rest.lists; takes = grind (arith, searched-gapless grid row dir lawful gapless, e, rest.takes); none = grind (arith, rest.none) }
 
 -- an instance of such rows does nothing
 pub applied_none : (instance : Instance) (grid : Grid) → IsNoneTaken grid instance.scan instance.left → applied instance grid ≡ Ok (untouched grid)
@@ -65,8 +57,4 @@ following_stop grid dir lists rows i row fault within at is = ap (following list
 pub applied_until : (instance : Instance) (grid : Grid) (lists : List (List Place)) (rows : List RuleRow) (i : ℕ) (row : RuleRow) → i < length rows → row ≡ get_or rows i row → found_or_stop (searched grid row instance.scan) ≡ Ok [] → following lists (taken grid instance.scan (drop i rows)) ≡ taken grid instance.scan instance.left → applied instance grid ≡ Ok (untouched grid)
 applied_until instance grid lists rows i row within at none before =
     let ended : taken grid instance.scan (drop i rows) ≡ Ok ([] ∷ []) = taken_from grid instance.scan rows i row (Ok []) within at none in
-    applied_none instance grid (record {
-      lists = lists ++ [] ∷ [];
-      takes = sym before ∙ ap (following lists) ended;
-      none = combinations-last lists [];
-    })
+    applied_none instance grid (record { lists = lists ++ [] ∷ []; takes = sym before ∙ ap (following lists) ended; none = combinations-last lists [] })

@@ -22,8 +22,7 @@ applied-stops instance level e = grind (arith, taken-stops level instance.scan i
 
 -- passes
 followed_by-stops : {L : Type 0} (first : Result (Outcome L) StepFault) (run : Runs L) → Stops first → AllStop run → Stops (followed_by first run)
-followed_by-stops (Err fault) run h each e = h e
-followed_by-stops (Ok first) run h each e = grind (arith, each first.level, e)
+followed_by-stops {L} first run h each e = grind (arith, h, λ (o : Outcome L). each o.level, e)
 
 fold-stops : {L I : Type 0} (runs : I → Runs L) → ((x : I) → AllStop (runs x)) → (xs : List I) (so_far : Result (Outcome L) StepFault) → Stops so_far → Stops (fold (λ so_far x. followed_by so_far (runs x)) so_far xs)
 fold-stops runs each [] so_far h = h

@@ -1,4 +1,4 @@
-use Rattle.pz_turn.proofs.Common.{◌≡◌, ℕ, ◌+◌, ◌++◌, ◌∷◌, [], Result, Ok, drop, take, fold, get_or, arith, ap, sym, subst, ◌∙◌, take_more, err_from_is_err_and, same_size_on, either, Grid, Given, Outcome, StepFault, IsCalm, followed_by, pass_of}
+use Rattle.pz_turn.proofs.Common.{◌≡◌, ℕ, ◌+◌, ◌++◌, ◌∷◌, [], Ok, take, get_or, arith, ap, sym, ◌∙◌, take_more, err_from_is_err_and, same_size_on, Grid, Outcome, pass_of}
 use Rattle.pz_turn.proofs.Calm.{calm_alone, calm_known}
 use Rattle.pz_turn.proofs.RestLemmas.{fold_stops, fold_more}
 use Rattle.pz_turn.proofs.resting.pass.Goals as goal

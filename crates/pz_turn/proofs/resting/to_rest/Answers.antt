@@ -1,4 +1,4 @@
-use Rattle.pz_turn.proofs.Common.{refl, ◌≡◌, Bool, true, false, cond, take, Ok, arith, ap, sym, ◌∙◌, subst, err_from_is_err_and, same_size_on, Grid, Given, AreCalmFrom, Outcome, joined, pass_of, ends, not-false, not-true}
+use Rattle.pz_turn.proofs.Common.{refl, ◌≡◌, Bool, true, false, cond, take, Ok, arith, ap, ◌∙◌, subst, err_from_is_err_and, same_size_on, Grid, Outcome, joined, pass_of, ends, not-false, not-true}
 use Rattle.pz_turn.proofs.Calm.{calm_rest, calm_more}
 use Rattle.pz_turn.proofs.RestLemmas.{rest_ends, rest_never_ends, running_more}
 use Rattle.pz_turn.proofs.resting.to_rest.Goals as goal

@@ -13,8 +13,6 @@ returns-in_err-given-clause-fault c =
 
 pub returns-clause-end : goal.returns-clause-end
 returns-clause-end c =
-    let grid = c.args.level.now.grid in
-    let after = c.run_rules.new.level.grid in
-    let ends = step_gives c.args.game.now c.args.program.now grid _ c.args.input _ c.in_ok-work.ensures.given c.in_ok-given.ensures.outcome in
+    let ends = step_gives c.args.game.now c.args.program.now c.args.level.now.grid _ c.args.input _ c.in_ok-work.ensures.given c.in_ok-given.ensures.outcome in
     let commands = c.with_cancel.ensures ∙ ap (λ b. with_cancel b c.in_ok-given.given.commands) c.must_cancel-cancelled.ensures in
-    IfOk-weaker c.end_of.result _ _ (λ end is. ends ∙ ap (λ (given : Commands). Ok (ended grid after given)) (sym commands) ∙ ap Ok is) c.end_of.ensures.end
+    IfOk-weaker c.end_of.result _ _ (λ end is. ends ∙ ap (λ (given : Commands). Ok (ended c.args.level.now.grid c.run_rules.new.level.grid given)) (sym commands) ∙ ap Ok is) c.end_of.ensures.end
