@@ -1,5 +1,5 @@
 -- A link leaves what is left as it is.
-use Rattle.pz_session.proofs.Common.{◌≡◌, ◌<◌, ℕ, zero, suc, ◌+◌, ◌-◌, true, ◌&&◌, [], ◌∷◌, Option, Some, None, is_none, drop, length, get_or, refl, ap, sym, ◌∙◌, arith, and_parts, false≢true, drop_more, Input, Player, begun, tick_link, items_from, numbered, played, ticks_after, left_in, to_come, left_with, left, is_waiting, is_waiting_in}
+use Rattle.pz_session.proofs.Common.{◌≡◌, ◌<◌, ℕ, zero, suc, ◌+◌, ◌-◌, true, [], ◌∷◌, None, drop, length, get_or, refl, ap, sym, ◌∙◌, arith, drop_more, Input, Player, begun, tick_link, items_from, numbered, played, ticks_after, left_in, to_come, left_with, left, is_waiting, is_waiting_in}
 use Rattle.pz_case.specs.declared.item.Stop.TheVariants.{AgainLimit}
 use Rattle.pz_session.specs.declared.player.Phase.TheVariants as phase
 use Rattle.pz_session.proofs.Leaving.{left-at, left-of_stopped}

@@ -1,5 +1,5 @@
 -- All levels of a session are its game's, and a step that is cancelled leaves the level.
-use Rattle.pz_session.proofs.Common.{arith, ◌≡◌, ℕ, List, ◌∷◌, Option, Some, None, Bool, true, false, not, cond, Result, Ok, Err, All, drop, refl, ap, sym, ◌∙◌, subst, IfOk, GameParts, Commands, Program, has, cancel, restart, Grid, IsOfGame, Outcome, given_input, must_cancel, with_cancel, ended, step_ended, step_of, rules_run, FrameKind, Stop, Link, GivesLink, is_idle, State, at_level, showing_end, restarted, reached_link, effect, keeping, idle, pressed_to, press_link, ticked_to, tick_link, All-head, All-tail, same_grid, Shown, PlayFault}
+use Rattle.pz_session.proofs.Common.{arith, ◌≡◌, ℕ, List, ◌∷◌, Option, Some, None, true, false, not, Result, Ok, Err, All, drop, refl, sym, subst, IfOk, GameParts, Commands, Program, has, cancel, Grid, IsOfGame, Outcome, given_input, must_cancel, with_cancel, ended, step_ended, step_of, rules_run, FrameKind, Stop, Link, GivesLink, is_idle, State, at_level, restarted, effect, keeping, idle, press_link, tick_link, All-head, All-tail, same_grid, Shown, PlayFault}
 use Rattle.pz_game.specs.declared.direction.Dir.{Dir}
 use Rattle.pz_game.specs.Game.{players_of}
 use Rattle.pz_bare.specs.Loading.{loaded}
@@ -48,21 +48,18 @@ pub effect_moved : (kind : FrameKind) (state : State) (end : Outcome Grid) → (
 unfolding effect restarted
 effect_moved kind state end same = grind (arith, same)
 
-abbrev ok_link : Link State → Result (Link State) Stop
-ok_link link = Ok link
-
 -- a press whose step ends on a level that took the place of the one before it, which is kept
 pub pressed : (dir : Dir) (state next after : State) (end : Outcome Grid) (result : Result Shown PlayFault) → step_of state.game state.program state.level (Some dir) ≡ Ok end → (has end.commands cancel ≡ true → end.level ≡ state.level)
-    → next ≡ at_level end.level (keeping state) → GivesLink (ok_link (effect Move next (record { level = next.level; commands = end.commands; changed = end.changed }))) after result → GivesLink (press_link dir state) after result
+    → next ≡ at_level end.level (keeping state) → GivesLink (Ok (effect Move next (record { level = next.level; commands = end.commands; changed = end.changed }))) after result → GivesLink (press_link dir state) after result
 unfolding press_link
 pressed dir state next after end result stepped same is given =
-    let link : press_link dir state ≡ ok_link (effect Move next (record { level = next.level; commands = end.commands; changed = end.changed })) = grind (arith, stepped, is, effect_moved Move (keeping state) end same) in
+    let link : press_link dir state ≡ Ok (effect Move next (record { level = next.level; commands = end.commands; changed = end.changed })) = grind (arith, stepped, is, effect_moved Move (keeping state) end same) in
     subst (λ (l : Result (Link State) Stop). GivesLink l after result) (sym link) given
 
 -- a tick that isn't idle, whose step ends on a level that took the place of the one before it
 pub ticked : (state next after : State) (end : Outcome Grid) (result : Result Shown PlayFault) → step_of state.game state.program state.level None ≡ Ok end → is_idle end ≡ false → (has end.commands cancel ≡ true → end.level ≡ state.level)
-    → next ≡ at_level end.level state → GivesLink (ok_link (effect Tick next (record { level = next.level; commands = end.commands; changed = end.changed }))) after result → GivesLink (tick_link state) after result
+    → next ≡ at_level end.level state → GivesLink (Ok (effect Tick next (record { level = next.level; commands = end.commands; changed = end.changed }))) after result → GivesLink (tick_link state) after result
 unfolding tick_link
 ticked state next after end result stepped busy same is given =
-    let link : tick_link state ≡ ok_link (effect Tick next (record { level = next.level; commands = end.commands; changed = end.changed })) = grind (arith, stepped, busy, is, effect_moved Tick state end same) in
+    let link : tick_link state ≡ Ok (effect Tick next (record { level = next.level; commands = end.commands; changed = end.changed })) = grind (arith, stepped, busy, is, effect_moved Tick state end same) in
     subst (λ (l : Result (Link State) Stop). GivesLink l after result) (sym link) given

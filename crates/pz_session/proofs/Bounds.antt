@@ -1,5 +1,5 @@
 -- How many items a session has at most.
-use Rattle.pz_session.proofs.Common.{◌≡◌, ℕ, zero, suc, ◌+◌, ◌*◌, ◌<◌, ◌≤◌, ◌^◌, Bool, true, false, ◌||◌, List, [], ◌∷◌, length, map, Option, Some, None, option_to_list, Result, Ok, Err, IfOk, if◌then◌else◌, refl, ap, ◌∙◌, arith, length-map, length-append, Commands, Grid, Outcome, step_of, has_won, Input, Stop, Frame, FrameKind, level_from, PlanState, Link, Chain, follow, ticks, preceded, Links, Played, played, going_on, showing, after_chain, ticks_after, numbered, items_from, is_idle, State, at_level, keeping, frame_of, restarted, won_link, kept_link, reached_link, effect, pressed_to, ticked_to, tick_link, press_link, undo_link, input_link, begun, start_link, board_links, state_of, played_items, MOST_TICKS}
+use Rattle.pz_session.proofs.Common.{◌≡◌, ℕ, zero, suc, ◌+◌, ◌*◌, ◌<◌, ◌≤◌, ◌^◌, List, [], ◌∷◌, length, map, Option, option_to_list, Result, Ok, IfOk, refl, ap, ◌∙◌, arith, length-map, length-append, Grid, Outcome, Input, Stop, Frame, FrameKind, PlanState, Link, Chain, follow, ticks, Links, Played, played, going_on, showing, after_chain, ticks_after, numbered, items_from, State, keeping, restarted, won_link, kept_link, reached_link, effect, tick_link, press_link, undo_link, begun, start_link, board_links, state_of, played_items, MOST_TICKS}
 use Rattle.pz_case.specs.declared.item.FrameKind.TheVariants.{Move, Tick}
 use Rattle.pz_case.specs.declared.item.Item.TheVariants as item
 
@@ -21,16 +21,10 @@ ticks_short ticked (suc n) s short = let h = follow_short (ticks ticked n) (n * 
 few_ticks : (i : Input) → ticks_after i ≤ MOST_TICKS
 few_ticks i = grind arith
 
-showing_length : (at : ℕ) (frames : List Frame) (later : Played) → length (showing at frames later).shown ≡ length frames + length later.shown
-showing_length at frames later = length-append (map (λ frame. (at, frame)) frames) later.shown ∙ ap (λ n. n + length later.shown) (length-map frames (λ frame. (at, frame)))
-
-after_short : {S : Type 0} (r : Links S) (later : S → Played) (m : ℕ) (end : Result S Stop) → ((s : S) → length (later s).shown ≤ m) → length (after_chain r later end).shown ≤ m
-after_short r later m end bound = grind (arith, bound)
-
 going_short : {S : Type 0} (r : Links S) (at : ℕ) (later : S → Played) (m k : ℕ) (chain : Chain S) → ((s : S) → length (later s).shown ≤ m) → length chain.shown ≤ k → length (going_on r at later chain).shown ≤ k + m
 going_short r at later m k chain bound h =
-    let rest = after_short r later m chain.after bound in
-    omega (arith, showing_length at chain.shown (after_chain r later chain.after))
+    let pair : Frame → ℕ × Frame = λ frame. (at, frame) in
+    grind (arith, bound, length-map chain.shown pair, length-append (map pair chain.shown) (after_chain r later chain.after).shown)
 
 pub played_short : {S : Type 0} (r : Links S) (taken : ℕ) (inputs : List Input) (s : S) → AreShort r → length (played r taken inputs s).shown ≤ length inputs * 1002
 unfolding played
@@ -47,14 +41,9 @@ unfolding numbered
 numbered_length n [] = refl
 numbered_length n (f ∷ fs) = ap suc (numbered_length (n + 1) fs)
 
-one_close : {X Y : Type 0} (f : X → Y) (o : Option X) → length (map f (option_to_list o)) ≤ 1
-one_close f o = grind arith
-
 items_length : (n : ℕ) (p : Played) → length (items_from n p) ≤ length p.shown + 1
 unfolding items_from
-items_length n p =
-    let close = one_close item.Close p.close in
-    omega (arith, length-append (numbered n p.shown) (map item.Close (option_to_list p.close)), numbered_length n p.shown)
+items_length n p = grind (arith, length-append (numbered n p.shown) (map item.Close (option_to_list p.close)), numbered_length n p.shown)
 
 effect_short : (kind : FrameKind) (s : State) (end : Outcome Grid) → length (effect kind s end).shown ≤ 2
 unfolding effect restarted reached_link kept_link won_link

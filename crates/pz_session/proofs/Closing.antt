@@ -3,7 +3,6 @@ use Rattle.pz_session.proofs.Common.{◌≡◌, ℕ, ◌+◌, List, [], ◌∷�
 use Rattle.pz_case.specs.declared.item.Item.TheVariants as item
 use Rattle.pz_case.specs.declared.item.Refusal.{Refusal}
 use Rattle.pz_case.specs.declared.item.Verdict.{Verdict}
-use Rattle.pz_session.specs.Laws.{CloseOnce}
 
 abbrev Closes : Played → Type 0
 Closes later = (end : Verdict) × (later.close ≡ Some end)
@@ -25,17 +24,10 @@ items_close : (later : Played) → Closes later → ClosesOnce (items_from 0 lat
 unfolding items_from
 items_close later h = (later.shown, (h.0, ap (λ (o : Option Verdict). numbered 0 later.shown ++ map item.Close (option_to_list o)) h.1))
 
-session_closes : (plan : PlanState) → ClosesOnce (played_items plan)
-unfolding played_items
-session_closes plan =
+pub plan_closes : (plan : Result PlanState Refusal) → ClosesOnce (items_of_plan plan)
+unfolding items_of_plan played_items numbered
+plan_closes (Err refusal) = ([], (Refused refusal, refl))
+plan_closes (Ok plan) =
     let chain = follow (ticks board_links.ticked MOST_TICKS) (Ok (start_link (state_of plan))) in
     let later = played board_links 0 plan.inputs in
     items_close (going_on board_links 0 later chain) (chain_closes board_links later chain.after (played_closes board_links 0 plan.inputs))
-
-plan_closes : (plan : Result PlanState Refusal) → ClosesOnce (items_of_plan plan)
-unfolding items_of_plan numbered
-plan_closes (Err refusal) = ([], (Refused refusal, refl))
-plan_closes (Ok plan) = session_closes plan
-
-pub cases_close : CloseOnce
-cases_close case = plan_closes case.plan

@@ -1,5 +1,5 @@
 -- The labels that a writer keeps stay those of a level, wherever the level goes.
-use Rattle.pz_session.proofs.Common.{◌≡◌, Option, Some, sym, subst, Grid, HasLabels, WriterView}
+use Rattle.pz_session.proofs.Common.{arith, ◌≡◌, Option, Some, Grid, HasLabels, WriterView}
 use Rattle.pz_session.specs.declared.labelled.Labelled.{Labelled}
 use Rattle.pz_session.specs.declared.labelled.Labelled.TheVariants.{Level, Before, Spare, Nothing}
 use Rattle.pz_session.specs.Labelled.{labelled_of, moved_to}
@@ -8,17 +8,7 @@ abbrev Keeps : WriterView → Labelled → Grid → Option Grid → Option Grid 
 Keeps texts labelled level before spare = HasLabels texts (labelled_of labelled level before spare)
 
 pub kept_before : (texts : WriterView) (labelled next : Labelled) (old new : Grid) (before spare aside more : Option Grid) → next ≡ moved_to labelled Before → aside ≡ Some old → Keeps texts labelled old before spare → Keeps texts next new aside more
-kept_before texts labelled next old new before spare aside more is there h = rw (is, there) (by labelled h) where
-  by : (l : Labelled) → Keeps texts l old before spare → Keeps texts (moved_to l Before) new (Some old) more
-  by Level h = h
-  by Before h = tt
-  by Spare h = tt
-  by Nothing h = tt
+kept_before texts labelled next old new before spare aside more is there h = rw (is, there) (grind (arith, h))
 
 pub kept_spare : (texts : WriterView) (labelled next : Labelled) (old new : Grid) (before spare other aside : Option Grid) → next ≡ moved_to labelled Spare → aside ≡ Some old → Keeps texts labelled old before spare → Keeps texts next new other aside
-kept_spare texts labelled next old new before spare other aside is there h = rw (is, there) (by labelled h) where
-  by : (l : Labelled) → Keeps texts l old before spare → Keeps texts (moved_to l Spare) new other (Some old)
-  by Level h = h
-  by Before h = tt
-  by Spare h = tt
-  by Nothing h = tt
+kept_spare texts labelled next old new before spare other aside is there h = rw (is, there) (grind (arith, h))

@@ -1,25 +1,20 @@
 -- What an item takes from what is left.
-use Rattle.pz_session.proofs.Common.{◌≡◌, ℕ, ◌+◌, ◌≤◌, arith, Bool, true, false, ◌&&◌, List, [], ◌∷◌, ◌++◌, Option, Some, None, option_to_list, is_none, drop, length, map, subst, Ok, Err, Result, if◌then◌else◌, refl, ap, ap₂, sym, ◌∙◌, ltb-false, drop_all, map-append, append_assoc, Input, Stop, Frame, Item, Played, items_from, numbered, played, showing, going_on, after_chain, State, board_links, settled, tick_link, verdict_of, Link, follow, ticks, preceded, GivesLink, shown_frames, Player, pending, left_in, to_come, to_follow, left_with, left, is_waiting, is_waiting_in, Stopped, Shown, PlayFault}
+use Rattle.pz_session.proofs.Common.{◌≡◌, ℕ, ◌+◌, ◌≤◌, arith, Bool, false, List, [], ◌∷◌, ◌++◌, Option, None, option_to_list, drop, length, map, Ok, Err, Result, refl, ap, sym, ◌∙◌, drop_all, map-append, append_assoc, Input, Stop, Frame, items_from, numbered, played, showing, going_on, after_chain, State, board_links, tick_link, verdict_of, Link, follow, ticks, Player, pending, left_in, to_come, to_follow, left_with, left, is_waiting, Stopped}
 use Rattle.std.proofs.lemmas.Bool.Decides.{nat_tests}
 use Rattle.pz_case.specs.declared.item.Item.TheVariants as item
 use Rattle.pz_session.specs.declared.player.Phase.{Phase}
 use Rattle.pz_session.specs.declared.player.Phase.TheVariants as phase
 use Rattle.pz_session.specs.declared.chain.PlayFault.TheVariants as fault
 
-pub left-first : (at : Phase) (n : ℕ) (frame : Frame) (first : Option Frame) (second : List Frame) (taken : ℕ) (inputs : List Input) (state : State) → first ≡ Some frame → left_in at n (option_to_list first ++ second) taken inputs state ≡ item.Frame n taken frame ∷ left_in at (n + 1) second taken inputs state
+pub left-first : (at : Phase) (n : ℕ) (frame : Frame) (second : List Frame) (taken : ℕ) (inputs : List Input) (state : State) → left_in at n (frame ∷ second) taken inputs state ≡ item.Frame n taken frame ∷ left_in at (n + 1) second taken inputs state
 unfolding left_in items_from numbered
-left-first at n frame first second taken inputs state e = ap (λ o. left_in at n (option_to_list o ++ second) taken inputs state) e
+left-first at n frame second taken inputs state = refl
 
 -- what is left, where the pending frames are known
 pub left-at : (p : Player) (first second : Option Frame) → p.first ≡ first → p.second ≡ second → left p ≡ left_in p.phase p.number (option_to_list first ++ option_to_list second) p.taken (drop p.taken p.inputs) p.board
 left-at p first second e f =
     ap (λ o. left_in p.phase p.number (option_to_list o ++ option_to_list p.second) p.taken (drop p.taken p.inputs) p.board) e
     ∙ ap (λ o. left_in p.phase p.number (option_to_list first ++ option_to_list o) p.taken (drop p.taken p.inputs) p.board) f
-
--- a frame that was numbered comes before what is left
-pub left-numbered : (p : Player) (frame : Frame) (shown : Item) (next : ℕ) → shown ≡ item.Frame p.number p.taken frame → next ≡ p.number + 1
-    → item.Frame p.number p.taken frame ∷ left_in p.phase (p.number + 1) (pending p) p.taken (drop p.taken p.inputs) p.board ≡ shown ∷ left (record p { number = next })
-left-numbered p frame shown next is after = ap₂ (λ i n. i ∷ left_in p.phase n (pending p) p.taken (drop p.taken p.inputs) p.board) (sym is) (sym after)
 
 pub left-of_closed : (p : Player) → p.phase ≡ phase.Closed → p.first ≡ None → p.second ≡ None → left p ≡ []
 unfolding left_in items_from numbered to_come
@@ -45,14 +40,6 @@ going_on-link n taken inputs link =
     let rest = after_chain board_links (played board_links taken inputs) chain.after in
     grind (arith, map-append at link.shown chain.shown, append_assoc (map at link.shown) (map at chain.shown) rest.shown)
 
-pub to_come-ticking : (goes_on : Bool) (n : ℕ) (state : State) → goes_on ≡ true → (taken : ℕ) (inputs : List Input) → to_come (phase.Ticking n) taken inputs state ≡ to_follow goes_on n taken inputs state
-unfolding to_come
-to_come-ticking goes_on n state e taken inputs = ap (λ b. to_follow b n taken inputs state) (sym e)
-
-pub to_come-between : (goes_on : Bool) (n : ℕ) (state after : State) → goes_on ≡ false → after ≡ settled state → (taken : ℕ) (inputs : List Input) → to_come phase.Between taken inputs after ≡ to_follow goes_on n taken inputs state
-unfolding to_come
-to_come-between goes_on n state after e f taken inputs = ap (played board_links taken inputs) f ∙ ap (λ b. to_follow b n taken inputs state) (sym e)
-
 -- what is left after a link that is known
 pub left-link : (n number taken : ℕ) (inputs : List Input) (frames : List Frame) (goes_on : Bool) (state after : State) (at : Phase) (link : Result (Link State) Stop) → link ≡ Ok (record { shown = frames; after = state; goes_on = goes_on }) → ((t : ℕ) (is : List Input) → to_come at t is after ≡ to_follow goes_on n t is state) → left_in at number frames taken inputs after ≡ left_with n number taken inputs link
 unfolding left_in
@@ -64,9 +51,3 @@ left-link n number taken inputs frames goes_on state after at link is comes =
 pub left-link_stopped : (n : ℕ) (p : Player) (stop : Stop) (link : Result (Link State) Stop) → p.phase ≡ phase.Stopped stop → p.first ≡ None → p.second ≡ None → link ≡ Err stop → left p ≡ left_with n p.number p.taken (drop p.taken p.inputs) link
 unfolding items_from numbered
 left-link_stopped n p stop link at e f is = left-of_stopped p stop at e f ∙ ap (left_with n p.number p.taken (drop p.taken p.inputs)) (sym is)
-
-pub link-ok : (link : Result (Link State) Stop) (state : State) (outcome : Result Shown PlayFault) (shown : Shown) → GivesLink link state outcome → outcome ≡ Ok shown → link ≡ Ok (record { shown = shown_frames shown; after = state; goes_on = shown.goes_on })
-link-ok link state outcome shown gives e = subst (GivesLink link state) e gives
-
-pub link-stopped : (link : Result (Link State) Stop) (state : State) (outcome : Result Shown PlayFault) (why : PlayFault) (stop : Stop) → GivesLink link state outcome → outcome ≡ Err why → why ≡ fault.Stopped stop → link ≡ Err stop
-link-stopped link state outcome why stop gives e f = subst (GivesLink link state) (e ∙ ap Err f) gives

@@ -1,5 +1,5 @@
 -- Worked sessions, computed.
-use Rattle.pz_session.proofs.Common.{◌≡◌, ℕ, List, [], ◌∷◌, Option, Some, None, Err, false, if◌then◌else◌, refl, codes, GameParts, Program, Grid, step_of, rules_run, blocks_run, block_runs, has_won, Input, FrameKind, Item, level_from, PlanState, played, numbered, items_from, frame_of, start_link, press_link, tick_link, undo_link, restarted, won_link, kept_link, reached_link, effect, begun, settled, played_items, items_of_plan, Denotation, Object, Left, Right, LevelEntry, Message, Level, Piece, Press, Undo, Restart, Tick, Rows, equals_recorded, text_of_level, NoLevel, Passed, Differs, Refused}
+use Rattle.pz_session.proofs.Common.{◌≡◌, ℕ, List, [], ◌∷◌, Option, Some, None, false, if◌then◌else◌, refl, codes, GameParts, Program, Grid, step_of, rules_run, blocks_run, block_runs, has_won, Input, FrameKind, Item, level_from, PlanState, played, numbered, items_from, frame_of, start_link, press_link, tick_link, undo_link, restarted, won_link, kept_link, reached_link, effect, begun, settled, played_items, Left, Right, LevelEntry, Message, Level, Piece, Press, Undo, Restart, Tick, Rows, equals_recorded, text_of_level, Passed, Differs}
 use Rattle.pz_game.specs.declared.win_line.Quantifier.TheVariants.{No}
 use Rattle.pz_game.specs.declared.win_line.WinLine.{WinLine}
 use Rattle.pz_program.specs.declared.instance.Block.TheVariants.{One}
@@ -10,9 +10,7 @@ use Rattle.pz_turn.specs.Instance.{applied}
 use Rattle.pz_turn.specs.Rest.{rest_of}
 use Rattle.pz_case.specs.declared.item.FrameKind.TheVariants as kind
 use Rattle.pz_case.specs.declared.item.Item.TheVariants.{Frame, Close}
-
-abbrev named : ℕ → Denotation
-named object = record { kind = Object; members = object ∷ []; number = object }
+use Rattle.pz_session.proofs.WorkedSessions.{object, no_rules}
 
 -- a row of cells, by the numbers of their glyphs
 abbrev row : ℕ → List ℕ → LevelEntry
@@ -23,20 +21,14 @@ abbrev game_with : List WinLine → List LevelEntry → GameParts
 game_with wins levels = record {
   objects = codes "background" ∷ codes "wall" ∷ codes "player" ∷ [];
   names = codes "background" ∷ codes "wall" ∷ codes "player" ∷ codes "." ∷ codes "#" ∷ codes "p" ∷ [];
-  values = named 0 ∷ named 1 ∷ named 2 ∷ named 0 ∷ named 1 ∷ named 2 ∷ [];
-  layers = 0 ∷ 1 ∷ 1 ∷ [];
-  depth = 2;
-  rules = [];
-  wins = wins;
-  levels = levels;
+  values = object 0 ∷ object 1 ∷ object 2 ∷ object 0 ∷ object 1 ∷ object 2 ∷ [];
+  layers = 0 ∷ 1 ∷ 1 ∷ []; depth = 2;
+  rules = []; wins = wins; levels = levels;
   options = record { run_rules_on_level_start = false; require_player_movement = false };
 }
 
 abbrev game : List LevelEntry → GameParts
 game levels = game_with [] levels
-
-abbrev no_rules : Program
-no_rules = record { early = []; late = [] }
 
 abbrev still : ℕ → Option Piece
 still object = Some (record { object = object; heading = None })
@@ -53,17 +45,14 @@ player = still 0 ∷ still 2 ∷ []
 abbrev level : ℕ → List (List (Option Piece)) → Grid
 level width cells = record { width = width; height = 1; depth = 2; layers = 0 ∷ 1 ∷ 1 ∷ []; cells = cells }
 
-abbrev recorded : List (List (List ℕ))
-recorded = []
-
 abbrev playing : GameParts → Program → List Input → PlanState
-playing game program inputs = record { game = game; program = program; first = 0; inputs = inputs; recorded = recorded; order = Rows }
+playing game program inputs = record { game = game; program = program; first = 0; inputs = inputs; recorded = []; order = Rows }
 
 abbrev shown : GameParts → ℕ → ℕ → FrameKind → Grid → Item
 shown game number at kind grid = Frame number at (record { kind = kind; level_text = text_of_level game Rows grid })
 
 abbrev closed : GameParts → Grid → Item
-closed game grid = Close (if equals_recorded game Rows grid recorded then Passed else Differs)
+closed game grid = Close (if equals_recorded game Rows grid [] then Passed else Differs)
 
 abbrev session : LevelEntry → List Input → PlanState
 session entry inputs = playing (game (entry ∷ [])) no_rules inputs

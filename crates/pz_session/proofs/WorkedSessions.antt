@@ -1,5 +1,5 @@
 -- Worked cases of sessions: undo and restart, what commands make of a step, the order of the items, and the close.
-use Rattle.pz_session.proofs.Common.{◌≡◌, ℕ, suc, List, [], ◌∷◌, length, Option, Some, None, Bool, true, false, Ok, Err, refl, codes, map, nat_lt, ◌==◌, if◌then◌else◌, GameParts, Commands, either, Program, Grid, Outcome, blocks_run, rules_run, step_of, has_won, FrameKind, Frame, level_from, PlanState, State, frame_of, start_link, restarted, won_link, kept_link, reached_link, effect, press_link, undo_link, begun, settled, played_items, items_of_plan, Links, closing, played, numbered, items_from, is_idle, Denotation, Object, Up, Right, LevelEntry, Message, Level, Piece, Press, Undo, Restart, Tick, Rows, equals_recorded, text_of_level, NoLevel, Passed, Differs, Stopped, Refused}
+use Rattle.pz_session.proofs.Common.{Link, ◌≡◌, ℕ, suc, List, [], ◌∷◌, length, Option, Some, None, Bool, true, false, Ok, Err, refl, codes, map, nat_lt, ◌==◌, if◌then◌else◌, GameParts, Commands, either, Program, Grid, Outcome, blocks_run, rules_run, step_of, has_won, FrameKind, Frame, level_from, PlanState, State, frame_of, start_link, restarted, won_link, kept_link, reached_link, effect, press_link, undo_link, begun, settled, played_items, items_of_plan, Links, closing, played, numbered, items_from, is_idle, Denotation, Object, Up, Right, LevelEntry, Message, Level, Piece, Press, Undo, Restart, Tick, Rows, equals_recorded, text_of_level, NoLevel, Passed, Differs, Stopped, Refused}
 use Rattle.std.specs.Fmt.{digits}
 use Rattle.pz_program.specs.Commands as command
 use Rattle.pz_record.specs.CellNames.{with_name, same_set}
@@ -10,7 +10,7 @@ use Rattle.pz_case.specs.declared.item.Item.TheVariants as item
 use Rattle.pz_case.specs.declared.item.Stop.TheVariants as stop
 
 -- the objects 0 background, alone on its layer, and 1 player and 2 crate on another
-abbrev object : ℕ → Denotation
+abbrev pub object : ℕ → Denotation
 object k = record { kind = Object; members = k ∷ []; number = k }
 
 abbrev game_with : Bool → List LevelEntry → GameParts
@@ -18,11 +18,8 @@ game_with runs_at_start entries = record {
   objects = codes "background" ∷ codes "player" ∷ codes "crate" ∷ [];
   names = codes "background" ∷ codes "player" ∷ codes "crate" ∷ [];
   values = object 0 ∷ object 1 ∷ object 2 ∷ [];
-  layers = 0 ∷ 1 ∷ 1 ∷ [];
-  depth = 2;
-  rules = [];
-  wins = [];
-  levels = entries;
+  layers = 0 ∷ 1 ∷ 1 ∷ []; depth = 2;
+  rules = []; wins = []; levels = entries;
   options = record { run_rules_on_level_start = runs_at_start; require_player_movement = false };
 }
 
@@ -33,15 +30,12 @@ entry = Level (record { width = 2; height = 1; cells = 1 ∷ 0 ∷ [] })
 abbrev game : GameParts
 game = game_with false (entry ∷ Message ∷ [])
 
-abbrev no_rules : Program
+abbrev pub no_rules : Program
 no_rules = record { early = []; late = [] }
 
 abbrev strip : List (Option Piece) → Grid
 strip pieces = record {
-  width = length pieces;
-  height = 1;
-  depth = 2;
-  layers = 0 ∷ 1 ∷ 1 ∷ [];
+  width = length pieces; height = 1; depth = 2; layers = 0 ∷ 1 ∷ 1 ∷ [];
   cells = map (λ here. Some (record { object = 0; heading = None }) ∷ here ∷ []) pieces;
 }
 
@@ -58,16 +52,8 @@ there = strip (None ∷ player ∷ [])
 -- a session with this level, this target and this past
 abbrev session_of : GameParts → Grid → Grid → List Grid → State
 session_of game level target past = record {
-  game = game;
-  program = no_rules;
-  order = Rows;
-  recorded = [];
-  entry = 0;
-  level = level;
-  target = target;
-  past = past;
-  before = None;
-  is_over = false;
+  game = game; program = no_rules; order = Rows; recorded = []; entry = 0;
+  level = level; target = target; past = past; before = None; is_over = false;
 }
 
 abbrev session : Grid → Grid → List Grid → State
@@ -76,70 +62,61 @@ session = session_of game
 abbrev shows : FrameKind → Grid → Frame
 shows kind level = record { kind = kind; level_text = text_of_level game Rows level }
 
--- undo
+-- a link that shows one frame, and what a step to a level makes of a press
+abbrev links : FrameKind → Grid → State → Bool → Link State
+links kind level after goes_on = record { shown = shows kind level ∷ []; after = after; goes_on = goes_on }
 
+abbrev moves : State → Grid → Commands → Bool → Link State
+moves state level commands changed = effect kind.Move state (record { level = level; commands = commands; changed = changed })
+
+-- undo
 undoes :
     -- with no past an undo shows the level as it is
-    (undo_link (session here there []) ≡ record { shown = shows kind.Undo here ∷ []; after = session here there []; goes_on = false })
+    (undo_link (session here there []) ≡ links kind.Undo here (session here there []) false)
     -- the last of the past is taken, and the target stays
-    × (undo_link (session here here (there ∷ here ∷ []))
-      ≡ record { shown = shows kind.Undo there ∷ []; after = session there here (here ∷ []); goes_on = false })
+    × (undo_link (session here here (there ∷ here ∷ [])) ≡ links kind.Undo there (session there here (here ∷ [])) false)
     -- the level before an input is put on the past if the level differs, and only then
     × (settled (record (session there here []) { before = Some here }) ≡ session there here (here ∷ []))
     × (settled (record (session here here (there ∷ [])) { before = Some here }) ≡ session here here (there ∷ []))
 unfolding undo_link frame_of settled
 undoes = (refl, refl, refl, refl)
 
--- restart
-
 -- a restart makes the level the target, and can be undone: the level before it is kept
-restart_is_kept : begun Restart (session here there [])
-    ≡ Ok (record { shown = shows kind.Restart there ∷ []; after = record (session there there []) { before = Some here }; goes_on = false })
+restart_is_kept : begun Restart (session here there []) ≡ Ok (links kind.Restart there (record (session there there []) { before = Some here }) false)
 unfolding begun restarted frame_of
 restart_is_kept = refl
 
 ticks_at_start :
     -- with `run_rules_on_level_start` a tick follows a restart, and none an undo
-    (restarted (session_of (game_with true (entry ∷ [])) here there [])
-      ≡ record { shown = shows kind.Restart there ∷ []; after = session_of (game_with true (entry ∷ [])) there there []; goes_on = true })
+    (restarted (session_of (game_with true (entry ∷ [])) here there []) ≡ links kind.Restart there (session_of (game_with true (entry ∷ [])) there there []) true)
     × (undo_link (session_of (game_with true (entry ∷ [])) here here (there ∷ []))
-      ≡ record { shown = shows kind.Undo there ∷ []; after = session_of (game_with true (entry ∷ [])) there here []; goes_on = false })
+      ≡ links kind.Undo there (session_of (game_with true (entry ∷ [])) there here []) false)
 unfolding restarted frame_of text_of_level undo_link
 ticks_at_start = (refl, refl)
 
 -- what commands make of a step
-
 makes :
     -- cancel goes before restart: the level stays, and the frame is that of the step
-    (effect kind.Move (session here there [])
-      (record { level = here; commands = either command.restart command.cancel; changed = false })
-      ≡ record { shown = shows kind.Move here ∷ []; after = session here there []; goes_on = false })
+    (moves (session here there []) here (either command.restart command.cancel) false ≡ links kind.Move here (session here there []) false)
     -- restart goes before win, and is shown in place of the step
-    × (effect kind.Move (session here here [])
-      (record { level = there; commands = either command.win command.restart; changed = true })
-      ≡ record { shown = shows kind.Restart here ∷ []; after = session here here []; goes_on = false })
+    × (moves (session here here []) there (either command.win command.restart) true ≡ links kind.Restart here (session here here []) false)
     -- checkpoint and again of one step both count
-    × (effect kind.Move (session here here [])
-      (record { level = there; commands = either command.again command.checkpoint; changed = true })
-      ≡ record { shown = shows kind.Move there ∷ []; after = session there there []; goes_on = true })
+    × (moves (session here here []) there (either command.again command.checkpoint) true ≡ links kind.Move there (session there there []) true)
     -- again without a change asks for no tick
-    × (effect kind.Move (session here there []) (record { level = here; commands = command.again; changed = false })
-      ≡ record { shown = shows kind.Move here ∷ []; after = session here there []; goes_on = false })
+    × (moves (session here there []) here command.again false ≡ links kind.Move here (session here there []) false)
     -- only a message comes after the won level: play is over, and the level stays
-    × (effect kind.Move (session here here []) (record { level = there; commands = command.win; changed = true })
-      ≡ record { shown = shows kind.Move there ∷ []; after = record (session there here []) { is_over = true }; goes_on = false })
+    × (moves (session here here []) there command.win true ≡ links kind.Move there (record (session there here []) { is_over = true }) false)
 unfolding effect frame_of restarted reached_link kept_link has_won won_link level_from
 makes = (refl, refl, refl, refl, refl)
 
 -- after that even an undo only shows the won level
 over_means_over : begun Undo (record (session there here (here ∷ [])) { is_over = true })
-    ≡ Ok (record { shown = shows kind.Over there ∷ []; after = record (session there here (here ∷ [])) { is_over = true }; goes_on = false })
+    ≡ Ok (links kind.Over there (record (session there here (here ∷ [])) { is_over = true }) false)
 unfolding begun frame_of
 over_means_over = refl
 
 -- a win shows the step and then the next level, which comes after a message; it is the target, and the past is empty
-next_level : effect kind.Move (session_of (game_with false (entry ∷ Message ∷ entry ∷ [])) there there (here ∷ []))
-    (record { level = there; commands = command.win; changed = false })
+next_level : moves (session_of (game_with false (entry ∷ Message ∷ entry ∷ [])) there there (here ∷ [])) there command.win false
     ≡ record {
       shown = shows kind.Move there ∷ shows kind.Load here ∷ [];
       after = record (session_of (game_with false (entry ∷ Message ∷ entry ∷ [])) here here []) { entry = 2 };
@@ -149,20 +126,16 @@ unfolding effect reached_link won_link has_won level_from frame_of text_of_level
 next_level = refl
 
 -- which ticks are idle
-
 abbrev tick_with : Bool → Commands → Outcome Grid
 tick_with changed commands = record { level = here; commands = commands; changed = changed }
 
 idle_ticks :
     -- a tick that changes nothing is idle, though it gives checkpoint or again; restart or win make it count, and cancel doesn't
-    (map (λ c. is_idle (tick_with false c)) (command.checkpoint ∷ command.again ∷ command.restart ∷ command.win
-      ∷ command.cancel ∷ [])
-      ≡ true ∷ true ∷ false ∷ false ∷ true ∷ [])
+    (map (λ c. is_idle (tick_with false c)) (command.checkpoint ∷ command.again ∷ command.restart ∷ command.win ∷ command.cancel ∷ []) ≡ true ∷ true ∷ false ∷ false ∷ true ∷ [])
     × (is_idle (tick_with false (either command.cancel command.win)) ≡ true)
 idle_ticks = (refl, refl)
 
 -- the order of the items
-
 abbrev shown : Frame
 shown = record { kind = kind.Move; level_text = [] }
 
@@ -179,8 +152,7 @@ items_in_order :
     -- frames are numbered from 0, each with the number of inputs taken, and the close follows
     (items_from 0 (played counting 0 (Undo ∷ Restart ∷ []) 0) ≡ item.Frame 0 1 shown ∷ item.Frame 1 2 shown ∷ item.Close Passed ∷ [])
     -- at a stop the frames so far stand, and no later input is played
-    × (items_from 0 (played counting 0 (Undo ∷ Undo ∷ Undo ∷ Undo ∷ []) 0)
-      ≡ item.Frame 0 1 shown ∷ item.Frame 1 2 shown ∷ item.Close (Stopped stop.LoopLimit) ∷ [])
+    × (items_from 0 (played counting 0 (Undo ∷ Undo ∷ Undo ∷ Undo ∷ []) 0) ≡ item.Frame 0 1 shown ∷ item.Frame 1 2 shown ∷ item.Close (Stopped stop.LoopLimit) ∷ [])
     × (items_from 3 (played counting 7 [] 0) ≡ item.Close Differs ∷ [])
 unfolding played items_from numbered
 items_in_order = (refl, refl, refl)
@@ -202,7 +174,6 @@ unfolding played
 counts_ticks = (refl, refl)
 
 -- whole sessions
-
 abbrev here_text : List ℕ
 here_text = codes "background player:0,background:1,\n"
 
@@ -214,18 +185,14 @@ frame kind text = record { kind = kind; level_text = text }
 
 abbrev plan : PlanState
 plan = record {
-  game = game;
-  program = no_rules;
-  first = 0;
+  game = game; program = no_rules; first = 0; order = Rows;
   inputs = Press Right ∷ Undo ∷ Undo ∷ [];
   recorded = (codes "background" ∷ codes "player" ∷ []) ∷ (codes "background" ∷ []) ∷ [];
-  order = Rows;
 }
 
 whole_sessions :
     -- a step to the right is taken back, the second undo finds nothing, and the last level is the recorded one
-    (items_of_plan (Ok plan)
-      ≡ item.Frame 0 0 (frame kind.Start here_text) ∷ item.Frame 1 1 (frame kind.Move there_text)
+    (items_of_plan (Ok plan) ≡ item.Frame 0 0 (frame kind.Start here_text) ∷ item.Frame 1 1 (frame kind.Move there_text)
       ∷ item.Frame 2 2 (frame kind.Undo here_text) ∷ item.Frame 3 3 (frame kind.Undo here_text) ∷ item.Close Passed ∷ [])
     -- without an input there is the start, and the close
     × (items_of_plan (Ok (record plan { inputs = []; recorded = [] })) ≡ item.Frame 0 0 (frame kind.Start here_text) ∷ item.Close Differs ∷ [])

@@ -1,4 +1,5 @@
-use Rattle.pz_session.proofs.Common.{◌≡◌, ◌<◌, length, ap, refl, sym, ◌∙◌, nat_lt, true, get_or, get_or_default, Input, ltb-true, is_waiting_in, Press, Up, on_ok_weaker}
+use Rattle.pz_session.proofs.Common.{arith, ◌≡◌, ◌<◌, length, ap, refl, ◌∙◌, true, get_or, get_or_default, Input, Press, Up, on_ok_weaker}
+use Rattle.std.proofs.lemmas.Bool.Decides.{nat_tests}
 use Rattle.pz_session.proofs.Advancing.{waiting-parts, left-no_tick, left-tick, left-begin}
 use Rattle.pz_session.proofs.player.Player.advance.Goals as goal
 
@@ -12,8 +13,7 @@ returns-in-Between-clause-left c =
     let p = c.args.self.now in
     let w = waiting-parts p c.requires in
     let input : Input = get_or c.items.result.now p.taken (Press Up) in
-    let here : nat_lt p.taken (length p.inputs) ≡ true = ap (λ a. is_waiting_in a p.taken p.inputs) (sym c.in-Between.is) ∙ w.here in
-    let in_range : p.taken < length p.inputs = ltb-true p.taken (length p.inputs) here in
+    let in_range : p.taken < length p.inputs = grind (arith, nat_tests, w.here, c.in-Between.is) in
     let is : input ≡ get_or p.inputs p.taken input = ap (λ l. get_or l p.taken (Press Up)) c.items.ensures ∙ get_or_default p.inputs p.taken (Press Up) input in_range in
     on_ok_weaker c.take_link.result (λ then. then _ c.begin-outcome.ensures ∙ left-begin p input c.ticks_after.result w c.in-Between.is in_range is c.ticks_after.ensures) c.take_link.ensures.left
 
