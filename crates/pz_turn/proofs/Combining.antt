@@ -36,12 +36,9 @@ pub combinations-last : {X : Type 0} (lists : List (List X)) (last : List X) →
 combinations-last [] last = only_last last
 combinations-last (xs ∷ lists) last = ap (headed xs) (combinations-last lists last) ∙ headed-ending xs lists last
 
-length-ending : {X : Type 0} (lists : List (List X)) (last : List X) → length (ending lists last) ≡ length (combinations lists) * length last
+pub length-ending : {X : Type 0} (lists : List (List X)) (last : List X) → length (ending lists last) ≡ length (combinations lists) * length last
 length-ending lists [] = omega arith
 length-ending lists (y ∷ last) = grind (arith, common_steps, length-ending lists last)
-
-pub length-combinations-last : {X : Type 0} (lists : List (List X)) (last : List X) → length (combinations (lists ++ last ∷ [])) ≡ length (combinations lists) * length last
-length-combinations-last lists last = ap length (combinations-last lists last) ∙ length-ending lists last
 
 map-behind_before : {X : Type 0} (tail : List X) (y : X) (cs : List (List X)) → map (λ c. c ++ tail) (behind y cs) ≡ map (λ c. c ++ y ∷ tail) cs
 map-behind_before tail y [] = refl
@@ -53,11 +50,6 @@ fold-ending_more f start k tail lists xs i x in_range at so_far =
     let here = behind x (combinations lists) in
     let before = ending lists (take i xs) in
     grind (arith, so_far, at, take_more xs i x in_range, flat_map-append (λ y. behind y (combinations lists)) (take i xs) (x ∷ []), append-nil here, map-append (λ c. c ++ tail) before here, fold-append f start (map (λ c. c ++ tail) before) (map (λ c. c ++ tail) here), map-behind_before tail x (combinations lists))
-
--- the places after a place that is written
-pub drop_after : {X : Type 0} (xs ys : List X) (n : ℕ) (x : X) → n < length xs → drop n ys ≡ drop n (set xs n x) → drop (n + 1) ys ≡ drop (n + 1) xs
-drop_after xs ys n x within e =
-    sym (drop-drop 1 n ys) ∙ ap (drop 1) (e ∙ drop-set_at xs n n x refl within)
 
 -- as many as the product of the lengths
 pub length-combinations : {X : Type 0} (lists : List (List X)) → length (combinations lists) ≡ product_of (map length lists)

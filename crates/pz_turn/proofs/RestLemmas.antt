@@ -16,7 +16,7 @@ find_first p limit n in_range before here =
     let at : (k : ℕ) → k < limit → get_or (range_with_len 0 limit) k 0 ≡ k = λ k below. get_or-range_with_len 0 limit k 0 below ∙ (omega arith) in
     found_at (find p) p Some None refl (λ _ _. refl) (range_with_len 0 limit) n 0 (omega (arith, length-range_with_len 0 limit)) (λ k below. ap p (at k (omega arith)) ∙ before k below) (ap p (at n in_range) ∙ here) ∙ ap Some (at n in_range)
 
-find_none : (p : ℕ → Bool) (limit : ℕ) → ((k : ℕ) → k < limit → p k ≡ false) → find p (range_with_len 0 limit) ≡ None
+pub find_none : (p : ℕ → Bool) (limit : ℕ) → ((k : ℕ) → k < limit → p k ≡ false) → find p (range_with_len 0 limit) ≡ None
 find_none p limit nowhere =
     found_nowhere (find p) p Some None refl (λ _ _. refl) (range_with_len 0 limit) 0 (λ k below. ap p (get_or-range_with_len 0 limit k 0 (omega (arith, length-range_with_len 0 limit)) ∙ (omega arith)) ∙ nowhere k (omega (arith, length-range_with_len 0 limit)))
 
@@ -31,12 +31,6 @@ unfolding rest_of
 rest_ends {L} limit pass start n o running in_range here =
     let last : is_last pass start n ≡ true = ap (ends_after pass) running.so_far ∙ here in
     ap (up_to pass start) (find_first (is_last pass start) limit n in_range running.went_on last) ∙ ap (λ r. followed_by r pass) running.so_far
-
--- no pass was the last
-pub rest_never_ends : {L : Type 0} (limit : ℕ) (pass : Runs L) (start : L) (n : ℕ) (o : Outcome L) → Running pass start n o → limit ≤ n → rest_of limit pass start ≡ Err LoopLimit
-unfolding rest_of
-rest_never_ends limit pass start n o running past =
-    ap (up_to pass start) (find_none (is_last pass start) limit (λ k below. running.went_on k (omega arith)))
 
 -- one more pass, which changed something
 pub running_more : {L : Type 0} (pass : Runs L) (start : L) (n : ℕ) (o p q : Outcome L) → Running pass start n o → pass o.level ≡ Ok p → p.changed ≡ true → joined o (Ok p) ≡ Ok q → Running pass start (n + 1) q

@@ -26,11 +26,8 @@ game_with must_move wins = record {
   objects = codes "background" ∷ codes "player" ∷ codes "crate" ∷ codes "wall" ∷ [];
   names = codes "background" ∷ codes "player" ∷ codes "crate" ∷ codes "wall" ∷ codes "solid" ∷ codes "@" ∷ [];
   values = denotes Object (0 ∷ []) 0 ∷ denotes Object (1 ∷ []) 1 ∷ denotes Object (2 ∷ []) 2 ∷ denotes Object (3 ∷ []) 3 ∷ denotes Property (2 ∷ 3 ∷ []) 4 ∷ denotes Aggregate (0 ∷ 2 ∷ []) 5 ∷ [];
-  layers = 0 ∷ 1 ∷ 1 ∷ 1 ∷ [];
-  depth = 2;
-  rules = [];
-  wins = wins;
-  levels = [];
+  layers = 0 ∷ 1 ∷ 1 ∷ 1 ∷ []; depth = 2;
+  rules = []; wins = wins; levels = [];
   options = record { run_rules_on_level_start = false; require_player_movement = must_move };
 }
 
@@ -68,10 +65,7 @@ pushing = record { early = One (push ∷ []) ∷ []; late = [] }
 
 -- late [ Player | Crate ] -> [ Player | ] cancel: the rewritten level isn't kept
 abbrev taking : Program
-taking = record {
-  early = [];
-  late = One (rule (row ((item 1 Present ∷ []) ∷ (item 2 Present ∷ []) ∷ []) ∷ []) (row ((item 1 Present ∷ []) ∷ [] ∷ []) ∷ []) cancel ∷ []) ∷ [];
-}
+taking = record { early = []; late = One (rule (row ((item 1 Present ∷ []) ∷ (item 2 Present ∷ []) ∷ []) ∷ []) (row ((item 1 Present ∷ []) ∷ [] ∷ []) ∷ []) cancel ∷ []) ∷ [] }
 
 steps :
     -- the player pushes a crate to the right

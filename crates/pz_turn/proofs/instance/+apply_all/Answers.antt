@@ -1,5 +1,5 @@
-use Rattle.pz_turn.proofs.Common.{◌≡◌, ◌+◌, ◌<◌, List, ◌∷◌, take, drop, set, length, get_or, refl, ap, sym, ◌∙◌, arith, get_or_default, take_all, length-set, Place, in_rewrite, same_size_on, combinations, applied_at, drop-set_at}
-use Rattle.pz_turn.proofs.Combining.{fold-ending_more, combinations-last, ending, drop_after}
+use Rattle.pz_turn.proofs.Common.{drop-drop, ◌≡◌, ◌+◌, ◌<◌, List, ◌∷◌, take, drop, set, length, get_or, refl, ap, sym, ◌∙◌, arith, get_or_default, take_all, length-set, Place, in_rewrite, same_size_on, combinations, applied_at, drop-set_at}
+use Rattle.pz_turn.proofs.Combining.{fold-ending_more, combinations-last, ending}
 use Rattle.pz_turn.proofs.instance.+apply_all.Goals as goal
 
 pub places-preserved : goal.places-preserved
@@ -15,7 +15,7 @@ places-preserved t c =
     record {
       so_far = (rw rest at c.apply_all-changed.ensures.applied) ∙ sym more;
       size = same_size_on _ _ _ c.places.invariant.size c.apply_all-changed.ensures.size;
-      chosen = drop_after c.places.chosen c.apply_all-changed.new.chosen n x within c.apply_all-changed.ensures.chosen ∙ c.places.invariant.chosen;
+      chosen = sym (drop-drop 1 n c.apply_all-changed.new.chosen) ∙ ap (drop 1) (c.apply_all-changed.ensures.chosen ∙ rest);
       room = c.apply_all-changed.ensures.room ∙ length-set c.places.chosen n x ∙ c.places.invariant.room;
     }
 

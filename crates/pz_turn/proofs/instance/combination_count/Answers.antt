@@ -1,5 +1,5 @@
 use Rattle.pz_turn.proofs.Common.{◌≡◌, ℕ, ◌*◌, length, take, min, arith, combinations, common_steps}
-use Rattle.pz_turn.proofs.Combining.{length-combinations-last}
+use Rattle.pz_turn.proofs.Combining.{combinations-last, length-ending}
 use Rattle.pz_turn.proofs.instance.combination_count.Goals as goal
 
 -- a product, counted up to a limit
@@ -10,4 +10,4 @@ pub loop-list-preserved : goal.loop-list-preserved
 loop-list-preserved c =
     let before = take c.loop-list.list-index c.args.lists.now in
     let list = c.list-item.result in
-    grind (arith, common_steps, capped (length (combinations before)) (length list) c.loop-list.count c.saturating_mul.result c.min-count.result, length-combinations-last before list)
+    grind (arith, common_steps, capped (length (combinations before)) (length list) c.loop-list.count c.saturating_mul.result c.min-count.result, combinations-last before list, length-ending before list)

@@ -1,6 +1,6 @@
-use Rattle.pz_turn.proofs.Common.{refl, ◌≡◌, Bool, true, false, cond, take, Ok, arith, ap, ◌∙◌, subst, err_from_is_err_and, same_size_on, Grid, Outcome, joined, pass_of, ends, not-false, not-true}
+use Rattle.pz_turn.proofs.Common.{rest_of, up_to, refl, ◌≡◌, Bool, true, false, cond, take, Ok, arith, ap, ◌∙◌, subst, err_from_is_err_and, same_size_on, Grid, Outcome, joined, pass_of, ends, not-false, not-true}
 use Rattle.pz_turn.proofs.Calm.{calm_rest, calm_more}
-use Rattle.pz_turn.proofs.RestLemmas.{rest_ends, rest_never_ends, running_more}
+use Rattle.pz_turn.proofs.RestLemmas.{rest_ends, find_none, running_more}
 use Rattle.pz_turn.proofs.resting.to_rest.Goals as goal
 
 pub returns-in_err-passed-clause-outcome : goal.returns-in_err-passed-clause-outcome
@@ -37,4 +37,5 @@ passes-preserved g c =
     }
 
 pub returns-clause-outcome : goal.returns-clause-outcome
-returns-clause-outcome g c = λ _. rest_never_ends _ _ _ _ _ c.passes.invariant.running (omega arith)
+unfolding rest_of
+returns-clause-outcome g c = λ _. ap (up_to _ _) (find_none _ 200 (λ k below. c.passes.invariant.running.went_on k (omega arith)))
