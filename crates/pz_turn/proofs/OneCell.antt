@@ -5,7 +5,7 @@ use Rattle.std.specs.Prelude.{Contains}
 use Rattle.pz_game.specs.Items.{placed_on, tells_of}
 use Rattle.pz_game.specs.Pattern.{AreOf}
 use Rattle.pz_grid.proofs.PlaceLemmas.{holds_from_place, place_from_holds}
-use Rattle.pz_turn.proofs.Calm.{calm_untouched, either_self}
+use Rattle.pz_turn.proofs.Passes.{calm_untouched, either_self}
 use Rattle.pz_turn.proofs.SingleRow.{row_applied, row_ends}
 
 heads_again : (word : Word) (told : Bool) (here : Option Piece) (object : ℕ) → new_heading word told (Some (record { object = object; heading = new_heading word told here })) ≡ new_heading word told here

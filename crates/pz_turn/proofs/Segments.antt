@@ -3,8 +3,8 @@ use Rattle.pz_turn.proofs.Common.{◌≡◌, ℕ, Result, Ok, Err, arith, List, 
 use Rattle.pz_game.specs.Masks.{IsLow}
 use Rattle.pz_program.specs.Segments.{IsLeftOut, instances_of}
 use Rattle.pz_cells.proofs.HoldLemmas.{low_of_game}
-use Rattle.pz_turn.proofs.Calm.{either_assoc, either_comm}
-use Rattle.pz_turn.proofs.Effectless.{applied_without_effect}
+use Rattle.pz_turn.proofs.Passes.{either_assoc, either_comm}
+use Rattle.pz_turn.proofs.SingleRow.{applied_without_effect}
 use Rattle.pz_turn.proofs.Skipping.{IsNoneTaken, none_first, applied_none}
 
 -- ---- what holds of all instances of a group holds of those of each segment

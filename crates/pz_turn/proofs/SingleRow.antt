@@ -1,5 +1,5 @@
--- An instance applied at all its combinations. If it has one row, each place of the row is one.
-use Rattle.pz_turn.proofs.Common.{◌≡◌, ◌<◌, ◌≤◌, List, [], ◌∷◌, ◌++◌, map, length, ap, ◌∙◌, arith, Result, Ok, Err, fold, refl, false, append-nil, length-map, Dir, Commands, Instance, RuleRow, Place, Grid, searched, Rewriting, in_rewrite, StepFault, combinations, found_or_stop, after_row, taken, applied_at, applied_to, applied_with, given, outcome_of, applied, lt-ltb, le-ltb, nat_tests, MatchLimit}
+-- An instance applied at all its combinations. If it has one row, each place of the row is one; without effect it leaves a level as it is.
+use Rattle.pz_turn.proofs.Common.{◌≡◌, ◌<◌, ◌≤◌, List, [], ◌∷◌, ◌++◌, map, length, ap, ◌∙◌, arith, Result, Ok, Err, fold, refl, false, append-nil, length-map, Dir, Commands, Instance, RuleRow, Place, Grid, searched, Rewriting, in_rewrite, StepFault, combinations, found_or_stop, after_row, taken, applied_at, applied_to, applied_with, given, outcome_of, applied, lt-ltb, le-ltb, nat_tests, MatchLimit, sym, inl, inr, zip, IsLawful, places, rewritten, untouched, HasNoEffect, searched-gapless, searched-small, fold_stays}
 
 map-nothing_behind : (all : List (List Place)) (behind : List Place) → behind ≡ [] → map (λ places. places ++ behind) all ≡ all
 map-nothing_behind [] behind none = refl
@@ -27,3 +27,22 @@ row_ends instance grid row (place ∷ found) end only is some ends =
     let each : List (List Place) = map (λ (p : Place). p ∷ []) (place ∷ found) in
     let few : length each ≤ 1048576 = omega (arith, few_found grid row instance.scan (place ∷ found) is, length-map (place ∷ found) (λ (p : Place). p ∷ [])) in
     row_applied instance grid row (Ok (place ∷ found)) only is ∙ ap (applied_to instance grid) (append-nil each) ∙ grind (arith, le-ltb 1048576 (length each) few, ends)
+
+nothing_beside : (A B : Type 0) (xs : List A) → zip {K = A} {X = B} xs [] ≡ []
+nothing_beside A B [] = refl
+nothing_beside A B (x ∷ xs) = refl
+
+-- without a right nothing is rewritten
+not_applied : (instance : Instance) (so_far : Rewriting) (found : List Place) → instance.right ≡ [] → applied_at instance so_far found ≡ so_far
+not_applied instance so_far found none = grind (arith, nothing_beside RuleRow RuleRow instance.left, nothing_beside Place (RuleRow × RuleRow) found, none)
+
+pub applied_without_effect : (instance : Instance) (grid : Grid) → IsLawful grid → HasNoEffect grid instance → applied instance grid ≡ Ok (untouched grid)
+applied_without_effect instance grid lawful none = by (places grid none.row instance.scan) (ap found_or_stop (elim none.few [
+  | inl gapless ↦ searched-gapless grid none.row instance.scan lawful gapless
+  | inr small ↦ searched-small grid none.row instance.scan lawful small
+])) where
+  by : (found : List Place) → found_or_stop (searched grid none.row instance.scan) ≡ Ok found → applied instance grid ≡ Ok (untouched grid)
+  by [] is = row_applied instance grid none.row (Ok []) none.left is
+  by (place ∷ found) is =
+      row_ends instance grid none.row (place ∷ found) (in_rewrite grid false) none.left is (omega arith) (sym (fold_stays (applied_at instance) (in_rewrite grid false) (λ at. not_applied instance (in_rewrite grid false) at none.right) (map (λ (p : Place). p ∷ []) (place ∷ found))))
+      ∙ ap (λ (commands : Commands). Ok (outcome_of (in_rewrite grid false) commands)) none.commands

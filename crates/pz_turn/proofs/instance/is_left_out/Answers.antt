@@ -1,6 +1,6 @@
 use Rattle.pz_turn.proofs.Common.{◌≡◌, None, arith, drop_more}
 use Rattle.pz_turn.proofs.Skipping.{none_first, none_after, applied_none}
-use Rattle.pz_turn.proofs.Effectless.{applied_without_effect}
+use Rattle.pz_turn.proofs.SingleRow.{applied_without_effect}
 use Rattle.pz_turn.proofs.instance.is_left_out.Goals as goal
 
 pub returns-then-has_no_effect : goal.returns-then-has_no_effect

@@ -1,6 +1,5 @@
 use Rattle.pz_turn.proofs.Common.{◌≡◌, ℕ, ◌+◌, ◌++◌, ◌∷◌, [], Ok, take, get_or, arith, ap, sym, ◌∙◌, take_more, err_from_is_err_and, same_size_on, Grid, Outcome, pass_of}
-use Rattle.pz_turn.proofs.Calm.{calm_alone, calm_known}
-use Rattle.pz_turn.proofs.RestLemmas.{fold_stops, fold_more}
+use Rattle.pz_turn.proofs.Passes.{calm_alone, calm_known, fold_stops, fold_more}
 use Rattle.pz_turn.proofs.resting.pass.Goals as goal
 
 pub returns-in_err-given-clause-outcome : goal.returns-in_err-given-clause-outcome

@@ -1,5 +1,5 @@
 use Rattle.pz_turn.proofs.Common.{◌≡◌, ◌+◌, false, inl, inr, refl, arith, err_from_is_err_and, Grid, same_size_on, Outcome}
-use Rattle.pz_turn.proofs.Calm.{passing_changed, passing_quiet, passing_stops}
+use Rattle.pz_turn.proofs.Passes.{passing_changed, passing_quiet, passing_stops}
 use Rattle.pz_turn.proofs.resting.pass_after.Goals.{then-given+then-given-2, then-given+else-given-2, else-given, else-index-calm_from-via-then-index-calm_from+else-not-so_far, else-index-calm_from-via-else-index-calm_from}
 use Rattle.pz_turn.proofs.resting.pass_after.Goals as goal
 

@@ -1,5 +1,5 @@
 use Rattle.pz_turn.proofs.Common.{SameSize}
-use Rattle.pz_turn.proofs.Calm.{Passing}
+use Rattle.pz_turn.proofs.Passes.{Passing}
 use Rattle.pz_turn.proofs.resting.pass_after.Given as goal
 
 abbrev pub invariant-loop-index : goal.invariant-loop-index

@@ -1,6 +1,5 @@
 use Rattle.pz_turn.proofs.Common.{rest_of, up_to, refl, ◌≡◌, Bool, true, false, cond, take, Ok, arith, ap, ◌∙◌, subst, err_from_is_err_and, same_size_on, Grid, Outcome, joined, pass_of, ends, not-false, not-true}
-use Rattle.pz_turn.proofs.Calm.{calm_rest, calm_more}
-use Rattle.pz_turn.proofs.RestLemmas.{rest_ends, find_none, running_more}
+use Rattle.pz_turn.proofs.Passes.{calm_rest, calm_more, rest_ends, find_none, running_more}
 use Rattle.pz_turn.proofs.resting.to_rest.Goals as goal
 
 pub returns-in_err-passed-clause-outcome : goal.returns-in_err-passed-clause-outcome

@@ -1,5 +1,5 @@
 use Rattle.pz_turn.proofs.Common.{◌≡◌, false, SameSize, AreCalmFrom, pass_of}
-use Rattle.pz_turn.proofs.RestLemmas.{Running}
+use Rattle.pz_turn.proofs.Passes.{Running}
 use Rattle.pz_turn.proofs.resting.to_rest.Given as goal
 
 abbrev pub invariant-passes : goal.invariant-passes
