@@ -1,6 +1,5 @@
 -- The first piece of a cell that heads somewhere, and such a piece that is taken away.
 use Rattle.pz_cells.proofs.Common.{◌≡◌, ◌≢◌, inl, inr, ℕ, ◌+◌, ◌*◌, ◌/◌, ◌%◌, ◌<◌, List, Option, Some, None, true, false, not, ◌&&◌, length, get_or, set, arith, ap, sym, ◌∙◌, refl, subst, nat_eq, All, cases_eq, cases_lt, member, Piece, Dir, is_toward, flag, heads, heading_in, place_of, cell_of, Shows, AreLawful, IsOnLayer, heading_of, still_place, dir_bit-low}
-use Rattle.pz_game.specs.Headings.{dir_bit}
 use Rattle.pz_cells.specs.Cell.{IsStillOn, moving_piece}
 use Rattle.pz_cells.specs.declared.piece.Mover.{Mover}
 use Rattle.pz_cells.proofs.SameLemmas.{same_dir_is}
@@ -24,12 +23,12 @@ module _ (depth : ℕ) (layers objects movement : List ℕ) (low : All (λ l. l 
   still_on layer none = still_place_is (get_or cell layer None) (λ dir. sym (heads_seen depth layers objects movement layer dir low lawful) ∙ none dir)
 
   -- a number of the words is a direction of a layer, on which something stands that heads there
-  module _ (number layer : ℕ) (dir : Dir) (here : member movement number ≡ true) (on : layer ≡ 25 * (number / 128) + number % 128 / 5) (toward : dir_bit dir ≡ number % 128 % 5) where
+  module _ (number layer : ℕ) (dir : Dir) (here : member movement number ≡ true) (is : number % 128 < 125 → flag layer dir ≡ number) where
+    pub flag_is : flag layer dir ≡ number
+    flag_is = grind (arith, here, is, lawful.proper number)
+
     headed : heads movement layer dir ≡ true
-    headed = elim (cases_lt (number % 128) 125) [
-      | inl field ↦ (let same : flag layer dir ≡ number = omega (arith, field, on, toward) in ap (member movement) same ∙ here)
-      | inr past ↦ (let h : false ≡ true = sym (lawful.proper number past) ∙ here in cc)
-    ]
+    headed = ap (member movement) flag_is ∙ here
 
     pub headed_some : place_of layers objects movement layer ≢ None
     headed_some none = (let h : false ≡ true = sym ((subst (Shows layers (member objects) (heads movement layer) layer) none (lawful.shows layer)).1 dir) ∙ headed in cc)

@@ -1,8 +1,8 @@
 //! What stands in a cell.
 
-ghost use Rattle.std.specs.Prelude.{◌≡◌, ℕ, ◌+◌, ◌*◌, ◌/◌, ◌%◌, ◌↔◌, IsTrue, true, false, slice_index, MatchOption};
+ghost use Rattle.std.specs.Prelude.{◌≡◌, ℕ, ◌%◌, ◌<◌, ◌↔◌, IsTrue, true, false, slice_index, MatchOption};
 ghost use Rattle.pz_sets.specs.Sets.{member, AreSame};
-ghost use Rattle.pz_game.specs.Headings.{dir_bit, heading_in};
+ghost use Rattle.pz_game.specs.Headings.{flag, heading_in};
 ghost use Rattle.pz_cells.specs.Cell.{IsNextMover};
 ghost use Rattle.pz_cells.specs.Lists.{seen, IsSound};
 
@@ -47,8 +47,7 @@ impl<const N: usize> Cell<N> {
         match words::next(&self.movement, headings::flag(from, Dir::Up)) {
             None => None,
             Some(found) => {
-                let layer = layer_of_flag(found);
-                let dir = dir_of_flag(found);
+                let (layer, dir) = flagged(found);
                 match words::first_common(&self.objects, layers.objects_of(layer)) {
                     None => None,
                     Some(object) => Some(Mover {
@@ -90,22 +89,17 @@ impl<const N: usize> Cell<N> {
     }
 }
 
-/// The layer whose direction has this number: `flag` undone.
-fn layer_of_flag(number: usize) -> usize
-    ensures { result ≡ 25 * (number / 128) + number % 128 / 5 }
+/// The layer and the direction that have this number: `flag` undone.
+fn flagged(number: usize) -> (usize, Dir)
+    ensures { number % 128 < 125 → flag result.0 result.1 ≡ number }
 {
-    number / 128 * 25 + number % 128 / 5
-}
-
-/// The direction that has this number: `flag` undone.
-fn dir_of_flag(number: usize) -> Dir
-    ensures { dir_bit result ≡ number % 128 % 5 }
-{
-    match number % 128 % 5 {
+    let field = number % 128;
+    let dir = match field % 5 {
         0 => Dir::Up,
         1 => Dir::Down,
         2 => Dir::Left,
         3 => Dir::Right,
         _ => Dir::Action,
-    }
+    };
+    (number / 128 * 25 + field / 5, dir)
 }
