@@ -17,8 +17,8 @@ fn texts_in(alloc: Global, game: &Game) -> Result<(QuotedText, QuotedText), Fail
     let before = loaded(alloc, game)?;
     let after = moved(alloc, game)?;
     let mut writer = TextWriter::new(alloc, game, Order::Rows);
-    let first = writer.write(&before)?;
-    let second = writer.write_after(&before, &after)?;
+    let first = writer.write(before.bare())?;
+    let second = writer.write_after(before.bare(), after.bare())?;
     Ok((first, second))
 }
 
@@ -41,9 +41,9 @@ fn three_texts_in(alloc: Global, game: &Game, order: Order) -> Result<[QuotedTex
     let before = loaded(alloc, game)?;
     let after = moved(alloc, game)?;
     let mut writer = TextWriter::new(alloc, game, order);
-    let first = writer.write(&before)?;
-    let second = writer.write_after(&before, &after)?;
-    let third = writer.write_after(&after, &before)?;
+    let first = writer.write(before.bare())?;
+    let second = writer.write_after(before.bare(), after.bare())?;
+    let third = writer.write_after(after.bare(), before.bare())?;
     Ok([first, second, third])
 }
 

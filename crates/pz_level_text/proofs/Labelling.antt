@@ -1,6 +1,5 @@
 -- The labels of sets of objects.
-use Rattle.pz_level_text.proofs.Common.{◌≡◌, ℕ, suc, ◌+◌, ◌/◌, ◌%◌, ◌<◌, ◌≤◌, Bool, List, [], ◌∷◌, length, take, get_or, Option, Some, None, Result, Ok, Err, refl, ap, sym, ◌∙◌, arith, All, IfOk, IfSome, slice_index, get_or-take, length-take, GameParts, in_word, member, Grid, stands, chosen_from, standing_names, set_of, joined, text_at, TableView, set_text, IsLabelOf, IsLabelOfWord}
-use Rattle.std.specs.declared.alloc.AllocError.{AllocError}
+use Rattle.pz_level_text.proofs.Common.{◌≡◌, ℕ, suc, ◌+◌, ◌/◌, ◌%◌, ◌<◌, ◌≤◌, Bool, List, [], ◌∷◌, length, take, get_or, refl, ap, sym, ◌∙◌, arith, All, slice_index, get_or-take, length-take, in_word, member, Grid, stands, chosen_from, standing_names, set_of, joined, set_text, IsLabelOf, IsLabelOfWord}
 use Rattle.pz_level_text.specs.declared.labelled_set.LabelledSet.{LabelledSet}
 
 -- tests that agree choose the same names
@@ -30,16 +29,6 @@ named_at names objects grid x y same = chosen_same (member objects) (stands grid
 -- the text of the objects that stand at a position
 pub set_standing : (names : List (List ℕ)) (grid : Grid) (x y : ℕ) (objects : List ℕ) → ((object : ℕ) → member objects object ≡ stands grid x y object) → set_text names objects ≡ joined (set_of (standing_names names grid (x, y)))
 set_standing names grid x y objects same = ap (λ (l : List (List ℕ)). joined (set_of l)) (named_at names objects grid x y same)
-
-pub label_standing : (game : GameParts) (table : TableView) (grid : Grid) (x y : ℕ) (objects : List ℕ) → ((object : ℕ) → member objects object ≡ stands grid x y object) → table.game ≡ game → (result : Result ℕ AllocError)
-    → IfOk result (λ label. IsLabelOf table.game.objects table.texts objects label) → IfOk result (λ label. text_at table.texts label ≡ joined (set_of (standing_names game.objects grid (x, y))))
-label_standing game table grid x y objects same e (Ok label) is = is.1 ∙ (ap (λ (g : GameParts). set_text g.objects objects) e ∙ set_standing game.objects grid x y objects same)
-label_standing game table grid x y objects same e (Err fault) is = tt
-
-pub word_standing : (names texts : List (List ℕ)) (grid : Grid) (x y : ℕ) (objects : List ℕ) → ((object : ℕ) → member objects object ≡ stands grid x y object) → (word : ℕ) → slice_index objects 0 ≡ word → (label : Option ℕ)
-    → IfSome label (λ label. IsLabelOfWord names texts word label) → IfSome label (λ label. text_at texts label ≡ joined (set_of (standing_names names grid (x, y))))
-word_standing names texts grid x y objects same word first (Some label) is = (is objects first).1 ∙ set_standing names grid x y objects same
-word_standing names texts grid x y objects same word first None is = tt
 
 -- a label stays a label among more texts
 pub label_kept : (names texts more : List (List ℕ)) (objects : List ℕ) (label : ℕ) → take (length texts) more ≡ texts → IsLabelOf names texts objects label → IsLabelOf names more objects label

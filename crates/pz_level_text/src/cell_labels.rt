@@ -16,7 +16,6 @@ use crate::label_table::LabelTable;
 use crate::last_text::{LastText, follow};
 use pz_bare::BareLevel;
 use pz_game::game::Game;
-use pz_grid::Level;
 use pz_record::labels::KnownTexts;
 use pz_record::order::Order;
 use pz_record::text_room::TextRoom;
@@ -87,7 +86,7 @@ impl<'a> CellLabels<'a> {
 
     /// The label of what stands at a position. (Inlined, because each changed cell comes here, and most have a known set.)
     #[inline(always)]
-    fn label_at(&mut self, level: &Level, x: u32, y: u32) -> Result<usize, AllocError>
+    fn label_at(&mut self, level: &BareLevel, x: u32, y: u32) -> Result<usize, AllocError>
         ensures known { IfOk result (λ label. label < length self.new.table.texts) }
         ensures text { IfOk result (λ label. text_at self.new.table.texts label ≡ joined (set_of (standing_names self.old.table.game.objects level.now.grid (x, y)))) }
         ensures cells { self.new.cells ≡ self.old.cells }
@@ -95,7 +94,8 @@ impl<'a> CellLabels<'a> {
         ensures game { self.new.table.game ≡ self.old.table.game }
         ensures order { self.new.order ≡ self.old.order }
     {
-        let label = self.table.label_at(self.alloc, level, x, y)?;
+        let objects = level.objects_at(x, y);
+        let label = self.table.label(self.alloc, &objects)?;
         Ok(label)
     }
 
@@ -133,7 +133,7 @@ impl<'a> CellLabels<'a> {
     }
 
     /// Labels each cell of a level. Err: memory was refused.
-    pub fn look_at_all(&mut self, level: &Level) -> Result<(), AllocError>
+    pub fn look_at_all(&mut self, level: &BareLevel) -> Result<(), AllocError>
         ensures cells { OnOk result (self.new.cells ≡ texts_in self.old.table.game self.old.order level.now.grid) }
         ensures game { self.new.table.game ≡ self.old.table.game }
         ensures order { self.new.order ≡ self.old.order }
@@ -149,7 +149,7 @@ impl<'a> CellLabels<'a> {
 
     /// Labels the cell of this number again, because it may differ from what was seen there. Here cells are numbered row by row. The answer
     /// has the cell's number in the order of the text. Err: memory was refused.
-    fn look(&mut self, level: &Level, index: usize) -> Result<usize, AllocError>
+    fn look(&mut self, level: &BareLevel, index: usize) -> Result<usize, AllocError>
         requires on_map { index < level.now.grid.width * level.now.grid.height }
         requires count { length self.old.cells ≡ level.now.grid.width * level.now.grid.height }
         ensures known { OnOk result ((seen : Grid) → SameSize seen level.now.grid → index < length seen.cells → self.old.cells ≡ texts_in self.old.table.game self.old.order seen → self.new.cells ≡ texts_in self.old.table.game self.old.order (with_cell seen (cell_there level.now.grid index))) }
@@ -172,7 +172,7 @@ impl<'a> CellLabels<'a> {
     pub fn look_at_changes(
         &mut self,
         seen: &BareLevel,
-        level: &Level,
+        level: &BareLevel,
         room: &mut TextRoom,
         last: Option<LastText>,
     ) -> Result<Option<LastText>, AllocError>
@@ -189,7 +189,7 @@ impl<'a> CellLabels<'a> {
         let mut last = last;
         let mut known = KnownChanges::none();
         let mut from = 0;
-        'changes: while let Some(index) = seen.next_change_after(level.bare(), &mut known, from) {
+        'changes: while let Some(index) = seen.next_change_after(level, &mut known, from) {
             let number = self.look(level, index)?;
             last = follow(last, room, self.texts(), self.labels(), number);
             from = index + 1;

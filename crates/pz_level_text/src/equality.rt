@@ -5,14 +5,14 @@ ghost use Rattle.pz_level_text.specs.Equality.{equals_recorded};
 
 use crate::cell_order::position;
 use crate::naming::Naming;
+use pz_bare::BareLevel;
 use pz_game::game::Game;
-use pz_grid::Level;
 use pz_record::order::Order;
 use pz_record::recorded::Recorded;
 
 /// Whether the level has as many cells as were recorded, and each, in this order, exactly the recorded names. Neither the width nor
 /// headings are compared.
-pub fn equals(game: &Game, level: &Level, recorded: &Recorded, order: Order) -> bool
+pub fn equals(game: &Game, level: &BareLevel, recorded: &Recorded, order: Order) -> bool
     ensures { result ≡ equals_recorded game.now order level.now.grid recorded.now }
 {
     let cells = level.width() * level.height();

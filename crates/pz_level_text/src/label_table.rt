@@ -1,18 +1,11 @@
 //! The sets of a game's objects that were seen so far, and the labels of their texts.
 
-ghost use Rattle.std.specs.Prelude.{◌≡◌, ℕ, ◌<◌, ◌≤◌, [], length, take, IfOk, IfSome};
-ghost use Rattle.pz_sets.specs.Sets.{member};
-ghost use Rattle.pz_sheet.specs.Standing.{stands};
-ghost use Rattle.pz_record.specs.CellNames.{set_of};
-ghost use Rattle.pz_record.specs.CellTexts.{joined};
-ghost use Rattle.pz_record.specs.Labels.{text_at};
+ghost use Rattle.std.specs.Prelude.{◌≡◌, ◌≤◌, [], length, take, IfOk, IfSome};
 ghost use Rattle.pz_level_text.specs.Labels.{IsLabelOf, IsLabelOfWord};
-ghost use Rattle.pz_level_text.specs.LevelNames.{standing_names};
 
 use crate::labelled_set::LabelledSet;
-use crate::level_names::text_at;
+use crate::set_text::set_text;
 use pz_game::game::Game;
-use pz_grid::Level;
 use pz_record::labels::KnownTexts;
 use pz_sets::set::NumberSet;
 use std::alloc::{AllocError, Global};
@@ -105,21 +98,13 @@ impl<'a> LabelTable<'a> {
         self.known_at(*place, objects)
     }
 
-    /// Writes the text of the set that stands at a position, and gives its label. Err: memory was refused.
-    fn label_of(
-        &mut self,
-        alloc: Global,
-        level: &Level,
-        x: u32,
-        y: u32,
-        objects: NumberSet,
-    ) -> Result<usize, AllocError>
-        requires { (object : ℕ) → member objects object ≡ stands level.now.grid x y object }
-        ensures label { IfOk result (λ label. IsLabelOf self.new.game.objects self.new.texts objects label) }
+    /// Writes the text of a set, and gives its label. Err: memory was refused.
+    fn label_of(&mut self, alloc: Global, objects: &NumberSet) -> Result<usize, AllocError>
+        ensures label { IfOk result (λ label. IsLabelOf self.new.game.objects self.new.texts objects.now label) }
         ensures kept { take (length self.old.texts) self.new.texts ≡ self.old.texts }
         ensures game { self.new.game ≡ self.old.game }
     {
-        let text = text_at(alloc, self.game.objects(), level, x, y)?;
+        let text = set_text(alloc, self.game.objects(), objects)?;
         let label = self.texts.label_of(alloc, text)?;
         Ok(label)
     }
@@ -137,22 +122,14 @@ impl<'a> LabelTable<'a> {
         Ok(())
     }
 
-    /// The label of the set that stands at a position and is new. Err: memory was refused.
-    fn learn(
-        &mut self,
-        alloc: Global,
-        level: &Level,
-        x: u32,
-        y: u32,
-        objects: NumberSet,
-    ) -> Result<usize, AllocError>
-        requires { (object : ℕ) → member objects object ≡ stands level.now.grid x y object }
-        ensures label { IfOk result (λ label. IsLabelOf self.new.game.objects self.new.texts objects label) }
+    /// The label of a set that is new. Err: memory was refused.
+    fn learn(&mut self, alloc: Global, objects: &NumberSet) -> Result<usize, AllocError>
+        ensures label { IfOk result (λ label. IsLabelOf self.new.game.objects self.new.texts objects.now label) }
         ensures kept { take (length self.old.texts) self.new.texts ≡ self.old.texts }
         ensures game { self.new.game ≡ self.old.game }
     {
-        let label = self.label_of(alloc, level, x, y, objects)?;
-        self.note(objects, label)?;
+        let label = self.label_of(alloc, objects)?;
+        self.note(*objects, label)?;
         Ok(label)
     }
 
@@ -182,50 +159,38 @@ impl<'a> LabelTable<'a> {
         None
     }
 
-    /// The label of the set that stands at a position, if it is found by its first word.
-    fn met_at(&self, level: &Level, x: u32, y: u32) -> Option<usize>
-        ensures known { IfSome result (λ label. label < length self.now.texts) }
-        ensures text { IfSome result (λ label. text_at self.now.texts label ≡ joined (set_of (standing_names self.now.game.objects level.now.grid (x, y)))) }
+    /// The label of a set, if it is found by its first word.
+    fn met(&self, objects: &NumberSet) -> Option<usize>
+        ensures { IfSome result (λ label. IsLabelOf self.now.game.objects self.now.texts objects.now label) }
     {
         if self.game.objects().len() > WORD {
             return None;
         }
-        let objects = level.objects_at(x, y);
         self.labelled(objects.words()[0])
     }
 
-    /// The label of the set that stands at a position, however it is found. Err: memory was refused. (Not inlined: in a game of at most 128
-    /// objects few cells come here.)
+    /// The label of a set, however it is found. Err: memory was refused. (Not inlined: in a game of at most 128 objects few sets come here.)
     #[inline(never)]
-    fn look_up(&mut self, alloc: Global, level: &Level, x: u32, y: u32) -> Result<usize, AllocError>
-        ensures known { IfOk result (λ label. label < length self.new.texts) }
-        ensures text { IfOk result (λ label. text_at self.new.texts label ≡ joined (set_of (standing_names self.old.game.objects level.now.grid (x, y)))) }
+    fn look_up(&mut self, alloc: Global, objects: &NumberSet) -> Result<usize, AllocError>
+        ensures label { IfOk result (λ label. IsLabelOf self.new.game.objects self.new.texts objects.now label) }
         ensures kept { take (length self.old.texts) self.new.texts ≡ self.old.texts }
         ensures game { self.new.game ≡ self.old.game }
     {
-        let objects = level.objects_at(x, y);
-        match self.known(&objects) {
+        match self.known(objects) {
             Some(label) => Ok(label),
-            None => self.learn(alloc, level, x, y, objects),
+            None => self.learn(alloc, objects),
         }
     }
 
-    /// The label of the set that stands at a position. Err: memory was refused.
-    pub fn label_at(
-        &mut self,
-        alloc: Global,
-        level: &Level,
-        x: u32,
-        y: u32,
-    ) -> Result<usize, AllocError>
-        ensures known { IfOk result (λ label. label < length self.new.texts) }
-        ensures text { IfOk result (λ label. text_at self.new.texts label ≡ joined (set_of (standing_names self.old.game.objects level.now.grid (x, y)))) }
+    /// The label of a set. Err: memory was refused.
+    pub fn label(&mut self, alloc: Global, objects: &NumberSet) -> Result<usize, AllocError>
+        ensures label { IfOk result (λ label. IsLabelOf self.new.game.objects self.new.texts objects.now label) }
         ensures kept { take (length self.old.texts) self.new.texts ≡ self.old.texts }
         ensures game { self.new.game ≡ self.old.game }
     {
-        match self.met_at(level, x, y) {
+        match self.met(objects) {
             Some(label) => Ok(label),
-            None => self.look_up(alloc, level, x, y),
+            None => self.look_up(alloc, objects),
         }
     }
 }

@@ -1,4 +1,4 @@
-//! The text of a level: written for each frame, or by itself so that it reads back. Also compares a level with a recorded one.
+//! The text of a level, written for each frame. Also compares a level with a recorded one.
 #![tactic(auto)]
 
 mod cell_labels;
@@ -7,7 +7,6 @@ pub mod equality;
 mod label_table;
 mod labelled_set;
 mod last_text;
-mod level_names;
 mod naming;
-pub mod reading_back;
+mod set_text;
 pub mod text_writer;

@@ -13,7 +13,6 @@ use crate::last_text::LastText;
 use pz_bare::BareLevel;
 use pz_base::text::Text;
 use pz_game::game::Game;
-use pz_grid::Level;
 use pz_record::changed::Changed;
 use pz_record::order::Order;
 use pz_record::plain::plain_text;
@@ -106,7 +105,7 @@ impl<'a> TextWriter<'a> {
     }
 
     /// Labels each cell of a level. Err: memory was refused.
-    fn look_at_all(&mut self, level: &Level) -> Result<(), AllocError>
+    fn look_at_all(&mut self, level: &BareLevel) -> Result<(), AllocError>
         ensures cells { OnOk result (self.new.cells ≡ texts_in self.old.table.game self.old.order level.now.grid) }
         ensures game { self.new.table.game ≡ self.old.table.game }
         ensures order { self.new.order ≡ self.old.order }
@@ -117,7 +116,7 @@ impl<'a> TextWriter<'a> {
     }
 
     /// Labels each cell of a level that differs from the one that was seen. Err: memory was refused.
-    fn look_at_changes(&mut self, seen: &BareLevel, level: &Level) -> Result<(), AllocError>
+    fn look_at_changes(&mut self, seen: &BareLevel, level: &BareLevel) -> Result<(), AllocError>
         requires size { SameSize seen.now.grid level.now.grid }
         requires known { self.old.cells ≡ texts_in self.old.table.game self.old.order seen.now.grid }
         ensures cells { OnOk result (self.new.cells ≡ texts_in self.old.table.game self.old.order level.now.grid) }
@@ -133,21 +132,21 @@ impl<'a> TextWriter<'a> {
     }
 
     /// Labels the cells of a level, after another of its size only those that differ. Err: memory was refused.
-    fn look_over(&mut self, seen: &Level, level: &Level) -> Result<(), AllocError>
+    fn look_over(&mut self, seen: &BareLevel, level: &BareLevel) -> Result<(), AllocError>
         requires { self.old.cells ≡ texts_in self.old.table.game self.old.order seen.now.grid }
         ensures cells { OnOk result (self.new.cells ≡ texts_in self.old.table.game self.old.order level.now.grid) }
         ensures game { self.new.table.game ≡ self.old.table.game }
         ensures order { self.new.order ≡ self.old.order }
     {
-        if seen.bare().same_size(level.bare()) {
-            self.look_at_changes(seen.bare(), level)
+        if seen.same_size(level) {
+            self.look_at_changes(seen, level)
         } else {
             self.look_at_all(level)
         }
     }
 
     /// The text of the level whose cells are labelled.
-    fn text(&mut self, level: &Level) -> Result<QuotedText, AllocError>
+    fn text(&mut self, level: &BareLevel) -> Result<QuotedText, AllocError>
         requires { self.old.cells ≡ texts_in self.old.table.game self.old.order level.now.grid }
         ensures text { IfOk result (λ text. text ≡ text_of_level self.old.table.game self.old.order level.now.grid) }
         ensures same { self.new ≡ self.old }
@@ -161,7 +160,7 @@ impl<'a> TextWriter<'a> {
     /// of names has the names, sorted by their bytes and separated by spaces, then a colon and the next number from 0. A further cell with
     /// the same names has only that number. A line break comes after as many cells as the level is wide, in either order. Err: memory was
     /// refused.
-    pub fn write(&mut self, level: &Level) -> Result<QuotedText, AllocError>
+    pub fn write(&mut self, level: &BareLevel) -> Result<QuotedText, AllocError>
         ensures text { IfOk result (λ text. text ≡ text_of_level self.old.table.game self.old.order level.now.grid) }
         ensures cells { OnOk result (self.new.cells ≡ texts_in self.old.table.game self.old.order level.now.grid) }
         ensures game { self.new.table.game ≡ self.old.table.game }
@@ -173,7 +172,11 @@ impl<'a> TextWriter<'a> {
     }
 
     /// The same, after a level that was written: only cells that differ from that one are looked at.
-    pub fn write_after(&mut self, seen: &Level, level: &Level) -> Result<QuotedText, AllocError>
+    pub fn write_after(
+        &mut self,
+        seen: &BareLevel,
+        level: &BareLevel,
+    ) -> Result<QuotedText, AllocError>
         requires { self.old.cells ≡ texts_in self.old.table.game self.old.order seen.now.grid }
         ensures text { IfOk result (λ text. text ≡ text_of_level self.old.table.game self.old.order level.now.grid) }
         ensures cells { OnOk result (self.new.cells ≡ texts_in self.old.table.game self.old.order level.now.grid) }
@@ -186,7 +189,7 @@ impl<'a> TextWriter<'a> {
     }
 
     /// The same text, not quoted, for callers that read it back.
-    pub fn write_plain(&mut self, level: &Level) -> Result<Text, AllocError>
+    pub fn write_plain(&mut self, level: &BareLevel) -> Result<Text, AllocError>
         ensures text { IfOk result (λ text. text ≡ text_of_level self.old.table.game self.old.order level.now.grid) }
         ensures game { self.new.table.game ≡ self.old.table.game }
         ensures order { self.new.order ≡ self.old.order }

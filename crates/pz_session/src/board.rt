@@ -15,7 +15,8 @@ ghost use Rattle.pz_session.specs.Chain.{GivesLink};
 
 use crate::chain::{PlayFault, Shown};
 use crate::labelled::Labelled;
-use crate::place::{put_aside, put_before, put_copy};
+use crate::level_texts::equals;
+use crate::place::{put, put_aside, put_before};
 use crate::turn::is_idle;
 use bitflags::Flags;
 use pz_bare::BareLevel;
@@ -25,7 +26,6 @@ use pz_case::item::{Frame, FrameKind, Verdict};
 use pz_game::direction::Dir;
 use pz_game::game::Game;
 use pz_grid::Level;
-use pz_level_text::equality::equals;
 use pz_level_text::text_writer::TextWriter;
 use pz_program::commands::Commands;
 use pz_program::instance::Program;
@@ -49,7 +49,7 @@ pub struct Board<'a> {
     recorded: &'a Recorded,
     entry: usize,
     level: Level,
-    target: Level,
+    target: BareLevel,
     past: Past,
     before: Option<Level>,
     differs: Option<bool>,
@@ -82,7 +82,7 @@ impl Drop for Board<'_> {
             recorded: _,
             entry: _,
             level: _level,
-            target: _target,
+            target,
             past: _past,
             before,
             differs: _,
@@ -91,21 +91,29 @@ impl Drop for Board<'_> {
             texts: _texts,
             labelled: _,
         } = self;
+        drop(target);
         drop(before);
         drop(spare);
     }
 }
 
+/// A copy of a level with marks. Err: memory was refused.
+fn marked(alloc: Global, bare: &BareLevel) -> Result<Level, AllocError>
+    ensures { IfOk result (λ level. level.grid ≡ bare.now.grid) }
+{
+    Level::marked(alloc, bare.copy()?)
+}
+
 /// The level of an entry, and a copy of it as the target. Err: memory was refused.
-fn opened(alloc: Global, game: &Game, entry: usize) -> Result<(Level, Level), AllocError>
+fn opened(alloc: Global, game: &Game, entry: usize) -> Result<(Level, BareLevel), AllocError>
     requires playable { is_playable (entry_at game.now entry) ≡ true }
     requires within { entry < length game.now.levels }
     ensures level { IfOk result (λ levels. levels.0.grid ≡ loaded game.now entry) }
     ensures target { IfOk result (λ levels. levels.1.grid ≡ loaded game.now entry) }
 {
-    let level = Level::marked(alloc, BareLevel::load(alloc, game, entry)?)?;
-    match level.copied() {
-        Ok(target) => Ok((level, target)),
+    let target = BareLevel::load(alloc, game, entry)?;
+    match marked(alloc, &target) {
+        Ok(level) => Ok((level, target)),
         Err(fault) => Err(fault),
     }
 }
@@ -175,8 +183,8 @@ impl<'a> Board<'a> {
         let seen = self.labelled.level(&self.level, &self.before, &self.spare);
         self.labelled = Labelled::Nothing;
         let level_text = match seen {
-            Some(seen) => self.texts.write_after(seen, &self.level)?,
-            None => self.texts.write(&self.level)?,
+            Some(seen) => self.texts.write_after(seen.bare(), self.level.bare())?,
+            None => self.texts.write(self.level.bare())?,
         };
         self.labelled = Labelled::Level;
         Ok(Frame { kind, level_text })
@@ -208,7 +216,7 @@ impl<'a> Board<'a> {
     {
         self.differs = None;
         self.labelled = self.labelled.behind();
-        put_copy(&mut self.level, &self.target)?;
+        put(&mut self.level, marked(self.alloc, &self.target)?);
         let goes_on = self.ticks_at_start();
         self.show(FrameKind::Restart, goes_on)
     }
@@ -262,7 +270,7 @@ impl<'a> Board<'a> {
         if !commands.contains(Commands::CHECKPOINT) {
             return Ok(());
         }
-        put_copy(&mut self.target, &self.level)
+        self.target.copy_from(self.level.bare())
     }
 
     /// Shows the level after a step that doesn't win. A checkpoint makes it the target. `again` asks for one more tick if the step changed
@@ -369,7 +377,7 @@ impl<'a> Board<'a> {
         ensures { OnOk result (self.new ≡ undone self.old self.old.past) }
     {
         if let Some(newest) = self.past.newest() {
-            let level = Level::marked(self.alloc, newest.copy()?)?;
+            let level = marked(self.alloc, newest)?;
             put_before(&mut self.level, level, &mut self.spare);
             self.differs = None;
             self.labelled = self.labelled.moved_to(Labelled::Spare);
@@ -389,7 +397,7 @@ impl<'a> Board<'a> {
     fn start_again(&mut self) -> Result<Shown, PlayFault>
         ensures { GivesLink (Ok (restarted (keeping self.old))) self.new result }
     {
-        let target = self.target.copied()?;
+        let target = marked(self.alloc, &self.target)?;
         put_before(&mut self.level, target, &mut self.before);
         self.differs = None;
         self.labelled = self.labelled.moved_to(Labelled::Before);

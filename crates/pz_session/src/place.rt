@@ -1,9 +1,8 @@
 //! Replacing one value by another.
 
-ghost use Rattle.std.specs.Prelude.{◌≡◌, OnOk, OnErr, Some};
+ghost use Rattle.std.specs.Prelude.{◌≡◌, Some};
 
 use pz_grid::Level;
-use std::alloc::AllocError;
 use std::mem::replace;
 
 /// Replaces a value. The old one is dropped by a call, because an assignment makes the prover follow every path through its parts.
@@ -27,13 +26,4 @@ pub(crate) fn put_before(place: &mut Level, level: Level, aside: &mut Option<Lev
 {
     let before = replace(place, level);
     *aside = Some(before);
-}
-
-/// Replaces a level by a copy of another. Err: memory was refused, and the level is unchanged.
-pub(crate) fn put_copy(place: &mut Level, level: &Level) -> Result<(), AllocError>
-    ensures copied { OnOk result (place.new.grid ≡ level.now.grid) }
-    ensures kept { OnErr result (place.new ≡ place.old) }
-{
-    *place = level.copied()?;
-    Ok(())
 }

@@ -1,6 +1,6 @@
-use Rattle.pz_level_text.proofs.Common.{◌≡◌, ◌+◌, ◌<◌, ◌≤◌, ℕ, List, IfSome, false, length, map, take, ap, arith, refl, subst, sym, ◌∙◌, Grid, IsSameBut, text_at}
+use Rattle.pz_level_text.proofs.Common.{◌≡◌, ◌+◌, ℕ, List, IfSome, length, map, take, ap, arith, refl, subst, sym, ◌∙◌, IsSameBut, text_at}
 use Rattle.pz_level_text.specs.LastText.{IsLastOf}
-use Rattle.pz_sheet.specs.Changes.{TellsOf, differ_in}
+use Rattle.pz_sheet.specs.Changes.{differ_in}
 use Rattle.pz_level_text.proofs.Changing.{seen_count, seen_more, all_seen, last_before}
 use Rattle.pz_level_text.proofs.cell_labels.CellLabels.look_at_changes.Goals as goal
 
@@ -23,14 +23,13 @@ changes-preserved c =
     let index = c.in-Some.index in
     let before = c.changes.invariant in
     let next = c.in-Some.ensures.next in
-    let same : (k : ℕ) → c.changes.from ≤ k → k < index → differ_in seen level k ≡ false = subst (λ (g : Grid). (k : ℕ) → c.changes.from ≤ k → k < index → differ_in seen g k ≡ false) c.bare.ensures next.3 in
     record {
-      seen = seen_more c.args.self.now.table.game c.changes.self.table.game c.args.self.now.order c.changes.self.order seen level c.changes.from index c.changes.self.cells c.look.new.self.cells before.game before.order c.requires.size c.in-Some.ensures.lawful c.width.ensures.lawful next.0 next.1 same before.seen c.in_ok-number.ensures.known;
+      seen = seen_more c.args.self.now.table.game c.changes.self.table.game c.args.self.now.order c.changes.self.order seen level c.changes.from index c.changes.self.cells c.look.new.self.cells before.game before.order c.requires.size c.in-Some.ensures.lawful c.width.ensures.lawful next.0 next.1 next.3 before.seen c.in_ok-number.ensures.known;
       last = subst (λ (cells : List (List ℕ)). IfSome c.follow-last.result (IsLastOf cells c.look.new.self.table.texts c.follow-last.new.room)) c.labels.ensures.cells
           (subst (λ (texts : List (List ℕ)). IfSome c.follow-last.result (IsLastOf (map (text_at texts) c.labels.result.now) texts c.follow-last.new.room)) c.texts.ensures c.follow-last.ensures);
       game = c.look.ensures.game ∙ before.game;
       order = c.look.ensures.order ∙ before.order;
-      known = subst (λ (g : Grid). TellsOf (differ_in seen g) (length seen.cells) c.next_change_after.new.known) c.bare.ensures c.in-Some.ensures.known;
+      known = c.in-Some.ensures.known;
     }
 
 pub follow-last-requires-clause-last : goal.follow-last-requires-clause-last
@@ -48,7 +47,4 @@ follow-last-requires-clause-last c =
 
 pub returns-clause-cells : goal.returns-clause-cells
 returns-clause-cells c =
-    let level = c.args.level.now.grid in
-    let seen = c.args.seen.now.grid in
-    let same : (k : ℕ) → c.changes.from ≤ k → k < length seen.cells → differ_in seen level k ≡ false = subst (λ (g : Grid). (k : ℕ) → c.changes.from ≤ k → k < length seen.cells → differ_in seen g k ≡ false) c.bare.ensures c.in_default.ensures.next in
-    all_seen c.args.self.now.table.game c.args.self.now.order seen level c.changes.from c.changes.self.cells c.requires.size c.next_change_after.ensures.lawful c.width.ensures.lawful same c.changes.invariant.seen
+    all_seen c.args.self.now.table.game c.args.self.now.order c.args.seen.now.grid c.args.level.now.grid c.changes.from c.changes.self.cells c.requires.size c.next_change_after.ensures.lawful c.width.ensures.lawful c.in_default.ensures.next c.changes.invariant.seen

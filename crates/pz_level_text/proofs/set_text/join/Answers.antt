@@ -1,6 +1,6 @@
 use Rattle.pz_level_text.proofs.Common.{◌≡◌, rules}
 use Rattle.pz_level_text.proofs.Joining.{joins}
-use Rattle.pz_level_text.proofs.level_names.join.Goals as goal
+use Rattle.pz_level_text.proofs.set_text.join.Goals as goal
 
 pub returns : goal.returns
 returns c =

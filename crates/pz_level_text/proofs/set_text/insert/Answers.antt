@@ -1,7 +1,7 @@
 use Rattle.pz_level_text.proofs.Common.{ap, ◌∙◌, map, Bor, List, ℕ, with_name, insert_seen}
 use Rattle.std.specs.Ordering.{nat_cmp}
 use Rattle.std.specs.Cmp.Lexicographic.{slice_cmp}
-use Rattle.pz_level_text.proofs.level_names.insert.Goals as goal
+use Rattle.pz_level_text.proofs.set_text.insert.Goals as goal
 
 pub returns : goal.returns
 unfolding with_name
