@@ -1,5 +1,5 @@
 -- The texts of a level's cells, where one cell has changed since it was seen.
-use Rattle.pz_level_text.proofs.Common.{◌≡◌, ◌≢◌, Some, IfSome, IsSameBut, take, ℕ, ◌+◌, ◌*◌, ◌/◌, ◌%◌, ◌<◌, ◌≤◌, List, [], Option, None, Bool, true, false, not, ◌&&◌, cond, length, set, get_or, refl, ap, ap₂, sym, ◌∙◌, arith, inl, inr, is_some, get_or-set_same, get_or-set_other, nat_lt, length-set, ext_get_or, GameParts, Grid, IsLawful, SameSize, cell_at, stands, Order, set_of, standing_names, joined, texts_in, column_of, row_of, number_of}
+use Rattle.pz_level_text.proofs.Common.{common_steps, ◌≡◌, ◌≢◌, Some, IfSome, IsSameBut, take, ℕ, ◌+◌, ◌*◌, ◌/◌, ◌%◌, ◌<◌, ◌≤◌, List, [], Option, None, Bool, true, false, not, ◌&&◌, cond, length, set, get_or, refl, ap, ap₂, sym, ◌∙◌, arith, inl, inr, is_some, get_or-set_same, get_or-set_other, nat_lt, length-set, ext_get_or, GameParts, Grid, IsLawful, SameSize, cell_at, stands, Order, set_of, standing_names, joined, texts_in, column_of, row_of, number_of}
 use Rattle.std.proofs.lemmas.Bool.{cases_eq, cases_lt}
 use Rattle.std.proofs.Math.Nat.{div-lt_iff_lt-mul}
 use Rattle.std.proofs.lemmas.Nat.{div-add-mod', div-mul-add, mod-mul-add}
@@ -46,13 +46,7 @@ pub record IsRead (grid : Grid) (index x y : ℕ) : Type 0 where
   pub number : y * grid.width + x ≡ index
 
 pub read_at : (grid : Grid) (index x y : ℕ) → IsLawful grid → index < grid.width * grid.height → x ≡ column_of Rows grid index → y ≡ row_of Rows grid index → IsRead grid index x y
-read_at grid index x y lawful within column row =
-    let on = on_map Rows grid index x y within lawful.size.some_width lawful.size.some_height (record { column = column; row = row }) in
-    record {
-      wide = on.0;
-      high = on.1;
-      number = ap₂ (λ (b a : ℕ). b * grid.width + a) row column ∙ number_back Rows grid index;
-    }
+read_at grid index x y lawful within column row = grind (arith, common_steps, on_map, number_back)
 
 -- positions are a matter of the size alone
 same_column : (order : Order) (grid : Grid) (cells : List (List (Option Piece))) (k : ℕ) → column_of order (record grid { cells = cells }) k ≡ column_of order grid k
@@ -128,11 +122,7 @@ module _ (game : GameParts) (order : Order) (grid level : Grid) (index x y : ℕ
 
 -- ---- one cell looked at
 read_seen : (grid level : Grid) (index x y : ℕ) → SameSize grid level → IsRead level index x y → IsRead grid index x y
-read_seen grid level index x y size read = record {
-  wide = omega (arith, read.wide, size.width);
-  high = omega (arith, read.high, size.height);
-  number = ap (λ (w : ℕ). y * w + x) (sym size.width) ∙ read.number;
-}
+read_seen grid level index x y size read = grind (arith, common_steps)
 
 same_number : (order : Order) (grid level : Grid) (x y : ℕ) → SameSize grid level → number_of order level x y ≡ number_of order grid x y
 same_number Rows grid level x y size = ap (λ (w : ℕ). y * w + x) size.width
@@ -181,13 +171,7 @@ all_seen game order seen level from cells size lawful lawful_level none is =
 -- one more cell is as it was seen
 pub front_more : (grid level : Grid) (from index : ℕ) → length grid.cells ≡ length level.cells → index < length grid.cells → ((k : ℕ) → k < from → cell_of grid k ≡ cell_of level k) → ((k : ℕ) → from ≤ k → k < index → differ_in grid level k ≡ false)
     → (k : ℕ) → k < index + 1 → cell_of (with_cell grid (cell_there level index)) k ≡ cell_of level k
-front_more grid level from index long within front rest k h = elim (cases_eq k index) [
-  | inl same ↦ ap (λ (j : ℕ). get_or (set grid.cells index (cell_of level index)) j []) same ∙ (get_or-set_same grid.cells index (cell_of level index) [] within ∙ ap (λ (j : ℕ). get_or level.cells j []) (sym same))
-  | inr apart ↦ get_or-set_other grid.cells index k (cell_of level index) [] apart ∙ elim (cases_lt k from) [
-    | inl before ↦ front k before
-    | inr past ↦ same_cell_is (cell_of grid k) (cell_of level k) (not_false (same_cell (cell_of grid k) (cell_of level k)) (rest k past (omega (arith, h, apart))))
-  ]
-]
+front_more grid level from index long within front rest k h = grind (arith, common_steps, cases_eq, get_or-set_same, get_or-set_other, cases_lt, same_cell_is, not_false)
 
 pub seen_count : (game : GameParts) (order : Order) (seen level : Grid) (from : ℕ) (cells : List (List ℕ)) → IsSeenTo game order seen level from cells → length cells ≡ level.width * level.height
 seen_count game order seen level from cells is = ap length is.known ∙ (length-texts_in game order is.now ∙ ap₂ (λ (w h : ℕ). w * h) (sym is.size.width) (sym is.size.height))
@@ -215,6 +199,4 @@ seen_more game game_now order order_now seen level from index cells new same_gam
 pub last_before : (texts more before all : List (List ℕ)) (room : RoomView) (cell : ℕ) → take (length texts) more ≡ texts → IsSameBut cell (cell + 1) before all → (last : Option LastText) → IfSome last (IsLastOf before texts room)
     → IfSome last (λ last. (before : List (List ℕ)) × IsLastOf before more room last × IsSameBut cell (cell + 1) before all)
 last_before texts more before all room cell kept same None known = tt
-last_before texts more before all room cell kept same (Some last) known =
-    let has = known.1 in
-    (before, (known.0, record { before = has.before; text = text_kept last.width has.before texts more room kept has.text; same = has.same }), same)
+last_before texts more before all room cell kept same (Some last) known = grind (arith, common_steps, text_kept)

@@ -1,6 +1,7 @@
 -- The words of the proofs of this crate: what several of them import.
 pub use Rattle.std.proofs.Common.{All, Bool, Bor, Err, Global, IfSome, List, None, Ok, Option, Result, Some, Vec, [], ap, ap₂, arith, cond, drop, false, fold, get_or, get_or-set_other, get_or-set_same, inl, inr, is_some, length, map, not, refl, rules, set, slice_index_or, slice_set, subst, suc, sym, take, true, ℕ, ◌%◌, ◌&&◌, ◌*◌, ◌++◌, ◌+◌, ◌-◌, ◌/◌, ◌<◌, ◌^◌, ◌∙◌, ◌∷◌, ◌≡◌, ◌≢◌, ◌≤◌}
 pub use Rattle.std.proofs.lemmas.List.{append-nil, drop_all, drop_more, ext_get_or, get_or-map, get_or-take, length-map, length-set, length-take, map-set, take_all, take_more}
+pub use Rattle.std.proofs.lemmas.Grind.{common_steps}
 pub use Rattle.std.specs.List.{join_by, list_all}
 pub use Rattle.std.specs.Prelude.{IfOk, codes, nat_lt, slice_index}
 pub use Rattle.pz_game.specs.declared.game.GameParts.{GameParts}

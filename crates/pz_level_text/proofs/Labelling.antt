@@ -1,5 +1,5 @@
 -- The labels of sets of objects.
-use Rattle.pz_level_text.proofs.Common.{◌≡◌, ℕ, suc, ◌+◌, ◌/◌, ◌%◌, ◌<◌, ◌≤◌, Bool, List, [], ◌∷◌, length, take, get_or, refl, ap, sym, ◌∙◌, arith, All, slice_index, get_or-take, length-take, in_word, member, Grid, stands, chosen_from, standing_names, set_of, joined, set_text, IsLabelOf, IsLabelOfWord}
+use Rattle.pz_level_text.proofs.Common.{common_steps, ◌≡◌, ℕ, suc, ◌+◌, ◌<◌, ◌≤◌, Bool, List, [], ◌∷◌, length, take, refl, ap, arith, All, slice_index, get_or-take, length-take, member, Grid, stands, chosen_from, standing_names, set_of, joined, set_text, IsLabelOf, IsLabelOfWord}
 use Rattle.pz_level_text.specs.declared.labelled_set.LabelledSet.{LabelledSet}
 
 -- tests that agree choose the same names
@@ -14,11 +14,7 @@ chosen_alike f g end e k (name ∷ names) h = rw (e k (omega (arith, h)), chosen
 
 -- sets with the same first word have the same text, where all objects are in that word
 pub label_of_word : (names texts : List (List ℕ)) (known : List ℕ) (word label : ℕ) → length names ≤ 128 → slice_index known 0 ≡ word → IsLabelOf names texts known label → IsLabelOfWord names texts word label
-label_of_word names texts known word label few first is objects same =
-    let alike : (n : ℕ) → n < 128 → member known n ≡ member objects n = λ n h.
-    let none : n / 128 ≡ 0 = omega (arith, h) in
-    ap (λ (i : ℕ). in_word (slice_index known i) (n % 128)) none ∙ (ap (λ (w : ℕ). in_word w (n % 128)) (first ∙ sym same) ∙ ap (λ (i : ℕ). in_word (slice_index objects i) (n % 128)) (sym none)) in
-    (is.0, is.1 ∙ ap (λ (l : List (List ℕ)). joined (set_of l)) (chosen_alike (member known) (member objects) 128 alike 0 names (omega (arith, few))))
+label_of_word names texts known word label few first is objects same = grind (arith, common_steps, chosen_alike)
 
 -- the names of a set of objects are those of the position where they stand
 pub named_at : (names : List (List ℕ)) (objects : List ℕ) (grid : Grid) (x y : ℕ) → ((object : ℕ) → member objects object ≡ stands grid x y object)
@@ -32,12 +28,7 @@ set_standing names grid x y objects same = ap (λ (l : List (List ℕ)). joined 
 
 -- a label stays a label among more texts
 pub label_kept : (names texts more : List (List ℕ)) (objects : List ℕ) (label : ℕ) → take (length texts) more ≡ texts → IsLabelOf names texts objects label → IsLabelOf names more objects label
-label_kept names texts more objects label e is =
-    let at : get_or (take (length texts) more) label [] ≡ get_or more label [] = get_or-take (length texts) more label [] is.0 in
-    let long : length (take (length texts) more) ≡ length texts = ap length e in
-    (omega (arith, is.0, long, length-take (length texts) more), sym at ∙ ap (λ l. get_or l label []) e ∙ is.1)
+label_kept names texts more objects label e is = grind (arith, common_steps, get_or-take, length-take)
 
 pub labels_kept : (names texts more : List (List ℕ)) (known : List LabelledSet) → take (length texts) more ≡ texts → All (λ k. IsLabelOf names texts k.objects k.label) known → All (λ k. IsLabelOf names more k.objects k.label) known
-labels_kept names texts more known kept each k d within =
-    let set : LabelledSet = get_or known k d in
-    label_kept names texts more set.objects set.label kept (each k d within)
+labels_kept names texts more known kept each k d within = grind (arith, common_steps, label_kept)

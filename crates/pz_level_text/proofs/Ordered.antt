@@ -1,5 +1,5 @@
 -- The sets of a level's cells, one after the other.
-use Rattle.pz_level_text.proofs.Common.{◌≡◌, ℕ, Bool, suc, ◌+◌, ◌*◌, ◌<◌, ◌≤◌, ◌&&◌, List, [], ◌∷◌, length, drop, get_or, true, false, refl, ap, sym, ◌∙◌, arith, length-map, get_or-map, drop_more, drop_all, GameParts, member, Grid, stands, Order, set_of, same_set, texts_in, position_of, column_of, row_of, cells_in, standing_names, sets_in, joined, same_sets, equals_recorded, has_names}
+use Rattle.pz_level_text.proofs.Common.{common_steps, ◌≡◌, ℕ, Bool, suc, ◌+◌, ◌*◌, ◌<◌, ◌≤◌, ◌&&◌, List, [], ◌∷◌, length, drop, get_or, true, false, refl, ap, sym, ◌∙◌, arith, length-map, get_or-map, drop_more, drop_all, GameParts, member, Grid, stands, Order, set_of, same_set, texts_in, position_of, column_of, row_of, cells_in, standing_names, sets_in, joined, same_sets, equals_recorded, has_names}
 use Rattle.std.proofs.lemmas.List.FromFn.{length-map-range_with_len, get_or-map-range_with_len}
 use Rattle.pz_level_text.proofs.Labelling.{named_at}
 
@@ -10,10 +10,7 @@ length-sets_in game order grid =
 -- the set of the cell of a number
 pub set_at : (game : GameParts) (order : Order) (grid : Grid) (k x y : ℕ) → k < grid.width * grid.height → x ≡ column_of order grid k → y ≡ row_of order grid k
     → get_or (sets_in game order grid) k [] ≡ set_of (standing_names game.objects grid (x, y))
-set_at game order grid k x y h e f =
-    let set = λ (position : ℕ × ℕ). set_of (standing_names game.objects grid position) in
-    let within : k < length (cells_in order grid) = rw (length-map-range_with_len (position_of order grid) 0 (grid.width * grid.height)) h in
-    rw (e, f) (get_or-map set (cells_in order grid) k (0, 0) [] within ∙ ap set (get_or-map-range_with_len (position_of order grid) 0 (grid.width * grid.height) k k (0, 0) h (omega arith)))
+set_at game order grid k x y h e f = grind (arith, common_steps, length-map-range_with_len (position_of order grid) 0 (grid.width * grid.height), grid.width, grid.height, get_or-map, get_or-map-range_with_len (position_of order grid) 0 (grid.width * grid.height) k k (0, 0) h (omega arith))
 
 other_length : (xs ys : List (List (List ℕ))) → (length xs ≡ length ys → ⊥) → same_sets xs ys ≡ false
 other_length [] [] d = absurd (d refl)
@@ -42,10 +39,7 @@ same_start game order grid recorded = refl
 pub same_step : (game : GameParts) (order : Order) (grid : Grid) (recorded : List (List (List ℕ))) (k x y : ℕ) → k < grid.width * grid.height → length recorded ≡ grid.width * grid.height
     → x ≡ column_of order grid k → y ≡ row_of order grid k
     → same_from game order grid recorded k ≡ (same_set (set_of (standing_names game.objects grid (x, y))) (get_or recorded k []) && same_from game order grid recorded (k + 1))
-same_step game order grid recorded k x y h size e f =
-    let here : k < length (sets_in game order grid) = rw (length-sets_in game order grid) h in
-    let there : k < length recorded = rw size h in
-    rw (drop_more (sets_in game order grid) k [] here, drop_more recorded k [] there, set_at game order grid k x y h e f) refl
+same_step game order grid recorded k x y h size e f = grind (arith, common_steps, length-sets_in game order grid, drop_more (sets_in game order grid) k, drop_more recorded k, set_at game order grid k x y h e f)
 
 -- the next cell, by the set of the objects that stand there
 pub named_step : (game : GameParts) (order : Order) (grid : Grid) (recorded : List (List (List ℕ))) (k x y : ℕ) (objects : List ℕ) → k < grid.width * grid.height → length recorded ≡ grid.width * grid.height
@@ -56,10 +50,7 @@ named_step game order grid recorded k x y objects h size e f same =
     ∙ ap (λ (names : List (List ℕ)). same_set (set_of names) (get_or recorded k []) && same_from game order grid recorded (k + 1)) (sym (named_at game.objects objects grid x y same))
 
 pub same_end : (game : GameParts) (order : Order) (grid : Grid) (recorded : List (List (List ℕ))) (k : ℕ) → grid.width * grid.height ≤ k → length recorded ≡ grid.width * grid.height → same_from game order grid recorded k ≡ true
-same_end game order grid recorded k h size =
-    let here : length (sets_in game order grid) ≤ k = rw (length-sets_in game order grid) h in
-    let there : length recorded ≤ k = rw size h in
-    rw (drop_all k (sets_in game order grid) here, drop_all k recorded there) refl
+same_end game order grid recorded k h size = grind (arith, common_steps, length-sets_in, drop_all)
 
 pub length-texts_in : (game : GameParts) (order : Order) (grid : Grid) → length (texts_in game order grid) ≡ grid.width * grid.height
 length-texts_in game order grid = length-map (sets_in game order grid) joined ∙ length-sets_in game order grid
@@ -67,6 +58,4 @@ length-texts_in game order grid = length-map (sets_in game order grid) joined �
 -- the text of the cell of a number
 pub text_at_number : (game : GameParts) (order : Order) (grid : Grid) (k x y : ℕ) → k < grid.width * grid.height → x ≡ column_of order grid k → y ≡ row_of order grid k
     → get_or (texts_in game order grid) k [] ≡ joined (set_of (standing_names game.objects grid (x, y)))
-text_at_number game order grid k x y h e f =
-    let within : k < length (sets_in game order grid) = rw (length-sets_in game order grid) h in
-    get_or-map joined (sets_in game order grid) k [] [] within ∙ ap joined (set_at game order grid k x y h e f)
+text_at_number game order grid k x y h e f = grind (arith, common_steps, length-sets_in game order grid, get_or-map joined (sets_in game order grid) k, set_at game order grid k x y h e f)

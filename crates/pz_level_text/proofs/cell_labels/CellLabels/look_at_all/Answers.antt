@@ -1,4 +1,4 @@
-use Rattle.pz_level_text.proofs.Common.{◌≡◌, ◌≤◌, ◌<◌, ◌*◌, ◌++◌, ◌∷◌, [], length, get_or, arith, ap, ap₂, sym, ◌∙◌, take_more, take_all, GameParts, Order, set_of, text_at, WriterView, TableView, texts_in, standing_names, joined, column_of, row_of}
+use Rattle.pz_level_text.proofs.Common.{common_steps, ◌≡◌, ◌<◌, ◌*◌, ◌++◌, ◌∷◌, [], length, get_or, arith, ap, ap₂, sym, ◌∙◌, take_more, take_all, GameParts, Order, set_of, text_at, WriterView, TableView, texts_in, standing_names, joined, column_of, row_of}
 use Rattle.pz_level_text.proofs.Ordered.{text_at_number, length-texts_in}
 use Rattle.pz_level_text.proofs.cell_labels.CellLabels.look_at_all.Goals as goal
 
@@ -27,12 +27,4 @@ loop-number-preserved c =
     }
 
 pub returns-clause-cells : goal.returns-clause-cells
-returns-clause-cells c =
-    let game = c.args.self.now.table.game in
-    let order = c.args.self.now.order in
-    let grid = c.args.level.now.grid in
-    let n = c.loop-number.number in
-    let texts = texts_in game order grid in
-    let all : c.width.result * c.height.result ≡ grid.width * grid.height = ap₂ (λ w h. w * h) c.width.ensures.width c.height.ensures.height in
-    let past : length texts ≤ n = omega (arith, c.loop-number-test.false, all, length-texts_in game order grid) in
-    c.loop-number.invariant.cells ∙ take_all n texts past
+returns-clause-cells c = grind (arith, common_steps, length-texts_in, take_all)

@@ -1,5 +1,4 @@
-use Rattle.pz_level_text.proofs.Common.{◌≡◌, ◌+◌, ℕ, List, IfSome, length, map, take, ap, arith, refl, subst, sym, ◌∙◌, IsSameBut, text_at}
-use Rattle.pz_level_text.specs.LastText.{IsLastOf}
+use Rattle.pz_level_text.proofs.Common.{common_steps, ◌≡◌, ◌+◌, ℕ, List, length, map, take, ap, arith, refl, subst, sym, ◌∙◌, IsSameBut, text_at}
 use Rattle.pz_sheet.specs.Changes.{differ_in}
 use Rattle.pz_level_text.proofs.Changing.{seen_count, seen_more, all_seen, last_before}
 use Rattle.pz_level_text.proofs.cell_labels.CellLabels.look_at_changes.Goals as goal
@@ -17,20 +16,7 @@ changes-init c = record {
 }
 
 pub changes-preserved : goal.changes-preserved
-changes-preserved c =
-    let level = c.args.level.now.grid in
-    let seen = c.args.seen.now.grid in
-    let index = c.in-Some.index in
-    let before = c.changes.invariant in
-    let next = c.in-Some.ensures.next in
-    record {
-      seen = seen_more c.args.self.now.table.game c.changes.self.table.game c.args.self.now.order c.changes.self.order seen level c.changes.from index c.changes.self.cells c.look.new.self.cells before.game before.order c.requires.size c.in-Some.ensures.lawful c.width.ensures.lawful next.0 next.1 next.3 before.seen c.in_ok-number.ensures.known;
-      last = subst (λ (cells : List (List ℕ)). IfSome c.follow-last.result (IsLastOf cells c.look.new.self.table.texts c.follow-last.new.room)) c.labels.ensures.cells
-          (subst (λ (texts : List (List ℕ)). IfSome c.follow-last.result (IsLastOf (map (text_at texts) c.labels.result.now) texts c.follow-last.new.room)) c.texts.ensures c.follow-last.ensures);
-      game = c.look.ensures.game ∙ before.game;
-      order = c.look.ensures.order ∙ before.order;
-      known = c.in-Some.ensures.known;
-    }
+changes-preserved c = grind (arith, common_steps, seen_more)
 
 pub follow-last-requires-clause-last : goal.follow-last-requires-clause-last
 follow-last-requires-clause-last c =
