@@ -20,24 +20,13 @@ use Rattle.pz_level_text.specs.declared.last_text.LastText.{LastText}
 
 -- ---- numbers and positions
 pub number_back : (order : Order) (grid : Grid) (k : ℕ) → number_of order grid (column_of order grid k) (row_of order grid k) ≡ k
-number_back Rows grid k = omega (arith, div-add-mod' k grid.width)
-number_back Columns grid k = omega (arith, div-add-mod' k grid.height)
+number_back order grid k = grind (arith, common_steps, div-add-mod')
 
 pub position_back : (order : Order) (grid : Grid) (x y : ℕ) → x < grid.width → y < grid.height → (column_of order grid (number_of order grid x y) ≡ x) × (row_of order grid (number_of order grid x y) ≡ y)
-position_back Rows grid x y wide high = (mod-mul-add y grid.width x wide, div-mul-add y grid.width x wide)
-position_back Columns grid x y wide high = (div-mul-add x grid.height y high, mod-mul-add x grid.height y high)
+position_back order grid x y wide high = grind (arith, common_steps, mod-mul-add, div-mul-add)
 
 pub number_within : (order : Order) (grid : Grid) (x y : ℕ) → x < grid.width → y < grid.height → number_of order grid x y < grid.width * grid.height
-number_within Rows grid x y wide high =
-    let some : 0 < grid.width = omega (arith, wide) in
-    let line : (y * grid.width + x) / grid.width < grid.height = omega (arith, div-mul-add y grid.width x wide, high) in
-    let all : y * grid.width + x < grid.height * grid.width = (div-lt_iff_lt-mul some).0 line in
-    omega (arith, all)
-number_within Columns grid x y wide high =
-    let some : 0 < grid.height = omega (arith, high) in
-    let line : (x * grid.height + y) / grid.height < grid.width = omega (arith, div-mul-add x grid.height y high, wide) in
-    let all : x * grid.height + y < grid.width * grid.height = (div-lt_iff_lt-mul some).0 line in
-    omega (arith, all)
+number_within order grid x y wide high = grind (arith, common_steps, div-mul-add, div-lt_iff_lt-mul)
 
 -- a position of the map, as it is read off a number that is counted row by row
 pub record IsRead (grid : Grid) (index x y : ℕ) : Type 0 where
@@ -50,12 +39,10 @@ read_at grid index x y lawful within column row = grind (arith, common_steps, on
 
 -- positions are a matter of the size alone
 same_column : (order : Order) (grid : Grid) (cells : List (List (Option Piece))) (k : ℕ) → column_of order (record grid { cells = cells }) k ≡ column_of order grid k
-same_column Rows grid cells k = refl
-same_column Columns grid cells k = refl
+same_column order grid cells k = grind (arith, common_steps)
 
 same_row : (order : Order) (grid : Grid) (cells : List (List (Option Piece))) (k : ℕ) → row_of order (record grid { cells = cells }) k ≡ row_of order grid k
-same_row Rows grid cells k = refl
-same_row Columns grid cells k = refl
+same_row order grid cells k = grind (arith, common_steps)
 
 -- ---- the names of a cell
 stands_alike : (a b : Grid) (x y : ℕ) → a.width ≡ b.width → a.height ≡ b.height → cell_at a x y ≡ cell_at b x y → (object : ℕ) → stands a x y object ≡ stands b x y object
@@ -125,8 +112,7 @@ read_seen : (grid level : Grid) (index x y : ℕ) → SameSize grid level → Is
 read_seen grid level index x y size read = grind (arith, common_steps)
 
 same_number : (order : Order) (grid level : Grid) (x y : ℕ) → SameSize grid level → number_of order level x y ≡ number_of order grid x y
-same_number Rows grid level x y size = ap (λ (w : ℕ). y * w + x) size.width
-same_number Columns grid level x y size = ap (λ (h : ℕ). x * h + y) size.height
+same_number order grid level x y size = grind (arith, common_steps)
 
 pub looked : (game : GameParts) (order : Order) (grid level : Grid) (index x y : ℕ) → SameSize grid level → index < length grid.cells → IsRead level index x y
     → set (texts_in game order grid) (number_of order level x y) (joined (set_of (standing_names game.objects level (x, y)))) ≡ texts_in game order (with_cell grid (cell_there level index))
@@ -137,8 +123,7 @@ looked game order grid level index x y size within read =
 
 -- ---- all cells looked at
 not_false : (b : Bool) → not b ≡ false → b ≡ true
-not_false true e = refl
-not_false false e = cc
+not_false b e = grind (arith, common_steps)
 
 pub as_many : (grid level : Grid) → SameSize grid level → IsLawful grid → IsLawful level → length grid.cells ≡ length level.cells
 as_many grid level size lawful lawful_level = lawful.covers ∙ (ap₂ (λ (w h : ℕ). w * h) (sym size.width) (sym size.height) ∙ sym lawful_level.covers)
@@ -198,5 +183,4 @@ seen_more game game_now order order_now seen level from index cells new same_gam
 -- the last text among more texts, before one more cell changes
 pub last_before : (texts more before all : List (List ℕ)) (room : RoomView) (cell : ℕ) → take (length texts) more ≡ texts → IsSameBut cell (cell + 1) before all → (last : Option LastText) → IfSome last (IsLastOf before texts room)
     → IfSome last (λ last. (before : List (List ℕ)) × IsLastOf before more room last × IsSameBut cell (cell + 1) before all)
-last_before texts more before all room cell kept same None known = tt
-last_before texts more before all room cell kept same (Some last) known = grind (arith, common_steps, text_kept)
+last_before texts more before all room cell kept same last known = grind (arith, common_steps, text_kept)

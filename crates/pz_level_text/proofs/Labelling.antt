@@ -4,8 +4,7 @@ use Rattle.pz_level_text.specs.declared.labelled_set.LabelledSet.{LabelledSet}
 
 -- tests that agree choose the same names
 pub chosen_same : (f g : ℕ → Bool) → ((n : ℕ) → f n ≡ g n) → (k : ℕ) (names : List (List ℕ)) → chosen_from f k names ≡ chosen_from g k names
-chosen_same f g e k [] = refl
-chosen_same f g e k (name ∷ names) = rw (e k, chosen_same f g e (suc k) names) refl
+chosen_same f g e k names = grind (arith, common_steps)
 
 -- tests that agree on the numbers of the names choose the same names
 chosen_alike : (f g : ℕ → Bool) (end : ℕ) → ((n : ℕ) → n < end → f n ≡ g n) → (k : ℕ) (names : List (List ℕ)) → k + length names ≤ end → chosen_from f k names ≡ chosen_from g k names
