@@ -25,9 +25,5 @@ named_at names objects grid x y same = chosen_same (member objects) (stands grid
 pub set_standing : (names : List (List ℕ)) (grid : Grid) (x y : ℕ) (objects : List ℕ) → ((object : ℕ) → member objects object ≡ stands grid x y object) → set_text names objects ≡ joined (set_of (standing_names names grid (x, y)))
 set_standing names grid x y objects same = ap (λ (l : List (List ℕ)). joined (set_of l)) (named_at names objects grid x y same)
 
--- a label stays a label among more texts
-pub label_kept : (names texts more : List (List ℕ)) (objects : List ℕ) (label : ℕ) → take (length texts) more ≡ texts → IsLabelOf names texts objects label → IsLabelOf names more objects label
-label_kept names texts more objects label e is = grind (arith, common_steps, get_or-take, length-take)
-
 pub labels_kept : (names texts more : List (List ℕ)) (known : List LabelledSet) → take (length texts) more ≡ texts → All (λ k. IsLabelOf names texts k.objects k.label) known → All (λ k. IsLabelOf names more k.objects k.label) known
-labels_kept names texts more known kept each k d within = grind (arith, common_steps, label_kept)
+labels_kept names texts more known kept each k d within = grind (arith, common_steps, get_or-take, length-take)
