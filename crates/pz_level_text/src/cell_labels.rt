@@ -95,7 +95,7 @@ impl<'a> CellLabels<'a> {
         ensures order { self.new.order ≡ self.old.order }
     {
         let objects = level.objects_at(x, y);
-        let label = self.table.label(self.alloc, &objects)?;
+        let label = self.table.label(self.alloc, objects)?;
         Ok(label)
     }
 

@@ -171,24 +171,24 @@ impl<'a> LabelTable<'a> {
 
     /// The label of a set, however it is found. Err: memory was refused. (Not inlined: in a game of at most 128 objects few sets come here.)
     #[inline(never)]
-    fn look_up(&mut self, alloc: Global, objects: &NumberSet) -> Result<usize, AllocError>
-        ensures label { IfOk result (λ label. IsLabelOf self.new.game.objects self.new.texts objects.now label) }
+    fn look_up(&mut self, alloc: Global, objects: NumberSet) -> Result<usize, AllocError>
+        ensures label { IfOk result (λ label. IsLabelOf self.new.game.objects self.new.texts objects label) }
         ensures kept { take (length self.old.texts) self.new.texts ≡ self.old.texts }
         ensures game { self.new.game ≡ self.old.game }
     {
-        match self.known(objects) {
+        match self.known(&objects) {
             Some(label) => Ok(label),
-            None => self.learn(alloc, objects),
+            None => self.learn(alloc, &objects),
         }
     }
 
     /// The label of a set. Err: memory was refused.
-    pub fn label(&mut self, alloc: Global, objects: &NumberSet) -> Result<usize, AllocError>
-        ensures label { IfOk result (λ label. IsLabelOf self.new.game.objects self.new.texts objects.now label) }
+    pub fn label(&mut self, alloc: Global, objects: NumberSet) -> Result<usize, AllocError>
+        ensures label { IfOk result (λ label. IsLabelOf self.new.game.objects self.new.texts objects label) }
         ensures kept { take (length self.old.texts) self.new.texts ≡ self.old.texts }
         ensures game { self.new.game ≡ self.old.game }
     {
-        match self.met(objects) {
+        match self.met(&objects) {
             Some(label) => Ok(label),
             None => self.look_up(alloc, objects),
         }
