@@ -1,6 +1,7 @@
 -- The words of the proofs of this crate: what several of them import.
-pub use Rattle.std.proofs.Common.{Bool, Err, List, None, Ok, Option, Some, [], ap, arith, cond, false, filter, get_or, inl, inr, length, length-take, map, min, mul-le-mul_right, nat_eq, not, refl, rules, set, subst, suc, sym, take, true, zero, ℕ, ◌&&◌, ◌*◌, ◌++◌, ◌+◌, ◌-◌, ◌<◌, ◌||◌, ◌∙◌, ◌∷◌, ◌≡◌, ◌≢◌, ◌≤◌, ◌⊎◌}
+pub use Rattle.std.proofs.Common.{Bool, Err, List, None, Ok, Option, Some, [], add-one, ap, arith, cond, false, filter, get_or, inl, inr, length, length-take, map, min, mul-le-mul_right, nat_eq, not, refl, rules, set, subst, suc, sym, take, true, zero, ℕ, ◌&&◌, ◌*◌, ◌++◌, ◌+◌, ◌-◌, ◌<◌, ◌||◌, ◌∙◌, ◌∷◌, ◌≡◌, ◌≢◌, ◌≤◌, ◌⊎◌}
 pub use Rattle.std.proofs.lemmas.Bool.{and_from, and_parts, cases_eq, cases_lt, cases_order, eq-eqb, eqb-true, false_from_ne_true, le-leb, leb-true, lt-leb, ltb-false, ltb-true, or_cases, or_left, or_right, true_from_ne_false}
+pub use Rattle.std.proofs.lemmas.Grind.{common_steps}
 pub use Rattle.std.proofs.lemmas.List.{append-nil, append_assoc, get_or-set_other, get_or-set_same, get_or-take, get_or_default, get_or_past, length-append, length-set, set_past, take_all, take_more}
 pub use Rattle.std.proofs.lemmas.List.Folds.{list_all_at, list_all_more, list_any_at, list_any_more}
 pub use Rattle.std.proofs.lemmas.List.FromFn.{length-enumerate_from, length-range_with_len, map-range_with_len_more}
@@ -13,6 +14,7 @@ pub use Rattle.pz_cells.specs.declared.piece.Piece.{Piece}
 pub use Rattle.pz_game.specs.Items.{forbids_object, is_on, names, names_object, placed_on, tells_of}
 pub use Rattle.pz_game.specs.Pattern.{AreNamed, AreOf, IsRow, RuleRow}
 pub use Rattle.pz_game.specs.declared.direction.Dir.{Dir}
+pub use Rattle.pz_game.specs.declared.direction.Dir.TheVariants.{Action, Down, Left, Right, Up}
 pub use Rattle.pz_game.specs.declared.pattern.Item.{Item}
 pub use Rattle.pz_grid.specs.Admitted.{StartsNowhere, admits, admits_line, admitted, line_at, line_of, marks_cell, marks_item, marks_of, searches_level, searches_line, start_count, start_of, starts_at, starts_in}
 pub use Rattle.pz_grid.specs.Marks.{IsMarked, IsMarkedAt, IsMore, IsWidened, IsWidenedBy, is_marked, places_object, row_places}
@@ -20,7 +22,9 @@ pub use Rattle.pz_grid.specs.Movement.{Pass, Spot, free, heading_count, heading_
 pub use Rattle.pz_grid.specs.Places.{along, cell_holds, cells_before, distance, gap_count, head_of, holds_at, holds_behind, line_count, line_length, on_map, pairs, pairs_at, pairs_in, place_in, places, row_holds, searched, starts_with, still_holds}
 pub use Rattle.pz_grid.specs.Rewriting.{Rewriting, in_rewrite, rewritten_along, rewritten_row}
 pub use Rattle.pz_grid.specs.Staying.{IsMove, IsStill, KeepsStill}
+pub use Rattle.pz_grid.specs.declared.placing.GridFault.TheVariants.{MatchLimit, Memory}
 pub use Rattle.pz_grid.specs.declared.placing.Place.{Place}
+pub use Rattle.pz_grid.specs.declared.placing.TheConstants.{MATCH_LIMIT}
 pub use Rattle.pz_sets.specs.Sets.{IsWithin, member}
 pub use Rattle.pz_sheet.proofs.CountLemmas.{count_more, count_no, count_yes, range_more, sum_more}
 pub use Rattle.pz_sheet.proofs.RunLemmas.{action_leads_nowhere, enumerate_all, enumerate_fails, enumerate_more, numbered_at}

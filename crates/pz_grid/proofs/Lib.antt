@@ -13,7 +13,6 @@ pub mod PlaceLemmas
 pub mod NamedLemmas
 pub mod HeadLemmas
 pub mod StartLemmas
-pub mod GapLemmas
 pub mod SkipLemmas
 pub mod SomewhereLemmas
 pub mod CountLemmas

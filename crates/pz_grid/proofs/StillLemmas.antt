@@ -1,13 +1,11 @@
 -- A cell in which nothing heads anywhere is left as it is by a pass, and so are rows of such cells, and columns of such rows.
-use Rattle.pz_grid.proofs.Common.{◌≡◌, inl, inr, ℕ, zero, suc, ◌+◌, ◌-◌, ◌≤◌, ◌<◌, List, [], ◌∷◌, Bool, false, Option, Some, None, map, get_or, cases_lt, arith, refl, ap, sym, subst, ◌∙◌, range_with_len, fold, Dir, Piece, still_piece, still_place, Grid, cell_at, place_at, with_place, AreStill, AreColumnsStill, Pass, Spot, spot, in_pass, heading_goal, moved_to, move_place, move_at, pass_of, spots_at, spots_in}
-use Rattle.std.proofs.lemmas.Grind.{common_steps}
+use Rattle.pz_grid.proofs.Common.{AreColumnsStill, AreStill, Bool, Grid, List, None, Option, Pass, Piece, Some, Spot, [], ap, arith, cell_at, cases_lt, common_steps, false, fold, get_or, heading_goal, in_pass, inl, inr, map, move_at, move_place, moved_to, pass_of, place_at, range_with_len, refl, spot, spots_at, spots_in, still_piece, still_place, suc, with_place, zero, ℕ, ◌+◌, ◌<◌, ◌∙◌, ◌∷◌, ◌≡◌, ◌≤◌}
 use Rattle.std.proofs.lemmas.List.{map-set}
 use Rattle.pz_sheet.specs.Movement.{IsStillAt}
-use Rattle.pz_grid.proofs.GatherLemmas.{gather}
 use Rattle.pz_cells.specs.declared.piece.Mover.{Mover}
 use Rattle.pz_cells.specs.Cell.{IsStillOn, moving_piece}
 use Rattle.pz_grid.specs.Movement.{AllStay, Stays}
-use Rattle.pz_grid.proofs.MovementLemmas.{fold_gather_more, fold_map_more}
+use Rattle.pz_grid.proofs.GatherLemmas.{gather, fold_gather_more, fold_map_more, steps_stay}
 
 still_at : (cell : List (Option Piece)) (layer : ℕ) → get_or (map still_place cell) layer None ≡ still_place (get_or cell layer None)
 still_at [] layer = refl
@@ -15,24 +13,18 @@ still_at (place ∷ cell) zero = refl
 still_at (place ∷ cell) (suc layer) = still_at cell layer
 
 pub stays : (pass : Pass) (at : Spot) (place : Option Piece) → place ≡ still_place place → move_place pass at place ≡ pass
-stays pass at None is = refl
-stays pass at (Some piece) is =
-    let same : piece ≡ still_piece piece.object = cc in
-    let still : piece.heading ≡ None = ap (λ (it : Piece). it.heading) same in
-    ap (λ (heading : Option Dir). moved_to pass at piece (heading_goal pass.grid at heading)) still
+stays pass at place is = grind (arith, is)
 
 pub all_stay : (grid : Grid) (moved : Bool) (x y : ℕ) (layers : List ℕ) → cell_at grid x y ≡ map still_place (cell_at grid x y)
     → fold move_at (in_pass grid moved) (map (spot x y) layers) ≡ in_pass grid moved
 all_stay grid moved x y [] is = refl
 all_stay grid moved x y (layer ∷ layers) is =
     let here : place_at grid x y layer ≡ still_place (place_at grid x y layer) = ap (λ (cell : List (Option Piece)). get_or cell layer None) is ∙ still_at (cell_at grid x y) layer in
-    let first : move_at (in_pass grid moved) (spot x y layer) ≡ in_pass grid moved = stays (in_pass grid moved) (spot x y layer) (place_at grid x y layer) here in
-    ap (λ (pass : Pass). fold move_at pass (map (spot x y) layers)) first ∙ all_stay grid moved x y layers is
+    ap (λ (pass : Pass). fold move_at pass (map (spot x y) layers)) (stays (in_pass grid moved) (spot x y layer) (place_at grid x y layer) here) ∙ all_stay grid moved x y layers is
 
 -- a piece that goes nowhere stays
 pub blocked : (grid : Grid) (x y : ℕ) (mover : Mover) → place_at grid x y mover.layer ≡ Some (moving_piece mover) → heading_goal grid (spot x y mover.layer) (Some mover.dir) ≡ None → Stays grid (spot x y mover.layer)
-blocked grid x y mover there none moved =
-    ap (move_place (in_pass grid moved) (spot x y mover.layer)) there ∙ ap (moved_to (in_pass grid moved) (spot x y mover.layer) (moving_piece mover)) none
+blocked grid x y mover there none moved = grind (arith, there, none)
 
 -- more layers on which nothing heads anywhere
 pub all_stay_on : (grid : Grid) (x y from start end : ℕ) → AllStay grid x y from start → ((layer : ℕ) → start ≤ layer → layer < end → IsStillOn (cell_at grid x y) layer) → AllStay grid x y from end
@@ -44,18 +36,6 @@ all_stay_on grid x y from start end before still layer late early = elim (cases_
 -- one more layer
 pub all_stay_more : (grid : Grid) (x y from layer : ℕ) → AllStay grid x y from layer → Stays grid (spot x y layer) → AllStay grid x y from (layer + 1)
 all_stay_more grid x y from layer before here other late early moved = grind (arith, λ (h : other < layer). before other late h moved, here moved, early)
-
--- steps that leave a pass as it is
-steps_on : (so_far : ℕ → Pass) (step : ℕ → Pass → Pass) (here : Pass) (from n : ℕ) → ((k : ℕ) → so_far (k + 1) ≡ step k (so_far k)) → so_far from ≡ here → ((k : ℕ) → from ≤ k → k < from + n → step k here ≡ here) → so_far (from + n) ≡ here
-steps_on so_far step here from zero more is stays = ap so_far (let e : from + zero ≡ from = omega arith in e) ∙ is
-steps_on so_far step here from (suc n) more is stays =
-    ap so_far (let e : from + suc n ≡ (from + n) + 1 = omega arith in e) ∙ more (from + n)
-    ∙ ap (step (from + n)) (steps_on so_far step here from n more is (λ k late below. stays k late (omega (arith, below)))) ∙ stays (from + n) (omega arith) (omega arith)
-
-steps_stay : (so_far : ℕ → Pass) (step : ℕ → Pass → Pass) (here : Pass) (from end : ℕ) → from ≤ end → ((k : ℕ) → so_far (k + 1) ≡ step k (so_far k)) → so_far from ≡ here → ((k : ℕ) → from ≤ k → k < end → step k here ≡ here) → so_far end ≡ here
-steps_stay so_far step here from end low more is stays =
-    let split : from + (end - from) ≡ end = omega (arith, low) in
-    ap so_far (sym split) ∙ steps_on so_far step here from (end - from) more is (λ k late below. stays k late (omega (arith, below, split)))
 
 -- layers on which everything stays leave a pass as it is
 pub layers_stay : (start : Pass) (grid : Grid) (moved : Bool) (x y from end : ℕ) → from ≤ end → fold move_at start (map (spot x y) (range_with_len 0 from)) ≡ in_pass grid moved → AllStay grid x y from end → fold move_at start (map (spot x y) (range_with_len 0 end)) ≡ in_pass grid moved
@@ -94,8 +74,7 @@ still_fold (at ∷ ats) pass x y still = still_fold ats (move_at pass at) x y (s
 
 -- so do rows of a column, and columns, in a part of a pass
 pub still_on : (old new : Grid) (before after : Bool) (ats : List Spot) → in_pass new after ≡ fold move_at (in_pass old before) ats → (x from end : ℕ) → AreStill old x from end → AreStill new x from end
-still_on old new before after ats part x from end still y low high =
-    subst (λ (pass : Pass). IsStillAt pass.grid x y) (sym part) (still_fold ats (in_pass old before) x y (still y low high))
+still_on old new before after ats part x from end still y low high = grind (arith, part, still_fold ats (in_pass old before) x y (still y low high))
 
 -- a level in which nothing heads anywhere is left as it is
 pub pass_rests : (grid : Grid) → AreColumnsStill grid 0 grid.width → pass_of grid ≡ in_pass grid false

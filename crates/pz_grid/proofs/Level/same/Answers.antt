@@ -1,6 +1,5 @@
-use Rattle.pz_grid.proofs.Common.{◌≡◌, ap, ◌∙◌, LevelState}
+use Rattle.pz_grid.proofs.Common.{arith, ◌≡◌}
 use Rattle.std.proofs.lemmas.Bool.Decides.{same_from_decides}
-use Rattle.pz_sheet.specs.Sameness.{same_grid}
 use Rattle.pz_grid.proofs.SameLemmas.{same_grid_decides}
 use Rattle.pz_grid.proofs.Level.same.Goals as goal
 
@@ -8,6 +7,4 @@ pub returns-clause-same : goal.returns-clause-same
 returns-clause-same c =
     let a = c.self.inside.bare.grid in
     let b = c.other.inside.bare.grid in
-    same_from_decides {P = a ≡ b} _ _ c.equals.ensures (same_grid_decides a b)
-    ∙ ap (λ (s : LevelState). same_grid s.grid b) c.self.view_is
-    ∙ ap (λ (s : LevelState). same_grid c.args.self.now.grid s.grid) c.other.view_is
+    grind (arith, same_from_decides {P = a ≡ b} _ _ c.equals.ensures (same_grid_decides a b))

@@ -4,5 +4,4 @@ use Rattle.pz_grid.proofs.Level.tested.Goals as goal
 
 pub returns-then-not-may_start-clause-low : goal.returns-then-not-may_start-clause-low
 returns-then-not-may_start-clause-low c =
-    let grid = c.args.self.now.grid in
-    omega (arith, starts_nowhere grid c.args.row.now c.args.dir (line_length grid c.args.dir) c.args.line (c.may_start.ensures.none c.if-not-may_start.true))
+    omega (arith, starts_nowhere c.args.self.now.grid c.args.row.now c.args.dir (line_length c.args.self.now.grid c.args.dir) c.args.line (c.may_start.ensures.none c.if-not-may_start.true))
