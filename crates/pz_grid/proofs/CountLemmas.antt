@@ -1,8 +1,6 @@
 -- How many places a row can have: one for each cell and gap. Without a gap, and in a small level with one, that is within the limit of a
 -- search.
-use Rattle.pz_grid.proofs.Common.{Action, Bool, Dir, Down, Grid, IsLawful, Left, None, Ok, Right, RuleRow, Up, [], ap, arith, common_steps, filter, gap_count, length, line_count, line_length, mul-le-mul_right, places, refl, row_holds, searched, ℕ, ◌*◌, ◌∷◌, ◌≡◌, ◌≤◌}
-use Rattle.pz_game.specs.declared.limits.TheConstants.{MAX_SIDE}
-use Rattle.pz_grid.proofs.GatherLemmas.{gather_few}
+use Rattle.pz_grid.proofs.Common.{Action, Bool, Dir, Down, Grid, IsLawful, Left, MAX_SIDE, None, Ok, Right, RuleRow, Up, [], ap, arith, common_steps, filter, gap_count, gather_few, length, line_count, line_length, mul-le-mul_right, places, refl, row_holds, searched, ℕ, ◌*◌, ◌∷◌, ◌≡◌, ◌≤◌}
 use Rattle.pz_grid.proofs.FoundLemmas.{found_with, found_at, found_in, found_at_all, found_in_all, places_all, searched-within}
 
 filter_one : {X : Type 0} (p : X → Bool) (x : X) → length (filter p (x ∷ [])) ≤ 1

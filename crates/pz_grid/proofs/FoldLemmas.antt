@@ -1,6 +1,5 @@
 -- Folds over lists beside one another, and tests of numbered elements.
-use Rattle.pz_grid.proofs.Common.{AllPass-from_list_all, Bool, List, add-one, ap, arith, enumerate_all, enumerate_from, enumerate_more, false, fold, fold-append, get_or, get_or_default, length, length-enumerate_from, list_all, list_all_at, list_all_more, min, numbered_at, refl, suc, sym, take, take_all, take_more, true, zero, zip, ℕ, ◌+◌, ◌<◌, ◌∙◌, ◌≡◌, ◌≤◌}
-use Rattle.std.proofs.lemmas.Slice.Zip.{length-zip, get_or-zip}
+use Rattle.pz_grid.proofs.Common.{AllPass-from_list_all, Bool, List, add-one, ap, arith, enumerate_all, enumerate_from, enumerate_more, false, fold, fold-append, get_or, get_or-zip, get_or_default, length, length-enumerate_from, length-zip, list_all, list_all_at, list_all_more, min, numbered_at, refl, suc, sym, take, take_all, take_more, true, zero, zip, ℕ, ◌+◌, ◌<◌, ◌∙◌, ◌≡◌, ◌≤◌}
 
 -- one more of a fold
 fold_take_more : {A S : Type 0} (f : S → A → S) (start : S) (xs : List A) (i : ℕ) (d x : A) → i < length xs → get_or xs i d ≡ x → fold f start (take (i + 1) xs) ≡ f (fold f start (take i xs)) x

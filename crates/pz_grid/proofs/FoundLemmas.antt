@@ -1,10 +1,8 @@
 -- The places of a row, found line by line.
-use Rattle.pz_grid.proofs.Common.{Bool, Dir, Err, Grid, List, MATCH_LIMIT, MatchLimit, Memory, Ok, Place, RuleRow, StartsNowhere, [], ap, arith, false, filter, flat_map, gap_count, length, line_count, line_length, line_of, ltb-false, ltb-true, pairs_at, pairs_in, place_in, places, range_with_len, refl, row_holds, sym, ℕ, ◌<◌, ◌∙◌, ◌∷◌, ◌≡◌, ◌≢◌, ◌≤◌}
+use Rattle.pz_grid.proofs.Common.{Bool, Dir, Err, Grid, List, MATCH_LIMIT, MatchLimit, Memory, Ok, Place, RuleRow, StartsNowhere, [], ap, arith, false, filter, filter-append, flat_map, gap_count, gather, gather_none, length, line_count, line_length, line_of, ltb-false, ltb-true, pairs_at, pairs_in, place_in, places, range_with_len, refl, row_holds, sym, ℕ, ◌<◌, ◌∙◌, ◌∷◌, ◌≡◌, ◌≢◌, ◌≤◌}
 use Rattle.std.proofs.lemmas.List.Concat.{flat_map_single}
-use Rattle.std.proofs.lemmas.List.Elements.{filter-append}
 use Rattle.pz_grid.specs.declared.placing.GridFault.{GridFault}
 use Rattle.pz_grid.specs.Places.{searched}
-use Rattle.pz_grid.proofs.GatherLemmas.{gather, gather_none}
 
 -- a filter of what is gathered is gathered from what is filtered
 pub filter-flat_map : {X Y : Type 0} (p : Y → Bool) (h : X → List Y) (xs : List X) → filter p (flat_map h xs) ≡ flat_map (λ x. filter p (h x)) xs

@@ -1,33 +1,16 @@
 -- Which objects stand in a cell and in a line, and how a level stays marked.
-use Rattle.pz_grid.proofs.Common.{Bool, Dir, Grid, IfSome, IsMarked, IsMarkedAt, IsMore, Item, LevelState, List, None, Option, Piece, Some, [], arith, cases_order, cell_at, eq-eqb, eqb-true, get_or, get_or-set_other, get_or-set_same, get_or_past, inl, inr, is_in, is_marked, length, length-range_with_len, length-set, list_any, list_any_at, map, member, names_object, nat_eq, or_right, placed_on, range_with_len, refl, set, still_place, stilled, suc, sym, tells_of, true, with_place, zero, ℕ, ◌*◌, ◌+◌, ◌<◌, ◌||◌, ◌∙◌, ◌∷◌, ◌≡◌, ◌⊎◌}
-use Rattle.std.proofs.lemmas.List.Folds.{Any-from_list_any}
-use Rattle.std.proofs.lemmas.List.FromFn.{get_or-range_with_len}
+use Rattle.pz_grid.proofs.Common.{Any-from_list_any, Bool, Dir, Grid, IfSome, IsMarked, IsMarkedAt, IsMore, Item, LevelState, List, Mover, None, Option, Piece, Some, [], arith, carried, cell_at, column_of, eq-eqb, eqb-true, get_or, get_or-range_with_len, get_or-set_other, get_or-set_same, get_or_past, in_line, inl, inr, is_in, is_marked, kept, length, length-range_with_len, length-set, list_any, list_any_at, map, member, names_object, nat_eq, or_right, placed_on, range_with_len, refl, rewritten_cell, rewritten_place, row_of, set, stands_in_line, still_piece, still_place, suc, sym, true, with_place, zero, ℕ, ◌*◌, ◌+◌, ◌<◌, ◌||◌, ◌∙◌, ◌∷◌, ◌≡◌, ◌⊎◌}
 use Rattle.std.proofs.lemmas.Nat.{mul-add-lt}
-use Rattle.pz_cells.specs.declared.piece.Mover.{Mover}
-use Rattle.pz_cells.specs.Cell.{still_piece}
 use Rattle.pz_sheet.specs.declared.line.Line.{Line}
-use Rattle.pz_sheet.specs.Line.{column_of, line_length, row_of}
-use Rattle.pz_sheet.specs.Movement.{carried}
-use Rattle.pz_sheet.specs.Presence.{in_line, stands_in_line}
-use Rattle.pz_sheet.specs.Pushing.{pushed_place, pushed}
-use Rattle.pz_cells.specs.Rewriting.{kept, replaced, rewritten_place, rewritten_cell}
-use Rattle.pz_sheet.specs.Rewriting.{with_rewritten}
+use Rattle.pz_sheet.specs.Line.{line_length}
+use Rattle.pz_sheet.specs.Pushing.{pushed_place}
 
--- ---- a test over numbers
-pub any_in : (p : ℕ → Bool) (n k : ℕ) → k < n → p k ≡ true → list_any p (range_with_len 0 n) ≡ true
-any_in p n k within e = grind (arith, e, list_any_at p (range_with_len 0 n) k 0, get_or-range_with_len 0 n k 0, length-range_with_len 0 n)
-
--- a number that passes a test
-pub record Passes (p : ℕ → Bool) (n : ℕ) : Type 0 where
-  pub at : ℕ
-  pub within : at < n
-  pub holds : p at ≡ true
-
-pub passes_from : (p : ℕ → Bool) (n : ℕ) → list_any p (range_with_len 0 n) ≡ true → Passes p n
+-- ---- a number that passes a test
+pub passes_from : (p : ℕ → Bool) (n : ℕ) → list_any p (range_with_len 0 n) ≡ true → (k : ℕ) × (k < n) × (p k ≡ true)
 passes_from p n e =
     let any = Any-from_list_any p (range_with_len 0 n) e in
     let within : any.0 < n = omega (arith, any.2, length-range_with_len 0 n) in
-    record { at = any.0; within = within; holds = grind (arith, any.3, get_or-range_with_len 0 n any.0 any.1) }
+    (any.0, within, grind (arith, any.3, get_or-range_with_len 0 n any.0 any.1))
 
 -- ---- which objects are in a cell
 pub is_in_cons : (first : Option Piece) (places : List (Option Piece)) (object : ℕ) → is_in (first ∷ places) object ≡ (is_in (first ∷ []) object || is_in places object)
@@ -85,24 +68,14 @@ kept_has left right (Some piece) object e = grind (arith, e)
 
 -- a rewritten cell has what it had, and what the right places
 pub has_rewritten : (left right : List Item) (cell : List (Option Piece)) (object : ℕ) → is_in (rewritten_cell left right cell) object ≡ true → (names_object object right ≡ true) ⊎ (is_in cell object ≡ true)
-has_rewritten left right cell object e = by_placed (placed_on at.at right) refl at.holds where
-  f : ℕ → Option Piece
-  f layer = rewritten_place left right layer (get_or cell layer None)
-
-  at : Passes (λ (k : ℕ). is_in (f k ∷ []) object) (length cell)
-  at = passes_from (λ (k : ℕ). is_in (f k ∷ []) object) (length cell) (sym (is_in_made f 0 (length cell) object) ∙ e)
-
-  by_placed : (placed : Option Item) → placed_on at.at right ≡ placed → is_in (replaced placed (tells_of at.at left) left right (get_or cell at.at None) ∷ []) object ≡ true → (names_object object right ≡ true) ⊎ (is_in cell object ≡ true)
-  by_placed None g h = inr (is_in_at cell at.at object (kept_has left right (get_or cell at.at None) object h))
-  by_placed (Some item) g h = inl (placed_named at.at object right item g (is_in_piece _ object h))
+has_rewritten left right cell object e =
+    let f = λ (layer : ℕ). rewritten_place left right layer (get_or cell layer None) in
+    let at = passes_from (λ k. is_in (f k ∷ []) object) (length cell) (sym (is_in_made f 0 (length cell) object) ∙ e) in
+    grind (arith, at.2, is_in_at cell at.0 object, kept_has left right (get_or cell at.0 None) object, placed_named at.0 object right)
 
 -- ---- a level whose cell is written
 same_row : (width x y other_x other_y : ℕ) → x < width → other_x < width → other_y * width + other_x ≡ y * width + x → other_y ≡ y
-same_row width x y other_x other_y p q e = elim (cases_order other_y y) [
-  | inl same ↦ same
-  | inr (inl below) ↦ absurd (omega (arith, mul-add-lt other_y width other_x y below q, e))
-  | inr (inr above) ↦ absurd (omega (arith, mul-add-lt y width x other_y above p, e))
-]
+same_row width x y other_x other_y p q e = grind (arith, p, q, e, mul-add-lt other_y width other_x y, mul-add-lt y width x other_y)
 
 same_column : (width x y other_x other_y : ℕ) → other_y ≡ y → other_y * width + other_x ≡ y * width + x → other_x ≡ x
 same_column width x y other_x other_y same e = omega (arith, rw same at e)
@@ -116,7 +89,9 @@ level_has grid x y new other_x other_y object p q e =
 
 -- ---- how a level stays marked
 pub in_line_from : (grid : Grid) (line : Line) (at object : ℕ) → at < line_length grid line.axis → stands_in_line grid line object at ≡ true → in_line grid line object ≡ true
-in_line_from grid line at object within e = any_in (stands_in_line grid line object) (line_length grid line.axis) at within e
+in_line_from grid line at object within e =
+    let size = line_length grid line.axis in
+    grind (arith, e, list_any_at (stands_in_line grid line object) (range_with_len 0 size) at 0, get_or-range_with_len 0 size at 0, length-range_with_len 0 size)
 
 -- a level whose cells have nothing but what they had and what is marked stays marked
 pub marked_on : (state : LevelState) (grid : Grid) → grid.width ≡ state.grid.width → grid.height ≡ state.grid.height → ((x y object : ℕ) → x < state.grid.width → y < state.grid.height → is_in (cell_at grid x y) object ≡ true → (is_in (cell_at state.grid x y) object ≡ true) ⊎ ((is_marked state.row_marks y object ≡ true) × (is_marked state.column_marks x object ≡ true))) → IsMarked state → IsMarked (record state { grid = grid })
@@ -125,20 +100,14 @@ marked_on state grid wide high has h = record {
   column_count = h.column_count ∙ sym wide;
   all = λ line object within e. h.all line object (omega (arith, high)) e;
   rows = λ line object within e. (let f = passes_from (λ (x : ℕ). is_in (cell_at grid x line) object) grid.width e in
-      grind (arith, wide, high, f.within, has f.at line object, f.holds, h.rows line object, in_line_from state.grid (row_of line) f.at object));
+      grind (arith, wide, high, f.1, has f.0 line object, f.2, h.rows line object, in_line_from state.grid (row_of line) f.0 object));
   columns = λ line object within e. (let f = passes_from (λ (y : ℕ). is_in (cell_at grid line y) object) grid.height e in
-      grind (arith, wide, high, f.within, has line f.at object, f.holds, h.columns line object, in_line_from state.grid (column_of line) f.at object));
+      grind (arith, wide, high, f.1, has line f.0 object, f.2, h.columns line object, in_line_from state.grid (column_of line) f.0 object));
 }
 
 -- a change of each place that leaves its object
-marked_map : (state : LevelState) (f : Option Piece → Option Piece) → KeepsObjects f → IsMarked state → IsMarked (record state { grid = record state.grid { cells = map (map f) state.grid.cells } })
+pub marked_map : (state : LevelState) (f : Option Piece → Option Piece) → KeepsObjects f → IsMarked state → IsMarked (record state { grid = record state.grid { cells = map (map f) state.grid.cells } })
 marked_map state f same h = marked_on state (record state.grid { cells = map (map f) state.grid.cells }) refl refl (λ x y object _ _ e. inl (sym (is_in_cells f same state.grid.cells (y * state.grid.width + x) object) ∙ e)) h
-
-pub marked_stilled : (state : LevelState) → IsMarked state → IsMarked (record state { grid = stilled state.grid })
-marked_stilled state h = marked_map state still_place still_same h
-
-pub marked_pushed : (state : LevelState) (players : List ℕ) (dir : Dir) → IsMarked state → IsMarked (record state { grid = pushed players dir state.grid })
-marked_pushed state players dir h = marked_map state (pushed_place players dir) (pushed_same players dir) h
 
 -- a cell is written with what it had and what is marked
 pub marked_cell : (state : LevelState) (x y : ℕ) (new : List (Option Piece)) (test : ℕ → Bool) → x < state.grid.width → ((object : ℕ) → is_in new object ≡ true → (test object ≡ true) ⊎ (is_in (cell_at state.grid x y) object ≡ true)) → IsMarkedAt state x y test → IsMarked state → IsMarked (record state { grid = record state.grid { cells = set state.grid.cells (y * state.grid.width + x) new } })
@@ -146,18 +115,11 @@ marked_cell state x y new test x_in has at h =
     marked_on state (record state.grid { cells = set state.grid.cells (y * state.grid.width + x) new }) refl refl (λ other_x other_y object p q e.
     grind (arith, level_has state.grid x y new other_x other_y object x_in p e, has object, at.row object, at.column object)) h
 
-pub marked_rewritten : (state : LevelState) (x y : ℕ) (left right : List Item) → x < state.grid.width → IsMarkedAt state x y (λ object. names_object object right) → IsMarked state → IsMarked (record state { grid = with_rewritten state.grid x y left right })
-marked_rewritten state x y left right x_in at h = marked_cell state x y (rewritten_cell left right (cell_at state.grid x y)) (λ object. names_object object right) x_in (has_rewritten left right (cell_at state.grid x y)) at h
-
 marked_put : (state : LevelState) (x y layer : ℕ) (place : Option Piece) → x < state.grid.width → IfSome place (λ piece. IsMarkedAt state x y (nat_eq piece.object)) → IsMarked state → IsMarked (record state { grid = with_place state.grid x y layer place })
 marked_put state x y layer place x_in at h = marked_cell state x y (set (cell_at state.grid x y) layer place) (is_in (place ∷ [])) x_in (has_put (cell_at state.grid x y) layer place) (by_place place at) h where
   by_place : (place : Option Piece) → IfSome place (λ piece. IsMarkedAt state x y (nat_eq piece.object)) → IsMarkedAt state x y (is_in (place ∷ []))
   by_place None at = record { row = λ object e. cc; column = λ object e. cc }
   by_place (Some piece) at = record { row = λ object e. at.row object (is_in_piece piece object e); column = λ object e. at.column object (is_in_piece piece object e) }
-
--- an object that is marked in a line's set is in it
-pub marked_in : (old new : List (List ℕ)) (line added object : ℕ) → IsMore old new line (nat_eq added) → nat_eq added object ≡ true → is_marked new line object ≡ true
-marked_in old new line added object more is = grind (arith, more line object, eq-eqb line line refl, is)
 
 -- a piece goes where its object is marked
 pub marked_carried : (state : LevelState) (x y : ℕ) (mover : Mover) (next_x next_y : ℕ) → x < state.grid.width → next_x < state.grid.width → IsMarkedAt state next_x next_y (nat_eq mover.object) → IsMarked state → IsMarked (record state { grid = carried state.grid x y mover next_x next_y })

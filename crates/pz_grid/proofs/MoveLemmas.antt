@@ -1,30 +1,7 @@
 -- What a movement marks: what has landed stays, so in the end each line holds what was marked for it.
-use Rattle.pz_grid.proofs.Common.{Bool, Grid, IsMore, IsMove, IsStill, IsWidened, IsWidenedBy, Item, KeepsStill, LevelState, List, Option, Piece, Some, [], ap, arith, false, get_or, in_column, in_pass, in_row, inl, inr, is_in, length, list_any_more, map, names, names_object, nat_eq, place_at, spot, still_piece, still_place, stilled, subst, sym, take, true, ℕ, ◌&&◌, ◌*◌, ◌+◌, ◌<◌, ◌∙◌, ◌≡◌}
-use Rattle.pz_cells.specs.declared.piece.Mover.{Mover}
-use Rattle.pz_cells.specs.Cell.{moving_piece}
-use Rattle.pz_sheet.specs.Line.{column_of, row_of}
-use Rattle.pz_sheet.specs.Movement.{carried}
-use Rattle.pz_grid.specs.Movement.{Leaves}
-use Rattle.pz_grid.specs.Staying.{IsStillInColumn, IsStillInRow}
+use Rattle.pz_grid.proofs.Common.{Grid, IsMore, IsMove, IsStill, IsWidened, Item, KeepsStill, Leaves, LevelState, List, Mover, Option, Piece, Some, [], ap, arith, carried, column_of, false, get_or, in_column, in_pass, in_row, inl, inr, is_in, length, list_any_more, map, moving_piece, names, names_object, nat_eq, place_at, row_of, spot, still_piece, still_place, stilled, subst, sym, take, true, ℕ, ◌&&◌, ◌*◌, ◌+◌, ◌<◌, ◌∙◌, ◌≡◌}
 use Rattle.pz_grid.proofs.StayLemmas.{still-moved_to}
 use Rattle.pz_grid.proofs.MarkLemmas.{more_only, in_line_from, is_in_at, is_in_cells, piece_is_in, still_same}
-
--- what stands still in a line goes on standing there
-row_on : (a b : LevelState) → IsMove a b → (line object : ℕ) → IsStillInRow a.grid line object → IsStillInRow b.grid line object
-row_on a b p line object s = record { x = s.x; layer = s.layer; inside = omega (arith, s.inside, p.width); there = rw p.width (p.still (line * a.grid.width + s.x) s.layer object s.there) }
-
-column_on : (a b : LevelState) → IsMove a b → (line object : ℕ) → IsStillInColumn a.grid line object → IsStillInColumn b.grid line object
-column_on a b p line object s = record { y = s.y; layer = s.layer; inside = omega (arith, s.inside, p.height); there = rw p.width (p.still (s.y * a.grid.width + line) s.layer object s.there) }
-
--- one part of a movement after another
-pub moves_on : (a b d : LevelState) → IsMove a b → IsMove b d → IsMove a d
-moves_on a b d p q = record {
-  width = q.width ∙ p.width;
-  height = q.height ∙ p.height;
-  still = λ index layer object h. q.still index layer object (p.still index layer object h);
-  rows = λ line object e. grind (arith, q.rows line object e, p.rows line object, row_on b d q line object);
-  columns = λ line object e. grind (arith, q.columns line object e, p.columns line object, column_on b d q line object);
-}
 
 -- a piece is marked where it goes, and goes there
 pub moves_piece : (old marked new : LevelState) (x y : ℕ) (mover : Mover) (next : ℕ × ℕ) → Leaves old.grid x y mover next → marked.grid ≡ old.grid → IsMore old.row_marks marked.row_marks next.1 (nat_eq mover.object) → IsMore old.column_marks marked.column_marks next.0 (nat_eq mover.object)
@@ -36,7 +13,7 @@ moves_piece old marked new x y mover next leaves g2 r2 c2 g3 r3 c3 there =
     record {
       width = wide;
       height = high;
-      still = subst (KeepsStill old.grid) (sym made) (still-moved_to (in_pass old.grid false) (spot x y mover.layer) (moving_piece mover) (Some next) leaves.there leaves.goes);
+      still = subst (KeepsStill old.grid) (sym made) (still-moved_to (in_pass old.grid false) (spot x y mover.layer) (moving_piece mover) next leaves.there leaves.goes);
       rows = λ line object e. elim (more_only old.row_marks marked.row_marks next.1 mover.object r2 line object (rw r3 at e)) [
         | inl before ↦ inl before
         | inr (same, is) ↦ inr (record { x = next.0; layer = mover.layer; inside = omega (arith, wide, leaves.on_map.0); there = rw (same, ← is) there })
@@ -63,14 +40,6 @@ widened_move old settled new h g r d = record {
     | inl before ↦ inl before
     | inr s ↦ inr (rw g (in_line_from (stilled settled.grid) (column_of line) s.y object s.inside (still_is_in settled.grid.cells (s.y * settled.grid.width + line) s.layer object s.there)))
   ];
-}
-
--- ---- rewriting
-
-pub widened_on : (a b d : LevelState) (p q : ℕ → Bool) → ((object : ℕ) → q object ≡ true → p object ≡ true) → IsWidenedBy a b p → IsWidenedBy b d q → IsWidenedBy a d p
-widened_on a b d p q within h k = record {
-  rows = λ line object e. grind (arith, k.rows line object e, h.rows line object, within object);
-  columns = λ line object e. grind (arith, k.columns line object e, h.columns line object, within object);
 }
 
 -- what the right of a rule places is marked

@@ -1,5 +1,6 @@
 -- The passes of the movement end.
-use Rattle.pz_grid.proofs.Common.{Dir, Grid, List, None, Option, Pass, Piece, Some, Spot, [], arith, cell_at, cond, false, fold, get_or, get_or_past, heading_count, heading_goal, heads, in_pass, map, move_at, move_place, moved_to, moving, pass_of, place_at, refl, resolved, set, set_past, settle, spots, still_place, suc, sum_by, sum_by-cons, sum_by-set, true, with_place, zero, ℕ, ◌*◌, ◌+◌, ◌<◌, ◌∷◌, ◌≡◌, ◌≤◌}
+use Rattle.pz_grid.proofs.Common.{Dir, Grid, List, None, Option, Pass, Piece, Some, Spot, [], arith, cell_at, cond, false, get_or, get_or_past, heading_count, heading_goal, heads, in_pass, map, moved_to, moving, pass_of, place_at, refl, resolved, set, set_past, settle, spots, still_piece, still_place, suc, sum_by, sum_by-cons, sum_by-set, true, with_place, zero, ℕ, ◌*◌, ◌+◌, ◌<◌, ◌∷◌, ◌≡◌, ◌≤◌}
+use Rattle.pz_grid.proofs.StayLemmas.{kept_by_moves}
 
 -- a write of what counts for no more adds nothing
 sum_by-set-le : {X : Type 0} (f : X → ℕ) (xs : List X) (i : ℕ) (y d : X) → f y ≤ f (get_or xs i d) → sum_by f (set xs i y) ≤ sum_by f xs
@@ -25,23 +26,14 @@ pub record Progress (grid : Grid) (pass : Pass) : Type 0 where
 heads_somewhere : (grid : Grid) (at : Spot) (heading : Option Dir) (goal : ℕ × ℕ) → heading_goal grid at heading ≡ Some goal → heading_count heading ≡ 1
 heads_somewhere grid at heading goal e = grind (arith, e)
 
-progress-moved_to : (grid : Grid) (pass : Pass) (at : Spot) (piece : Piece) (goal : Option (ℕ × ℕ)) → place_at pass.grid at.x at.y at.layer ≡ Some piece → heading_goal pass.grid at piece.heading ≡ goal → Progress grid pass → Progress grid (moved_to pass at piece goal)
-progress-moved_to grid pass at piece None e g p = p
-progress-moved_to grid pass at piece (Some goal) e g p =
+progress-moved_to : (grid : Grid) (pass : Pass) (at : Spot) (piece : Piece) (goal : ℕ × ℕ) → place_at pass.grid at.x at.y at.layer ≡ Some piece → heading_goal pass.grid at piece.heading ≡ Some goal → Progress grid pass → Progress grid (moved_to pass at piece (Some goal))
+progress-moved_to grid pass at piece goal e g p =
     let taken = moving-take pass.grid at.x at.y at.layer piece e (heads_somewhere pass.grid at piece.heading goal g) in
-    let put = moving-put_still (with_place pass.grid at.x at.y at.layer None) goal.0 goal.1 at.layer (Some (record { object = piece.object; heading = None })) refl in
+    let put = moving-put_still (with_place pass.grid at.x at.y at.layer None) goal.0 goal.1 at.layer (Some (still_piece piece.object)) refl in
     record { fewer = omega (arith, taken, put, p.fewer); same = λ f. cc }
 
-progress-move_place : (grid : Grid) (pass : Pass) (at : Spot) (place : Option Piece) → place_at pass.grid at.x at.y at.layer ≡ place → Progress grid pass → Progress grid (move_place pass at place)
-progress-move_place grid pass at None e p = p
-progress-move_place grid pass at (Some piece) e p = progress-moved_to grid pass at piece (heading_goal pass.grid at piece.heading) e refl p
-
-progress-fold : (grid : Grid) (xs : List Spot) (pass : Pass) → Progress grid pass → Progress grid (fold move_at pass xs)
-progress-fold grid [] pass p = p
-progress-fold grid (at ∷ xs) pass p = progress-fold grid xs (move_at pass at) (progress-move_place grid pass at (place_at pass.grid at.x at.y at.layer) refl p)
-
 pub progress-pass : (grid : Grid) → Progress grid (pass_of grid)
-progress-pass grid = progress-fold grid (spots grid) (in_pass grid false) (record { fewer = omega arith; same = λ _. refl })
+progress-pass grid = kept_by_moves (Progress grid) (progress-moved_to grid) (spots grid) (in_pass grid false) (record { fewer = omega arith; same = λ _. refl })
 
 -- a pass with a move leaves fewer moving pieces
 pub fewer_from_moved : (grid : Grid) → (pass_of grid).moved ≡ true → moving (pass_of grid).grid < moving grid

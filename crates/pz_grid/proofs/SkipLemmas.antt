@@ -1,11 +1,7 @@
 -- No place starts in a line that is not searched, and no more start cells are tested than admitted lines have.
-use Rattle.pz_grid.proofs.Common.{Bool, Dir, Grid, HoldsSomewhere, IsMarked, Item, LevelState, List, Option, Piece, Place, RuleRow, StartsNowhere, [], admits_line, admitted, arith, cell_at, cond, count_by, count_more, eqb-true, false, get_or, head_of, is_in, line_at, line_count, line_length, line_of, list_all-from_AllPass, list_any, marks_cell, marks_item, marks_of, member, mul-le-mul_right, pairs, places, range_with_len, refl, row_holds, searches_level, searches_line, start_count, starts_at, starts_in, starts_with, subst, suc, sum_by, sum_more, true, zero, ℕ, ◌*◌, ◌+◌, ◌<◌, ◌∷◌, ◌≡◌, ◌≤◌}
-use Rattle.std.proofs.lemmas.List.Sums.{sum_by-le}
+use Rattle.pz_grid.proofs.Common.{Bool, Dir, Grid, HoldsSomewhere, IsMarked, Item, LevelState, List, Option, Piece, Place, RuleRow, StartsNowhere, [], admits_line, admitted, arith, cell_at, cond, count_by, count_fewer, count_more, count_within, eqb-true, false, get_or, head_of, in_line, is_in, line_at, line_count, line_length, line_of, list_all-from_AllPass, list_any, marks_cell, marks_item, marks_of, member, mul-le-mul_right, pairs, places, range_with_len, refl, row_holds, row_of, searches_level, searches_line, start_count, starts_at, starts_in, starts_with, subst, suc, sum_by, sum_by-le, sum_more, true, x_at, y_at, zero, ℕ, ◌*◌, ◌+◌, ◌<◌, ◌∷◌, ◌≡◌, ◌≤◌}
 use Rattle.std.proofs.lemmas.Map.Views.{any-filter_same}
 use Rattle.pz_cells.specs.Pattern.{item_holds, pattern_holds}
-use Rattle.pz_sheet.specs.Line.{row_of, x_at, y_at}
-use Rattle.pz_sheet.specs.Presence.{in_line}
-use Rattle.pz_sheet.proofs.CountLemmas.{count_fewer, count_within}
 use Rattle.pz_grid.proofs.HeadLemmas.{head_from_row}
 use Rattle.pz_grid.proofs.MarkLemmas.{in_line_from}
 use Rattle.pz_grid.proofs.SomewhereLemmas.{HoldsThere, line_nowhere, nowhere_none}

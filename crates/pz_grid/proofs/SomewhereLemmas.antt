@@ -1,7 +1,6 @@
 -- The cells of a row that has a place hold in the line where it starts, and so somewhere on the map.
-use Rattle.pz_grid.proofs.Common.{Action, All, Bool, Dir, Down, Grid, HoldsInLine, HoldsSomewhere, Item, Left, List, Place, Right, RuleRow, StartsNowhere, Up, [], along, arith, distance, false, get_or, get_or_default, holds_at, line_at, line_count, line_of, places, row_holds, sym, true, ℕ, ◌+◌, ◌-◌, ◌<◌, ◌∙◌, ◌≡◌}
+use Rattle.pz_grid.proofs.Common.{Action, All, Bool, Dir, Down, Grid, HoldsInLine, HoldsSomewhere, Item, Left, List, Place, Right, RuleRow, StartsNowhere, Up, [], along, arith, distance, false, gather_none, get_or, get_or_default, holds_at, line_at, line_count, line_of, places, row_holds, sym, true, x_at, y_at, ℕ, ◌+◌, ◌-◌, ◌<◌, ◌∙◌, ◌≡◌}
 use Rattle.pz_grid.proofs.FoundLemmas.{found_in, found_nowhere, places_all}
-use Rattle.pz_grid.proofs.GatherLemmas.{gather_none}
 use Rattle.pz_grid.proofs.PlaceLemmas.{holds_each_cell}
 
 -- a rule's cell holds somewhere in a line of the map
@@ -24,11 +23,9 @@ pub line_nowhere : (grid : Grid) (row : RuleRow) (dir : Dir) (line : ℕ) (may :
 line_nowhere grid row dir line may h e place at = grind (arith, e, λ (f : row_holds grid row dir place ≡ true). h (rw at at (each_there grid row dir place f)))
 
 somewhere : (grid : Grid) (dir : Dir) (line : ℕ) (pattern : List Item) → HoldsThere grid dir line pattern → HoldsSomewhere grid pattern
-somewhere grid Up line pattern h = record { x = line; y = h.1.at; x_in = h.0; y_in = h.1.at_in; holds = h.1.holds }
-somewhere grid Down line pattern h = record { x = line; y = h.1.at; x_in = h.0; y_in = h.1.at_in; holds = h.1.holds }
-somewhere grid Left line pattern h = record { x = h.1.at; y = line; x_in = h.1.at_in; y_in = h.0; holds = h.1.holds }
-somewhere grid Right line pattern h = record { x = h.1.at; y = line; x_in = h.1.at_in; y_in = h.0; holds = h.1.holds }
-somewhere grid Action line pattern h = record { x = h.1.at; y = line; x_in = h.1.at_in; y_in = h.0; holds = h.1.holds }
+somewhere grid dir line pattern h =
+    let lies = line_at dir line in
+    record { x = x_at lies.axis lies.number h.1.at; y = y_at lies.axis lies.number h.1.at; x_in = grind (arith, h.0, h.1.at_in); y_in = grind (arith, h.0, h.1.at_in); holds = h.1.holds }
 
 -- where some cell of a row holds nowhere, the row has no place
 pub nowhere_none : (grid : Grid) (row : RuleRow) (dir : Dir) (may : Bool) → (All (HoldsSomewhere grid) row.cells → may ≡ true) → may ≡ false → places grid row dir ≡ []

@@ -1,11 +1,9 @@
 -- Starts and gaps that are left out since the row's cells before its gap, or its first cell behind it, don't hold there.
-use Rattle.pz_grid.proofs.Common.{Dir, Grid, IsRow, Item, List, None, Option, Place, RuleRow, Some, [], ap, arith, cell_holds, enumerate_fails, false, get_or, head_of, holds_behind, line_length, place_in, row_holds, run_holds, starts_with, sym, ℕ, ◌++◌, ◌<◌, ◌∙◌, ◌≡◌, ◌≤◌}
+use Rattle.pz_grid.proofs.Common.{Dir, Grid, IsRow, Item, List, None, Option, Place, RuleRow, Some, SoughtRun, [], ap, arith, cell_holds, enumerate_fails, false, gather, gather_skip, get_or, head_of, holds_behind, line_length, place_in, row_holds, run_holds, run_holds_from, starts_with, sym, ℕ, ◌++◌, ◌<◌, ◌∙◌, ◌≡◌, ◌≤◌}
 use Rattle.pz_sheet.specs.Line as lines
-use Rattle.pz_sheet.specs.Searching.{SoughtRun, run_holds_from}
 use Rattle.pz_sets.specs.Next.{IsNext}
 use Rattle.pz_grid.specs.Starting.{IsSearchFor}
 use Rattle.pz_grid.proofs.FoundLemmas.{found_at, found_at_all, found_at_none, found_with, found_with_none}
-use Rattle.pz_grid.proofs.GatherLemmas.{gather, gather_skip}
 use Rattle.pz_grid.proofs.HeadLemmas.{IsBehind, gap_spans, head_from_row}
 use Rattle.pz_grid.proofs.PlaceLemmas.{own_gap}
 

@@ -1,11 +1,6 @@
 -- A cell in which nothing heads anywhere is left as it is by a pass, and so are rows of such cells, and columns of such rows.
-use Rattle.pz_grid.proofs.Common.{AreColumnsStill, AreStill, Bool, Grid, List, None, Option, Pass, Piece, Some, Spot, [], ap, arith, cell_at, cases_lt, common_steps, false, fold, get_or, heading_goal, in_pass, inl, inr, map, move_at, move_place, moved_to, pass_of, place_at, range_with_len, refl, spot, spots_at, spots_in, still_piece, still_place, suc, with_place, zero, ℕ, ◌+◌, ◌<◌, ◌∙◌, ◌∷◌, ◌≡◌, ◌≤◌}
-use Rattle.std.proofs.lemmas.List.{map-set}
-use Rattle.pz_sheet.specs.Movement.{IsStillAt}
-use Rattle.pz_cells.specs.declared.piece.Mover.{Mover}
-use Rattle.pz_cells.specs.Cell.{IsStillOn, moving_piece}
-use Rattle.pz_grid.specs.Movement.{AllStay, Stays}
-use Rattle.pz_grid.proofs.GatherLemmas.{gather, fold_gather_more, fold_map_more, steps_stay}
+use Rattle.pz_grid.proofs.Common.{AllStay, AreColumnsStill, AreStill, Bool, Grid, IsStillAt, IsStillOn, List, Mover, None, Option, Pass, Piece, Some, Spot, Stays, [], ap, arith, cases_lt, cell_at, common_steps, false, fold, fold_gather_more, fold_map_more, gather, get_or, heading_goal, in_pass, inl, inr, map, map-set, move_at, move_place, moved_to, moving_piece, pass_of, place_at, range_with_len, refl, spot, spots_at, spots_in, steps_stay, still_piece, still_place, suc, with_place, zero, ℕ, ◌+◌, ◌<◌, ◌∙◌, ◌∷◌, ◌≡◌, ◌≤◌}
+use Rattle.pz_grid.proofs.StayLemmas.{kept_by_moves}
 
 still_at : (cell : List (Option Piece)) (layer : ℕ) → get_or (map still_place cell) layer None ≡ still_place (get_or cell layer None)
 still_at [] layer = refl
@@ -59,22 +54,13 @@ columns_stay start grid moved depth height from end high low so_far still =
 put_still : (grid : Grid) (px py layer : ℕ) (place : Option Piece) (x y : ℕ) → place ≡ still_place place → IsStillAt grid x y → IsStillAt (with_place grid px py layer place) x y
 put_still grid px py layer place x y is still = grind (arith, common_steps, is, still, map-set still_place)
 
-still_moved_to : (pass : Pass) (at : Spot) (piece : Piece) (goal : Option (ℕ × ℕ)) (x y : ℕ) → IsStillAt pass.grid x y → IsStillAt (moved_to pass at piece goal).grid x y
-still_moved_to pass at piece None x y still = still
-still_moved_to pass at piece (Some (gx, gy)) x y still =
-    put_still (with_place pass.grid at.x at.y at.layer None) gx gy at.layer (Some (still_piece piece.object)) x y refl (put_still pass.grid at.x at.y at.layer None x y refl still)
-
-still_move_place : (pass : Pass) (at : Spot) (place : Option Piece) (x y : ℕ) → IsStillAt pass.grid x y → IsStillAt (move_place pass at place).grid x y
-still_move_place pass at None x y still = still
-still_move_place pass at (Some piece) x y still = still_moved_to pass at piece (heading_goal pass.grid at piece.heading) x y still
-
-still_fold : (ats : List Spot) (pass : Pass) (x y : ℕ) → IsStillAt pass.grid x y → IsStillAt (fold move_at pass ats).grid x y
-still_fold [] pass x y still = still
-still_fold (at ∷ ats) pass x y still = still_fold ats (move_at pass at) x y (still_move_place pass at (place_at pass.grid at.x at.y at.layer) x y still)
+still_moved_to : (x y : ℕ) (pass : Pass) (at : Spot) (piece : Piece) (goal : ℕ × ℕ) → IsStillAt pass.grid x y → IsStillAt (moved_to pass at piece (Some goal)).grid x y
+still_moved_to x y pass at piece goal still =
+    put_still (with_place pass.grid at.x at.y at.layer None) goal.0 goal.1 at.layer (Some (still_piece piece.object)) x y refl (put_still pass.grid at.x at.y at.layer None x y refl still)
 
 -- so do rows of a column, and columns, in a part of a pass
 pub still_on : (old new : Grid) (before after : Bool) (ats : List Spot) → in_pass new after ≡ fold move_at (in_pass old before) ats → (x from end : ℕ) → AreStill old x from end → AreStill new x from end
-still_on old new before after ats part x from end still y low high = grind (arith, part, still_fold ats (in_pass old before) x y (still y low high))
+still_on old new before after ats part x from end still y low high = grind (arith, part, kept_by_moves (λ (pass : Pass). IsStillAt pass.grid x y) (λ pass at piece goal _ _. still_moved_to x y pass at piece goal) ats (in_pass old before) (still y low high))
 
 -- a level in which nothing heads anywhere is left as it is
 pub pass_rests : (grid : Grid) → AreColumnsStill grid 0 grid.width → pass_of grid ≡ in_pass grid false

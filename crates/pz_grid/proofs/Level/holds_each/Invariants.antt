@@ -1,4 +1,4 @@
-use Rattle.pz_grid.proofs.Common.{◌≡◌, take, true, list_all, is_in, cell_of}
+use Rattle.pz_grid.proofs.Common.{cell_of, is_in, list_all, take, true, ◌≡◌}
 use Rattle.pz_grid.proofs.Level.holds_each.Given as goal
 
 abbrev pub invariant-loop-object : goal.invariant-loop-object

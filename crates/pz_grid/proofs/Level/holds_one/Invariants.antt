@@ -1,4 +1,4 @@
-use Rattle.pz_grid.proofs.Common.{◌≡◌, take, false, list_any, is_in, cell_of}
+use Rattle.pz_grid.proofs.Common.{cell_of, false, is_in, list_any, take, ◌≡◌}
 use Rattle.pz_grid.proofs.Level.holds_one.Given as goal
 
 abbrev pub invariant-loop-object : goal.invariant-loop-object

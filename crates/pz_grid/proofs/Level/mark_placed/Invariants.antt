@@ -1,4 +1,4 @@
-use Rattle.pz_grid.proofs.Common.{◌≡◌, take, names_object, IsMore}
+use Rattle.pz_grid.proofs.Common.{IsMore, names_object, take, ◌≡◌}
 use Rattle.pz_grid.proofs.Level.mark_placed.Given as goal
 
 abbrev pub invariant-loop-item : goal.invariant-loop-item

@@ -1,7 +1,4 @@
-use Rattle.pz_grid.proofs.Common.{AreStill, arith, cases_eq, cases_lt, false, in_pass, inl, inr, move_at, spots_in, sym, ℕ}
-use Rattle.pz_grid.proofs.MoveLemmas.{moves_on}
-use Rattle.pz_grid.proofs.GatherLemmas.{fold_gather_more}
-use Rattle.pz_grid.proofs.MovementLemmas.{same_size_on}
+use Rattle.pz_grid.proofs.Common.{AreStill, arith, cases_eq, cases_lt, false, fold_gather_more, in_pass, inl, inr, move_at, moves_on, same_size_on, spots_in, sym, ℕ}
 use Rattle.pz_grid.proofs.StillLemmas.{columns_stay, still_on}
 use Rattle.pz_grid.proofs.Level.pass.Goals as goal
 

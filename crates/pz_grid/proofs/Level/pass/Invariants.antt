@@ -1,5 +1,4 @@
-use Rattle.pz_grid.proofs.Common.{◌≡◌, ◌≤◌, ◌-◌, false, AreColumnsStill, fold, in_pass, move_at, spots_in, SameSize, IsMove}
-use Rattle.pz_grid.proofs.GatherLemmas.{gather}
+use Rattle.pz_grid.proofs.Common.{AreColumnsStill, IsMove, SameSize, false, fold, gather, in_pass, move_at, spots_in, ◌-◌, ◌≡◌, ◌≤◌}
 use Rattle.pz_grid.proofs.Level.pass.Given as goal
 
 abbrev pub invariant-columns : goal.invariant-columns

@@ -1,7 +1,4 @@
-use Rattle.pz_grid.proofs.Common.{arith, in_pass, move_at, spot, sym}
-use Rattle.pz_grid.proofs.MoveLemmas.{moves_on}
-use Rattle.pz_grid.proofs.GatherLemmas.{fold_map_more}
-use Rattle.pz_grid.proofs.MovementLemmas.{same_size_on}
+use Rattle.pz_grid.proofs.Common.{arith, fold_map_more, in_pass, move_at, moves_on, same_size_on, spot, sym}
 use Rattle.pz_grid.proofs.StillLemmas.{layers_stay}
 use Rattle.pz_grid.proofs.Level.pass_at.Goals as goal
 

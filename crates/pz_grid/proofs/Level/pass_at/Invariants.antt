@@ -1,4 +1,4 @@
-use Rattle.pz_grid.proofs.Common.{◌≡◌, ◌≤◌, ◌-◌, map, fold, range_with_len, in_pass, move_at, spot, SameSize, IsMove}
+use Rattle.pz_grid.proofs.Common.{IsMove, SameSize, fold, in_pass, map, move_at, range_with_len, spot, ◌-◌, ◌≡◌, ◌≤◌}
 use Rattle.pz_grid.proofs.Level.pass_at.Given as goal
 
 abbrev pub invariant-layers : goal.invariant-layers

@@ -1,8 +1,4 @@
-use Rattle.pz_grid.proofs.Common.{AreStill, Grid, arith, in_pass, move_at, spots_at, sym, ℕ, ◌+◌}
-use Rattle.pz_sheet.specs.Movement.{IsStillAt}
-use Rattle.pz_grid.proofs.MoveLemmas.{moves_on}
-use Rattle.pz_grid.proofs.GatherLemmas.{fold_gather_more}
-use Rattle.pz_grid.proofs.MovementLemmas.{same_size_on}
+use Rattle.pz_grid.proofs.Common.{AreStill, Grid, IsStillAt, arith, fold_gather_more, in_pass, move_at, moves_on, same_size_on, spots_at, sym, ℕ, ◌+◌}
 use Rattle.pz_grid.proofs.StillLemmas.{rows_stay, still_on}
 use Rattle.pz_grid.proofs.Level.pass_in.Goals as goal
 

@@ -1,5 +1,4 @@
-use Rattle.pz_grid.proofs.Common.{◌≡◌, ◌≤◌, ◌-◌, false, AreStill, fold, in_pass, move_at, spots_at, SameSize, IsMove}
-use Rattle.pz_grid.proofs.GatherLemmas.{gather}
+use Rattle.pz_grid.proofs.Common.{AreStill, IsMove, SameSize, false, fold, gather, in_pass, move_at, spots_at, ◌-◌, ◌≡◌, ◌≤◌}
 use Rattle.pz_grid.proofs.Level.pass_in.Given as goal
 
 abbrev pub invariant-rows : goal.invariant-rows

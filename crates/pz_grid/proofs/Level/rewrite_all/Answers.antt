@@ -1,7 +1,4 @@
-use Rattle.pz_grid.proofs.Common.{Place, arith, get_or_default, in_rewrite, list_any_at, places_object, rewritten_row, row_places, sym, zip}
-use Rattle.std.proofs.lemmas.Slice.Zip.{length-zip}
-use Rattle.pz_grid.proofs.MoveLemmas.{widened_on}
-use Rattle.pz_grid.proofs.MovementLemmas.{same_size_on}
+use Rattle.pz_grid.proofs.Common.{Place, arith, get_or_default, in_rewrite, length-zip, list_any_at, places_object, rewritten_row, row_places, same_size_on, sym, widened_on, zip}
 use Rattle.pz_grid.proofs.FoldLemmas.{zip_at, fold_zip_more, fold_zip_all}
 use Rattle.pz_grid.proofs.Level.rewrite_all.Goals as goal
 

@@ -1,4 +1,4 @@
-use Rattle.pz_grid.proofs.Common.{◌≡◌, take, fold, zip, SameSize, IsWidenedBy, places_object, in_rewrite, rewritten_row}
+use Rattle.pz_grid.proofs.Common.{IsWidenedBy, SameSize, fold, in_rewrite, places_object, rewritten_row, take, zip, ◌≡◌}
 use Rattle.pz_grid.proofs.Level.rewrite_all.Given as goal
 
 abbrev pub invariant-loop-index : goal.invariant-loop-index

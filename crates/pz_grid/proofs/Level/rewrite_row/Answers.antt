@@ -1,6 +1,4 @@
-use Rattle.pz_grid.proofs.Common.{arith, in_rewrite, list_any, list_any_at, names_object, rewritten_along}
-use Rattle.pz_grid.proofs.MoveLemmas.{widened_on}
-use Rattle.pz_grid.proofs.MovementLemmas.{same_size_on}
+use Rattle.pz_grid.proofs.Common.{arith, in_rewrite, list_any, list_any_at, names_object, rewritten_along, same_size_on, widened_on}
 use Rattle.pz_grid.proofs.FoldLemmas.{fold_numbered_more, fold_numbered_all}
 use Rattle.pz_grid.proofs.Level.rewrite_row.Goals as goal
 

@@ -1,4 +1,4 @@
-use Rattle.pz_grid.proofs.Common.{◌≡◌, take, fold, enumerate_from, zip, list_any, SameSize, IsWidenedBy, in_rewrite, rewritten_along, names_object}
+use Rattle.pz_grid.proofs.Common.{IsWidenedBy, SameSize, enumerate_from, fold, in_rewrite, list_any, names_object, rewritten_along, take, zip, ◌≡◌}
 use Rattle.pz_grid.proofs.Level.rewrite_row.Given as goal
 
 abbrev pub invariant-loop-index : goal.invariant-loop-index

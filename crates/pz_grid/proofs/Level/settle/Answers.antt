@@ -1,7 +1,5 @@
-use Rattle.pz_grid.proofs.Common.{AreColumnsStill, Bool, Grid, arith, false, in_pass, moving, pass_of, settle, true, ◌&&◌, ◌∙◌, ◌≡◌}
+use Rattle.pz_grid.proofs.Common.{AreColumnsStill, Bool, Grid, arith, false, in_pass, moves_on, moving, pass_of, same_size_on, settle, true, ◌&&◌, ◌∙◌, ◌≡◌}
 use Rattle.pz_grid.proofs.SettleLemmas.{fewer_from_moved, settle_moved, settle_done}
-use Rattle.pz_grid.proofs.MoveLemmas.{moves_on}
-use Rattle.pz_grid.proofs.MovementLemmas.{same_size_on}
 use Rattle.pz_grid.proofs.StillLemmas.{pass_rests}
 use Rattle.pz_grid.proofs.Level.settle.Goals as goal
 

@@ -1,4 +1,4 @@
-use Rattle.pz_grid.proofs.Common.{◌≡◌, SameSize, IsMove, moving, settle}
+use Rattle.pz_grid.proofs.Common.{IsMove, SameSize, moving, settle, ◌≡◌}
 use Rattle.pz_grid.proofs.Level.settle.Given as goal
 
 abbrev pub invariant-loop : goal.invariant-loop

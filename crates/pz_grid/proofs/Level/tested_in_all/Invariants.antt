@@ -1,5 +1,4 @@
-use Rattle.pz_grid.proofs.Common.{◌≤◌, ◌*◌, sum_by, range_with_len, starts_in, line_length, places}
-use Rattle.pz_game.specs.declared.limits.TheConstants.{MAX_SIDE}
+use Rattle.pz_grid.proofs.Common.{MAX_SIDE, line_length, places, range_with_len, starts_in, sum_by, ◌*◌, ◌≤◌}
 use Rattle.pz_grid.proofs.SkipLemmas.{searched_lines}
 use Rattle.pz_grid.proofs.Level.tested_in_all.Given as goal
 

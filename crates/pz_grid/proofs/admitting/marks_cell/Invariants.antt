@@ -1,4 +1,4 @@
-use Rattle.pz_grid.proofs.Common.{◌≡◌, take, true, list_all, marks_item}
+use Rattle.pz_grid.proofs.Common.{list_all, marks_item, take, true, ◌≡◌}
 use Rattle.pz_grid.proofs.admitting.marks_cell.Given as goal
 
 abbrev pub invariant-loop-item : goal.invariant-loop-item

@@ -1,4 +1,4 @@
-use Rattle.pz_grid.proofs.Common.{◌≡◌, ◌<◌, ℕ, true, member, is_marked}
+use Rattle.pz_grid.proofs.Common.{is_marked, member, true, ℕ, ◌<◌, ◌≡◌}
 use Rattle.pz_grid.proofs.marks.all_of.Given as goal
 
 abbrev pub invariant-loop-line : goal.invariant-loop-line

@@ -1,5 +1,4 @@
-use Rattle.pz_grid.proofs.Common.{◌≤◌, ◌-◌}
-use Rattle.pz_grid.specs.Movement.{AllStay}
+use Rattle.pz_grid.proofs.Common.{AllStay, ◌-◌, ◌≤◌}
 use Rattle.pz_grid.proofs.movement.leaving.Given as goal
 
 abbrev pub invariant-layers : goal.invariant-layers

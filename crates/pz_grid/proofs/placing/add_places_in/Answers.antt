@@ -1,5 +1,4 @@
-use Rattle.pz_grid.proofs.Common.{Dir, Err, Grid, List, MATCH_LIMIT, None, Place, RuleRow, Some, ap, append-nil, arith, err_from_is_err_and, false, head_of, line_length, starts_with, sym, ℕ, ◌++◌, ◌<◌, ◌∙◌, ◌≡◌, ◌≤◌}
-use Rattle.pz_grid.proofs.GatherLemmas.{gather, gather_skip, gather_step, gather_too_long}
+use Rattle.pz_grid.proofs.Common.{Dir, Err, Grid, List, MATCH_LIMIT, None, Place, RuleRow, Some, ap, append-nil, arith, err_from_is_err_and, false, gather, gather_skip, gather_step, gather_too_long, head_of, line_length, starts_with, sym, ℕ, ◌++◌, ◌<◌, ◌∙◌, ◌≡◌, ◌≤◌}
 use Rattle.pz_grid.proofs.FoundLemmas.{found_at, found_in_all}
 use Rattle.pz_grid.proofs.StartLemmas.{next_in, none_at}
 use Rattle.pz_grid.proofs.placing.add_places_in.Goals as goal

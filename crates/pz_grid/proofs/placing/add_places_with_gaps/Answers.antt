@@ -1,7 +1,6 @@
-use Rattle.pz_grid.proofs.Common.{Err, MATCH_LIMIT, Place, ap, arith, err_from_is_err_and, head_of, holds_behind, line_length, place_in, sym, true, ◌∙◌, ◌≡◌}
+use Rattle.pz_grid.proofs.Common.{Err, MATCH_LIMIT, Place, ap, arith, err_from_is_err_and, gather_step, gather_too_long, head_of, holds_behind, line_length, place_in, sym, true, ◌∙◌, ◌≡◌}
 use Rattle.pz_grid.proofs.HeadLemmas.{begun_with_gap}
 use Rattle.pz_grid.proofs.PlaceLemmas.{own_gap}
-use Rattle.pz_grid.proofs.GatherLemmas.{gather_step, gather_too_long}
 use Rattle.pz_grid.proofs.FoundLemmas.{found_with}
 use Rattle.pz_grid.proofs.StartLemmas.{behind_gap, found_with_gaps, gaps_passed, same_start, starts_at}
 use Rattle.pz_grid.proofs.placing.add_places_with_gaps.Goals as goal

@@ -1,5 +1,4 @@
-use Rattle.pz_grid.proofs.Common.{◌≡◌, ◌≤◌, ◌-◌, ◌++◌, line_length}
-use Rattle.pz_grid.proofs.GatherLemmas.{gather}
+use Rattle.pz_grid.proofs.Common.{gather, line_length, ◌++◌, ◌-◌, ◌≡◌, ◌≤◌}
 use Rattle.pz_grid.proofs.FoundLemmas.{found_with}
 use Rattle.pz_grid.proofs.placing.add_places_with_gaps.Given as goal
 

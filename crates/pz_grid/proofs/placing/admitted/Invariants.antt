@@ -1,4 +1,4 @@
-use Rattle.pz_grid.proofs.Common.{◌≡◌, ◌≤◌, count_by, range_with_len, admits_line}
+use Rattle.pz_grid.proofs.Common.{admits_line, count_by, range_with_len, ◌≡◌, ◌≤◌}
 use Rattle.pz_grid.proofs.placing.admitted.Given as goal
 
 abbrev pub invariant-loop-line : goal.invariant-loop-line

@@ -1,5 +1,4 @@
-use Rattle.pz_grid.proofs.Common.{Err, MATCH_LIMIT, [], ap, arith, err_from_is_err_and, line_count, sym, ◌∙◌, ◌≡◌}
-use Rattle.pz_grid.proofs.GatherLemmas.{gather_step, gather_too_long}
+use Rattle.pz_grid.proofs.Common.{Err, MATCH_LIMIT, [], ap, arith, err_from_is_err_and, gather_step, gather_too_long, line_count, sym, ◌∙◌, ◌≡◌}
 use Rattle.pz_grid.proofs.FoundLemmas.{found_in, limit_if_not_memory, places_all, searched-over, searched-within}
 use Rattle.pz_grid.proofs.placing.places.Goals as goal
 

@@ -1,5 +1,4 @@
-use Rattle.pz_grid.proofs.Common.{◌≡◌}
-use Rattle.pz_grid.proofs.GatherLemmas.{gather}
+use Rattle.pz_grid.proofs.Common.{gather, ◌≡◌}
 use Rattle.pz_grid.proofs.FoundLemmas.{found_in}
 use Rattle.pz_grid.proofs.placing.places.Given as goal
 

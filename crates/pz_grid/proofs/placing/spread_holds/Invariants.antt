@@ -1,4 +1,4 @@
-use Rattle.pz_grid.proofs.Common.{◌≡◌, take, true, list_all, enumerate_from, cell_holds}
+use Rattle.pz_grid.proofs.Common.{cell_holds, enumerate_from, list_all, take, true, ◌≡◌}
 use Rattle.pz_grid.proofs.placing.spread_holds.Given as goal
 
 abbrev pub invariant-loop-index : goal.invariant-loop-index

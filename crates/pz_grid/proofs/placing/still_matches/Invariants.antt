@@ -1,4 +1,4 @@
-use Rattle.pz_grid.proofs.Common.{◌≡◌, take, true, list_all, zip, still_holds}
+use Rattle.pz_grid.proofs.Common.{list_all, still_holds, take, true, zip, ◌≡◌}
 use Rattle.pz_grid.proofs.placing.still_matches.Given as goal
 
 abbrev pub invariant-loop-index : goal.invariant-loop-index

@@ -1,6 +1,4 @@
-use Rattle.pz_grid.proofs.Common.{arith, head_of, line_length, range_with_len, starts_with}
-use Rattle.pz_sheet.specs.Searching.{run_holds_from}
-use Rattle.pz_sheet.proofs.CountLemmas.{count_fewer}
+use Rattle.pz_grid.proofs.Common.{arith, count_fewer, head_of, line_length, range_with_len, run_holds_from, starts_with}
 use Rattle.pz_grid.proofs.SkipLemmas.{count_none, starts_fewer}
 use Rattle.pz_grid.proofs.placing.tested_for.Goals as goal
 
