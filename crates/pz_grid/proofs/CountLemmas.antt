@@ -1,14 +1,11 @@
 -- How many places a row can have: one for each cell and gap. Without a gap, and in a small level with one, that is within the limit of a
 -- search.
-use Rattle.pz_grid.proofs.Common.{Action, Bool, Dir, Down, Grid, IsLawful, Left, MAX_SIDE, None, Ok, Right, RuleRow, Up, [], ap, arith, common_steps, filter, gap_count, gather_few, length, line_count, line_length, mul-le-mul_right, places, refl, row_holds, searched, ℕ, ◌*◌, ◌∷◌, ◌≡◌, ◌≤◌}
+use Rattle.pz_grid.proofs.Common.{Action, Dir, Down, Grid, IsLawful, Left, MAX_SIDE, None, Ok, Right, RuleRow, Up, [], ap, arith, common_steps, gap_count, gather_few, length, line_count, line_length, mul-le-mul_right, places, refl, searched, ℕ, ◌*◌, ◌≡◌, ◌≤◌}
 use Rattle.pz_grid.proofs.FoundLemmas.{found_with, found_at, found_in, found_at_all, found_in_all, places_all, searched-within}
-
-filter_one : {X : Type 0} (p : X → Bool) (x : X) → length (filter p (x ∷ [])) ≤ 1
-filter_one p x = grind (arith, common_steps)
 
 found_at_few : (grid : Grid) (row : RuleRow) (dir : Dir) (line start : ℕ) → length (found_at grid row dir line start) ≤ gap_count grid row dir
 found_at_few grid row dir line start =
-    omega (arith, gather_few (found_with grid row dir line start) 1 (λ gap. filter_one (row_holds grid row dir) _) (gap_count grid row dir), ap length (found_at_all grid row dir line start))
+    omega (arith, gather_few (found_with grid row dir line start) 1 (λ gap. grind (arith, common_steps)) (gap_count grid row dir), ap length (found_at_all grid row dir line start))
 
 found_in_few : (grid : Grid) (row : RuleRow) (dir : Dir) (line : ℕ) → length (found_in grid row dir line) ≤ line_length grid dir * gap_count grid row dir
 found_in_few grid row dir line =
@@ -33,9 +30,6 @@ pub searched-gapless : (grid : Grid) (row : RuleRow) (dir : Dir) → IsLawful gr
 searched-gapless grid row dir lawful none =
     searched-within grid row dir (omega (arith, places_few grid row dir, product_low (line_count grid dir) (line_length grid dir) (gap_count grid row dir) (count_low grid dir lawful) (length_low grid dir lawful) (rw none refl)))
 
-gaps_low : (grid : Grid) (row : RuleRow) (dir : Dir) → IsLawful grid → gap_count grid row dir ≤ MAX_SIDE
-gaps_low grid row dir lawful = grind (arith, length_low grid dir lawful)
-
 area : (grid : Grid) (dir : Dir) → line_count grid dir * line_length grid dir ≡ grid.width * grid.height
 area grid dir = elim dir as (λ d. line_count grid d * line_length grid d ≡ grid.width * grid.height) [ Up ↦ refl | Down ↦ refl | Left ↦ omega arith | Right ↦ omega arith | Action ↦ omega arith ]
 
@@ -47,4 +41,4 @@ product_small n m gaps size low is small =
 -- in a small level no row meets it, whatever its gap spans
 pub searched-small : (grid : Grid) (row : RuleRow) (dir : Dir) → IsLawful grid → grid.width * grid.height ≤ 4096 → searched grid row dir ≡ Ok (places grid row dir)
 searched-small grid row dir lawful small =
-    searched-within grid row dir (omega (arith, places_few grid row dir, product_small (line_count grid dir) (line_length grid dir) (gap_count grid row dir) (grid.width * grid.height) (gaps_low grid row dir lawful) (area grid dir) small))
+    searched-within grid row dir (omega (arith, places_few grid row dir, product_small (line_count grid dir) (line_length grid dir) (gap_count grid row dir) (grid.width * grid.height) (grind (arith, length_low grid dir lawful)) (area grid dir) small))

@@ -12,17 +12,11 @@ zip_at xs ys i x y in_x in_y is_x is_y = grind (arith, get_or-zip xs ys i (x, y)
 pub fold_zip_more : {A B S : Type 0} (f : S → A × B → S) (start : S) (xs : List A) (ys : List B) (i : ℕ) (x : A) (y : B) → i < length xs → i < length ys → x ≡ get_or xs i x → y ≡ get_or ys i y → fold f start (take (i + 1) (zip xs ys)) ≡ f (fold f start (take i (zip xs ys))) (x, y)
 fold_zip_more f start xs ys i x y in_x in_y is_x is_y = fold_take_more f start (zip xs ys) i (x, y) (x, y) (omega (arith, length-zip xs ys)) (zip_at xs ys i x y in_x in_y is_x is_y)
 
-pub fold_zip_all : {A B S : Type 0} (f : S → A × B → S) (start : S) (xs : List A) (ys : List B) (i : ℕ) → min (length xs) (length ys) ≤ i → fold f start (take i (zip xs ys)) ≡ fold f start (zip xs ys)
-fold_zip_all f start xs ys i past = ap (fold f start) (take_all i (zip xs ys) (omega (arith, length-zip xs ys)))
-
 -- one more of a fold over two lists beside one another, with their numbers
 pub fold_numbered_more : {A B S : Type 0} (f : S → ℕ × (A × B) → S) (start : S) (xs : List A) (ys : List B) (i : ℕ) (x : A) (y : B) → i < length xs → i < length ys → x ≡ get_or xs i x → y ≡ get_or ys i y → fold f start (take (i + 1) (enumerate_from 0 (zip xs ys))) ≡ f (fold f start (take i (enumerate_from 0 (zip xs ys)))) (i, (x, y))
 fold_numbered_more {A} {B} f start xs ys i x y in_x in_y is_x is_y =
     let within : i < length (zip xs ys) = omega (arith, length-zip xs ys) in
     fold_take_more f start (enumerate_from 0 (zip xs ys)) i (0, (x, y)) (i, (x, y)) (omega (arith, length-enumerate_from 0 (zip xs ys))) (numbered_at (zip xs ys) i (x, y) within (zip_at xs ys i x y in_x in_y is_x is_y))
-
-pub fold_numbered_all : {A B S : Type 0} (f : S → ℕ × (A × B) → S) (start : S) (xs : List A) (ys : List B) (i : ℕ) → min (length xs) (length ys) ≤ i → fold f start (take i (enumerate_from 0 (zip xs ys))) ≡ fold f start (enumerate_from 0 (zip xs ys))
-fold_numbered_all f start xs ys i past = ap (fold f start) (take_all i (enumerate_from 0 (zip xs ys)) (omega (arith, length-zip xs ys, length-enumerate_from 0 (zip xs ys))))
 
 -- one more pair of two lists passes
 pub all_zip_more : {A B : Type 0} (p : A × B → Bool) (xs : List A) (ys : List B) (i : ℕ) (x : A) (y : B) → i < length xs → i < length ys → x ≡ get_or xs i x → y ≡ get_or ys i y → list_all p (take i (zip xs ys)) ≡ true → p (x, y) ≡ true → list_all p (take (i + 1) (zip xs ys)) ≡ true

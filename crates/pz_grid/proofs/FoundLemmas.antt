@@ -1,5 +1,5 @@
 -- The places of a row, found line by line.
-use Rattle.pz_grid.proofs.Common.{Bool, Dir, Err, Grid, List, MATCH_LIMIT, MatchLimit, Memory, Ok, Place, RuleRow, StartsNowhere, [], ap, arith, false, filter, filter-append, flat_map, gap_count, gather, gather_none, length, line_count, line_length, line_of, ltb-false, ltb-true, pairs_at, pairs_in, place_in, places, range_with_len, refl, row_holds, sym, ℕ, ◌<◌, ◌∙◌, ◌∷◌, ◌≡◌, ◌≢◌, ◌≤◌}
+use Rattle.pz_grid.proofs.Common.{Bool, Dir, Err, Grid, List, MATCH_LIMIT, MatchLimit, Memory, Ok, Place, RuleRow, StartsNowhere, [], ap, arith, false, filter, filter-append, flat_map, gap_count, gather, gather_none, length, line_count, line_length, ltb-false, ltb-true, pairs_at, pairs_in, place_in, places, range_with_len, refl, row_holds, sym, ℕ, ◌<◌, ◌∙◌, ◌∷◌, ◌≡◌, ◌≢◌, ◌≤◌}
 use Rattle.std.proofs.lemmas.List.Concat.{flat_map_single}
 use Rattle.pz_grid.specs.declared.placing.GridFault.{GridFault}
 use Rattle.pz_grid.specs.Places.{searched}
@@ -47,17 +47,11 @@ found_in_all grid row dir line = sym (filter-flat_map (row_holds grid row dir) (
 pub places_all : (grid : Grid) (row : RuleRow) (dir : Dir) → gather (found_in grid row dir) (line_count grid dir) ≡ places grid row dir
 places_all grid row dir = sym (filter-flat_map (row_holds grid row dir) (pairs_in grid row dir) (range_with_len 0 (line_count grid dir)))
 
--- no place starts in a cell, in a line or in a level where the row holds with no gap
-pub found_with_none : (grid : Grid) (row : RuleRow) (dir : Dir) (line start gap : ℕ) → row_holds grid row dir (place_in dir line start gap) ≡ false → found_with grid row dir line start gap ≡ []
-found_with_none grid row dir line start gap fails = grind (arith, fails)
-
+-- no place starts in a cell where the row holds with no gap, and none in a line where it doesn't start
 pub found_at_none : (grid : Grid) (row : RuleRow) (dir : Dir) (line start : ℕ) → ((gap : ℕ) → row_holds grid row dir (place_in dir line start gap) ≡ false) → found_at grid row dir line start ≡ []
 found_at_none grid row dir line start fails =
-    sym (found_at_all grid row dir line start) ∙ gather_none (found_with grid row dir line start) (λ gap. found_with_none grid row dir line start gap (fails gap)) (gap_count grid row dir)
-
-line_of_place : (dir : Dir) (line start gap : ℕ) → line_of dir (place_in dir line start gap) ≡ line
-line_of_place dir line start gap = grind arith
+    sym (found_at_all grid row dir line start) ∙ gather_none (found_with grid row dir line start) (λ gap. grind (arith, fails gap)) (gap_count grid row dir)
 
 pub found_nowhere : (grid : Grid) (row : RuleRow) (dir : Dir) (line : ℕ) → StartsNowhere grid row dir line → found_in grid row dir line ≡ []
 found_nowhere grid row dir line none =
-    sym (found_in_all grid row dir line) ∙ gather_none (found_at grid row dir line) (λ start. found_at_none grid row dir line start (λ gap. none (place_in dir line start gap) (line_of_place dir line start gap))) (line_length grid dir)
+    sym (found_in_all grid row dir line) ∙ gather_none (found_at grid row dir line) (λ start. found_at_none grid row dir line start (λ gap. none (place_in dir line start gap) (grind arith))) (line_length grid dir)

@@ -1,5 +1,5 @@
 -- A row's cells before its gap stand one after another.
-use Rattle.pz_grid.proofs.Common.{Bool, Dir, Grid, Item, List, None, Option, Place, RuleRow, Some, [], along, ap, arith, cell_holds, cells_before, distance, enumerate_from, enumerate_more, get_or, get_or-take, head_of, holds_along, holds_at, holds_behind, le-leb, leb-true, length, length-take, list_all, refl, row_holds, run_holds, sym, take, true, ℕ, ◌+◌, ◌<◌, ◌∙◌, ◌∷◌, ◌≡◌}
+use Rattle.pz_grid.proofs.Common.{Bool, Dir, Grid, Item, List, None, Option, Place, RuleRow, Some, [], ap, arith, cell_holds, cells_before, enumerate_from, enumerate_more, get_or, get_or-take, head_of, holds_along, holds_behind, le-leb, leb-true, length, length-take, list_all, refl, row_holds, run_holds, sym, take, true, ℕ, ◌+◌, ◌<◌, ◌∙◌, ◌∷◌, ◌≡◌}
 use Rattle.pz_grid.proofs.FoldLemmas.{all_from_each, each_from_all, first_from_each}
 use Rattle.pz_grid.proofs.PlaceLemmas.{holds_each_cell}
 
@@ -12,26 +12,19 @@ all_alike p q (x ∷ xs) n h = grind (arith, h n x, all_alike p q xs (n + 1) h)
 pub row_is_run : (grid : Grid) (row : RuleRow) (dir : Dir) (place : Place) → row.gap_at ≡ None → row_holds grid row dir place ≡ run_holds grid dir place.x place.y row.cells
 row_is_run grid row dir place none = all_alike (cell_holds grid row dir place) (holds_along grid dir place.x place.y) row.cells 0 (λ k pattern. grind (arith, none))
 
--- the cells before a gap, which are as far from the start as they are from each other
-near : (at gap k : ℕ) → k < at → distance (Some at) gap k ≡ k
-near at gap k before = grind (arith, leb-true at k)
-
 -- where a row holds the cells before its gap do
 pub head_from_row : (grid : Grid) (row : RuleRow) (dir : Dir) (place : Place) → row_holds grid row dir place ≡ true → run_holds grid dir place.x place.y (head_of row) ≡ true
 head_from_row grid row dir place h = by_gap row.gap_at refl where
   by_gap : (gap_at : Option ℕ) → row.gap_at ≡ gap_at → run_holds grid dir place.x place.y (cells_before gap_at row.cells) ≡ true
   by_gap None e = sym (row_is_run grid row dir place e) ∙ h
   by_gap (Some at) e = all_from_each (holds_along grid dir place.x place.y) (take at row.cells) [] (λ k within.
-      grind (arith, e, length-take at row.cells, get_or-take at row.cells k [], near at place.gap k, holds_each_cell grid row dir place k))
+      grind (arith, e, length-take at row.cells, get_or-take at row.cells k [], leb-true at k, holds_each_cell grid row dir place k))
 
 -- a cell is the row's first behind its gap
 pub record IsBehind (row : RuleRow) (at : ℕ) (behind : List Item) : Type 0 where
   pub has : row.gap_at ≡ Some at
   pub within : at < length row.cells
   pub is : behind ≡ get_or row.cells at behind
-
-pub gap_spans : (row : RuleRow) (at : ℕ) (behind : List Item) (gap : ℕ) → IsBehind row at behind → distance row.gap_at gap at ≡ at + gap
-gap_spans row at behind gap h = grind (arith, h.has, le-leb at at)
 
 -- where the cells before a gap hold and so does the one behind it, what is left is the rest
 pub begun_with_gap : (grid : Grid) (row : RuleRow) (dir : Dir) (place : Place) (at : ℕ) (behind : List Item) → IsBehind row at behind → run_holds grid dir place.x place.y (head_of row) ≡ true → holds_behind grid dir place.x place.y behind at place.gap ≡ true
@@ -40,5 +33,5 @@ begun_with_gap grid row dir place at behind h head here =
     let before : run_holds grid dir place.x place.y (take at row.cells) ≡ true = ap (λ (o : Option ℕ). run_holds grid dir place.x place.y (cells_before o row.cells)) (sym h.has) ∙ head in
     enumerate_more (cell_holds grid row dir place) row.cells at behind h.within h.is
     (first_from_each (cell_holds grid row dir place) row.cells [] at (omega (arith, h.within)) (λ k low.
-      grind (arith, h.has, h.within, near at place.gap k low, get_or-take at row.cells k [] low, length-take at row.cells, each_from_all (holds_along grid dir place.x place.y) (take at row.cells) [] k, before)))
-    (ap (λ (steps : ℕ). holds_at grid behind (along grid dir place.x place.y steps)) (gap_spans row at behind place.gap h) ∙ here)
+      grind (arith, h.has, h.within, leb-true at k, get_or-take at row.cells k [] low, length-take at row.cells, each_from_all (holds_along grid dir place.x place.y) (take at row.cells) [] k, before)))
+    (grind (arith, h.has, le-leb at at, here))

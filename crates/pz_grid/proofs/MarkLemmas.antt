@@ -22,12 +22,6 @@ is_in_at [] layer object e = e
 is_in_at (first ∷ places) zero object e = grind (arith, e, is_in_cons first places object)
 is_in_at (first ∷ places) (suc layer) object e = grind (arith, e, is_in_cons first places object, is_in_at places layer object)
 
-pub is_in_piece : (piece : Piece) (object : ℕ) → is_in (Some piece ∷ []) object ≡ true → nat_eq piece.object object ≡ true
-is_in_piece piece object e = grind (arith, e)
-
-pub piece_is_in : (piece : Piece) → is_in (Some piece ∷ []) piece.object ≡ true
-piece_is_in piece = grind (arith, eq-eqb piece.object piece.object)
-
 -- what a cell has once something is put there
 pub has_put : (cell : List (Option Piece)) (layer : ℕ) (place : Option Piece) (object : ℕ) → is_in (set cell layer place) object ≡ true → (is_in (place ∷ []) object ≡ true) ⊎ (is_in cell object ≡ true)
 has_put [] layer place object e = inr e
@@ -77,15 +71,12 @@ has_rewritten left right cell object e =
 same_row : (width x y other_x other_y : ℕ) → x < width → other_x < width → other_y * width + other_x ≡ y * width + x → other_y ≡ y
 same_row width x y other_x other_y p q e = grind (arith, p, q, e, mul-add-lt other_y width other_x y, mul-add-lt y width x other_y)
 
-same_column : (width x y other_x other_y : ℕ) → other_y ≡ y → other_y * width + other_x ≡ y * width + x → other_x ≡ x
-same_column width x y other_x other_y same e = omega (arith, rw same at e)
-
 -- what a level has once a cell is written
 pub level_has : (grid : Grid) (x y : ℕ) (new : List (Option Piece)) (other_x other_y object : ℕ) → x < grid.width → other_x < grid.width → is_in (get_or (set grid.cells (y * grid.width + x) new) (other_y * grid.width + other_x) []) object ≡ true → ((other_x ≡ x) × (other_y ≡ y) × (is_in new object ≡ true)) ⊎ (is_in (cell_at grid other_x other_y) object ≡ true)
 level_has grid x y new other_x other_y object p q e =
     let i = y * grid.width + x in
     let j = other_y * grid.width + other_x in
-    grind (arith, e, get_or-set_same grid.cells i new [], get_or_past (set grid.cells i new) j [], length-set grid.cells i new, get_or-set_other grid.cells i j new [], same_row grid.width x y other_x other_y p q, same_column grid.width x y other_x other_y)
+    grind (arith, e, get_or-set_same grid.cells i new [], get_or_past (set grid.cells i new) j [], length-set grid.cells i new, get_or-set_other grid.cells i j new [], same_row grid.width x y other_x other_y p q)
 
 -- ---- how a level stays marked
 pub in_line_from : (grid : Grid) (line : Line) (at object : ℕ) → at < line_length grid line.axis → stands_in_line grid line object at ≡ true → in_line grid line object ≡ true
@@ -119,7 +110,7 @@ marked_put : (state : LevelState) (x y layer : ℕ) (place : Option Piece) → x
 marked_put state x y layer place x_in at h = marked_cell state x y (set (cell_at state.grid x y) layer place) (is_in (place ∷ [])) x_in (has_put (cell_at state.grid x y) layer place) (by_place place at) h where
   by_place : (place : Option Piece) → IfSome place (λ piece. IsMarkedAt state x y (nat_eq piece.object)) → IsMarkedAt state x y (is_in (place ∷ []))
   by_place None at = record { row = λ object e. cc; column = λ object e. cc }
-  by_place (Some piece) at = record { row = λ object e. at.row object (is_in_piece piece object e); column = λ object e. at.column object (is_in_piece piece object e) }
+  by_place (Some piece) at = record { row = λ object e. at.row object (grind (arith, e)); column = λ object e. at.column object (grind (arith, e)) }
 
 -- a piece goes where its object is marked
 pub marked_carried : (state : LevelState) (x y : ℕ) (mover : Mover) (next_x next_y : ℕ) → x < state.grid.width → next_x < state.grid.width → IsMarkedAt state next_x next_y (nat_eq mover.object) → IsMarked state → IsMarked (record state { grid = carried state.grid x y mover next_x next_y })

@@ -1,7 +1,7 @@
 -- What a movement marks: what has landed stays, so in the end each line holds what was marked for it.
-use Rattle.pz_grid.proofs.Common.{Grid, IsMore, IsMove, IsStill, IsWidened, Item, KeepsStill, Leaves, LevelState, List, Mover, Option, Piece, Some, [], ap, arith, carried, column_of, false, get_or, in_column, in_pass, in_row, inl, inr, is_in, length, list_any_more, map, moving_piece, names, names_object, nat_eq, place_at, row_of, spot, still_piece, still_place, stilled, subst, sym, take, true, ℕ, ◌&&◌, ◌*◌, ◌+◌, ◌<◌, ◌∙◌, ◌≡◌}
+use Rattle.pz_grid.proofs.Common.{Grid, IsMore, IsMove, IsStill, IsWidened, Item, KeepsStill, Leaves, LevelState, List, Mover, Option, Piece, Some, [], ap, arith, carried, column_of, eq-eqb, false, get_or, in_column, in_pass, in_row, inl, inr, is_in, length, list_any_more, map, moving_piece, names, names_object, nat_eq, place_at, row_of, spot, still_piece, still_place, stilled, subst, sym, take, true, ℕ, ◌&&◌, ◌*◌, ◌+◌, ◌<◌, ◌∙◌, ◌≡◌}
 use Rattle.pz_grid.proofs.StayLemmas.{still-moved_to}
-use Rattle.pz_grid.proofs.MarkLemmas.{more_only, in_line_from, is_in_at, is_in_cells, piece_is_in, still_same}
+use Rattle.pz_grid.proofs.MarkLemmas.{more_only, in_line_from, is_in_at, is_in_cells, still_same}
 
 -- a piece is marked where it goes, and goes there
 pub moves_piece : (old marked new : LevelState) (x y : ℕ) (mover : Mover) (next : ℕ × ℕ) → Leaves old.grid x y mover next → marked.grid ≡ old.grid → IsMore old.row_marks marked.row_marks next.1 (nat_eq mover.object) → IsMore old.column_marks marked.column_marks next.0 (nat_eq mover.object)
@@ -27,7 +27,7 @@ moves_piece old marked new x y mover next leaves g2 r2 c2 g3 r3 c3 there =
 -- what stands still is there once all is stilled
 still_is_in : (cells : List (List (Option Piece))) (index layer object : ℕ) → IsStill cells index layer object → is_in (get_or (map (map still_place) cells) index []) object ≡ true
 still_is_in cells index layer object h =
-    is_in_cells still_place still_same cells index object ∙ is_in_at (get_or cells index []) layer object (rw h (piece_is_in (still_piece object)))
+    is_in_cells still_place still_same cells index object ∙ is_in_at (get_or cells index []) layer object (grind (arith, h, eq-eqb object object))
 
 -- after a movement each set has nothing but what it had and what its line has now
 pub widened_move : (old settled new : LevelState) → IsMove old settled → new.grid ≡ stilled settled.grid → new.row_marks ≡ settled.row_marks → new.column_marks ≡ settled.column_marks → IsWidened old new (in_row new.grid) (in_column new.grid)

@@ -1,17 +1,14 @@
 -- The objects that a row names, as one set.
-use Rattle.pz_grid.proofs.Common.{AreNamed, Bool, IsTrue, IsWithin, Item, List, [], arith, eq-eqb, eqb-true, false, list_all, list_any, marks_cell, marks_item, member, names, names_object, or_left, or_right, refl, sym, true, ℕ, ◌↔◌, ◌∙◌, ◌∷◌, ◌≡◌}
+use Rattle.pz_grid.proofs.Common.{AreNamed, Bool, IsTrue, IsWithin, Item, List, [], arith, eq-eqb, eqb-true, false, list_all, list_any, marks_cell, member, names, names_object, or_left, or_right, refl, sym, true, ℕ, ◌↔◌, ◌∙◌, ◌∷◌, ◌≡◌}
 
 -- every object that is named is in a set, or one isn't
-item_in : (marks : List ℕ) (item : Item) → marks_item marks item ≡ true → names item.word ≡ true → member marks item.object ≡ true
-item_in marks item e named = grind (arith, e, named)
-
 cell_marked : (marks : List ℕ) (cell : List Item) → ((object : ℕ) → names_object object cell ≡ true → member marks object ≡ true) → marks_cell marks cell ≡ true
 cell_marked marks [] h = refl
 cell_marked marks (item ∷ items) h = grind (arith, h item.object, eq-eqb item.object item.object, cell_marked marks items (λ object e. h object (or_right _ _ e)))
 
 cell_in : (marks : List ℕ) (cell : List Item) → marks_cell marks cell ≡ true → (object : ℕ) → names_object object cell ≡ true → member marks object ≡ true
 cell_in marks [] all object e = cc
-cell_in marks (item ∷ items) all object e = grind (arith, all, e, eqb-true item.object object, item_in marks item, λ (rest : marks_cell marks items ≡ true). cell_in marks items rest object)
+cell_in marks (item ∷ items) all object e = grind (arith, all, e, eqb-true item.object object, λ (rest : marks_cell marks items ≡ true). cell_in marks items rest object)
 
 row_marked : (marks : List ℕ) (cells : List (List Item)) → ((object : ℕ) → list_any (names_object object) cells ≡ true → member marks object ≡ true) → list_all (marks_cell marks) cells ≡ true
 row_marked marks [] h = refl

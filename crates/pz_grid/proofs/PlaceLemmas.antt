@@ -38,19 +38,13 @@ in_pairs grid row dir place in_x in_y in_gaps =
     (gathered (pairs_at grid row dir line) 0 (line_length grid dir) start place (omega arith) (grind arith)
     (place.gap, omega (arith, length-map-range_with_len f 0 (gap_count grid row dir)), get_or-map-range_with_len f 0 (gap_count grid row dir) place.gap place.gap place in_gaps (omega arith) ∙ own_place dir place))
 
-pub own_gap : (dir : Dir) (line start gap : ℕ) → (place_in dir line start gap).gap ≡ gap
-own_gap dir line start gap = grind arith
-
 gap_from_pairs : (grid : Grid) (row : RuleRow) (dir : Dir) (place : Place) → Contains (pairs grid row dir) place → place.gap < gap_count grid row dir
 gap_from_pairs grid row dir place in_all =
     let a = gathered_from (pairs_in grid row dir) 0 (line_count grid dir) place in_all in
     let b = gathered_from (pairs_at grid row dir a.0) 0 (line_length grid dir) place a.2 in
     let at = b.2 in
     let f = place_in dir a.0 b.0 in
-    grind (arith, at.1, at.2, get_or-map-range_with_len f 0 (gap_count grid row dir) at.0 at.0 place, length-map-range_with_len f 0 (gap_count grid row dir), own_gap dir a.0 b.0 at.0)
-
-no_gap : (at : Option ℕ) (gap length : ℕ) → gap < (if is_some at then length else 1) → (is_some at || nat_eq gap 0) ≡ true
-no_gap at gap length less = grind (arith, less, eq-eqb gap 0)
+    grind (arith, at.1, at.2, get_or-map-range_with_len f 0 (gap_count grid row dir) at.0 at.0 place, length-map-range_with_len f 0 (gap_count grid row dir))
 
 -- a place holds
 pub holds_from_place : (grid : Grid) (row : RuleRow) (dir : Dir) (place : Place) → Contains (places grid row dir) place → still_holds grid dir (row, place) ≡ true
@@ -58,7 +52,7 @@ holds_from_place grid row dir place found =
     let p = row_holds grid row dir in
     let in_all = All-contains (Contains (pairs grid row dir)) (places grid row dir) place (All-filter p (Contains (pairs grid row dir)) (pairs grid row dir) (All-contains_itself (pairs grid row dir))) found in
     let passes = All-contains (λ x. p x ≡ true) (places grid row dir) place (filter_passes p (pairs grid row dir)) found in
-    and_from _ _ (no_gap row.gap_at place.gap (line_length grid dir) (gap_from_pairs grid row dir place in_all)) passes
+    and_from _ _ (grind (arith, eq-eqb place.gap 0, gap_from_pairs grid row dir place in_all)) passes
 
 -- where a row starts is on the map
 start_inside : (grid : Grid) (pattern : List Item) (dir : Dir) (x y : ℕ) → holds_at grid pattern (along grid dir x y 0) ≡ true → (x < grid.width) × (y < grid.height)

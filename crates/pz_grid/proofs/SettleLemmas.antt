@@ -1,5 +1,5 @@
 -- The passes of the movement end.
-use Rattle.pz_grid.proofs.Common.{Dir, Grid, List, None, Option, Pass, Piece, Some, Spot, [], arith, cell_at, cond, false, get_or, get_or_past, heading_count, heading_goal, heads, in_pass, map, moved_to, moving, pass_of, place_at, refl, resolved, set, set_past, settle, spots, still_piece, still_place, suc, sum_by, sum_by-cons, sum_by-set, true, with_place, zero, ℕ, ◌*◌, ◌+◌, ◌<◌, ◌∷◌, ◌≡◌, ◌≤◌}
+use Rattle.pz_grid.proofs.Common.{Grid, List, None, Option, Pass, Piece, Some, Spot, [], arith, cell_at, cond, false, get_or, get_or_past, heading_count, heading_goal, heads, in_pass, map, moved_to, moving, pass_of, place_at, refl, resolved, set, set_past, settle, spots, still_piece, still_place, suc, sum_by, sum_by-cons, sum_by-set, true, with_place, zero, ℕ, ◌*◌, ◌+◌, ◌<◌, ◌∷◌, ◌≡◌, ◌≤◌}
 use Rattle.pz_grid.proofs.StayLemmas.{kept_by_moves}
 
 -- a write of what counts for no more adds nothing
@@ -23,12 +23,9 @@ pub record Progress (grid : Grid) (pass : Pass) : Type 0 where
   pub fewer : moving pass.grid + cond pass.moved 1 0 ≤ moving grid
   pub same : pass.moved ≡ false → pass.grid ≡ grid
 
-heads_somewhere : (grid : Grid) (at : Spot) (heading : Option Dir) (goal : ℕ × ℕ) → heading_goal grid at heading ≡ Some goal → heading_count heading ≡ 1
-heads_somewhere grid at heading goal e = grind (arith, e)
-
 progress-moved_to : (grid : Grid) (pass : Pass) (at : Spot) (piece : Piece) (goal : ℕ × ℕ) → place_at pass.grid at.x at.y at.layer ≡ Some piece → heading_goal pass.grid at piece.heading ≡ Some goal → Progress grid pass → Progress grid (moved_to pass at piece (Some goal))
 progress-moved_to grid pass at piece goal e g p =
-    let taken = moving-take pass.grid at.x at.y at.layer piece e (heads_somewhere pass.grid at piece.heading goal g) in
+    let taken = moving-take pass.grid at.x at.y at.layer piece e (grind (arith, g)) in
     let put = moving-put_still (with_place pass.grid at.x at.y at.layer None) goal.0 goal.1 at.layer (Some (still_piece piece.object)) refl in
     record { fewer = omega (arith, taken, put, p.fewer); same = λ f. cc }
 

@@ -1,27 +1,21 @@
 -- No place starts in a line that is not searched, and no more start cells are tested than admitted lines have.
-use Rattle.pz_grid.proofs.Common.{Bool, Dir, Grid, HoldsSomewhere, IsMarked, Item, LevelState, List, Option, Piece, Place, RuleRow, StartsNowhere, [], admits_line, admitted, arith, cell_at, cond, count_by, count_fewer, count_more, count_within, eqb-true, false, get_or, head_of, in_line, is_in, line_at, line_count, line_length, line_of, list_all-from_AllPass, list_any, marks_cell, marks_item, marks_of, member, mul-le-mul_right, pairs, places, range_with_len, refl, row_holds, row_of, searches_level, searches_line, start_count, starts_at, starts_in, starts_with, subst, suc, sum_by, sum_by-le, sum_more, true, x_at, y_at, zero, ℕ, ◌*◌, ◌+◌, ◌<◌, ◌∷◌, ◌≡◌, ◌≤◌}
+use Rattle.pz_grid.proofs.Common.{Bool, Dir, Grid, HoldsSomewhere, IsMarked, Item, LevelState, List, Option, Piece, Place, RuleRow, StartsNowhere, [], admits_line, admitted, arith, cell_at, cond, count_by, count_fewer, count_more, count_within, eqb-true, false, get_or, head_of, is_in, line_at, line_count, line_length, line_of, list_all-from_AllPass, list_any, marks_cell, marks_of, member, mul-le-mul_right, pairs, places, range_with_len, refl, row_holds, row_of, searches_level, searches_line, start_count, starts_at, starts_in, starts_with, subst, suc, sum_by, sum_by-le, sum_more, true, x_at, y_at, zero, ℕ, ◌*◌, ◌+◌, ◌∷◌, ◌≡◌, ◌≤◌}
 use Rattle.std.proofs.lemmas.Map.Views.{any-filter_same}
-use Rattle.pz_cells.specs.Pattern.{item_holds, pattern_holds}
+use Rattle.pz_cells.specs.Pattern.{pattern_holds}
 use Rattle.pz_grid.proofs.HeadLemmas.{head_from_row}
 use Rattle.pz_grid.proofs.MarkLemmas.{in_line_from}
 use Rattle.pz_grid.proofs.SomewhereLemmas.{HoldsThere, line_nowhere, nowhere_none}
 
 -- what a cell that holds names is in each set that has all that stands there
-item_marked : (cell : List (Option Piece)) (marks : List ℕ) (item : Item) → (is_in cell item.object ≡ true → member marks item.object ≡ true) → item_holds cell item ≡ true → marks_item marks item ≡ true
-item_marked cell marks item marked e = grind (arith, marked, e)
-
 cell_marked : (cell : List (Option Piece)) (marks : List ℕ) (pattern : List Item) → ((object : ℕ) → is_in cell object ≡ true → member marks object ≡ true) → pattern_holds cell pattern ≡ true → marks_cell marks pattern ≡ true
 cell_marked cell marks [] marked e = refl
-cell_marked cell marks (item ∷ items) marked e = grind (arith, e, item_marked cell marks item (marked item.object), cell_marked cell marks items marked)
-
-marked_there : (state : LevelState) (dir : Dir) (line object : ℕ) → IsMarked state → line < line_count state.grid dir → in_line state.grid (line_at dir line) object ≡ true → member (marks_of state dir line) object ≡ true
-marked_there state dir line object h within there = grind (arith, h.rows line object, h.columns line object, within, there)
+cell_marked cell marks (item ∷ items) marked e = grind (arith, e, marked item.object, cell_marked cell marks items marked)
 
 -- what holds in a line is marked there, and in the level's set
 line_marked : (state : LevelState) (dir : Dir) (line : ℕ) (pattern : List Item) → IsMarked state → HoldsThere state.grid dir line pattern → marks_cell (marks_of state dir line) pattern ≡ true
 line_marked state dir line pattern h f =
     let lies = line_at dir line in
-    cell_marked (cell_at state.grid (x_at lies.axis lies.number f.1.at) (y_at lies.axis lies.number f.1.at)) (marks_of state dir line) pattern (λ object has. marked_there state dir line object h f.0 (in_line_from state.grid lies f.1.at object f.1.at_in has)) f.1.holds
+    cell_marked (cell_at state.grid (x_at lies.axis lies.number f.1.at) (y_at lies.axis lies.number f.1.at)) (marks_of state dir line) pattern (λ object has. grind (arith, f.0, h.rows line object, h.columns line object, in_line_from state.grid lies f.1.at object f.1.at_in has)) f.1.holds
 
 level_marked : (state : LevelState) (pattern : List Item) → IsMarked state → HoldsSomewhere state.grid pattern → marks_cell state.level_marks pattern ≡ true
 level_marked state pattern h f =
@@ -65,12 +59,9 @@ starts_nowhere grid row dir size line none =
     count_none (λ start. list_any (starts_at dir line start) (places grid row dir)) (range_with_len 0 size) (λ start. any-filter_same (starts_at dir line start) (row_holds grid row dir) false (λ place at. none place (grind (arith, at, eqb-true))) (pairs grid row dir))
 
 -- where a place starts, the cells before the row's gap hold
-place_starts : (grid : Grid) (row : RuleRow) (dir : Dir) (line start : ℕ) (place : Place) → starts_at dir line start place ≡ true → row_holds grid row dir place ≡ true → starts_with grid dir line (head_of row) start ≡ true
-place_starts grid row dir line start place at holds = grind (arith, at, eqb-true, head_from_row grid row dir place holds)
-
 some_starts : (grid : Grid) (row : RuleRow) (dir : Dir) (line start : ℕ) → list_any (starts_at dir line start) (places grid row dir) ≡ true → starts_with grid dir line (head_of row) start ≡ true
 some_starts grid row dir line start any =
-    let none = λ (e : starts_with grid dir line (head_of row) start ≡ false). any-filter_same (starts_at dir line start) (row_holds grid row dir) false (λ place at. grind (arith, e, place_starts grid row dir line start place at)) (pairs grid row dir) in
+    let none = λ (e : starts_with grid dir line (head_of row) start ≡ false). any-filter_same (starts_at dir line start) (row_holds grid row dir) false (λ place at. grind (arith, e, at, eqb-true, head_from_row grid row dir place)) (pairs grid row dir) in
     grind (arith, any, none)
 
 -- so no more cells of a line are starts than those from which the cells before the gap hold

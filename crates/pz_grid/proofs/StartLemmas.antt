@@ -1,15 +1,10 @@
 -- Starts and gaps that are left out since the row's cells before its gap, or its first cell behind it, don't hold there.
-use Rattle.pz_grid.proofs.Common.{Dir, Grid, IsRow, Item, List, None, Option, Place, RuleRow, Some, SoughtRun, [], ap, arith, cell_holds, enumerate_fails, false, gather, gather_skip, get_or, head_of, holds_behind, line_length, place_in, row_holds, run_holds, run_holds_from, starts_with, sym, ℕ, ◌++◌, ◌<◌, ◌∙◌, ◌≡◌, ◌≤◌}
+use Rattle.pz_grid.proofs.Common.{Dir, Grid, IsRow, Item, List, None, Option, Place, RuleRow, Some, SoughtRun, [], arith, cell_holds, enumerate_fails, false, gather, gather_skip, get_or, head_of, holds_behind, le-leb, line_length, place_in, row_holds, run_holds_from, starts_with, sym, ℕ, ◌++◌, ◌<◌, ◌∙◌, ◌≡◌, ◌≤◌}
 use Rattle.pz_sheet.specs.Line as lines
 use Rattle.pz_sets.specs.Next.{IsNext}
 use Rattle.pz_grid.specs.Starting.{IsSearchFor}
-use Rattle.pz_grid.proofs.FoundLemmas.{found_at, found_at_all, found_at_none, found_with, found_with_none}
-use Rattle.pz_grid.proofs.HeadLemmas.{IsBehind, gap_spans, head_from_row}
-use Rattle.pz_grid.proofs.PlaceLemmas.{own_gap}
-
--- the start of a line is that of each place there
-pub starts_at : (grid : Grid) (dir : Dir) (line start gap : ℕ) (head : List (List Item)) → starts_with grid dir line head start ≡ run_holds grid dir (place_in dir line start gap).x (place_in dir line start gap).y head
-starts_at grid dir line start gap head = grind arith
+use Rattle.pz_grid.proofs.FoundLemmas.{found_at, found_at_all, found_at_none, found_with}
+use Rattle.pz_grid.proofs.HeadLemmas.{IsBehind, head_from_row}
 
 -- what a search finds next in a line is the next start of the row
 pub next_in : (grid : Grid) (row : RuleRow) (dir : Dir) (line : ℕ) (run : SoughtRun) (from : ℕ) (found : Option ℕ) → IsSearchFor grid row dir line run → IsNext (run_holds_from run) from (lines.line_length run.grid run.line.axis) found → IsNext (starts_with grid dir line (head_of row)) from (line_length grid dir) found
@@ -20,26 +15,22 @@ next_in grid row dir line run from (Some found) s next =
 -- no place starts where the cells before the gap don't hold
 pub none_at : (grid : Grid) (row : RuleRow) (dir : Dir) (line start : ℕ) → starts_with grid dir line (head_of row) start ≡ false → found_at grid row dir line start ≡ []
 none_at grid row dir line start e =
-    found_at_none grid row dir line start (λ gap. grind (arith, e, starts_at grid dir line start gap (head_of row), head_from_row grid row dir (place_in dir line start gap)))
+    found_at_none grid row dir line start (λ gap. grind (arith, e, head_from_row grid row dir (place_in dir line start gap)))
 
 pub behind_gap : (row : RuleRow) (at : ℕ) (cells : List (List Item)) (behind : List Item) → IsRow row → row.gap_at ≡ Some at → cells ≡ row.cells → behind ≡ get_or cells at behind → IsBehind row at behind
 behind_gap row at cells behind law has same is = record { has = has; within = (rw has at law.between).1; is = rw same at is }
 
 -- a place with a gap behind which the cell doesn't hold
 gap_fails : (grid : Grid) (row : RuleRow) (dir : Dir) (at : ℕ) (behind : List Item) (place : Place) → IsBehind row at behind → holds_behind grid dir place.x place.y behind at place.gap ≡ false → row_holds grid row dir place ≡ false
-gap_fails grid row dir at behind place h fails = enumerate_fails (cell_holds grid row dir place) row.cells at behind h.within h.is (grind (arith, gap_spans row at behind place.gap h, fails))
-
--- all places in a line that start in a cell have the same x and y
-pub same_start : (grid : Grid) (dir : Dir) (line start from gap at : ℕ) (behind : List Item) → holds_behind grid dir (place_in dir line start gap).x (place_in dir line start gap).y behind at (place_in dir line start gap).gap ≡ holds_behind grid dir (place_in dir line start from).x (place_in dir line start from).y behind at gap
-same_start grid dir line start from gap at behind = grind arith
+gap_fails grid row dir at behind place h fails = enumerate_fails (cell_holds grid row dir place) row.cells at behind h.within h.is (grind (arith, h.has, le-leb at at, fails))
 
 -- the gaps that are passed over, behind which the cell doesn't hold, add nothing
 pub gaps_passed : (grid : Grid) (row : RuleRow) (dir : Dir) (line start at from to : ℕ) (before items : List Place) (behind : List Item) (place : Place) → IsBehind row at behind → place ≡ place_in dir line start from → place.gap ≤ to
     → ((gap : ℕ) → place.gap ≤ gap → gap < to → holds_behind grid dir place.x place.y behind at gap ≡ false) → items ≡ before ++ gather (found_with grid row dir line start) from → items ≡ before ++ gather (found_with grid row dir line start) to
 gaps_passed grid row dir line start at from to before items behind place h here low none added =
-    let own : place.gap ≡ from = ap (λ (p : Place). p.gap) here ∙ own_gap dir line start from in
-    let fails = λ (gap : ℕ) (least : from ≤ gap) (below : gap < to). gap_fails grid row dir at behind (place_in dir line start gap) h (same_start grid dir line start from gap at behind ∙ rw here at (none gap (omega arith) below)) in
-    rw (gather_skip (found_with grid row dir line start) from to (omega arith) (λ gap least below. found_with_none grid row dir line start gap (fails gap least below))) added
+    let own : place.gap ≡ from = grind (arith, here) in
+    let fails = λ (gap : ℕ) (least : from ≤ gap) (below : gap < to). gap_fails grid row dir at behind (place_in dir line start gap) h (grind (arith, here, none gap (omega arith) below)) in
+    rw (gather_skip (found_with grid row dir line start) from to (omega arith) (λ gap least below. grind (arith, fails gap least below))) added
 
 -- a row with a gap spans as many gaps as its line is long
 pub found_with_gaps : (grid : Grid) (row : RuleRow) (dir : Dir) (line start at : ℕ) → row.gap_at ≡ Some at → gather (found_with grid row dir line start) (line_length grid dir) ≡ found_at grid row dir line start

@@ -1,20 +1,16 @@
 -- A piece that is still stays where it stands to the end of the movement: nothing moves it, and nothing enters its place.
-use Rattle.pz_grid.proofs.Common.{Dir, Grid, IsStill, KeepsStill, List, None, Option, Pass, Piece, Some, Spot, [], arith, common_steps, fold, get_or, heading_goal, move_at, move_place, moved_to, place_at, refl, set, still_piece, ℕ, ◌*◌, ◌+◌, ◌∷◌, ◌≡◌, ◌≢◌}
+use Rattle.pz_grid.proofs.Common.{IsStill, KeepsStill, List, None, Option, Pass, Piece, Some, Spot, [], arith, common_steps, fold, get_or, heading_goal, move_at, move_place, moved_to, place_at, refl, set, still_piece, ℕ, ◌*◌, ◌+◌, ◌∷◌, ◌≡◌}
 
 -- a write to another place leaves it
 still_write : (cells : List (List (Option Piece))) (i at : ℕ) (place : Option Piece) (index layer object : ℕ) → (index ≡ i → layer ≡ at → ⊥) → IsStill cells index layer object → IsStill (set cells i (set (get_or cells i []) at place)) index layer object
 still_write cells i at place index layer object apart h = grind (arith, common_steps, apart, h)
 
--- where a piece goes nothing stands, and what moves heads somewhere
-goal_none : (grid : Grid) (at : Spot) (heading : Option Dir) (goal : ℕ × ℕ) → heading_goal grid at heading ≡ Some goal → (place_at grid goal.0 goal.1 at.layer ≡ None) × (heading ≢ None)
-goal_none grid at heading goal e = grind (arith, e)
-
 pub still-moved_to : (pass : Pass) (at : Spot) (piece : Piece) (goal : ℕ × ℕ) → place_at pass.grid at.x at.y at.layer ≡ Some piece → heading_goal pass.grid at piece.heading ≡ Some goal → KeepsStill pass.grid (moved_to pass at piece (Some goal)).grid
 still-moved_to pass at piece goal e g index layer object h =
     let from = at.y * pass.grid.width + at.x in
-    let taken = still_write pass.grid.cells from at.layer None index layer object (λ same on. grind (arith, same, on, e, h, (goal_none pass.grid at piece.heading goal g).1)) h in
+    let taken = still_write pass.grid.cells from at.layer None index layer object (λ same on. grind (arith, same, on, e, h, g)) h in
     still_write (set pass.grid.cells from (set (get_or pass.grid.cells from []) at.layer None)) (goal.1 * pass.grid.width + goal.0) at.layer (Some (still_piece piece.object)) index layer object
-    (λ same on. grind (arith, same, on, h, (goal_none pass.grid at piece.heading goal g).0)) taken
+    (λ same on. grind (arith, same, on, h, g)) taken
 
 -- what each move keeps, moves one after another keep
 pub kept_by_moves : (P : Pass → Type 0) → ((pass : Pass) (at : Spot) (piece : Piece) (goal : ℕ × ℕ) → place_at pass.grid at.x at.y at.layer ≡ Some piece → heading_goal pass.grid at piece.heading ≡ Some goal → P pass → P (moved_to pass at piece (Some goal))) → (ats : List Spot) (pass : Pass) → P pass → P (fold move_at pass ats)

@@ -1,5 +1,5 @@
-use Rattle.pz_grid.proofs.Common.{Place, arith, get_or_default, in_rewrite, length-zip, list_any_at, places_object, rewritten_row, row_places, same_size_on, sym, widened_on, zip}
-use Rattle.pz_grid.proofs.FoldLemmas.{zip_at, fold_zip_more, fold_zip_all}
+use Rattle.pz_grid.proofs.Common.{Place, arith, get_or_default, in_rewrite, length-zip, list_any_at, places_object, rewritten_row, row_places, same_size_on, sym, take_all, widened_on, zip}
+use Rattle.pz_grid.proofs.FoldLemmas.{zip_at, fold_zip_more}
 use Rattle.pz_grid.proofs.Level.rewrite_all.Goals as goal
 
 pub loop-index-preserved : goal.loop-index-preserved
@@ -24,5 +24,5 @@ pub returns-clause-rewritten : goal.returns-clause-rewritten
 returns-clause-rewritten c =
     let lefts = c.items-left.result.now in
     let rights = c.items-right.result.now in
-    let all = fold_zip_all (rewritten_row c.args.instance.now.scan) (in_rewrite c.args.self.now.grid c.args.changed_before) c.args.places.now (zip lefts rights) c.loop-index.index (omega (arith, length-zip lefts rights)) in
-    grind (arith, all, c.loop-index.invariant.so_far)
+    let places = c.args.places.now in
+    grind (arith, take_all c.loop-index.index (zip places (zip lefts rights)), length-zip places (zip lefts rights), length-zip lefts rights, c.loop-index.invariant.so_far)

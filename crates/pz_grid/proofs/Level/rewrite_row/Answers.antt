@@ -1,5 +1,5 @@
-use Rattle.pz_grid.proofs.Common.{arith, in_rewrite, list_any, list_any_at, names_object, rewritten_along, same_size_on, widened_on}
-use Rattle.pz_grid.proofs.FoldLemmas.{fold_numbered_more, fold_numbered_all}
+use Rattle.pz_grid.proofs.Common.{arith, enumerate_from, length-enumerate_from, length-zip, take_all, zip, in_rewrite, list_any, list_any_at, names_object, rewritten_along, same_size_on, widened_on}
+use Rattle.pz_grid.proofs.FoldLemmas.{fold_numbered_more}
 use Rattle.pz_grid.proofs.Level.rewrite_row.Goals as goal
 
 pub loop-index-preserved : goal.loop-index-preserved
@@ -18,5 +18,5 @@ loop-index-preserved c =
 
 pub returns-clause-rewritten : goal.returns-clause-rewritten
 returns-clause-rewritten c =
-    let all = fold_numbered_all (rewritten_along c.args.dir c.gap_at-gap_at.result c.args.place) (in_rewrite c.args.self.now.grid c.args.changed_before) c.cells-left.result.now c.cells-right.result.now c.loop-index.index (omega arith) in
-    grind (arith, all, c.loop-index.invariant.so_far)
+    let pairs = zip c.cells-left.result.now c.cells-right.result.now in
+    grind (arith, take_all c.loop-index.index (enumerate_from 0 pairs), length-enumerate_from 0 pairs, length-zip c.cells-left.result.now c.cells-right.result.now, c.loop-index.invariant.so_far)

@@ -1,8 +1,7 @@
-use Rattle.pz_grid.proofs.Common.{Err, MATCH_LIMIT, Place, ap, arith, err_from_is_err_and, gather_step, gather_too_long, head_of, holds_behind, line_length, place_in, sym, true, ◌∙◌, ◌≡◌}
+use Rattle.pz_grid.proofs.Common.{Err, MATCH_LIMIT, ap, arith, err_from_is_err_and, gather_step, gather_too_long, holds_behind, line_length, place_in, sym, true, ◌∙◌, ◌≡◌}
 use Rattle.pz_grid.proofs.HeadLemmas.{begun_with_gap}
-use Rattle.pz_grid.proofs.PlaceLemmas.{own_gap}
 use Rattle.pz_grid.proofs.FoundLemmas.{found_with}
-use Rattle.pz_grid.proofs.StartLemmas.{behind_gap, found_with_gaps, gaps_passed, same_start, starts_at}
+use Rattle.pz_grid.proofs.StartLemmas.{behind_gap, found_with_gaps, gaps_passed}
 use Rattle.pz_grid.proofs.placing.add_places_with_gaps.Goals as goal
 
 pub returns-in_err-add_place-clause-limit : goal.returns-in_err-add_place-clause-limit
@@ -36,7 +35,7 @@ returns-clause-added g c =
     let line = c.args.line in
     let behind = behind_gap row c.args.at _ _ c.cells.ensures.row c.requires.gap_at c.cells.ensures.cells c.index-cells-at.is in
     rw (← found_with_gaps grid row line.dir line.number c.args.start c.args.at c.requires.gap_at)
-    (gaps_passed grid row line.dir line.number c.args.start c.args.at _ (line_length grid line.dir) _ _ _ _ behind c.place_in.ensures (omega (arith, c.gaps.invariant.within, ap (λ (place : Place). place.gap) c.place_in.ensures, own_gap line.dir line.number c.args.start c.gaps.from)) c.in_default.ensures.next c.gaps.invariant.added)
+    (gaps_passed grid row line.dir line.number c.args.start c.args.at _ (line_length grid line.dir) _ _ _ _ behind c.place_in.ensures (grind (arith, c.gaps.invariant.within, c.place_in.ensures)) c.in_default.ensures.next c.gaps.invariant.added)
 
 pub add_place-requires : goal.add_place-requires
 add_place-requires g c =
@@ -46,6 +45,6 @@ add_place-requires g c =
     let gap = c.in-Some.gap in
     let place = place_in line.dir line.number c.args.start gap in
     let behind = behind_gap row c.args.at _ _ c.cells.ensures.row c.requires.gap_at c.cells.ensures.cells c.index-cells-at.is in
-    let here : holds_behind grid line.dir place.x place.y c.index-cells-at.result c.args.at place.gap ≡ true = grind (arith, same_start grid line.dir line.number c.args.start c.gaps.from gap c.args.at c.index-cells-at.result, c.in-Some.ensures.next.2) in
-    let begun = begun_with_gap grid row line.dir place c.args.at c.index-cells-at.result behind (sym (starts_at grid line.dir line.number c.args.start gap (head_of row)) ∙ c.requires.starts) here in
+    let here : holds_behind grid line.dir place.x place.y c.index-cells-at.result c.args.at place.gap ≡ true = grind (arith, c.place_in.ensures, c.in-Some.ensures.next.2) in
+    let begun = begun_with_gap grid row line.dir place c.args.at c.index-cells-at.result behind (grind (arith, c.requires.starts)) here in
     (omega arith, (c.requires.of_game, rw c.place_in-place.ensures begun))
