@@ -1,3 +1,4 @@
+mod Common
 pub mod LawfulLemmas
 pub mod RewritingLemmas
 pub mod StandingLemmas

@@ -1,21 +1,5 @@
 -- Worked cases.
-use Rattle.std.proofs.Common.{◌≡◌, ℕ, List, [], ◌∷◌, Option, Some, None, true, false, refl}
-use Rattle.std.specs.Prelude.{codes}
-use Rattle.pz_game.specs.declared.denotation.Denotation.{Denotation}
-use Rattle.pz_game.specs.declared.denotation.Kind.TheVariants.{Object}
-use Rattle.pz_game.specs.declared.direction.Dir.{Dir}
-use Rattle.pz_game.specs.declared.direction.Dir.TheVariants.{Up, Left, Right, Action}
-use Rattle.pz_game.specs.declared.level.LevelEntry.TheVariants.{Message, Level}
-use Rattle.pz_game.specs.Game.{players_of}
-use Rattle.pz_game.specs.declared.game.GameParts.{GameParts}
-use Rattle.pz_game.specs.Drawing.{Drawing}
-use Rattle.pz_cells.specs.declared.piece.Piece.{Piece}
-use Rattle.pz_sheet.specs.Grid.{Grid}
-use Rattle.pz_sheet.specs.Standing.{stands, heading_at}
-use Rattle.pz_sheet.specs.Sameness.{same_grid}
-use Rattle.pz_sheet.specs.Pushing.{pushed}
-use Rattle.pz_grid.specs.Movement.{resolved}
-use Rattle.pz_bare.specs.Loading.{loaded}
+use Rattle.pz_grid_laws.proofs.Common.{Action, Denotation, Dir, Drawing, GameParts, Grid, Left, Level, List, Message, None, Object, Option, Piece, Right, Some, Up, [], codes, false, heading_at, loaded, players_of, pushed, refl, resolved, same_grid, stands, true, ℕ, ◌∷◌, ◌≡◌}
 
 -- objects: background 0, grass 1, player 2, wall 3, crate 4, spike 5; layers: 0 and 1, then the others
 abbrev layers : List ℕ

@@ -1,13 +1,6 @@
 -- Worked cases of marks and of the lines that are searched, on the level p#.# with its marks: object 0 is the background, 2 the player, 3 a
 -- wall, 4 a crate, 6 a mark.
-use Rattle.std.proofs.Common.{◌≡◌, [], ◌∷◌, Some, true, false, refl}
-use Rattle.pz_game.specs.declared.direction.Dir.TheVariants.{Up, Down, Right}
-use Rattle.pz_game.specs.declared.pattern.Word.TheVariants.{Present, Absent}
-use Rattle.pz_game.specs.Pattern.{RuleRow}
-use Rattle.pz_sheet.specs.Grid.{LevelState}
-use Rattle.pz_grid.specs.Places.{places}
-use Rattle.pz_sheet.specs.Presence.{in_row, in_column}
-use Rattle.pz_grid.specs.Admitted.{admitted, searches_line, searches_level, start_count}
+use Rattle.pz_grid_laws.proofs.Common.{Absent, Down, LevelState, Present, Right, RuleRow, Some, Up, [], admitted, false, in_column, in_row, places, refl, searches_level, searches_line, start_count, true, ◌∷◌, ◌≡◌}
 use Rattle.pz_grid_laws.proofs.WorkedPlaces.{bare, player, wall, level, item, only, at, row}
 
 -- a set is the sum of two to the power of its objects

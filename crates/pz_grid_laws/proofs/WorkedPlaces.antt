@@ -1,19 +1,5 @@
 -- Worked cases of places and of rewriting.
-use Rattle.std.proofs.Common.{◌≡◌, ℕ, List, [], ◌∷◌, Option, Some, None, true, false, Ok, get_or, refl}
-use Rattle.pz_game.specs.declared.direction.Dir.{Dir}
-use Rattle.pz_game.specs.declared.direction.Dir.TheVariants.{Up, Down, Left, Right, Action}
-use Rattle.pz_game.specs.declared.pattern.Item.{Item}
-use Rattle.pz_game.specs.declared.pattern.Word.{Word}
-use Rattle.pz_game.specs.declared.pattern.Word.TheVariants.{Present, Toward, Absent}
-use Rattle.pz_program.specs.declared.commands.Commands.{Commands}
-use Rattle.pz_program.specs.declared.instance.Instance.{Instance}
-use Rattle.pz_game.specs.Pattern.{RuleRow}
-use Rattle.pz_cells.specs.declared.piece.Piece.{Piece}
-use Rattle.pz_grid.specs.declared.placing.Place.{Place}
-use Rattle.pz_sheet.specs.Grid.{Grid}
-use Rattle.pz_grid.specs.Places.{places, searched, still_matches}
-use Rattle.pz_cells.specs.Rewriting.{rewritten_cell}
-use Rattle.pz_grid.specs.Rewriting.{rewritten, in_rewrite}
+use Rattle.pz_grid_laws.proofs.Common.{Absent, Action, Commands, Dir, Down, Grid, Instance, Item, Left, List, None, Ok, Option, Piece, Place, Present, Right, RuleRow, Some, Toward, Up, Word, [], false, get_or, in_rewrite, places, refl, rewritten, rewritten_cell, searched, still_matches, true, ℕ, ◌∷◌, ◌≡◌}
 
 -- objects by number: 0 the background, alone on its layer; 1 a target, alone on its own; 2 the player, 3 a wall, 4 a crate and
 -- 5 a spike on one layer; 6 a mark, alone on the last
