@@ -1,5 +1,5 @@
 -- A row's cells before its gap stand one after another.
-use Rattle.pz_grid.proofs.Common.{Bool, Dir, Grid, Item, List, None, Option, Place, RuleRow, Some, [], ap, arith, cell_holds, cells_before, enumerate_from, enumerate_more, get_or, get_or-take, head_of, holds_along, holds_behind, le-leb, leb-true, length, length-take, list_all, refl, row_holds, run_holds, sym, take, true, ℕ, ◌+◌, ◌<◌, ◌∙◌, ◌∷◌, ◌≡◌}
+use Rattle.pz_grid.proofs.Common.{Bool, Dir, Grid, IsRow, Item, List, None, Option, Place, RuleRow, Some, [], ap, arith, cell_holds, cells_before, enumerate_from, enumerate_more, get_or, get_or-take, head_of, holds_along, holds_behind, le-leb, leb-true, length-take, list_all, refl, row_holds, run_holds, sym, take, true, ℕ, ◌+◌, ◌∙◌, ◌∷◌, ◌≡◌}
 use Rattle.pz_grid.proofs.FoldLemmas.{all_from_each, each_from_all, first_from_each}
 use Rattle.pz_grid.proofs.PlaceLemmas.{holds_each_cell}
 
@@ -20,18 +20,13 @@ head_from_row grid row dir place h = by_gap row.gap_at refl where
   by_gap (Some at) e = all_from_each (holds_along grid dir place.x place.y) (take at row.cells) [] (λ k within.
       grind (arith, e, length-take at row.cells, get_or-take at row.cells k [], leb-true at k, holds_each_cell grid row dir place k))
 
--- a cell is the row's first behind its gap
-pub record IsBehind (row : RuleRow) (at : ℕ) (behind : List Item) : Type 0 where
-  pub has : row.gap_at ≡ Some at
-  pub within : at < length row.cells
-  pub is : behind ≡ get_or row.cells at behind
-
 -- where the cells before a gap hold and so does the one behind it, what is left is the rest
-pub begun_with_gap : (grid : Grid) (row : RuleRow) (dir : Dir) (place : Place) (at : ℕ) (behind : List Item) → IsBehind row at behind → run_holds grid dir place.x place.y (head_of row) ≡ true → holds_behind grid dir place.x place.y behind at place.gap ≡ true
+pub begun_with_gap : (grid : Grid) (row : RuleRow) (dir : Dir) (place : Place) (at : ℕ) (behind : List Item) → IsRow row → row.gap_at ≡ Some at → behind ≡ get_or row.cells at behind → run_holds grid dir place.x place.y (head_of row) ≡ true → holds_behind grid dir place.x place.y behind at place.gap ≡ true
     → list_all (cell_holds grid row dir place) (take (at + 1) (enumerate_from 0 row.cells)) ≡ true
-begun_with_gap grid row dir place at behind h head here =
-    let before : run_holds grid dir place.x place.y (take at row.cells) ≡ true = ap (λ (o : Option ℕ). run_holds grid dir place.x place.y (cells_before o row.cells)) (sym h.has) ∙ head in
-    enumerate_more (cell_holds grid row dir place) row.cells at behind h.within h.is
-    (first_from_each (cell_holds grid row dir place) row.cells [] at (omega (arith, h.within)) (λ k low.
-      grind (arith, h.has, h.within, leb-true at k, get_or-take at row.cells k [] low, length-take at row.cells, each_from_all (holds_along grid dir place.x place.y) (take at row.cells) [] k, before)))
-    (grind (arith, h.has, le-leb at at, here))
+begun_with_gap grid row dir place at behind law has is head here =
+    let within = (rw has at law.between).1 in
+    let before : run_holds grid dir place.x place.y (take at row.cells) ≡ true = ap (λ (o : Option ℕ). run_holds grid dir place.x place.y (cells_before o row.cells)) (sym has) ∙ head in
+    enumerate_more (cell_holds grid row dir place) row.cells at behind within is
+    (first_from_each (cell_holds grid row dir place) row.cells [] at (omega (arith, within)) (λ k low.
+      grind (arith, has, within, leb-true at k, get_or-take at row.cells k [] low, length-take at row.cells, each_from_all (holds_along grid dir place.x place.y) (take at row.cells) [] k, before)))
+    (grind (arith, has, le-leb at at, here))

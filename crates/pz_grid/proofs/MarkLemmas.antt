@@ -1,11 +1,11 @@
 -- Which objects stand in a cell and in a line, and how a level stays marked.
-use Rattle.pz_grid.proofs.Common.{Any-from_list_any, Bool, Dir, Grid, IfSome, IsMarked, IsMarkedAt, IsMore, Item, LevelState, List, Mover, None, Option, Piece, Some, [], arith, carried, cell_at, column_of, eq-eqb, eqb-true, get_or, get_or-range_with_len, get_or-set_other, get_or-set_same, get_or_past, in_line, inl, inr, is_in, is_marked, kept, length, length-range_with_len, length-set, list_any, list_any_at, map, member, names_object, nat_eq, or_right, placed_on, range_with_len, refl, rewritten_cell, rewritten_place, row_of, set, stands_in_line, still_piece, still_place, suc, sym, true, with_place, zero, ℕ, ◌*◌, ◌+◌, ◌<◌, ◌||◌, ◌∙◌, ◌∷◌, ◌≡◌, ◌⊎◌}
+use Rattle.pz_grid.proofs.Common.{Any-from_list_any, Bool, Dir, Grid, IsMarked, IsMarkedAt, IsMore, Item, LevelState, List, Mover, None, Option, Piece, Some, [], arith, carried, cell_at, column_of, eq-eqb, eqb-true, get_or, get_or-range_with_len, get_or-set_other, get_or-set_same, get_or_past, in_line, inl, inr, is_in, is_marked, kept, length, length-range_with_len, length-set, list_any, list_any_at, map, member, names_object, nat_eq, or_right, placed_on, range_with_len, refl, rewritten_cell, rewritten_place, row_of, set, stands_in_line, still_piece, still_place, suc, sym, true, with_place, zero, ℕ, ◌*◌, ◌+◌, ◌<◌, ◌||◌, ◌∙◌, ◌∷◌, ◌≡◌, ◌⊎◌}
 use Rattle.std.proofs.lemmas.Nat.{mul-add-lt}
 use Rattle.pz_sheet.specs.declared.line.Line.{Line}
 use Rattle.pz_sheet.specs.Line.{line_length}
 use Rattle.pz_sheet.specs.Pushing.{pushed_place}
 
--- ---- a number that passes a test
+-- a number passes a test if some number does
 pub passes_from : (p : ℕ → Bool) (n : ℕ) → list_any p (range_with_len 0 n) ≡ true → (k : ℕ) × (k < n) × (p k ≡ true)
 passes_from p n e =
     let any = Any-from_list_any p (range_with_len 0 n) e in
@@ -106,16 +106,15 @@ marked_cell state x y new test x_in has at h =
     marked_on state (record state.grid { cells = set state.grid.cells (y * state.grid.width + x) new }) refl refl (λ other_x other_y object p q e.
     grind (arith, level_has state.grid x y new other_x other_y object x_in p e, has object, at.row object, at.column object)) h
 
-marked_put : (state : LevelState) (x y layer : ℕ) (place : Option Piece) → x < state.grid.width → IfSome place (λ piece. IsMarkedAt state x y (nat_eq piece.object)) → IsMarked state → IsMarked (record state { grid = with_place state.grid x y layer place })
-marked_put state x y layer place x_in at h = marked_cell state x y (set (cell_at state.grid x y) layer place) (is_in (place ∷ [])) x_in (has_put (cell_at state.grid x y) layer place) (by_place place at) h where
-  by_place : (place : Option Piece) → IfSome place (λ piece. IsMarkedAt state x y (nat_eq piece.object)) → IsMarkedAt state x y (is_in (place ∷ []))
-  by_place None at = record { row = λ object e. cc; column = λ object e. cc }
-  by_place (Some piece) at = record { row = λ object e. at.row object (grind (arith, e)); column = λ object e. at.column object (grind (arith, e)) }
+marked_put : (state : LevelState) (x y layer : ℕ) (place : Option Piece) → x < state.grid.width → IsMarkedAt state x y (is_in (place ∷ [])) → IsMarked state → IsMarked (record state { grid = with_place state.grid x y layer place })
+marked_put state x y layer place x_in at h = marked_cell state x y (set (cell_at state.grid x y) layer place) (is_in (place ∷ [])) x_in (has_put (cell_at state.grid x y) layer place) at h
 
 -- a piece goes where its object is marked
 pub marked_carried : (state : LevelState) (x y : ℕ) (mover : Mover) (next_x next_y : ℕ) → x < state.grid.width → next_x < state.grid.width → IsMarkedAt state next_x next_y (nat_eq mover.object) → IsMarked state → IsMarked (record state { grid = carried state.grid x y mover next_x next_y })
 marked_carried state x y mover next_x next_y x_in next_in at h =
-    marked_put (record state { grid = with_place state.grid x y mover.layer None }) next_x next_y mover.layer (Some (still_piece mover.object)) next_in (record { row = at.row; column = at.column }) (marked_put state x y mover.layer None x_in (search) h)
+    marked_put (record state { grid = with_place state.grid x y mover.layer None }) next_x next_y mover.layer (Some (still_piece mover.object)) next_in
+    (record { row = λ object e. at.row object (grind (arith, e)); column = λ object e. at.column object (grind (arith, e)) })
+    (marked_put state x y mover.layer None x_in (record { row = λ object e. cc; column = λ object e. cc }) h)
 
 -- ---- a mark
 -- what is new in a line's set that got one more object

@@ -58,9 +58,10 @@ still_moved_to : (x y : ℕ) (pass : Pass) (at : Spot) (piece : Piece) (goal : �
 still_moved_to x y pass at piece goal still =
     put_still (with_place pass.grid at.x at.y at.layer None) goal.0 goal.1 at.layer (Some (still_piece piece.object)) x y refl (put_still pass.grid at.x at.y at.layer None x y refl still)
 
--- so do rows of a column, and columns, in a part of a pass
-pub still_on : (old new : Grid) (before after : Bool) (ats : List Spot) → in_pass new after ≡ fold move_at (in_pass old before) ats → (x from end : ℕ) → AreStill old x from end → AreStill new x from end
-still_on old new before after ats part x from end still y low high = grind (arith, part, kept_by_moves (λ (pass : Pass). IsStillAt pass.grid x y) (λ pass at piece goal _ _. still_moved_to x y pass at piece goal) ats (in_pass old before) (still y low high))
+-- so it does in a part of a pass
+pub still_on : (old new : Grid) (before after : Bool) (ats : List Spot) → in_pass new after ≡ fold move_at (in_pass old before) ats → (x y : ℕ) → IsStillAt old x y → IsStillAt new x y
+still_on old new before after ats part x y still =
+    grind (arith, part, kept_by_moves (λ (pass : Pass). IsStillAt pass.grid x y) (λ pass at piece goal _ _. still_moved_to x y pass at piece goal) ats (in_pass old before) still)
 
 -- a level in which nothing heads anywhere is left as it is
 pub pass_rests : (grid : Grid) → AreColumnsStill grid 0 grid.width → pass_of grid ≡ in_pass grid false

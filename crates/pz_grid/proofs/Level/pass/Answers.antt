@@ -1,4 +1,4 @@
-use Rattle.pz_grid.proofs.Common.{AreStill, arith, cases_eq, cases_lt, false, fold_gather_more, in_pass, inl, inr, move_at, moves_on, same_size_on, spots_in, sym, ℕ}
+use Rattle.pz_grid.proofs.Common.{arith, false, fold_gather_more, in_pass, move_at, moves_on, same_size_on, spots_in, sym}
 use Rattle.pz_grid.proofs.StillLemmas.{columns_stay, still_on}
 use Rattle.pz_grid.proofs.Level.pass.Goals as goal
 
@@ -6,26 +6,18 @@ pub columns-preserved : goal.columns-preserved
 columns-preserved c =
     let grid = c.args.self.now.grid in
     let now = c.columns.self.grid in
-    let new = c.pass_in-passed.new.self.grid in
     let start = in_pass grid false in
     let x = c.in-Some.x in
     let i = c.columns.invariant in
     let found = c.in-Some.ensures.next in
     let before = columns_stay start now c.columns.passed.moved grid.depth grid.height c.columns.from x i.size.height found.0 (sym i.so_far) found.2 in
-    let on : (k : ℕ) → AreStill now k 0 now.height → AreStill new k 0 new.height = λ k still.
-    rw c.pass_in-passed.ensures.size.height (still_on now new c.columns.passed.moved c.pass_in-passed.result.moved (spots_in now.depth now.height x) c.pass_in-passed.ensures.pass k 0 now.height still) in
+    let on = still_on now c.pass_in-passed.new.self.grid c.columns.passed.moved c.pass_in-passed.result.moved (spots_in now.depth now.height x) c.pass_in-passed.ensures.pass in
     record {
       within = omega (arith, found.1, i.size.width);
       so_far = grind (arith, before, i.size.depth, i.size.height, fold_gather_more move_at start (spots_in grid.depth grid.height) x);
-      left = λ none.
+      left = λ none k low below y top y_in.
           let here = c.pass_in-passed.ensures.left none in
-          λ k low below. elim (cases_eq k x) [
-            | inl same ↦ rw same here.1
-            | inr apart ↦ elim (cases_lt k c.columns.from) [
-              | inl early ↦ on k (i.left here.0 k low early)
-              | inr past ↦ on k (found.2 k past (omega (arith, below, apart)))
-            ]
-          ];
+          grind (arith, on k y, here.1 y top y_in, i.left here.0 k low, found.2 k, below, c.pass_in-passed.ensures.size.height, y_in);
       size = same_size_on _ _ _ i.size c.pass_in-passed.ensures.size;
       marks = moves_on _ _ _ i.marks c.pass_in-passed.ensures.marks;
     }

@@ -1,10 +1,6 @@
-use Rattle.pz_grid.proofs.Common.{AreStill, Grid, IsStillAt, arith, fold_gather_more, in_pass, move_at, moves_on, same_size_on, spots_at, sym, ℕ, ◌+◌}
+use Rattle.pz_grid.proofs.Common.{arith, fold_gather_more, in_pass, move_at, moves_on, same_size_on, spots_at, sym}
 use Rattle.pz_grid.proofs.StillLemmas.{rows_stay, still_on}
 use Rattle.pz_grid.proofs.Level.pass_in.Goals as goal
-
--- rows up to one, one behind them up to another, and that one
-pub rows_more : (grid : Grid) (x from y : ℕ) → AreStill grid x 0 from → AreStill grid x from y → IsStillAt grid x y → AreStill grid x 0 (y + 1)
-rows_more grid x from y front rest last k low high = grind (arith, front k, rest k, last, low, high)
 
 pub rows-preserved : goal.rows-preserved
 rows-preserved c =
@@ -21,7 +17,7 @@ rows-preserved c =
       left = λ none.
           let here = c.pass_over-passed.ensures.left none in
           let front = i.left here.0 in
-          (front.0, rows_more c.pass_over-passed.new.self.grid c.args.x c.rows.from c.in-Some.y (on 0 c.rows.from front.1) (on c.rows.from c.in-Some.y found.2) here.1);
+          (front.0, λ y low high. grind (arith, front.1 y low, found.2 y, on y, here.1, high));
       size = same_size_on _ _ _ i.size c.pass_over-passed.ensures.size;
       marks = moves_on _ _ _ i.marks c.pass_over-passed.ensures.marks;
     }
