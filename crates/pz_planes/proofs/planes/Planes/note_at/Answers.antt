@@ -1,28 +1,16 @@
-use Rattle.std.proofs.Common.{◌≡◌, ℕ, ◌/◌, ◌%◌, ap, sym, ◌∙◌, subst}
-use Rattle.pz_sets.specs.Sets.{member}
-use Rattle.pz_planes.specs.Planes.{PlaneSets, AreThere, AreChanged}
-use Rattle.pz_planes.proofs.ToggleLemmas.{inside_at, wide_at}
+use Rattle.std.proofs.Common.{arith, ap, ◌∙◌}
+use Rattle.pz_planes.specs.Planes.{PlaneSets}
+use Rattle.pz_planes.proofs.PlaneLemmas.{column_in, row_in}
 use Rattle.pz_planes.proofs.planes.Planes.note_at.Goals as goal
 
 pub nonzero_rem-index : goal.nonzero_rem-index
-nonzero_rem-index c = wide_at c.args.self.now c.args.index c.count-width.result (c.count-width.ensures ∙ ap (λ (p : PlaneSets). p.columns.count) c.self.view_is) c.requires.within
+nonzero_rem-index c = grind (arith, column_in c.args.index c.args.self.now.columns.count c.args.self.now.rows.count c.requires.within, c.count-width.ensures, c.self.view_is)
 
 pub nonzero_div-index : goal.nonzero_div-index
-nonzero_div-index c = wide_at c.args.self.now c.args.index c.count-width.result (c.count-width.ensures ∙ ap (λ (p : PlaneSets). p.columns.count) c.self.view_is) c.requires.within
+nonzero_div-index c = grind (arith, column_in c.args.index c.args.self.now.columns.count c.args.self.now.rows.count c.requires.within, c.count-width.ensures, c.self.view_is)
 
 pub note-requires : goal.note-requires
-note-requires c =
-    let width : c.count-width.result ≡ c.args.self.now.columns.count = c.count-width.ensures ∙ ap (λ (p : PlaneSets). p.columns.count) c.self.view_is in
-    record {
-      short = c.requires.short;
-      long = c.requires.long;
-      inside = inside_at c.args.self.now c.args.index c.count-width.result width c.requires.within;
-      known_before = c.requires.known_before;
-      known = c.requires.known;
-      there = subst (λ (w : ℕ). AreThere c.args.self.now (c.args.index % w) (c.args.index / w) (member c.args.before.now)) (sym width) c.requires.there;
-    }
+note-requires c = grind (arith, column_in c.args.index c.args.self.now.columns.count c.args.self.now.rows.count c.requires.within, row_in c.args.index c.args.self.now.columns.count c.args.self.now.rows.count c.requires.within, c.count-width.ensures, c.self.view_is)
 
 pub returns : goal.returns
-returns c =
-    let width : c.count-width.result ≡ c.args.self.now.columns.count = c.count-width.ensures ∙ ap (λ (p : PlaneSets). p.columns.count) c.self.view_is in
-    subst (λ (w : ℕ). AreChanged c.args.self.now c.note.new.self (c.args.index % w) (c.args.index / w) (λ object was. member c.args.after.now object)) width c.note.ensures
+returns c = rw (c.count-width.ensures ∙ ap (λ (p : PlaneSets). p.columns.count) c.self.view_is) at c.note.ensures
