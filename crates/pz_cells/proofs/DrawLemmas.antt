@@ -1,5 +1,5 @@
 -- Cells that are drawn and filled.
-use Rattle.pz_cells.proofs.Common.{fold, drop, at_drop_more, range_with_len, true, arith, ◌≡◌, ℕ, ◌+◌, ◌<◌, List, [], ◌∷◌, ◌++◌, map, take, Option, None, false, length, get_or, ap, sym, ◌∙◌, replicate, common_steps, option_map_or, glyph_objects, map_more, member, heads, flag, Cell, Piece, empty_cell, cell_of, Shows, AreLawful, Layering, seen, IsSound, All}
+use Rattle.pz_cells.proofs.Common.{fold, drop, at_drop_more, range_with_len, true, arith, ◌≡◌, ℕ, ◌+◌, ◌<◌, List, [], ◌∷◌, ◌++◌, map, take, Option, None, false, length, get_or, sym, ◌∙◌, replicate, common_steps, glyph_objects, map_more, member, heads, flag, Cell, Piece, empty_cell, cell_of, Shows, AreLawful, Layering, seen, IsSound, All}
 use Rattle.std.proofs.lemmas.Option.{slice_get-get_or}
 use Rattle.std.proofs.lemmas.List.{map_push}
 use Rattle.std.proofs.lemmas.List.FromFn.{length-range_with_len}
@@ -36,8 +36,7 @@ glyphs_more layering f numbers index d cells now cell within are sound e is = re
 
 -- a glyph's objects, as they are read
 pub glyph_read : (game : GameParts) (values : List Denotation) (number : ℕ) (d : Denotation) (objects : List ℕ) → values ≡ game.values → number < length game.values → objects ≡ (get_or values number d).members → glyph_objects game number ≡ objects
-glyph_read game values number d objects are within is =
-    ap (λ (found : Option Denotation). option_map_or (λ v. v.members) found []) (slice_get-get_or game.values number d within) ∙ ap (λ (all : List Denotation). (get_or all number d).members) (sym are) ∙ sym is
+glyph_read game values number d objects are within is = grind (arith, are, is, slice_get-get_or game.values number d within)
 
 pub drawn_more : {X : Type 0} (step : X → ℕ → X) (was now whole : X) (all objects : List ℕ) (at : ℕ) → all ≡ objects → at < length objects → now ≡ step was (get_or objects at 0) → fold step was (drop at all) ≡ whole → fold step now (drop (at + 1) all) ≡ whole
 drawn_more step was now whole all objects at are low is rest = cc (at_drop_more (fold step was) objects at 0 low)

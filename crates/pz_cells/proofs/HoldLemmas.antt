@@ -1,5 +1,5 @@
 -- What holds in a cell, by sets.
-use Rattle.pz_cells.proofs.Common.{cases_Bool, ◌≡◌, inl, inr, ℕ, suc, ◌<◌, ◌≤◌, List, [], ◌∷◌, Option, Some, None, Bool, true, false, not, cond, length, get_or, arith, ap, sym, ◌∙◌, refl, subst, ◌*◌, ◌/◌, ◌%◌, ◌&&◌, nat_eq, All, IsTrue, ◌↔◌, cases_lt, and_parts, eqb-true, or_cases, get_or_past, get_or-map-range_with_len, length-map-range_with_len, member, IsWithin, AreApart, Piece, Dir, Word, Item, AreOf, standing, names, places_on, placed_on, is_toward, flag, heads, heading_in, IsProper, place_of, cell_of, AreLawful, each_number, flag_of, dir_bit-low, Masks, toward, is_still, asks_toward, asks_still, IsLow, AreMasksOf, begins, list_any, Layering, IsLayering, Up, Down, Left, Right, Action}
+use Rattle.pz_cells.proofs.Common.{cases_Bool, ◌≡◌, inl, inr, ℕ, suc, ◌<◌, ◌≤◌, List, [], ◌∷◌, Option, Some, None, Bool, true, false, not, cond, length, get_or, arith, ap, sym, ◌∙◌, refl, subst, ◌*◌, ◌/◌, ◌%◌, ◌&&◌, nat_eq, All, IsTrue, ◌↔◌, cases_lt, eqb-true, get_or_past, get_or-map-range_with_len, length-map-range_with_len, member, IsWithin, AreApart, Piece, Dir, Word, Item, AreOf, standing, names, placed_on, is_toward, flag, heads, heading_in, IsProper, place_of, cell_of, AreLawful, each_number, flag_of, dir_bit-low, Masks, toward, is_still, asks_toward, asks_still, IsLow, AreMasksOf, begins, list_any, Layering, IsLayering, Up, Down, Left, Right, Action}
 use Rattle.pz_game.specs.declared.limits.TheConstants.{MAX_LAYERS, MAX_OBJECTS}
 use Rattle.pz_game.specs.declared.pattern.Word.TheVariants.{Present, Still, Toward, Absent}
 use Rattle.std.proofs.lemmas.List.Folds.{list_any_at}
@@ -65,10 +65,7 @@ asks_at test number_of items k d within t = grind (arith, t, list_any_at (λ ite
 
 pub asked_by : (P : ℕ → Type 0) (test : Item → Bool) (number_of : Item → ℕ) (items : List Item) (number : ℕ) → All (λ item. test item ≡ true → P (number_of item)) items → list_any (λ item. test item && nat_eq (number_of item) number) items ≡ true → P number
 asked_by P test number_of [] number all e = cc
-asked_by P test number_of (x ∷ xs) number all e = elim (or_cases _ _ e) [
-  | inl is ↦ (let parts = and_parts (test x) _ is in subst P (eqb-true _ _ parts.1) (all 0 x (omega arith) parts.0))
-  | inr rest ↦ asked_by P test number_of xs number (λ k d within. all (suc k) d (omega arith)) rest
-]
+asked_by P test number_of (x ∷ xs) number all e = grind (arith, e, eqb-true (number_of x) number, all 0 x (omega arith), asked_by P test number_of xs number (λ k d within. all (suc k) d (omega arith)))
 
 -- the sets of a cell of a rule are met by those of a cell
 abbrev pub AreMetBy : List ℕ → List ℕ → Masks → Type 0
@@ -77,7 +74,7 @@ AreMetBy objects movement masks = (IsWithin masks.present objects × AreApart ma
 module _ (depth : ℕ) (layers objects movement : List ℕ) (items : List Item) (low : All (λ layer. layer < depth) layers) (lawful : AreLawful layers objects movement) (are : AreOf layers items) where
   -- an item holds in the seen cell
   item_seen : (item : Item) → get_or layers item.object 0 ≡ item.layer → item_holds (cell_of depth layers objects movement) item ≡ word_holds item.word (standing_by (member objects item.object) (heading_in movement item.layer))
-  item_seen item on = ap (word_holds item.word) (standing_seen depth layers objects movement item.object low lawful) ∙ ap (λ (l : ℕ). word_holds item.word (standing_by (member objects item.object) (heading_in movement l))) on
+  item_seen item on = grind (arith, standing_seen depth layers objects movement item.object low lawful, on)
 
   -- what each item asks is met where all hold
   pub met_all : pattern_holds (cell_of depth layers objects movement) items ≡ true → All (λ item. Meets item.word (member objects item.object) (heads movement item.layer)) items
@@ -126,19 +123,14 @@ first_decides x p a h e = grind (arith, a, h)
 directions_fit : (set : List ℕ) (depth count : ℕ) (asked : ℕ → Dir → Bool) → IsProper set → ((layer : ℕ) (dir : Dir) → heads set layer dir ≡ asked layer dir) → ((layer : ℕ) (dir : Dir) → asked layer dir ≡ true → layer < depth) → depth ≤ 25 * count → (number : ℕ) → member set number ≡ true → number / 128 < count
 directions_fit set depth count asked proper is low room number here = elim (cases_lt (number % 128) 125) [
   | inl inside ↦ (let f = flag_of number inside in
-      let word : number / 128 ≡ f.0 / 25 = omega (arith, f.2, dir_bit-low f.1) in
-      omega (arith, word, low f.0 f.1 (sym (is f.0 f.1) ∙ ap (member set) f.2 ∙ here), room))
+      omega (arith, f.2, dir_bit-low f.1, low f.0 f.1 (sym (is f.0 f.1) ∙ ap (member set) f.2 ∙ here), room))
   | inr outside ↦ absurd (grind (arith, proper number outside, here))
 ]
 
 -- the item that is placed on a layer is of that layer and names its object
 pub placed_is : (layers : List ℕ) (layer : ℕ) (right : List Item) (item : Item) → AreOf layers right → placed_on layer right ≡ Some item → (item.object < length layers) × (get_or layers item.object 0 ≡ layer) × (names item.word ≡ true)
 placed_is layers layer [] item are e = cc
-placed_is layers layer (x ∷ right) item are e = elim (cases_Bool (places_on layer x)) [
-  | inl t ↦ (let parts = and_parts (names x.word) _ t in let is = are 0 x (omega arith) in let same : x ≡ item = grind (arith, t, e) in
-      subst (λ (it : Item). (it.object < length layers) × (get_or layers it.object 0 ≡ layer) × (names it.word ≡ true)) same (is.object, is.layer ∙ eqb-true _ _ parts.1, parts.0))
-  | inr f ↦ placed_is layers layer right item (λ k d h. are (suc k) d (omega arith)) (grind (arith, f, e))
-]
+placed_is layers layer (x ∷ right) item are e = grind (arith, e, are 0 x (omega arith), placed_is layers layer right item (λ k d h. are (suc k) d (omega arith)))
 
 -- the sets of a cell of a rule of the game, without a number beyond so many words
 pub record FitWords (items : List Item) (masks : Masks) (count : ℕ) : Type 0 where

@@ -1,5 +1,5 @@
 -- Lists of cells in words, changed one by one.
-use Rattle.pz_cells.proofs.Common.{inl, inr, zero, suc, ◌^◌, get_or-set_same, get_or-set_other, length-set, range_with_len, ◌≢◌, ◌≡◌, ℕ, ◌+◌, ◌*◌, ◌<◌, ◌≤◌, List, [], Option, Bool, true, false, map, set, length, get_or, ap, sym, ◌∙◌, subst, arith, cases_eq, get_or_default, length-map, get_or-map, ext_get_or, member, Dir, heads, flag, Cell, Piece, still_place, place_of, cell_of, Shows, AreLawful, Layering, seen, IsSound, AreMapped, All}
+use Rattle.pz_cells.proofs.Common.{inl, inr, ◌^◌, get_or-set_same, get_or-set_other, length-set, range_with_len, ◌≢◌, ◌≡◌, ℕ, ◌+◌, ◌*◌, ◌<◌, ◌≤◌, List, [], Option, Bool, true, false, map, set, length, get_or, sym, ◌∙◌, subst, arith, cases_eq, get_or_default, length-map, get_or-map, ext_get_or, member, Dir, heads, flag, Cell, Piece, still_place, place_of, cell_of, Shows, AreLawful, Layering, seen, IsSound, AreMapped, All}
 use prog.Memory.{up}
 use Rattle.std.proofs.lemmas.Simd.{map-map}
 use Rattle.pz_cells.proofs.PlaceLemmas.{cell_shown, lawful_from_shows}
@@ -13,12 +13,7 @@ sound_at layering cells at cell all h is = subst (IsSound layering) (sym is) (al
 
 -- a cell of up to four words is no larger than memory
 pub small_cell : (n : ℕ) → n ≤ 4 → up 16 (up 16 (0 + n * 16) + n * 16) < 2 ^ 63
-small_cell zero h = omega arith
-small_cell (suc zero) h = omega arith
-small_cell (suc (suc zero)) h = omega arith
-small_cell (suc (suc (suc zero))) h = omega arith
-small_cell (suc (suc (suc (suc zero)))) h = omega arith
-small_cell (suc (suc (suc (suc (suc n))))) h = absurd (omega (arith, h))
+small_cell n h = omega arith
 
 -- words that show what a function makes of each place
 pub cell_mapped : (depth : ℕ) (layers objects movement objects_new movement_new : List ℕ) (f : Option Piece → Option Piece) → ((object : ℕ) → member objects_new object ≡ true → object < length layers) → ((layer : ℕ) → Shows layers (member objects_new) (heads movement_new layer) layer (f (place_of layers objects movement layer))) → cell_of depth layers objects_new movement_new ≡ map f (cell_of depth layers objects movement)
@@ -46,9 +41,8 @@ pub record AreWalked {N : ℕ} (Turns : Cell N → Cell N → Type 0) (old now :
 -- one cell is changed, and another was before
 pub turned_set : {N : ℕ} (Turns : Cell N → Cell N → Type 0) (old now : List (Cell N)) (index k : ℕ) (cell new d : Cell N) → index < length now → cell ≡ get_or now index cell → get_or now index d ≡ get_or old index d → Turns cell new → (k ≢ index → Turns (get_or old k d) (get_or now k d)) → Turns (get_or old k d) (get_or (set now index new) k d)
 turned_set {N} Turns old now index k cell new d within is was turns before = elim (cases_eq k index) [
-  | inl same ↦ subst (λ (i : ℕ). Turns (get_or old i d) (get_or (set now index new) i d)) (sym same)
-      (subst (Turns (get_or old index d)) (sym (get_or-set_same now index new d within)) (subst (λ (c : Cell N). Turns c new) (is ∙ get_or_default now index cell d within ∙ was) turns))
-  | inr other ↦ subst (Turns (get_or old k d)) (sym (get_or-set_other now index k new d other)) (before other)
+  | inl same ↦ rw (same, get_or-set_same now index new d within, ← was, ← get_or_default now index cell d within, ← is) turns
+  | inr other ↦ rw (get_or-set_other now index k new d other) (before other)
 ]
 
 pub walked_more : {N : ℕ} (Turns : Cell N → Cell N → Type 0) (old now : List (Cell N)) (index : ℕ) (cell new : Cell N) → index < length now → AreWalked Turns old now index → cell ≡ get_or now index cell → Turns cell new → AreWalked Turns old (set now index new) (index + 1)
@@ -65,8 +59,7 @@ Turns layering f cell new = IsSound layering new × (seen layering new ≡ f (se
 pub walked_all : {N : ℕ} (layering : Layering) (f : List (Option Piece) → List (Option Piece)) (old now : List (Cell N)) → ((k : ℕ) (cell : Cell N) → k < length old → Turns layering f (get_or old k cell) (get_or now k cell)) → length now ≡ length old → AreMapped layering f old now
 walked_all {N} layering f old now turned long = record {
   sound = λ k cell within. (turned k cell (omega (arith, within, long))).0;
-  cells = ext_get_or [] (map (seen layering) now) (map f (map (seen layering) old)) (length-map now (seen layering) ∙ long ∙ sym (length-map old (seen layering)) ∙ sym (length-map (map (seen layering) old) f)) (λ k within.
-      let low : k < length now = omega (arith, within, length-map now (seen layering)) in
-      get_or-map (seen layering) now k (no_cell N) [] low ∙ (turned k (no_cell N) (omega (arith, low, long))).1
-      ∙ sym (get_or-map f (map (seen layering) old) k [] [] (omega (arith, low, long, length-map old (seen layering))) ∙ ap f (get_or-map (seen layering) old k (no_cell N) [] (omega (arith, low, long)))));
+  cells = ext_get_or [] (map (seen layering) now) (map f (map (seen layering) old)) (grind (arith, long, length-map now (seen layering), length-map old (seen layering), length-map (map (seen layering) old) f)) (λ k within.
+      let low : k < length old = omega (arith, within, length-map now (seen layering), long) in
+      grind (arith, (turned k (no_cell N) low).1, get_or-map (seen layering) now k (no_cell N) [], get_or-map f (map (seen layering) old) k [] [], get_or-map (seen layering) old k (no_cell N) [] low, low, long, length-map old (seen layering)));
 }

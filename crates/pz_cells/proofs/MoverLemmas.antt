@@ -1,5 +1,5 @@
 -- The first piece of a cell that heads somewhere, and such a piece that is taken away.
-use Rattle.pz_cells.proofs.Common.{◌≡◌, ◌≢◌, inl, inr, ℕ, ◌+◌, ◌*◌, ◌/◌, ◌%◌, ◌<◌, List, Option, Some, None, true, false, not, ◌&&◌, length, get_or, set, arith, ap, sym, ◌∙◌, refl, subst, nat_eq, All, cases_eq, cases_lt, member, Piece, Dir, is_toward, flag, heads, heading_in, place_of, cell_of, Shows, AreLawful, IsOnLayer, heading_of, still_place, dir_bit-low}
+use Rattle.pz_cells.proofs.Common.{◌≡◌, ◌≢◌, inl, inr, ℕ, ◌+◌, ◌*◌, ◌/◌, ◌%◌, ◌<◌, List, Option, Some, None, true, false, not, ◌&&◌, length, get_or, set, arith, ap, sym, ◌∙◌, refl, nat_eq, All, cases_eq, cases_lt, member, Piece, Dir, is_toward, flag, heads, heading_in, place_of, cell_of, AreLawful, heading_of, still_place, dir_bit-low}
 use Rattle.pz_cells.specs.Cell.{IsStillOn, moving_piece}
 use Rattle.pz_cells.specs.declared.piece.Mover.{Mover}
 use Rattle.pz_cells.proofs.SameLemmas.{same_dir_is}
@@ -31,20 +31,18 @@ module _ (depth : ℕ) (layers objects movement : List ℕ) (low : All (λ l. l 
     headed = ap (member movement) flag_is ∙ here
 
     pub headed_some : place_of layers objects movement layer ≢ None
-    headed_some none = (let h : false ≡ true = sym ((subst (Shows layers (member objects) (heads movement layer) layer) none (lawful.shows layer)).1 dir) ∙ headed in cc)
+    headed_some none = grind (arith, headed, none, lawful.shows layer)
 
     pub headed_low : layer < depth
     headed_low = grind (arith, headed, lawful.shows layer, lawful.of_game, low)
 
     pub headed_piece : (object : ℕ) → member objects object ≡ true → get_or layers object 0 ≡ layer → get_or cell layer None ≡ Some (record { object = object; heading = Some dir })
-    headed_piece object there its =
-        place_seen depth layers objects movement layer headed_low ∙ sym (place_some layers objects movement layer object lawful there its)
-        ∙ ap (λ (heading : Option Dir). Some (record { object = object; heading = heading })) (toward_is (heading_in movement layer) dir (sym (heads_toward layers objects movement layer dir lawful) ∙ headed))
+    headed_piece object there its = grind (arith, place_seen depth layers objects movement layer headed_low, place_some layers objects movement layer object lawful there its, toward_is (heading_in movement layer) dir, heads_toward layers objects movement layer dir lawful, headed)
 
   -- a piece is taken away, and its direction
   module _ (mover : Mover) (there : get_or cell mover.layer None ≡ Some (moving_piece mover)) where
     pub mover_low : mover.layer < depth
-    mover_low = (let on = subst (IsOnLayer layers mover.layer) there (on_its_layer depth layers objects movement lawful mover.layer) in omega (arith, low mover.object 0 on.0, on.1))
+    mover_low = grind (arith, there, on_its_layer depth layers objects movement lawful mover.layer, low mover.object 0)
 
     its : (member objects mover.object ≡ true) × (get_or layers mover.object 0 ≡ mover.layer) × (mover.object < length layers)
     its = object_there layers objects movement mover.layer (moving_piece mover) lawful (sym (place_seen depth layers objects movement mover.layer mover_low) ∙ there)

@@ -1,14 +1,9 @@
 -- What words show, and how one layer of a cell changes.
-use Rattle.pz_cells.proofs.Common.{length-set, map, ◌≡◌, ◌≢◌, inl, inr, ℕ, ◌<◌, List, Option, Some, None, Bool, true, false, not, ◌&&◌, ◌||◌, length, get_or, set, arith, ap, sym, ◌∙◌, refl, subst, nat_eq, eq-eqb, zero, suc, ◌+◌, ◌≤◌, cond, cases_eq, eqb-true, and_parts, ext_get_or, get_or-map-range_with_len, length-map-range_with_len, common_steps, member, Piece, Dir, same_dir, is_toward, IsProper, heads, heading_in, first_of, IsOnLayer, IsSetOf, place_of, cell_of, Shows, AreLawful, Changes, stands_on, piece_with, find, option_map, range_with_len, Up, Down, Left, Right, Action}
+use Rattle.pz_cells.proofs.Common.{length-set, map, ◌≡◌, ◌≢◌, ℕ, ◌<◌, List, Option, Some, None, Bool, true, false, not, ◌&&◌, ◌||◌, length, get_or, set, arith, ap, sym, ◌∙◌, refl, nat_eq, eq-eqb, zero, suc, ◌+◌, ◌≤◌, cond, cases_eq, eqb-true, ext_get_or, get_or-map-range_with_len, length-map-range_with_len, common_steps, member, Piece, Dir, same_dir, is_toward, IsProper, heads, heading_in, first_of, IsOnLayer, IsSetOf, place_of, cell_of, Shows, AreLawful, Changes, stands_on, find, range_with_len, Up, Down, Left, Right, Action}
 
 -- the first direction that a test picks, of tests that pick one or none
 pub first_toward : (test : Dir → Bool) (heading : Option Dir) → ((dir : Dir) → test dir ≡ is_toward heading dir) → first_of test ≡ heading
-first_toward test None h = grind (arith, h Up, h Down, h Left, h Right, h Action)
-first_toward test (Some Up) h = grind (arith, h Up)
-first_toward test (Some Down) h = grind (arith, h Up, h Down)
-first_toward test (Some Left) h = simp (h Up, h Down, h Left) refl
-first_toward test (Some Right) h = simp (h Up, h Down, h Left, h Right) refl
-first_toward test (Some Action) h = simp (h Up, h Down, h Left, h Right, h Action) refl
+first_toward test heading h = grind (arith, h Up, h Down, h Left, h Right, h Action)
 
 -- the only number that passes is found
 pub find_only : (p : ℕ → Bool) (a n k : ℕ) → a ≤ k → k < a + n → p k ≡ true → ((j : ℕ) → j < a + n → p j ≡ true → j ≡ k) → find p (range_with_len a n) ≡ Some k
@@ -22,20 +17,14 @@ find_none p a (suc n) none = grind (arith, none a, find_none p (a + 1) n none)
 
 -- what masks show of a layer is what their view says of it
 pub place_shown : (layers objects movement : List ℕ) (layer : ℕ) (place : Option Piece) → ((object : ℕ) → member objects object ≡ true → object < length layers) → Shows layers (member objects) (heads movement layer) layer place → place_of layers objects movement layer ≡ place
-place_shown layers objects movement layer None of_game h =
-    ap (option_map (piece_with (heading_in movement layer))) (find_none (stands_on layers objects layer) 0 (length layers) (λ j e. (let parts = and_parts (member objects j) _ e in h.0 j parts.0 (eqb-true _ _ parts.1))))
+place_shown layers objects movement layer None of_game h = grind (arith, find_none (stands_on layers objects layer) 0 (length layers) (λ j e. grind (arith, h.0 j, e)))
 place_shown layers objects movement layer (Some piece) of_game h =
-    let here : stands_on layers objects layer piece.object ≡ true = ap (λ b. b && nat_eq (get_or layers piece.object 0) layer) h.0 ∙ eq-eqb (get_or layers piece.object 0) layer h.1 in
-    let found = find_only (stands_on layers objects layer) 0 (length layers) piece.object (omega arith) (omega (arith, of_game piece.object h.0)) here (λ j low e. (let parts = and_parts (member objects j) _ e in h.2 j parts.0 (eqb-true _ _ parts.1))) in
-    ap (option_map (piece_with (heading_in movement layer))) found ∙ ap (λ (d : Option Dir). Some (piece_with d piece.object)) (first_toward (heads movement layer) piece.heading h.3)
+    let found = find_only (stands_on layers objects layer) 0 (length layers) piece.object (omega arith) (omega (arith, of_game piece.object h.0)) (grind (arith, h.0, h.1)) (λ j low e. grind (arith, h.2 j, e)) in
+    grind (arith, found, first_toward (heads movement layer) piece.heading h.3)
 
 -- masks that show a place on each layer are lawful
 pub lawful_from_shows : (layers objects movement : List ℕ) (place : ℕ → Option Piece) → ((object : ℕ) → member objects object ≡ true → object < length layers) → ((layer : ℕ) → Shows layers (member objects) (heads movement layer) layer (place layer)) → IsProper movement → AreLawful layers objects movement
-lawful_from_shows layers objects movement place of_game shows proper = record {
-  proper = proper;
-  of_game = of_game;
-  shows = λ layer. subst (Shows layers (member objects) (heads movement layer) layer) (sym (place_shown layers objects movement layer (place layer) of_game (shows layer))) (shows layer);
-}
+lawful_from_shows layers objects movement place of_game shows proper = record { proper = proper; of_game = of_game; shows = λ layer. rw (place_shown layers objects movement layer (place layer) of_game (shows layer)) (shows layer) }
 
 -- and their view is those places
 pub cell_shown : (depth : ℕ) (layers objects movement : List ℕ) (place : ℕ → Option Piece) → ((object : ℕ) → member objects object ≡ true → object < length layers) → ((layer : ℕ) → Shows layers (member objects) (heads movement layer) layer (place layer)) → cell_of depth layers objects movement ≡ map place (range_with_len 0 depth)
@@ -50,10 +39,7 @@ shows_changed layers objects movement objects_new movement_new layer place c oth
 
 -- each layer after one of them changed
 shows_after : (layers objects movement objects_new movement_new : List ℕ) (layer : ℕ) (place : Option Piece) → AreLawful layers objects movement → Changes layers objects movement objects_new movement_new layer place → (other : ℕ) → Shows layers (member objects_new) (heads movement_new other) other (cond (nat_eq other layer) place (place_of layers objects movement other))
-shows_after layers objects movement objects_new movement_new layer place lawful c other = elim (cases_eq other layer) [
-  | inl same ↦ grind (arith, same, c.here)
-  | inr apart ↦ grind (arith, apart, shows_changed layers objects movement objects_new movement_new layer place c other apart (place_of layers objects movement other) (lawful.shows other))
-]
+shows_after layers objects movement objects_new movement_new layer place lawful c other = grind (arith, cases_eq other layer, c.here, shows_changed layers objects movement objects_new movement_new layer place c other, lawful.shows other)
 
 pub lawful_changed : (layers objects movement objects_new movement_new : List ℕ) (layer : ℕ) (place : Option Piece) → AreLawful layers objects movement → Changes layers objects movement objects_new movement_new layer place → AreLawful layers objects_new movement_new
 lawful_changed layers objects movement objects_new movement_new layer place lawful c =
@@ -63,8 +49,8 @@ lawful_changed layers objects movement objects_new movement_new layer place lawf
 set_table : (p : ℕ → Option Piece) (depth layer : ℕ) (place : Option Piece) → map (λ k. cond (nat_eq k layer) place (p k)) (range_with_len 0 depth) ≡ set (map p (range_with_len 0 depth)) layer place
 set_table p depth layer place =
     let new = λ (k : ℕ). cond (nat_eq k layer) place (p k) in
-    ext_get_or None (map new (range_with_len 0 depth)) (set (map p (range_with_len 0 depth)) layer place) (length-map-range_with_len new 0 depth ∙ sym (length-set (map p (range_with_len 0 depth)) layer place ∙ length-map-range_with_len p 0 depth)) (λ k within.
-    grind (arith, common_steps, within, length-map-range_with_len new 0 depth, length-map-range_with_len p 0 depth, get_or-map-range_with_len new 0 depth k k None, get_or-map-range_with_len p 0 depth k k None))
+    ext_get_or None (map new (range_with_len 0 depth)) (set (map p (range_with_len 0 depth)) layer place) (grind (arith, length-map-range_with_len new 0 depth, length-set (map p (range_with_len 0 depth)) layer place, length-map-range_with_len p 0 depth))
+    (λ k within. grind (arith, common_steps, within, length-map-range_with_len new 0 depth, length-map-range_with_len p 0 depth, get_or-map-range_with_len new 0 depth k k None, get_or-map-range_with_len p 0 depth k k None))
 
 pub cell_changed : (depth : ℕ) (layers objects movement objects_new movement_new : List ℕ) (layer : ℕ) (place : Option Piece) → AreLawful layers objects movement → Changes layers objects movement objects_new movement_new layer place → cell_of depth layers objects_new movement_new ≡ set (cell_of depth layers objects movement) layer place
 cell_changed depth layers objects movement objects_new movement_new layer place lawful c =
@@ -99,13 +85,7 @@ put_seen depth layers objects movement objects_new movement_new layer place put 
 
 -- a layer that nothing stands on stays as it is
 pub changes_nothing : (layers objects movement : List ℕ) (layer : ℕ) → AreLawful layers objects movement → place_of layers objects movement layer ≡ None → Changes layers objects movement objects movement layer None
-changes_nothing layers objects movement layer lawful free = record {
-  of_game = lawful.of_game;
-  here = subst (Shows layers (member objects) (heads movement layer) layer) free (lawful.shows layer);
-  same_objects = λ object apart. refl;
-  proper = lawful.proper;
-  same_movement = λ other dir apart. refl;
-}
+changes_nothing layers objects movement layer lawful free = grind (arith, lawful.shows layer, free)
 
 -- a number that a set of a layer's objects has in common with a cell is an object that stands there
 pub found_on : (layers objects movement set : List ℕ) (layer first : ℕ) → AreLawful layers objects movement → IsSetOf layers set layer → (member objects first && member set first) ≡ true → (member objects first ≡ true) × (get_or layers first 0 ≡ layer)
@@ -118,8 +98,7 @@ found_none layers objects movement set layer lawful table none = grind (arith, l
 -- a piece that was put where the layer had been cleared
 pub piece_put : (depth : ℕ) (layers objects movement objects_mid movement_mid objects_new movement_new : List ℕ) (layer : ℕ) (place : Option Piece) (piece : Piece) (heading : Option Dir) → AreLawful layers objects movement → Changes layers objects movement objects_mid movement_mid layer None → IsOnLayer layers layer place → place ≡ Some piece → piece.heading ≡ heading → ((other : ℕ) → member objects_new other ≡ (nat_eq other piece.object || member objects_mid other)) → ((other : ℕ) (dir : Dir) → heads movement_new other dir ≡ ((nat_eq other layer && is_toward heading dir) || heads movement_mid other dir)) → IsProper movement_new → AreLawful layers objects_new movement_new × (cell_of depth layers objects_new movement_new ≡ set (cell_of depth layers objects movement) layer place)
 piece_put depth layers objects movement objects_mid movement_mid objects_new movement_new layer place piece heading lawful c on is heads_so objects_are movement_is proper =
-    put_seen depth layers objects movement objects_new movement_new layer (Some piece) place lawful is (changes_landed layers objects movement objects_mid movement_mid objects_new movement_new layer piece c (subst (IsOnLayer layers layer) is on) objects_are
-    (λ other dir. movement_is other dir ∙ ap (λ (h : Option Dir). (nat_eq other layer && is_toward h dir) || heads movement_mid other dir) (sym heads_so)) proper)
+    put_seen depth layers objects movement objects_new movement_new layer (Some piece) place lawful is (changes_landed layers objects movement objects_mid movement_mid objects_new movement_new layer piece c (rw is at on) objects_are (λ other dir. rw heads_so (movement_is other dir)) proper)
 
 -- an object that stands on a layer is in the cell's set, and of the game
 pub object_there : (layers objects movement : List ℕ) (layer : ℕ) (piece : Piece) → AreLawful layers objects movement → place_of layers objects movement layer ≡ Some piece → (member objects piece.object ≡ true) × (get_or layers piece.object 0 ≡ layer) × (piece.object < length layers)

@@ -1,5 +1,5 @@
 -- What a rewriting does to the sets of a cell.
-use Rattle.pz_cells.proofs.Common.{IfSome, map, find, option_map, piece_with, first_of, range_with_len, ◌≡◌, ℕ, ◌<◌, List, Option, Some, None, Bool, true, false, cond, not, ◌&&◌, ◌||◌, length, get_or, arith, ap, sym, ◌∙◌, refl, subst, nat_eq, All, is_some, ◌↔◌, or_right, or_parts, length-map-range_with_len, member, Piece, Dir, Word, Item, AreOf, standing, same_cell, is_toward, flag, heads, IsProper, place_of, cell_of, Shows, AreLawful, each_number, names, placed_on, tells_of, tells_movement, heading_of, new_heading, kept, replaced, rewritten_place, rewritten_cell, Masks, toward, begins, settles, AreMasksOf, ends, is_displaced}
+use Rattle.pz_cells.proofs.Common.{IfSome, map, find, option_map, piece_with, first_of, range_with_len, ◌≡◌, ℕ, ◌<◌, List, Option, Some, None, Bool, true, false, cond, not, ◌&&◌, ◌||◌, length, get_or, arith, ap, sym, ◌∙◌, refl, nat_eq, All, is_some, ◌↔◌, or_right, or_parts, length-map-range_with_len, member, Piece, Dir, Word, Item, AreOf, standing, same_cell, is_toward, flag, heads, IsProper, place_of, cell_of, Shows, AreLawful, each_number, names, placed_on, tells_of, tells_movement, heading_of, new_heading, kept, replaced, rewritten_place, rewritten_cell, Masks, toward, begins, settles, AreMasksOf, ends, is_displaced}
 use Rattle.pz_cells.proofs.SameLemmas.{same_cell_is, same_cell_self}
 use Rattle.pz_cells.proofs.PlaceLemmas.{lawful_from_shows, cell_shown}
 use Rattle.pz_game.specs.Items.{names_object, forbids_object}
@@ -38,7 +38,7 @@ pub record AreRewritten (layers : List ℕ) (left right : List Item) (l r : Mask
 
 -- what is placed is of the game
 pub placed_within : (layers : List ℕ) (right : List Item) (r : Masks) → AreOf layers right → AreMasksOf right r → (object : ℕ) → member r.placed object ≡ true → object < length layers
-placed_within layers right r are mr object here = (let p = mr.placed_only object here in subst (λ (k : ℕ). k < length layers) p.3 (placed_is layers p.0 right p.1 are p.2).0)
+placed_within layers right r are mr object here = (let p = mr.placed_only object here in grind (arith, p.3, placed_is layers p.0 right p.1 are p.2))
 
 -- words that answer alike show one cell
 pub cell_alike : (depth : ℕ) (layers objects movement objects_new movement_new : List ℕ) → ((object : ℕ) → member objects_new object ≡ member objects object) → ((layer : ℕ) (dir : Dir) → heads movement_new layer dir ≡ heads movement layer dir) → cell_of depth layers objects_new movement_new ≡ cell_of depth layers objects movement
@@ -50,28 +50,23 @@ pub member_seen : (depth : ℕ) (layers objects movement : List ℕ) (object : �
 member_seen depth layers objects movement object low lawful = grind (arith, standing_seen depth layers objects movement object low lawful)
 
 pub heads_seen : (depth : ℕ) (layers objects movement : List ℕ) (layer : ℕ) (dir : Dir) → All (λ l. l < depth) layers → AreLawful layers objects movement → heads movement layer dir ≡ is_toward (heading_of (get_or (cell_of depth layers objects movement) layer None)) dir
-heads_seen depth layers objects movement layer dir low lawful =
-    toward_shown layers (member objects) (heads movement layer) layer (place_of layers objects movement layer) dir (lawful.shows layer) ∙ ap (λ (p : Option Piece). is_toward (heading_of p) dir) (sym (place_everywhere depth layers objects movement layer low lawful))
+heads_seen depth layers objects movement layer dir low lawful = grind (arith, lawful.shows layer, place_everywhere depth layers objects movement layer low lawful)
 
 pub objects_alike : (depth : ℕ) (layers objects movement objects_new movement_new : List ℕ) → All (λ l. l < depth) layers → AreLawful layers objects movement → AreLawful layers objects_new movement_new → cell_of depth layers objects_new movement_new ≡ cell_of depth layers objects movement → (object : ℕ) → member objects_new object ≡ member objects object
-objects_alike depth layers objects movement objects_new movement_new low lawful lawful_new e object =
-    member_seen depth layers objects_new movement_new object low lawful_new ∙ ap (λ (c : List (Option Piece)). is_some (standing c object)) e ∙ sym (member_seen depth layers objects movement object low lawful)
+objects_alike depth layers objects movement objects_new movement_new low lawful lawful_new e object = grind (arith, e, member_seen depth layers objects_new movement_new object low lawful_new, member_seen depth layers objects movement object low lawful)
 
 pub heads_alike : (depth : ℕ) (layers objects movement objects_new movement_new : List ℕ) → All (λ l. l < depth) layers → AreLawful layers objects movement → AreLawful layers objects_new movement_new → cell_of depth layers objects_new movement_new ≡ cell_of depth layers objects movement → (layer : ℕ) (dir : Dir) → heads movement_new layer dir ≡ heads movement layer dir
-heads_alike depth layers objects movement objects_new movement_new low lawful lawful_new e layer dir =
-    heads_seen depth layers objects_new movement_new layer dir low lawful_new ∙ ap (λ (c : List (Option Piece)). is_toward (heading_of (get_or c layer None)) dir) e ∙ sym (heads_seen depth layers objects movement layer dir low lawful)
+heads_alike depth layers objects movement objects_new movement_new low lawful lawful_new e layer dir = grind (arith, e, heads_seen depth layers objects_new movement_new layer dir low lawful_new, heads_seen depth layers objects movement layer dir low lawful)
 
 decided : (b : Bool) (x y : List (Option Piece)) → (b ≡ false → x ≡ y) → (x ≡ y → b ≡ false) → b ≡ not (same_cell x y)
-decided false x y f g = grind (arith, f refl, same_cell_self x)
-decided true x y f g = grind (arith, g, same_cell_is x y)
+decided b x y f g = grind (arith, f, g, same_cell_self x, same_cell_is x y)
 
 module _ (layers : List ℕ) (left right : List Item) (l r : Masks) (objects movement objects_new mid movement_new : List ℕ) (w : AreRewritten layers left right l r objects movement objects_new mid movement_new) where
   -- what is placed stands alone on its layer
   placed_here : (object : ℕ) → member r.placed object ≡ true → IfSome (placed_on (get_or layers object 0) right) (λ item. item.object ≡ object) × (is_some (placed_on (get_or layers object 0) right) ≡ true)
   placed_here object h =
       let p = w.mr.placed_only object h in
-      let on : p.0 ≡ get_or layers object 0 = sym (placed_is layers p.0 right p.1 w.are p.2).1 ∙ ap (λ (k : ℕ). get_or layers k 0) p.3 in
-      subst (λ (o : Option Item). IfSome o (λ item. item.object ≡ object) × (is_some o ≡ true)) (sym p.2 ∙ ap (λ (k : ℕ). placed_on k right) on) (p.3, refl)
+      grind (arith, p.2, p.3, placed_is layers p.0 right p.1 w.are p.2)
 
   others : (layer : ℕ) (dir : Dir) → ((object : ℕ) → leaves layers objects left right object ≡ true → get_or layers object 0 ≡ layer → ⊥) → heads movement_new layer dir ≡ ((heads movement layer dir && not (ends (tells_of layer left) (placed_on layer right))) || begins dir (placed_on layer right))
   others layer dir none = w.others layer dir none ∙ grind (arith, w.is_mid (flag layer dir), w.mr.settled layer dir, w.ml.told layer dir, w.mr.covered layer dir, w.mr.headed layer dir, ends_by (tells_of layer left) (placed_on layer right))

@@ -1,4 +1,4 @@
-use Rattle.pz_cells.proofs.Common.{◌≡◌, inl, inr, ℕ, ◌+◌, ◌<◌, List, Bool, true, false, length, get_or, sym, ◌∙◌, subst, arith, IsTrue, ◌↔◌, get_or_default, cases_eq, AreSame, Cell, AreAlikeBetween, Differ, AreAlike, HeadNowhere}
+use Rattle.pz_cells.proofs.Common.{◌≡◌, inl, inr, ℕ, ◌+◌, ◌<◌, List, Bool, true, false, length, get_or, sym, ◌∙◌, arith, IsTrue, ◌↔◌, get_or_default, cases_eq, AreSame, Cell, AreAlikeBetween, Differ, AreAlike, HeadNowhere}
 use Rattle.pz_cells.proofs.differing.next_differing.Goals as goal
 
 -- a test decides whether the cells of this number are alike
@@ -7,9 +7,7 @@ Decides {N} a b index test = (cell other : Cell N) → IsTrue test ↔ AreAlike 
 
 module _ (N : ℕ) (a b : List (Cell N)) (index : ℕ) (test : Bool) (within : index < length a) (long : length a ≡ length b) where
   decides : (x y : Cell N) → x ≡ get_or a index x → y ≡ get_or b index y → (IsTrue test ↔ AreAlike x y) → Decides a b index test
-  decides x y is_x is_y same cell other =
-      subst (λ (c : Cell N). IsTrue test ↔ AreAlike c (get_or b index other)) (is_x ∙ get_or_default a index x cell within)
-      (subst (λ (c : Cell N). IsTrue test ↔ AreAlike x c) (is_y ∙ get_or_default b index y other (omega arith)) same)
+  decides x y is_x is_y same cell other = rw (← get_or_default a index x cell within, ← is_x, ← get_or_default b index y other (omega arith), ← is_y) same
 
   -- cells that head nowhere are decided by their objects
   decides_still : (x y : Cell N) → HeadNowhere a → HeadNowhere b → (IsTrue test ↔ AreSame (get_or a index x).objects (get_or b index y).objects) → Decides a b index test
@@ -19,7 +17,7 @@ module _ (N : ℕ) (a b : List (Cell N)) (index : ℕ) (test : Bool) (within : i
 
 alike_more : {N : ℕ} (a b : List (Cell N)) (index from : ℕ) (test : Bool) → Decides a b index test → test ≡ true → AreAlikeBetween a b from index → AreAlikeBetween a b from (index + 1)
 alike_more {N} a b index from test d is before k cell other low h = elim (cases_eq k index) [
-  | inl here ↦ subst (λ (i : ℕ). AreAlike (get_or a i cell) (get_or b i other)) (sym here) ((d cell other).0 is)
+  | inl here ↦ rw here ((d cell other).0 is)
   | inr apart ↦ before k cell other low (omega (arith, h, apart))
 ]
 
