@@ -2,7 +2,7 @@
 
 ghost use Rattle.std.specs.Prelude.{◌≡◌, ℕ, ◌%◌, ◌<◌, ◌↔◌, IsTrue, true, false, slice_index, MatchOption};
 ghost use Rattle.pz_sets.specs.Sets.{member, AreSame};
-ghost use Rattle.pz_game.specs.Headings.{flag, heading_in};
+ghost use Rattle.pz_game.specs.Headings.{dir_bit, flag, heading_in};
 ghost use Rattle.pz_cells.specs.Cell.{IsNextMover};
 ghost use Rattle.pz_cells.specs.Lists.{seen, IsSound};
 
@@ -89,17 +89,23 @@ impl<const N: usize> Cell<N> {
     }
 }
 
-/// The layer and the direction that have this number: `flag` undone.
-fn flagged(number: usize) -> (usize, Dir)
-    ensures { number % 128 < 125 → flag result.0 result.1 ≡ number }
+/// The direction with this place in a layer's field of five.
+fn dir_at(bit: usize) -> Dir
+    ensures { bit < 5 → dir_bit result ≡ bit }
 {
-    let field = number % 128;
-    let dir = match field % 5 {
+    match bit {
         0 => Dir::Up,
         1 => Dir::Down,
         2 => Dir::Left,
         3 => Dir::Right,
         _ => Dir::Action,
-    };
-    (number / 128 * 25 + field / 5, dir)
+    }
+}
+
+/// The layer and the direction that have this number: `flag` undone.
+fn flagged(number: usize) -> (usize, Dir)
+    ensures { number % 128 < 125 → flag result.0 result.1 ≡ number }
+{
+    let field = number % 128;
+    (number / 128 * 25 + field / 5, dir_at(field % 5))
 }
