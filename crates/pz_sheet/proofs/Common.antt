@@ -1,6 +1,7 @@
 -- The words of the proofs of this crate: what several of them import.
 pub use Rattle.std.proofs.Common.{Bool, List, None, Option, Some, [], ap, arith, cond, drop, eq-eqb, false, get_or, get_or-set_other, get_or-set_same, inl, inr, is_some, length, length-append, length-drop, length-take, map, nat_eq, not, refl, set, subst, suc, sym, take, true, zero, ℕ, ◌%◌, ◌&&◌, ◌*◌, ◌++◌, ◌+◌, ◌-◌, ◌/◌, ◌<◌, ◌||◌, ◌∙◌, ◌∷◌, ◌≡◌, ◌≢◌, ◌≤◌, ◌⊎◌}
-pub use Rattle.std.proofs.lemmas.Bool.{and_parts, and_right, cases_eq, cases_lt, eqb-true, false≢true, le-leb, le-ltb, lt-leb, lt-ltb, not-false, true_from_ne_false}
+pub use Rattle.std.proofs.lemmas.Bool.{and_parts, and_right, cases_Bool, cases_eq, cases_lt, eqb-true, false≢true, le-leb, le-ltb, lt-leb, lt-ltb, not-false, true_from_ne_false}
+pub use Rattle.std.proofs.lemmas.Grind.{common_steps}
 pub use Rattle.std.proofs.lemmas.List.{drop_all, drop_more, ext_get_or, get_or-map, get_or_default, length-map, length-set, map-id, map-set, set-get_or, take_all}
 pub use Rattle.std.proofs.lemmas.List.Folds.{list_all_at, list_all_more, list_any-append, list_any_at, list_any_none, map_fixed}
 pub use Rattle.std.proofs.lemmas.List.FromFn.{get_or-enumerate_from, get_or-range_with_len, length-enumerate_from, length-map-range_with_len, length-range_with_len, map-range_with_len_more, sum_by-map-range_with_len_more}

@@ -1,31 +1,30 @@
 -- If all cells of a rule's row hold somewhere, each heading that the row asks for is noted, for the whole level and for the
 -- lines.
-use Rattle.pz_sheet.proofs.Common.{Layering, ◌≡◌, ◌+◌, ◌*◌, ◌%◌, ◌<◌, ℕ, List, [], ◌∷◌, Bool, true, false, not, inl, inr, suc, length, get_or, arith, ap, sym, ◌∙◌, subst, IsTrue, ◌↔◌, All, list_any, cases_lt, get_or-map, mul-add-lt, div-mul-add, mod-mul-add, member, IsWithin, AreApart, Dir, Item, flag, heads, asks_toward, AreOf, AreRequired, flag_of, Cell, no_cell, pattern_holds, met_all, asked_by, toward, is_toward, Grid, HoldsSomewhere, HoldsInLine, Axis, Horizontal, Vertical, HeadingSets, headings_of, line_count, HeadsWithin, grid_of, IsStored, seen}
+use Rattle.pz_sheet.proofs.Common.{Layering, ◌≡◌, ◌+◌, ◌*◌, ◌%◌, ◌<◌, ℕ, List, [], ◌∷◌, Bool, true, false, not, inl, inr, suc, length, get_or, arith, ap, sym, ◌∙◌, IsTrue, ◌↔◌, All, list_any, cases_lt, get_or-map, div-mul-add, mod-mul-add, member, IsWithin, AreApart, Dir, Item, flag, heads, asks_toward, AreOf, AreRequired, flag_of, Cell, no_cell, met_all, asked_by, toward, is_toward, Grid, HoldsSomewhere, HoldsInLine, Axis, Horizontal, Vertical, HeadingSets, headings_of, line_count, HeadsWithin, grid_of, IsStored, IsNoted, seen}
+use Rattle.pz_sheet.proofs.SheetLemmas.{cell_in}
 
 -- a number of both sets: they aren't apart
 pub not_apart : (apart : Bool) (asked words : List ℕ) (number : ℕ) → (IsTrue apart ↔ AreApart asked words) → member asked number ≡ true → member words number ≡ true → not apart ≡ true
 not_apart apart asked words number is wanted there = grind (arith, is, λ (t : apart ≡ true). is.0 t number wanted)
 
--- a cell of some number holds, and heads within a set
-record IsWhere (N : ℕ) (cells : List (Cell N)) (grid : Grid) (headings : List ℕ) (items : List Item) : Type 0 where
-  at : ℕ
-  within : at < length cells
-  holds : pattern_holds (get_or grid.cells at []) items ≡ true
-  noted : HeadsWithin N headings (get_or cells at (no_cell N))
-
 module _ (N width height : ℕ) (layering : Layering) (cells : List (Cell N)) (notes : HeadingSets) (s : IsStored N width height layering cells notes) where
   abbrev grid : Grid
   grid = grid_of width height layering cells
 
-  module _ (headings : List ℕ) (Holds : List Item → Type 0) (find : (items : List Item) → Holds items → IsWhere N cells grid headings items) where
+  -- a rule's cell holds somewhere, where a cell that is noted heads within a set
+  abbrev IsWhere : List ℕ → List Item → Type 0
+  IsWhere headings items = (h : HoldsSomewhere grid items) × (IsNoted N width notes (h.y * width + h.x) (get_or cells (h.y * width + h.x) (no_cell N)) → HeadsWithin N headings (get_or cells (h.y * width + h.x) (no_cell N)))
+
+  module _ (headings : List ℕ) (Holds : List Item → Type 0) (find : (items : List Item) → Holds items → IsWhere headings items) where
     -- what a cell asks to head is noted where it holds
     heads_here : (items : List Item) (layer : ℕ) (dir : Dir) → AreOf layering.layers items → Holds items → asks_toward layer dir items ≡ true → heads headings layer dir ≡ true
-    heads_here items layer dir are h asks =
-        let w = find items h in
-        let cell = get_or cells w.at (no_cell N) in
-        let there = sym (get_or-map (seen layering) cells w.at (no_cell N) [] w.within) in
-        let met = met_all layering.depth layering.layers cell.objects cell.movement items s.law.layered (s.sound w.at (no_cell N) w.within) are (ap (λ it. pattern_holds it items) there ∙ w.holds) in
-        w.noted (flag layer dir) (asked_by (λ k. heads cell.movement k dir ≡ true) (λ it. is_toward (toward true it.word) dir) (λ it. it.layer) items layer (λ k d within. (met k d within).2 dir) asks)
+    heads_here items layer dir are holds asks =
+        let h = (find items holds).0 in
+        let at = h.y * width + h.x in
+        let cell = get_or cells at (no_cell N) in
+        let within = cell_in width height (length cells) h.x h.y s.covers h.x_in h.y_in in
+        let met = met_all layering.depth layering.layers cell.objects cell.movement items s.law.layered (s.sound at (no_cell N) within) are (rw (← get_or-map (seen layering) cells at (no_cell N) [] within) h.holds) in
+        (find items holds).1 (s.noted.each at (no_cell N) within) (flag layer dir) (asked_by (λ k. heads cell.movement k dir ≡ true) (λ it. is_toward (toward true it.word) dir) (λ it. it.layer) items layer (λ k d within. (met k d within).2 dir) asks)
 
     -- the same for the cells of a row
     heads_there : (rows : List (List Item)) (layer : ℕ) (dir : Dir) → All (AreOf layering.layers) rows → All Holds rows → list_any (asks_toward layer dir) rows ≡ true → heads headings layer dir ≡ true
@@ -41,33 +40,12 @@ module _ (N width height : ℕ) (layering : Layering) (cells : List (Cell N)) (n
       | inr high ↦ (let none : false ≡ true = sym (r.proper number high) ∙ e in cc)
     ]
 
-  in_cells : (x y : ℕ) → x < width → y < height → y * width + x < length cells
-  in_cells x y x_in y_in = omega (arith, mul-add-lt y width x height y_in x_in, s.covers)
-
-  somewhere : (items : List Item) → HoldsSomewhere grid items → IsWhere N cells grid notes.whole items
-  somewhere items h = record {
-    at = h.y * width + h.x;
-    within = in_cells h.x h.y h.x_in h.y_in;
-    holds = h.holds;
-    noted = (s.noted.each (h.y * width + h.x) (no_cell N) (in_cells h.x h.y h.x_in h.y_in)).whole;
-  }
-
   pub asked_somewhere : (rows : List (List Item)) (required : List ℕ) → AreRequired rows required → All (AreOf layering.layers) rows → All (HoldsSomewhere grid) rows → IsWithin required notes.whole
-  asked_somewhere = asked_is_noted notes.whole (HoldsSomewhere grid) somewhere
+  asked_somewhere = asked_is_noted notes.whole (HoldsSomewhere grid) (λ items h. (h, λ noted. noted.whole))
 
   pub heads_somewhere : (rows : List (List Item)) (layer : ℕ) (dir : Dir) → All (AreOf layering.layers) rows → All (HoldsSomewhere grid) rows → list_any (asks_toward layer dir) rows ≡ true → heads notes.whole layer dir ≡ true
-  heads_somewhere = heads_there notes.whole (HoldsSomewhere grid) somewhere
+  heads_somewhere = heads_there notes.whole (HoldsSomewhere grid) (λ items h. (h, λ noted. noted.whole))
 
   pub asked_in_line : (axis : Axis) (number : ℕ) → number < line_count grid axis → (rows : List (List Item)) (required : List ℕ) → AreRequired rows required → All (AreOf layering.layers) rows → All (HoldsInLine grid (record { axis = axis; number = number })) rows → IsWithin required (get_or (headings_of notes axis) number [])
-  asked_in_line Horizontal y y_in = asked_is_noted (get_or notes.rows y []) (HoldsInLine grid (record { axis = Horizontal; number = y })) (λ items h. record {
-    at = y * width + h.at;
-    within = in_cells h.at y h.at_in y_in;
-    holds = h.holds;
-    noted = subst (λ (line : ℕ). HeadsWithin N (get_or notes.rows line []) (get_or cells (y * width + h.at) (no_cell N))) (div-mul-add y width h.at h.at_in) (s.noted.each (y * width + h.at) (no_cell N) (in_cells h.at y h.at_in y_in)).row;
-  })
-  asked_in_line Vertical x x_in = asked_is_noted (get_or notes.columns x []) (HoldsInLine grid (record { axis = Vertical; number = x })) (λ items h. record {
-    at = h.at * width + x;
-    within = in_cells x h.at x_in h.at_in;
-    holds = h.holds;
-    noted = subst (λ (line : ℕ). HeadsWithin N (get_or notes.columns line []) (get_or cells (h.at * width + x) (no_cell N))) (mod-mul-add h.at width x x_in) (s.noted.each (h.at * width + x) (no_cell N) (in_cells x h.at x_in h.at_in)).column;
-  })
+  asked_in_line Horizontal y y_in = asked_is_noted (get_or notes.rows y []) (HoldsInLine grid (record { axis = Horizontal; number = y })) (λ items h. (record { x = h.at; y = y; x_in = h.at_in; y_in = y_in; holds = h.holds }, λ noted. rw (div-mul-add y width h.at h.at_in) at noted.row))
+  asked_in_line Vertical x x_in = asked_is_noted (get_or notes.columns x []) (HoldsInLine grid (record { axis = Vertical; number = x })) (λ items h. (record { x = x; y = h.at; x_in = x_in; y_in = h.at_in; holds = h.holds }, λ noted. rw (mod-mul-add h.at width x x_in) at noted.column))

@@ -1,5 +1,5 @@
 -- The set of some objects, and a cell that holds one of them.
-use Rattle.pz_sheet.proofs.Common.{◌≡◌, ◌<◌, ◌≤◌, ℕ, List, [], ◌∷◌, Bool, true, false, not, ◌&&◌, ◌||◌, nat_eq, length, get_or, arith, ap, sym, ◌∙◌, refl, eq-eqb, nat_lt, IsTrue, ◌↔◌, All, list_any, and_parts, eqb-true, false≢true, lt-ltb, true_from_ne_false, list_any_at, list_any_none, member, AreApart, IsSetFor}
+use Rattle.pz_sheet.proofs.Common.{◌≡◌, ◌<◌, ◌≤◌, ℕ, List, [], ◌∷◌, Bool, true, false, not, ◌&&◌, nat_eq, length, get_or, arith, ap, sym, ◌∙◌, refl, eq-eqb, nat_lt, IsTrue, ◌↔◌, All, list_any, and_parts, eqb-true, lt-ltb, list_any_at, list_any_none, member, AreApart, IsSetFor}
 use Rattle.pz_sets.proofs.SetLemmas.{member_past}
 use Rattle.pz_sets.specs.declared.set.TheConstants.{CAPACITY}
 use Rattle.pz_sheet.proofs.SheetLemmas.{only_false}
@@ -26,10 +26,9 @@ module _ (objects words set : List ℕ) (is : IsSetFor objects set) (low : (obje
       sym none ∙ any_same (member words) number objects (and_parts (nat_lt number CAPACITY) (list_any (nat_eq number) objects) (sym (is number) ∙ s)).1 e)
 
   pub found_by_set : (b : Bool) → (IsTrue b ↔ AreApart words set) → not b ≡ list_any (member words) objects
-  found_by_set true h = sym (list_any_none (member words) objects (each_missing (h.0 refl)))
-  found_by_set false h = sym (true_from_ne_false _ (λ e. absurd (false≢true (h.1 (apart_from e)))))
+  found_by_set b h = grind (arith, h, each_missing, apart_from, list_any_none (member words) objects)
 
 -- two tests that agree
 pub any_alike : (test other : ℕ → Bool) (xs : List ℕ) → ((x : ℕ) → test x ≡ other x) → list_any test xs ≡ list_any other xs
 any_alike test other [] same = refl
-any_alike test other (x ∷ xs) same = ap (λ (b : Bool). b || list_any test xs) (same x) ∙ ap (λ (b : Bool). other x || b) (any_alike test other xs same)
+any_alike test other (x ∷ xs) same = grind (arith, same x, any_alike test other xs same)

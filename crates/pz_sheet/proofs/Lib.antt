@@ -9,10 +9,8 @@ pub mod ChangeLemmas
 pub mod StillLemmas
 pub mod HoldingLemmas
 pub mod PlacedLemmas
-pub mod StartLemmas
 pub mod NewerLemmas
 pub mod CountLemmas
 pub mod TellLemmas
 pub mod ToggleLemmas
-pub mod EndLemmas
 pub mod MarkLemmas

@@ -1,37 +1,19 @@
 -- The cells of a level in words are drawn, and changed one by one.
-use Rattle.pz_sheet.proofs.Common.{◌≡◌, ℕ, ◌*◌, List, Option, length, ap, sym, ◌∙◌, subst, length-map, IsSize, Cell, Piece, glyph_cell, Layering, IsLayering, seen, AreMapped, AreGlyphs, HeadingSets, AreNoted, IsStored}
+use Rattle.pz_sheet.proofs.Common.{◌≡◌, map, arith, ℕ, ◌*◌, List, Option, length, ◌∙◌, length-map, Cell, Piece, glyph_cell, Layering, IsLayering, seen, AreMapped, AreGlyphs, HeadingSets, AreNoted, IsStored}
 use Rattle.pz_game.specs.Drawing.{Drawing, IsDrawing}
 use Rattle.pz_game.specs.declared.game.GameParts.{GameParts}
 
 -- ---- the level whose cells are changed
 pub long_mapped : {N : ℕ} (layering : Layering) (f : List (Option Piece) → List (Option Piece)) (old new : List (Cell N)) → AreMapped layering f old new → length new ≡ length old
-long_mapped layering f old new m = simp length-map at (ap length m.cells)
+long_mapped layering f old new m = grind (arith, m.cells, length-map new (seen layering), length-map old (seen layering), length-map (map (seen layering) old) f)
 
 pub stored_mapped : (N width height : ℕ) (layering : Layering) (f : List (Option Piece) → List (Option Piece)) (old new : List (Cell N)) (notes next : HeadingSets) → IsStored N width height layering old notes → AreMapped layering f old new → AreNoted N width height next new → IsStored N width height layering new next
-stored_mapped N width height layering f old new notes next s m noted = record {
-  size = s.size;
-  law = s.law;
-  covers = long_mapped layering f old new m ∙ s.covers;
-  sound = m.sound;
-  noted = noted;
-}
-
--- the same over cells and sizes that are read
-pub noted_read : (N width height wide high : ℕ) (notes : HeadingSets) (cells cells_read : List (Cell N)) → wide ≡ width → high ≡ height → cells_read ≡ cells → AreNoted N wide high notes cells_read → AreNoted N width height notes cells
-noted_read N width height wide high notes cells cells_read is_width is_height same noted =
-    subst (λ (w : ℕ). AreNoted N w height notes cells) is_width (subst (λ (h : ℕ). AreNoted N wide h notes cells) is_height (subst (AreNoted N wide high notes) same noted))
+stored_mapped N width height layering f old new notes next s m noted = record { size = s.size; law = s.law; covers = long_mapped layering f old new m ∙ s.covers; sound = m.sound; noted = noted }
 
 -- a level as it is drawn has a cell for each position
 pub drawn_covers : (N : ℕ) (game : GameParts) (drawing : Drawing) (width height : ℕ) (layering : Layering) (cells : List (Cell N)) → IsDrawing drawing → width ≡ drawing.width → height ≡ drawing.height → AreGlyphs layering (glyph_cell game) drawing.cells cells → length cells ≡ width * height
-drawn_covers N game drawing width height layering cells d is_width is_height are =
-    sym (length-map cells (seen layering)) ∙ (ap length are.cells_are ∙ (length-map drawing.cells (glyph_cell game) ∙ (d.covers ∙ (ap (λ (w : ℕ). w * drawing.height) (sym is_width) ∙ ap (λ (t : ℕ). width * t) (sym is_height)))))
+drawn_covers N game drawing width height layering cells d is_width is_height are = grind (arith, are.cells_are, length-map cells (seen layering), length-map drawing.cells (glyph_cell game))
 
 -- a level as it is drawn is stored with the layers of its game
 pub stored_drawn : (N : ℕ) (game : GameParts) (drawing : Drawing) (width height : ℕ) (layering : Layering) (cells : List (Cell N)) (notes : HeadingSets) → IsLayering N layering → IsDrawing drawing → width ≡ drawing.width → height ≡ drawing.height → AreGlyphs layering (glyph_cell game) drawing.cells cells → AreNoted N width height notes cells → IsStored N width height layering cells notes
-stored_drawn N game drawing width height layering cells notes law d is_width is_height are noted = record {
-  size = subst (λ (w : ℕ). IsSize w height) (sym is_width) (subst (IsSize drawing.width) (sym is_height) d.size);
-  law = law;
-  covers = drawn_covers N game drawing width height layering cells d is_width is_height are;
-  sound = are.sound;
-  noted = noted;
-}
+stored_drawn N game drawing width height layering cells notes law d is_width is_height are noted = record { size = rw (is_width, is_height) d.size; law = law; covers = drawn_covers N game drawing width height layering cells d is_width is_height are; sound = are.sound; noted = noted }

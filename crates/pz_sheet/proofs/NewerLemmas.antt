@@ -1,6 +1,5 @@
 -- A level becomes a newer one if it gets the newer one's cells wherever the changes that lead back say that the two differ.
-use Rattle.pz_sheet.proofs.Common.{map, suc, restored, ◌≡◌, ℕ, ◌+◌, ◌<◌, List, [], ◌∷◌, Option, Some, None, false, length, get_or, ap, sym, ◌∙◌, refl, arith, fold, IsNext, Piece, same_cell, same_cell_is, same_cell_self, Change, CellChange, changed_from, changed_cells, changes_seen, with_cell, differ_in, cell_there, Grid, SameSize, cell_of}
-use Rattle.std.proofs.lemmas.Grind.{common_steps}
+use Rattle.pz_sheet.proofs.Common.{common_steps, map, suc, restored, ◌≡◌, ℕ, ◌+◌, ◌<◌, List, [], ◌∷◌, Option, Some, None, false, length, get_or, ap, sym, ◌∙◌, refl, arith, fold, IsNext, Piece, same_cell, same_cell_is, same_cell_self, Change, CellChange, changed_from, changed_cells, changes_seen, with_cell, differ_in, cell_there, Grid, SameSize, cell_of}
 use Rattle.pz_sheet.proofs.ChangeLemmas.{way_back}
 
 -- cells of a newer level put where changes say
@@ -22,9 +21,7 @@ turned : (newer : Grid) (number : ℕ) (cells older : List (List (Option Piece))
 turned newer number [] [] here = refl
 turned newer number [] (old ∷ older) here = refl
 turned newer number (cell ∷ cells) [] here = refl
-turned newer number (cell ∷ cells) (old ∷ older) here =
-    let rest = turned newer (number + 1) cells older (λ k. ap (λ (n : ℕ). get_or newer.cells n []) (let e : number + 1 + k ≡ number + suc k = omega arith in e) ∙ here (suc k)) in
-    grind (arith, same_either_way cell old, here 0, rest)
+turned newer number (cell ∷ cells) (old ∷ older) here = grind (arith, same_either_way cell old, here 0, turned newer (number + 1) cells older (λ k. grind (arith, here (suc k))))
 
 pub all_taken : (N : ℕ) (newer grid : Grid) (changes : List (Change N)) → SameSize newer grid → length newer.cells ≡ length grid.cells → changes_seen newer changes ≡ changed_cells newer grid → taken N newer changes grid ≡ newer
 all_taken N newer grid changes size long e =

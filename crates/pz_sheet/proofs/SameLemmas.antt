@@ -19,14 +19,13 @@ pub size_of : (a b : Grid) → AreSized a b → SameSize a b
 size_of a b is = record { width = sym is.0; height = sym is.1; depth = sym is.2; layers = sym is.3 }
 
 pub are_same : (b : Bool) → not b ≡ false → b ≡ true
-are_same true h = refl
-are_same false h = cc
+are_same b h = grind arith
 
 -- levels of one size of which no cell differs
 pub same_grids : (grid other : Grid) → SameSize grid other → length grid.cells ≡ length other.cells → ((number : ℕ) → number < length grid.cells → differ_in grid other number ≡ false) → grid ≡ other
 same_grids grid other size long none =
     let cells : grid.cells ≡ other.cells = ext_get_or [] grid.cells other.cells long (λ number within. same_cell_is _ _ (are_same _ (none number within))) in
-    λ i. record { width = sym size.width i; height = sym size.height i; depth = sym size.depth i; layers = sym size.layers i; cells = cells i }
+    grind arith
 
 -- none is found exactly where they are the same
 pub none_differs : (grid other : Grid) (found : Option ℕ) (r : Bool) → SameSize grid other → length grid.cells ≡ length other.cells → is_some found ≡ not r → IsNext (differ_in grid other) 0 (length grid.cells) found → IsTrue r ↔ (grid ≡ other)

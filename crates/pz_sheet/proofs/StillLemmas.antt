@@ -1,11 +1,11 @@
 -- A cell that heads nowhere is still. So is each cell of a line or of a level for which no heading is noted.
-use Rattle.pz_sheet.proofs.Common.{Layering, inl, inr, ◌≡◌, ◌+◌, ◌*◌, ◌/◌, ◌%◌, ◌<◌, ◌≤◌, ℕ, suc, List, [], ◌∷◌, Option, Bool, true, false, map, length, get_or, arith, ap, sym, ◌∙◌, refl, subst, All, cases_lt, get_or_default, mul-add-lt, mod-mul-add, div-mul-add, member, IsWithin, heads, flag, Cell, Piece, still_place, place_of, Grid, HeadingSets, column_in, number_of, row_in, seen, IsSound, grid_of, HeadsWithin, IsNoted, AreNoted, IsStored, no_cell, cell_mapped}
+use Rattle.pz_sheet.proofs.Common.{Layering, inl, inr, ◌≡◌, ◌+◌, ◌*◌, ◌/◌, ◌%◌, ◌<◌, ◌≤◌, ℕ, suc, List, [], ◌∷◌, Option, Bool, true, false, map, length, get_or, arith, sym, ◌∙◌, refl, subst, All, cases_lt, get_or-map, mod-mul-add, div-mul-add, member, IsWithin, heads, flag, Cell, Piece, still_place, place_of, Grid, HeadingSets, column_in, number_of, row_in, seen, IsSound, grid_of, IsNoted, AreNoted, IsStored, no_cell, cell_mapped}
 use Rattle.std.proofs.Math.Nat.{mul-le-mul_right}
 use Rattle.std.proofs.lemmas.List.Elements.{All-map}
 use Rattle.pz_sheet.specs.Movement.{IsStillAt, AreStill, AreColumnsStill}
 use Rattle.pz_planes.specs.Notes.{HaveNoneBetween}
 use Rattle.pz_cells.specs.Lists.{IsStilled, HeadNowhere}
-use Rattle.pz_sheet.proofs.SheetLemmas.{only_false, seen_at}
+use Rattle.pz_sheet.proofs.SheetLemmas.{cell_in}
 use Rattle.pz_cells.proofs.ListLemmas.{AreWalked, still_shows}
 
 pub still_seen : (N : ℕ) (layering : Layering) (cell : Cell N) → IsSound layering cell → ((number : ℕ) → member cell.movement number ≡ false) → seen layering cell ≡ map still_place (seen layering cell)
@@ -15,13 +15,11 @@ still_seen N layering cell sound none =
 
 -- what is within nothing has nothing
 none_within : (wanted words : List ℕ) → IsWithin wanted words → ((number : ℕ) → member words number ≡ false) → (number : ℕ) → member wanted number ≡ false
-none_within wanted words within none number = only_false (member wanted number) (λ e. sym (none number) ∙ within number e)
+none_within wanted words within none number = grind (arith, within number, none number)
 
 same_all : (f : List (Option Piece) → List (Option Piece)) (cells : List (List (Option Piece))) → All (λ cell. cell ≡ f cell) cells → cells ≡ map f cells
 same_all f [] same = refl
-same_all f (cell ∷ cells) same =
-    ap (λ (first : List (Option Piece)). first ∷ cells) (same 0 cell (omega arith))
-    ∙ ap (λ (rest : List (List (Option Piece))). f cell ∷ rest) (same_all f cells (λ k d within. same (suc k) d (omega (arith, within))))
+same_all f (cell ∷ cells) same = grind (arith, same 0 cell, same_all f cells (λ k d within. same (suc k) d (omega (arith, within))))
 
 -- rows for which no heading is noted are stilled as they stand
 pub rows_stay : (N width height : ℕ) (layering : Layering) (cells : List (Cell N)) (notes : HeadingSets) → All (IsSound layering) cells → length cells ≡ width * height → AreNoted N width height notes cells
@@ -30,18 +28,14 @@ rows_stay N width height layering cells notes sound covers noted from end k cell
     let y = k / width in
     let column : k % width < width = column_in k width end (omega (arith, below)) in
     let row : y < end = row_in k width end (omega (arith, below)) in
-    let first : from ≤ y = elim (cases_lt y from) [
-      | inl early ↦ (let h : (y + 1) * width ≤ from * width = mul-le-mul_right {m = y + 1} width (omega (arith, early)) in absurd (omega (arith, h, late, number_of k width, column)))
-      | inr late ↦ late
-    ] in
+    let first : from ≤ y = grind (arith, mul-le-mul_right {m = y + 1} {n = from} width, late, number_of k width, column) in
     let within : k < length cells = omega (arith, below, covers, mul-le-mul_right {m = end} width high) in
-    let here = get_or cells k cell in
-    let nowhere = none_within here.movement (get_or notes.rows y []) (noted.each k cell within).row (λ number. none y number first row) in
-    record { sound = sound k cell within; seen_still = still_seen N layering here (sound k cell within) nowhere; nowhere = nowhere; objects = refl }
+    let nowhere = none_within (get_or cells k cell).movement (get_or notes.rows y []) (noted.each k cell within).row (λ number. none y number first row) in
+    record { sound = sound k cell within; seen_still = still_seen N layering (get_or cells k cell) (sound k cell within) nowhere; nowhere = nowhere; objects = refl }
 
 -- the cells of a row are cells of the map
 pub row_within : (y width height : ℕ) → y < height → y * width + width ≤ width * height
-row_within y width height y_in = (let h : y + 1 ≤ height = omega (arith, y_in) in omega (arith, mul-le-mul_right {m = y + 1} width h))
+row_within y width height y_in = grind arith
 
 -- more cells are turned
 pub walked_on : {N : ℕ} (Turns : Cell N → Cell N → Type 0) (old now next : List (Cell N)) (from end : ℕ) → from ≤ end → AreWalked Turns old now from → length next ≡ length now
@@ -62,24 +56,21 @@ module _ (N width height : ℕ) (layering : Layering) (cells : List (Cell N)) (n
       → IsStillAt (grid_of width height layering cells) x y
   still_there x y x_in y_in nowhere =
       let at = y * width + x in
-      let within : at < length cells = omega (arith, mul-add-lt y width x height y_in x_in, s.covers) in
-      let cell = get_or cells at (no_cell N) in
-      let still = still_seen N layering cell (s.sound at (no_cell N) within) (nowhere (s.noted.each at (no_cell N) within)) in
-      let here = seen_at N width height layering cells (grid_of width height layering cells) at cell refl within (get_or_default cells at (no_cell N) cell within) in
-      sym here ∙ still ∙ ap (λ (places : List (Option Piece)). map still_place places) here
+      let within = cell_in width height (length cells) x y s.covers x_in y_in in
+      grind (arith, still_seen N layering (get_or cells at (no_cell N)) (s.sound at (no_cell N) within) (nowhere (s.noted.each at (no_cell N) within)), get_or-map (seen layering) cells at (no_cell N) [] within)
 
   -- no heading is noted for the columns from one on and before another
   pub columns_are_still : (grid : Grid) → grid_of width height layering cells ≡ grid → (from end : ℕ) → end ≤ width → HaveNoneBetween notes.columns from end → AreColumnsStill grid from end
   columns_are_still grid e from end within none x late below y low y_in =
-      let high : y < height = omega (arith, y_in, ap (λ (g : Grid). g.height) e) in
+      let high : y < height = grind (arith, y_in, e) in
       let x_in : x < width = omega (arith, below, within) in
-      subst (λ (g : Grid). IsStillAt g x y) e (still_there x y x_in high (λ noted. none_within _ (get_or notes.columns x []) (subst (λ (line : ℕ). HeadsWithin N (get_or notes.columns line []) (get_or cells (y * width + x) (no_cell N))) (mod-mul-add y width x x_in) noted.column) (λ number. none x number late below)))
+      rw (← e) (still_there x y x_in high (λ noted. none_within _ (get_or notes.columns x []) (rw (mod-mul-add y width x x_in) at noted.column) (λ number. none x number late below)))
 
   -- no heading is noted for the rows from one on and before another
   pub rows_are_still : (grid : Grid) → grid_of width height layering cells ≡ grid → (x from end : ℕ) → x < grid.width → end ≤ height → HaveNoneBetween notes.rows from end → AreStill grid x from end
   rows_are_still grid e x from end inside within none y late below =
-      let x_in : x < width = omega (arith, inside, ap (λ (g : Grid). g.width) e) in
-      subst (λ (g : Grid). IsStillAt g x y) e (still_there x y x_in (omega (arith, below, within)) (λ noted. none_within _ (get_or notes.rows y []) (subst (λ (line : ℕ). HeadsWithin N (get_or notes.rows line []) (get_or cells (y * width + x) (no_cell N))) (div-mul-add y width x x_in) noted.row) (λ number. none y number late below)))
+      let x_in : x < width = grind (arith, inside, e) in
+      rw (← e) (still_there x y x_in (omega (arith, below, within)) (λ noted. none_within _ (get_or notes.rows y []) (rw (div-mul-add y width x x_in) at noted.row) (λ number. none y number late below)))
 
   -- no heading is noted at all
   pub all_are_still : ((number : ℕ) → member notes.whole number ≡ false) → map (seen layering) cells ≡ map (map still_place) (map (seen layering) cells)
@@ -92,18 +83,8 @@ module _ (N width height : ℕ) (layering : Layering) (cells : List (Cell N)) (n
 
 -- cells that were read head nowhere where the notes say so
 pub nowhere_read : (N width height : ℕ) (layering : Layering) (cells read : List (Cell N)) (notes : HeadingSets) (still : Bool) → IsStored N width height layering cells notes → read ≡ cells → (still ≡ true → (number : ℕ) → member notes.whole number ≡ false) → still ≡ true → HeadNowhere read
-nowhere_read N width height layering cells read notes still s is none are_still = subst HeadNowhere (sym is) (all_head_nowhere N width height layering cells notes s (none are_still))
+nowhere_read N width height layering cells read notes still s is none are_still = rw is (all_head_nowhere N width height layering cells notes s (none are_still))
 
 -- cells that head nowhere need no notes
 pub noted_nowhere : (N width height : ℕ) (notes : HeadingSets) (cells : List (Cell N)) → length notes.rows ≡ height → length notes.columns ≡ width → HeadNowhere cells → AreNoted N width height notes cells
-noted_nowhere N width height notes cells rows columns nowhere = record {
-  row_count = rows;
-  column_count = columns;
-  each = λ index cell within. record {
-    whole = λ number e. absurd (heads_not index cell within number e);
-    row = λ number e. absurd (heads_not index cell within number e);
-    column = λ number e. absurd (heads_not index cell within number e);
-  };
-} where
-  heads_not : (index : ℕ) (cell : Cell N) → index < length cells → (number : ℕ) → member (get_or cells index cell).movement number ≡ true → ⊥
-  heads_not index cell within number e = let f : false ≡ true = sym (nowhere index cell number within) ∙ e in cc
+noted_nowhere N width height notes cells rows columns nowhere = grind (arith, nowhere)

@@ -1,7 +1,7 @@
 -- A cell in which exactly one object comes or goes.
-use Rattle.pz_sheet.proofs.Common.{Layering, ◌≡◌, ℕ, ◌+◌, ◌*◌, ◌<◌, List, [], Option, None, Bool, true, false, not, ◌&&◌, ◌||◌, nat_eq, set, length, get_or, length-map, arith, refl, ap, sym, map-set, sound_at, ◌∙◌, subst, Cell, Piece, IsWithin, member, seen, IsOnLayer, IsSound, HeadingSets, PlaneSets, BareState, Grid, cell_at, place_at, grid_of, with_place, AreChanged, AreThere}
-use Rattle.std.proofs.lemmas.Grind.{common_steps}
+use Rattle.pz_sheet.proofs.Common.{common_steps, Layering, ◌≡◌, ℕ, ◌+◌, ◌*◌, ◌<◌, List, Option, None, Bool, true, false, not, ◌&&◌, ◌||◌, nat_eq, set, length, get_or, length-map, arith, refl, ap, sym, map-set, sound_at, Cell, Piece, IsWithin, member, seen, IsOnLayer, IsSound, HeadingSets, PlaneSets, BareState, Grid, cell_at, place_at, grid_of, with_place, AreChanged}
 use Rattle.pz_planes.specs.Planes.{toggled}
+use Rattle.pz_planes.proofs.PlaneLemmas.{changed_from}
 use Rattle.pz_sheet.specs.Grid.{IsOnMap}
 use Rattle.pz_sheet.specs.Seen.{IsNoted, IsSheet}
 use Rattle.pz_sheet.proofs.PlacedLemmas.{placed_set, there_of}
@@ -13,14 +13,6 @@ gone object old new is was other = grind (arith, is other, was)
 
 pub come : (object : ℕ) (old new : ℕ → Bool) → ((other : ℕ) → new other ≡ (nat_eq other object || old other)) → old object ≡ false → (other : ℕ) → new other ≡ toggled (nat_eq other object) (old other)
 come object old new is was other = grind (arith, is other, was)
-
--- notes that are toggled where exactly one object comes or goes are those of the new objects
-changed : (planes next : PlaneSets) (x y object : ℕ) (before new : List ℕ) → AreThere planes x y (member before) → AreChanged planes next x y (λ other was. toggled (nat_eq other object) was) → ((other : ℕ) → member new other ≡ toggled (nat_eq other object) (member before other))
-    → AreChanged planes next x y (λ other was. member new other)
-changed planes next x y object before new there done toggle = record {
-  rows = record { objects = done.rows.objects; count = done.rows.count; here = λ other low. done.rows.here other low ∙ ap (toggled (nat_eq other object)) (there.row other low) ∙ sym (toggle other); others = done.rows.others };
-  columns = record { objects = done.columns.objects; count = done.columns.count; here = λ other low. done.columns.here other low ∙ ap (toggled (nat_eq other object)) (there.column other low) ∙ sym (toggle other); others = done.columns.others };
-}
 
 -- ---- a cell of a level in which exactly one object comes or goes, while nothing new heads anywhere
 -- the cell at a position, in words
@@ -35,22 +27,20 @@ pub record IsThere (N width height : ℕ) (layering : Layering) (cells : List (C
   pub shown : seen layering cell ≡ cell_at grid x y
   pub sound : IsSound layering cell
 
-pub is_there : (N width height : ℕ) (layering : Layering) (cells : List (Cell N)) (notes : HeadingSets) (planes : PlaneSets) (level : BareState) (x y at : ℕ) (cell : Cell N) → IsSheet N width height layering cells notes planes → record { grid = grid_of width height layering cells } ≡ level → IsOnMap level.grid x y → at ≡ y * level.grid.width + x → at < length level.grid.cells → cell ≡ get_or cells at cell
+pub is_there : {N width height : ℕ} {layering : Layering} {cells : List (Cell N)} {notes : HeadingSets} {planes : PlaneSets} {level : BareState} {x y at : ℕ} {cell : Cell N} → IsSheet N width height layering cells notes planes → record { grid = grid_of width height layering cells } ≡ level → IsOnMap level.grid x y → at ≡ y * level.grid.width + x → at < length level.grid.cells → cell ≡ get_or cells at cell
     → IsThere N width height layering cells notes planes level.grid x y at cell
-is_there N width height layering cells notes planes level x y at cell s e on_map number within is =
-    let wide : width ≡ level.grid.width = ap (λ (it : BareState). it.grid.width) e in
-    let high : height ≡ level.grid.height = ap (λ (it : BareState). it.grid.height) e in
+is_there {N} {width} {height} {layering} {cells} {notes} {planes} {level} {x} {y} {at} {cell} s e on_map number within is =
     let same = ap (λ (it : BareState). it.grid) e in
     let inside = seen_within N width height layering cells level.grid at same within in
     record {
       sheet = s;
       level = same;
-      number = number ∙ ap (λ (w : ℕ). y * w + x) (sym wide);
-      x_in = omega (arith, on_map.0, wide);
-      y_in = omega (arith, on_map.1, high);
+      number = grind (arith, number, same);
+      x_in = grind (arith, on_map.0, same);
+      y_in = grind (arith, on_map.1, same);
       within = inside;
       is = is;
-      shown = seen_at N width height layering cells level.grid at cell same inside is ∙ ap (λ (k : ℕ). get_or level.grid.cells k []) number;
+      shown = grind (arith, seen_at N width height layering cells level.grid at cell same inside is, number);
       sound = sound_at layering cells at cell s.stored.sound inside is;
     }
 
@@ -62,40 +52,33 @@ pub record IsToggled (N : ℕ) (layering : Layering) (cell new : Cell N) (layer 
   pub objects : (other : ℕ) → member new.objects other ≡ toggled (nat_eq other object) (member cell.objects other)
   pub known : (object < length layering.layers) × (get_or layering.layers object 0 ≡ layer)
 
-module _ (N width height : ℕ) (layering : Layering) (cells : List (Cell N)) (notes : HeadingSets) (planes : PlaneSets) (grid : Grid) (x y at : ℕ) (cell : Cell N) (there : IsThere N width height layering cells notes planes grid x y at cell) where
+module _ {N width height : ℕ} {layering : Layering} {cells : List (Cell N)} {notes : HeadingSets} {planes : PlaneSets} {grid : Grid} {x y at : ℕ} {cell : Cell N} (there : IsThere N width height layering cells notes planes grid x y at cell) where
   -- what is seen of the layers
   pub place_shown : (layer : ℕ) (place : Option Piece) → place_at grid x y layer ≡ place → get_or (seen layering cell) layer None ≡ place
-  place_shown layer place e = ap (λ (places : List (Option Piece)). get_or places layer None) there.shown ∙ e
+  place_shown layer place e = grind (arith, there.shown, e)
 
   pub on_its_layer : (layer : ℕ) (place : Option Piece) → place_at grid x y layer ≡ place → IsOnLayer layering.layers layer place
-  on_its_layer layer place e = subst (IsOnLayer layering.layers layer) (place_shown layer place e) ((cell_seen N layering cell there.sound).on_layers layer)
+  on_its_layer layer place e = rw (← place_shown layer place e) ((cell_seen N layering cell there.sound).on_layers layer)
 
-  module _ (new : Cell N) (layer object : ℕ) (place : Option Piece) (t : IsToggled N layering cell new layer object place) where
+  module _ {new : Cell N} {layer object : ℕ} {place : Option Piece} (t : IsToggled N layering cell new layer object place) where
     pub level_toggled : grid_of width height layering (set cells at new) ≡ with_place grid x y layer place
-    level_toggled =
-        ap (λ (all : List (List (Option Piece))). record (grid_of width height layering cells) { cells = all }) (map-set (seen layering) cells at new)
-        ∙ ap (λ (it : Grid). record it { cells = set it.cells at (seen layering new) }) there.level
-        ∙ ap (λ (k : ℕ). record grid { cells = set grid.cells k (seen layering new) }) (there.number ∙ ap (λ (it : Grid). y * it.width + x) there.level)
-        ∙ ap (λ (c : List (Option Piece)). record grid { cells = set grid.cells (y * grid.width + x) c }) (t.shown ∙ ap (λ (c : List (Option Piece)). set c layer place) there.shown)
+    level_toggled = grind (arith, map-set (seen layering) cells at new, there.level, there.number, t.shown, there.shown)
 
     deep : layer < length (seen layering cell)
     deep = omega (arith, (cell_seen N layering cell there.sound).deep, there.sheet.stored.law.layered object 0 t.known.0, t.known.1)
 
     pub place_toggled : place_at (grid_of width height layering (set cells at new)) x y layer ≡ place
-    place_toggled =
-        ap (λ (it : Grid). place_at it x y layer) level_toggled
-        ∙ placed_there grid x y layer place (omega (arith, there.within, there.number ∙ ap (λ (it : Grid). y * it.width + x) there.level, ap (λ (it : Grid). length it.cells) there.level, length-map cells (seen layering))) (omega (arith, deep, ap length there.shown))
+    place_toggled = grind (arith, level_toggled, placed_there grid x y layer place, there.within, there.number, there.level, length-map cells (seen layering), deep, there.shown)
 
     pub sheet_toggled : (next : PlaneSets) → AreChanged planes next x y (λ other was. toggled (nat_eq other object) was) → IsSheet N width height layering (set cells at new) notes next
     sheet_toggled next done =
         let s = there.sheet in
-        let noted = subst (IsNoted N width notes at) (sym there.is) (s.stored.noted.each at cell there.within) in
+        let noted : IsNoted N width notes at cell = rw there.is (s.stored.noted.each at cell there.within) in
         let less : IsNoted N width notes at new = record { whole = λ k e. noted.whole k (t.movement k e); row = λ k e. noted.row k (t.movement k e); column = λ k e. noted.column k (t.movement k e) } in
         record {
-          stored = stored_set N width height layering cells at new notes notes s.stored t.sound (subst (λ (w : ℕ). IsNoted N w notes at new) (sym s.stored.noted.column_count) less)
-              (record { row_count = refl; column_count = refl; whole = λ k e. e; rows = λ line k e. e; columns = λ line k e. e });
+          stored = stored_set N width height layering cells at new notes notes s.stored t.sound (rw s.stored.noted.column_count less) (record { row_count = refl; column_count = refl; whole = λ k e. e; rows = λ line k e. e; columns = λ line k e. e });
           placed = placed_set N (length layering.layers) width height planes next cells at x y new s.placed there.number there.x_in there.y_in there.within
-              (changed planes next x y object cell.objects new.objects (there_of N (length layering.layers) width height planes cells at x y cell s.placed there.number there.x_in there.y_in there.is) done t.objects);
+              (changed_from (there_of N (length layering.layers) width height planes cells at x y cell s.placed there.number there.x_in there.y_in there.is) done (λ other. sym (t.objects other)));
         }
 
 -- where nothing stands on a layer, nothing does once a place of that layer is emptied

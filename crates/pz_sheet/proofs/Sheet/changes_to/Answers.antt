@@ -1,8 +1,8 @@
-use Rattle.pz_sheet.proofs.Common.{◌≡◌, ◌+◌, ◌++◌, [], ◌∷◌, All, List, Option, arith, ap, sym, ◌∙◌, subst, Piece, Layering, seen, IsSound, Change, CellChange, changed_cells, changes_seen, IsChangeOf, cell_there, layers_in}
+use Rattle.pz_sheet.proofs.Common.{◌≡◌, ◌++◌, [], ◌∷◌, List, Option, arith, ap, sym, ◌∙◌, subst, Piece, Layering, seen, IsSound, Change, changed_cells, changes_seen, IsChangeOf, cell_there, layers_in}
 use Rattle.std.proofs.lemmas.List.{map-append}
 use Rattle.std.proofs.lemmas.List.Elements.{All-append, All-cons, All-nil}
 use Rattle.pz_sheet.specs.Changes.{change_seen}
-use Rattle.pz_sheet.proofs.ChangeLemmas.{found_more, all_found, left_from, way_back_by}
+use Rattle.pz_sheet.proofs.ChangeLemmas.{found_more, all_found, way_back}
 use Rattle.pz_sheet.proofs.Sheet.changes_to.Goals as goal
 
 pub changes-preserved : goal.changes-preserved
@@ -13,14 +13,14 @@ changes-preserved g c =
     let next = c.in-Some.ensures.next in
     let new : Change g.row.N = record { index = index; cell = c.cell-cell.result.now } in
     let old = c.changes.changes.items in
-    let over : layers_in older ≡ layers_in grid = λ i. record { depth = c.requires.size.depth i; layers = c.requires.size.layers i } in
+    let over : layers_in older ≡ layers_in grid = grind (arith, c.requires.size) in
     let there = ap (λ (layering : Layering). seen layering new.cell) (sym over) ∙ c.cell-cell.ensures.cell in
     let more : changes_seen grid c.push.new.self.items ≡ changes_seen grid old ++ cell_there older index ∷ [] =
     ap (changes_seen grid) c.in_ok-push.ensures.items ∙ map-append (change_seen (layers_in grid)) old (new ∷ []) ∙ ap (λ (cell : List (Option Piece)). changes_seen grid old ++ record { number = index; cell = cell } ∷ []) there in
     let long = c.in-Some.ensures.as_many in
     record {
-      found = ap (λ (found : List CellChange). found ++ left_from grid older (index + 1)) more ∙ found_more grid older long (changes_seen grid old) (changed_cells grid older) c.changes.from index next c.changes.invariant.found;
-      of_level = subst (All (IsChangeOf grid)) (sym c.in_ok-push.ensures.items) (All-append (IsChangeOf grid) old (new ∷ []) c.changes.invariant.of_level (All-cons (IsChangeOf grid) new [] (record { within = next.1; sound = subst (λ (layering : Layering). IsSound layering new.cell) over c.cell-cell.ensures.sound }) (All-nil (IsChangeOf grid))));
+      found = rw more (found_more grid older long (changes_seen grid old) (changed_cells grid older) c.changes.from index next c.changes.invariant.found);
+      of_level = rw c.in_ok-push.ensures.items (All-append (IsChangeOf grid) old (new ∷ []) c.changes.invariant.of_level (All-cons (IsChangeOf grid) new [] (record { within = next.1; sound = subst (λ (layering : Layering). IsSound layering new.cell) over c.cell-cell.ensures.sound }) (All-nil (IsChangeOf grid))));
       low = omega (arith, next.1);
     }
 
@@ -31,5 +31,4 @@ returns-clause-changes g c =
     all_found grid older c.in_default.ensures.as_many (changes_seen grid c.changes.changes.items) (changed_cells grid older) c.changes.from c.changes.invariant.low c.in_default.ensures.next c.changes.invariant.found
 
 pub returns-clause-way_back : goal.returns-clause-way_back
-returns-clause-way_back g c =
-    way_back_by c.args.self.now.grid c.args.older.now.grid (changes_seen c.args.self.now.grid c.changes.changes.items) c.requires.size c.in_default.ensures.as_many (returns-clause-changes g c)
+returns-clause-way_back g c = rw (returns-clause-changes g c) (way_back c.args.self.now.grid c.args.older.now.grid c.requires.size c.in_default.ensures.as_many)

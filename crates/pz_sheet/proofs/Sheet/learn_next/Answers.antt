@@ -1,37 +1,27 @@
-use Rattle.pz_sheet.proofs.Common.{List, length, ap, sym, ◌∙◌, refl, subst, Cell, IsNextDiffering, small_cell}
+use Rattle.pz_sheet.proofs.Common.{None, Some, length, ap, sym, ◌∙◌, refl, small_cell}
 use Rattle.pz_sheet.proofs.SheetLemmas.{lawful_here}
-use Rattle.pz_sheet.proofs.ChangeLemmas.{both_of, as_many, next_is}
 use Rattle.pz_sheet.proofs.StillLemmas.{nowhere_read}
-use Rattle.pz_sheet.proofs.TellLemmas.{no_row, found_row, known_row}
+use Rattle.pz_sheet.proofs.TellLemmas.{as_many, next_is, next_by_planes, known_row}
 use Rattle.pz_sheet.proofs.Sheet.learn_next.Goals as goal
 
 pub returns-in_default-clause-next : goal.returns-in_default-clause-next
-returns-in_default-clause-next g c = no_row c.self.inside c.other.inside c.requires.size c.self.view_is c.other.view_is c.self.invariant c.other.invariant (c.if-is_told_by_planes.ensures refl) (c.if-are_still.ensures.first refl) (c.if-are_still.ensures.second refl) c.args.from c.lines-rows.ensures c.lines-others.ensures c.in_default.ensures
+returns-in_default-clause-next g c = next_by_planes c.self.inside c.other.inside c.requires.size c.self.view_is c.other.view_is c.self.invariant c.other.invariant (c.if-is_told_by_planes.ensures refl) (c.if-are_still.ensures.first refl) (c.if-are_still.ensures.second refl) c.args.from None (rw (c.lines-rows.ensures, c.lines-others.ensures) at c.in_default.ensures)
 
 pub returns-then-is_told_by_planes-clause-next : goal.returns-then-is_told_by_planes-clause-next
-returns-then-is_told_by_planes-clause-next g c = found_row c.self.inside c.other.inside c.requires.size c.self.view_is c.other.view_is c.self.invariant c.other.invariant (c.if-is_told_by_planes.ensures refl) (c.if-are_still.ensures.first refl) (c.if-are_still.ensures.second refl) c.args.from c.in-Some.row c.lines-rows.ensures c.lines-others.ensures c.in-Some.ensures
+returns-then-is_told_by_planes-clause-next g c = next_by_planes c.self.inside c.other.inside c.requires.size c.self.view_is c.other.view_is c.self.invariant c.other.invariant (c.if-is_told_by_planes.ensures refl) (c.if-are_still.ensures.first refl) (c.if-are_still.ensures.second refl) c.args.from (Some c.in-Some.row.found) (rw (c.lines-rows.ensures, c.lines-others.ensures) at c.in-Some.ensures).0
 
 pub returns-then-is_told_by_planes-clause-known : goal.returns-then-is_told_by_planes-clause-known
-returns-then-is_told_by_planes-clause-known g c = known_row c.self.inside c.other.inside c.requires.size c.self.view_is c.other.view_is c.self.invariant c.other.invariant (c.if-is_told_by_planes.ensures refl) (c.if-are_still.ensures.first refl) (c.if-are_still.ensures.second refl) c.args.from c.in-Some.row _ c.lines-rows.ensures c.lines-others.ensures c.in-Some.ensures refl refl refl
+returns-then-is_told_by_planes-clause-known g c = known_row c.self.inside c.other.inside c.requires.size c.self.view_is c.other.view_is c.self.invariant c.other.invariant (c.if-is_told_by_planes.ensures refl) (c.if-are_still.ensures.first refl) (c.if-are_still.ensures.second refl) c.args.from c.in-Some.row _ (rw (c.lines-rows.ensures, c.lines-others.ensures) at c.in-Some.ensures) refl refl refl
 
 pub next_differing-requires-2 : goal.next_differing-requires-2
 next_differing-requires-2 g c =
-    let both = both_of c.self.inside c.other.inside c.requires.size c.self.view_is c.other.view_is c.self.invariant.stored c.other.invariant.stored in
-    let long = ap length c.deref.ensures.value ∙ (as_many both ∙ sym (ap length c.deref-2.ensures.value)) in
+    let long = ap length c.deref.ensures.value ∙ as_many c.self.inside c.other.inside c.requires.size c.self.view_is c.other.view_is c.self.invariant c.other.invariant ∙ sym (ap length c.deref-2.ensures.value) in
     let nowhere = nowhere_read _ _ _ _ _ _ _ _ c.self.invariant.stored c.deref.ensures.value c.are_empty-are_still.ensures.first in
     let nowhere_there = nowhere_read _ _ _ _ _ _ _ _ c.other.invariant.stored c.deref-2.ensures.value c.are_empty-are_still.ensures.second in
     (small_cell _ c.self.invariant.stored.law.short, (c.self.invariant.stored.law.short, (long, λ still. (nowhere still, nowhere_there still))))
 
 pub returns-clause-next : goal.returns-clause-next
-returns-clause-next g c =
-    let a = c.self.inside in
-    let b = c.other.inside in
-    let both = both_of a b c.requires.size c.self.view_is c.other.view_is c.self.invariant.stored c.other.invariant.stored in
-    let found = c.next_differing-2.result in
-    let next : IsNextDiffering a.cells.items b.cells.items c.args.from found =
-    subst (λ (there : List (Cell g.row.N)). IsNextDiffering a.cells.items there c.args.from found) c.deref-2.ensures.value
-    (subst (λ (here : List (Cell g.row.N)). IsNextDiffering here c.deref-2.result.now c.args.from found) c.deref.ensures.value c.next_differing-2.ensures) in
-    next_is both c.args.from found next
+returns-clause-next g c = next_is c.self.inside c.other.inside c.requires.size c.self.view_is c.other.view_is c.self.invariant c.other.invariant c.args.from c.next_differing-2.result (rw (c.deref.ensures.value, c.deref-2.ensures.value) at c.next_differing-2.ensures)
 
 pub returns-clause-lawful : goal.returns-clause-lawful
 returns-clause-lawful g c = lawful_here _ _ _ _ _ _ _ c.self.invariant.stored c.self.view_is

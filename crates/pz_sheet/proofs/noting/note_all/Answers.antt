@@ -1,15 +1,14 @@
-use Rattle.pz_sheet.proofs.Common.{◌≡◌, ◌*◌, ◌/◌, ◌%◌, ℕ, Bool, List, true, false, length, arith, ap, sym, ◌∙◌, subst, member, no_number, AreChanged, HaveSameLines, PlaneSets, still_there_at, AreAllThere}
+use Rattle.pz_sheet.proofs.Common.{◌≡◌, ◌*◌, ℕ, Bool, true, false, length, arith, member, no_number, HaveSameLines, PlaneSets, still_there_at}
 use Rattle.pz_planes.proofs.PlaneLemmas.{same_lines}
-use Rattle.pz_sheet.proofs.EndLemmas.{ends_still_at}
-use Rattle.pz_sheet.proofs.PlacedLemmas.{all_there_more, all_there, none_of_empty}
+use Rattle.pz_sheet.proofs.PlacedLemmas.{ends_still_at, all_there_more, all_there, none_of_empty}
 use Rattle.pz_sheet.proofs.noting.note_all.Goals as goal
 
 -- as many cells fit where nothing is noted any more
 covers : (start cleared : PlaneSets) (count : ℕ) → HaveSameLines start cleared → count ≡ start.columns.count * start.rows.count → count ≡ cleared.columns.count * cleared.rows.count
-covers start cleared count size is = is ∙ sym (ap (λ (w : ℕ). w * cleared.rows.count) size.column_count ∙ ap (λ (h : ℕ). start.columns.count * h) size.row_count)
+covers start cleared count size is = grind arith
 
 pub note_at-requires-clause-known_before : goal.note_at-requires-clause-known_before
-note_at-requires-clause-known_before g c object is = absurd (let e : false ≡ true = sym (no_number g.row.N object) ∙ is in cc)
+note_at-requires-clause-known_before g c object is = absurd (grind (arith, no_number g.row.N object, is))
 
 pub note_at-requires-clause-there : goal.note_at-requires-clause-there
 note_at-requires-clause-there g c =
@@ -28,7 +27,7 @@ loop-index-preserved g c =
     let cell = c.index-cells-index.result in
     let all = covers c.args.planes.now start (length c.args.cells.now) c.clear.ensures.size c.requires.covers in
     let noted = λ (object : ℕ) (was : Bool). member cell.objects object in
-    let changed = subst (λ (words : List ℕ). AreChanged old new (index % old.columns.count) (index / old.columns.count) (λ object was. member words object)) c.objects_of.ensures.objects c.note_at.ensures in
+    let changed = rw c.objects_of.ensures.objects at c.note_at.ensures in
     record {
       size = same_lines start old new _ _ noted i.size changed;
       there = all_there_more g.row.N start old new c.args.cells.now index cell c.loop-index-test.true c.index-cells-index.is i.size all changed i.there;
@@ -38,9 +37,6 @@ loop-index-preserved g c =
 
 pub returns-clause-there : goal.returns-clause-there
 returns-clause-there g c =
-    let first = c.clear.ensures.size in
+    let size = c.clear.ensures.size in
     let start = c.clear.new.self in
-    let planes = c.loop-index.planes in
-    let there = all_there g.row.N start planes c.args.cells.now c.loop-index.index (omega (arith, c.loop-index-test.false)) (covers c.args.planes.now start (length c.args.cells.now) c.clear.ensures.size c.requires.covers) c.loop-index.invariant.there in
-    subst (λ (w : ℕ). AreAllThere g.row.N w c.args.planes.now.rows.count planes c.args.cells.now) first.column_count
-    (subst (λ (h : ℕ). AreAllThere g.row.N start.columns.count h planes c.args.cells.now) first.row_count there)
+    rw (size.column_count, size.row_count) at (all_there g.row.N start c.loop-index.planes c.args.cells.now c.loop-index.index (omega (arith, c.loop-index-test.false)) (covers c.args.planes.now start (length c.args.cells.now) size c.requires.covers) c.loop-index.invariant.there)
