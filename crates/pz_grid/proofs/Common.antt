@@ -16,7 +16,7 @@ pub use Rattle.pz_grid.specs.Marks.{IsMarked, IsMarkedAt, IsMore, IsWidened, IsW
 pub use Rattle.pz_grid.specs.Movement.{AllStay, Leaves, Pass, Spot, Stays, heading_count, heading_goal, heads, in_pass, move_at, move_place, moved_to, moving, pass_of, resolved, settle, spot, spots, spots_at, spots_in}
 pub use Rattle.pz_grid.specs.Places.{along, cell_holds, cells_before, distance, gap_count, head_of, holds_at, holds_behind, line_count, line_length, pairs, pairs_at, pairs_in, place_in, places, row_holds, searched, starts_with, still_holds}
 pub use Rattle.pz_grid.specs.Rewriting.{in_rewrite, rewritten_along, rewritten_row}
-pub use Rattle.pz_grid.specs.Staying.{IsMove, IsStill, KeepsStill}
+pub use Rattle.pz_grid.specs.Staying.{IsMove, IsStill, IsStillInColumn, IsStillInRow, KeepsStill}
 pub use Rattle.pz_grid.specs.declared.placing.GridFault.TheVariants.{MatchLimit, Memory}
 pub use Rattle.pz_grid.specs.declared.placing.Place.{Place}
 pub use Rattle.pz_grid.specs.declared.placing.TheConstants.{MATCH_LIMIT}

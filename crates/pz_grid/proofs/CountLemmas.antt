@@ -35,8 +35,7 @@ area grid dir = elim dir as (λ d. line_count grid d * line_length grid d ≡ gr
 
 product_small : (n m gaps size : ℕ) → gaps ≤ MAX_SIDE → n * m ≡ size → size ≤ 4096 → n * (m * gaps) ≤ 1044480
 product_small n m gaps size low is small =
-    let e : n * (m * gaps) ≡ gaps * (n * m) = omega arith in
-    omega (arith, e, mul-le-mul_right (n * m) low)
+    omega (arith, mul-le-mul_right (n * m) low)
 
 -- in a small level no row meets it, whatever its gap spans
 pub searched-small : (grid : Grid) (row : RuleRow) (dir : Dir) → IsLawful grid → grid.width * grid.height ≤ 4096 → searched grid row dir ≡ Ok (places grid row dir)

@@ -1,5 +1,5 @@
 -- What a movement marks: what has landed stays, so in the end each line holds what was marked for it.
-use Rattle.pz_grid.proofs.Common.{Grid, IsMore, IsMove, IsStill, IsWidened, Item, KeepsStill, Leaves, LevelState, List, Mover, Option, Piece, Some, [], ap, arith, carried, column_of, eq-eqb, false, get_or, in_column, in_pass, in_row, inl, inr, is_in, length, list_any_more, map, moving_piece, names, names_object, nat_eq, place_at, row_of, spot, still_piece, still_place, stilled, subst, sym, take, true, ℕ, ◌&&◌, ◌*◌, ◌+◌, ◌<◌, ◌∙◌, ◌≡◌}
+use Rattle.pz_grid.proofs.Common.{IsStillInColumn, IsStillInRow, Grid, IsMore, IsMove, IsStill, IsWidened, Item, KeepsStill, Leaves, LevelState, List, Mover, Option, Piece, Some, [], ap, arith, carried, column_of, eq-eqb, false, get_or, in_column, in_pass, in_row, inl, inr, is_in, length, list_any_more, map, moving_piece, names, names_object, nat_eq, place_at, row_of, spot, still_piece, still_place, stilled, subst, sym, take, true, ℕ, ◌&&◌, ◌*◌, ◌+◌, ◌<◌, ◌∙◌, ◌≡◌}
 use Rattle.pz_grid.proofs.StayLemmas.{still-moved_to}
 use Rattle.pz_grid.proofs.MarkLemmas.{more_only, in_line_from, is_in_at, is_in_cells, still_same}
 
@@ -31,16 +31,10 @@ still_is_in cells index layer object h =
 
 -- after a movement each set has nothing but what it had and what its line has now
 pub widened_move : (old settled new : LevelState) → IsMove old settled → new.grid ≡ stilled settled.grid → new.row_marks ≡ settled.row_marks → new.column_marks ≡ settled.column_marks → IsWidened old new (in_row new.grid) (in_column new.grid)
-widened_move old settled new h g r d = record {
-  rows = λ line object e. elim (h.rows line object (rw r at e)) [
-    | inl before ↦ inl before
-    | inr s ↦ inr (rw g (in_line_from (stilled settled.grid) (row_of line) s.x object s.inside (still_is_in settled.grid.cells (line * settled.grid.width + s.x) s.layer object s.there)))
-  ];
-  columns = λ line object e. elim (h.columns line object (rw d at e)) [
-    | inl before ↦ inl before
-    | inr s ↦ inr (rw g (in_line_from (stilled settled.grid) (column_of line) s.y object s.inside (still_is_in settled.grid.cells (s.y * settled.grid.width + line) s.layer object s.there)))
-  ];
-}
+widened_move old settled new h g r d =
+    let here = λ (line object : ℕ) (s : IsStillInRow settled.grid line object). in_line_from (stilled settled.grid) (row_of line) s.x object s.inside (still_is_in settled.grid.cells (line * settled.grid.width + s.x) s.layer object s.there) in
+    let below = λ (line object : ℕ) (s : IsStillInColumn settled.grid line object). in_line_from (stilled settled.grid) (column_of line) s.y object s.inside (still_is_in settled.grid.cells (s.y * settled.grid.width + line) s.layer object s.there) in
+    record { rows = λ line object e. grind (arith, g, r, e, h.rows line object, here line object); columns = λ line object e. grind (arith, g, d, e, h.columns line object, below line object) }
 
 -- what the right of a rule places is marked
 pub more_item : (old now new : List (List ℕ)) (line : ℕ) (items : List Item) (i : ℕ) (item : Item) → i < length items → get_or items i item ≡ item → IsMore old now line (λ object. names_object object (take i items)) → IsMore now new line (λ object. names item.word && nat_eq item.object object) → IsMore old new line (λ object. names_object object (take (i + 1) items))

@@ -54,31 +54,22 @@ holds_from_place grid row dir place found =
     let passes = All-contains (λ x. p x ≡ true) (places grid row dir) place (filter_passes p (pairs grid row dir)) found in
     and_from _ _ (grind (arith, eq-eqb place.gap 0, gap_from_pairs grid row dir place in_all)) passes
 
--- where a row starts is on the map
-start_inside : (grid : Grid) (pattern : List Item) (dir : Dir) (x y : ℕ) → holds_at grid pattern (along grid dir x y 0) ≡ true → (x < grid.width) × (y < grid.height)
-start_inside grid pattern dir x y h = grind (arith, h)
-
--- a row doesn't reach farther than its line is long
-steps_inside : (grid : Grid) (pattern : List Item) (dir : Dir) (x y steps : ℕ) → x < grid.width → y < grid.height → holds_at grid pattern (along grid dir x y steps) ≡ true → steps < line_length grid dir
-steps_inside grid pattern dir x y steps in_x in_y h = grind (arith, h)
-
 -- each cell of a row that holds, holds where it stands
 pub holds_each_cell : (grid : Grid) (row : RuleRow) (dir : Dir) (place : Place) (k : ℕ) → k < length row.cells → row_holds grid row dir place ≡ true → holds_at grid (get_or row.cells k []) (along grid dir place.x place.y (distance row.gap_at place.gap k)) ≡ true
 holds_each_cell grid row dir place k within h = each_from_all (cell_holds grid row dir place) row.cells [] k within h
 
 distance_first : (at : Option ℕ) (gap n : ℕ) → IfSome at (λ a. (0 < a) × (a < n)) → distance at gap 0 ≡ 0
-distance_first None gap n h = refl
-distance_first (Some a) gap n h = grind (arith, h.0, lt-leb a 0)
+distance_first at gap n h = grind (arith, h, lt-leb)
 
 gap_inside : (grid : Grid) (row : RuleRow) (dir : Dir) (place : Place) (at : Option ℕ) → row.gap_at ≡ at → IfSome at (λ a. (0 < a) × (a < length row.cells)) → (is_some at || nat_eq place.gap 0) ≡ true → row_holds grid row dir place ≡ true → place.x < grid.width → place.y < grid.height → place.gap < (if is_some at then line_length grid dir else 1)
 gap_inside grid row dir place None same between gap h in_x in_y = grind (arith, gap, eqb-true place.gap 0)
 gap_inside grid row dir place (Some a) same between gap h in_x in_y =
-    grind (arith, same, le-leb a a, steps_inside grid (get_or row.cells a []) dir place.x place.y (distance row.gap_at place.gap a) in_x in_y (holds_each_cell grid row dir place a between.1 h))
+    grind (arith, same, le-leb a a, in_x, in_y, holds_each_cell grid row dir place a between.1 h)
 
 pair_from_holds : (grid : Grid) (row : RuleRow) (dir : Dir) (place : Place) → IsRow row → (is_some row.gap_at || nat_eq place.gap 0) ≡ true → row_holds grid row dir place ≡ true → Contains (pairs grid row dir) place
 pair_from_holds grid row dir place is gap h =
     let first = rw (distance_first row.gap_at place.gap (length row.cells) is.between) at (holds_each_cell grid row dir place 0 is.some h) in
-    let start = start_inside grid (get_or row.cells 0 []) dir place.x place.y first in
+    let start : (place.x < grid.width) × (place.y < grid.height) = grind (arith, first) in
     in_pairs grid row dir place start.0 start.1 (gap_inside grid row dir place row.gap_at refl is.between gap h start.0 start.1)
 
 -- what holds is a place

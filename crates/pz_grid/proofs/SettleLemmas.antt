@@ -57,16 +57,13 @@ pub settled_rests : (n : ℕ) (grid : Grid) → moving grid ≤ n → (pass_of (
 settled_rests zero grid p = grind (arith, fewer_from_moved grid)
 settled_rests (suc n) grid p = grind (arith, fewer_from_moved grid, settled_rests n (pass_of grid).grid)
 
-still_heads : (place : Option Piece) → heads (still_place place) ≡ 0
-still_heads place = grind arith
-
 none_together : {X : Type 0} (f : X → ℕ) (still : X → X) (xs : List X) → ((x : X) → f (still x) ≡ 0) → sum_by f (map still xs) ≡ 0
 none_together f still [] none = refl
 none_together f still (x ∷ xs) none = grind (arith, sum_by-cons f (still x) (map still xs), none x, none_together f still xs none)
 
 -- after the movement nothing heads anywhere, and so nothing moves any more
 pub resolved_still : (grid : Grid) → moving (resolved grid) ≡ 0
-resolved_still grid = none_together (sum_by heads) (map still_place) (settle (moving grid) grid).cells (λ cell. none_together heads still_place cell still_heads)
+resolved_still grid = none_together (sum_by heads) (map still_place) (settle (moving grid) grid).cells (λ cell. none_together heads still_place cell (λ place. grind arith))
 
 pub resolved_rests : (grid : Grid) → (pass_of (resolved grid)).moved ≡ false
 resolved_rests grid = grind (arith, fewer_from_moved (resolved grid), resolved_still grid)
