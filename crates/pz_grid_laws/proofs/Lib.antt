@@ -1,4 +1,5 @@
 mod Common
+pub mod KnownLaws
 pub mod LawfulLemmas
 pub mod RewritingLemmas
 pub mod StandingLemmas
