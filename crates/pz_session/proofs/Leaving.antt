@@ -1,10 +1,10 @@
--- What an item takes from what is left.
-use Rattle.pz_session.proofs.Common.{◌≡◌, ℕ, ◌+◌, ◌≤◌, arith, Bool, false, List, [], ◌∷◌, ◌++◌, Option, None, option_to_list, drop, length, map, Ok, Err, Result, refl, ap, sym, ◌∙◌, drop_all, map-append, append_assoc, Input, Stop, Frame, items_from, numbered, played, showing, going_on, after_chain, State, board_links, tick_link, verdict_of, Link, follow, ticks, Player, pending, left_in, to_come, to_follow, left_with, left, is_waiting, Stopped}
+-- What an item takes from what is left, and that a link leaves it as it is.
+use Rattle.pz_session.proofs.Common.{◌≡◌, ℕ, ◌+◌, ◌≤◌, arith, Bool, false, List, [], ◌∷◌, ◌++◌, Option, None, option_to_list, drop, length, map, Ok, Err, Result, refl, ap, sym, ◌∙◌, drop_all, map-append, append_assoc, Input, Stop, Frame, items_from, numbered, played, showing, going_on, after_chain, State, board_links, tick_link, verdict_of, Link, follow, ticks, Player, pending, left_in, to_come, to_follow, left_with, left, is_waiting, Stopped, ◌<◌, zero, suc, ◌-◌, true, get_or, drop_more, begun, ticks_after, is_waiting_in}
 use Rattle.std.proofs.lemmas.Bool.Decides.{nat_tests}
 use Rattle.pz_case.specs.declared.item.Item.TheVariants as item
 use Rattle.pz_session.specs.declared.player.Phase.{Phase}
 use Rattle.pz_session.specs.declared.player.Phase.TheVariants as phase
-use Rattle.pz_session.specs.declared.chain.PlayFault.TheVariants as fault
+use Rattle.pz_case.specs.declared.item.Stop.TheVariants.{AgainLimit}
 
 pub left-first : (at : Phase) (n : ℕ) (frame : Frame) (second : List Frame) (taken : ℕ) (inputs : List Input) (state : State) → left_in at n (frame ∷ second) taken inputs state ≡ item.Frame n taken frame ∷ left_in at (n + 1) second taken inputs state
 unfolding left_in items_from numbered
@@ -44,10 +44,39 @@ going_on-link n taken inputs link =
 pub left-link : (n number taken : ℕ) (inputs : List Input) (frames : List Frame) (goes_on : Bool) (state after : State) (at : Phase) (link : Result (Link State) Stop) → link ≡ Ok (record { shown = frames; after = state; goes_on = goes_on }) → ((t : ℕ) (is : List Input) → to_come at t is after ≡ to_follow goes_on n t is state) → left_in at number frames taken inputs after ≡ left_with n number taken inputs link
 unfolding left_in
 left-link n number taken inputs frames goes_on state after at link is comes =
-    ap (λ q. items_from number (showing taken frames q)) (comes taken inputs)
-    ∙ ap (items_from number) (sym (going_on-link n taken inputs (record { shown = frames; after = state; goes_on = goes_on })))
-    ∙ ap (left_with n number taken inputs) (sym is)
+    grind (arith, comes taken inputs, going_on-link n taken inputs (record { shown = frames; after = state; goes_on = goes_on }), is)
 
 pub left-link_stopped : (n : ℕ) (p : Player) (stop : Stop) (link : Result (Link State) Stop) → p.phase ≡ phase.Stopped stop → p.first ≡ None → p.second ≡ None → link ≡ Err stop → left p ≡ left_with n p.number p.taken (drop p.taken p.inputs) link
 unfolding items_from numbered
 left-link_stopped n p stop link at e f is = left-of_stopped p stop at e f ∙ ap (left_with n p.number p.taken (drop p.taken p.inputs)) (sym is)
+
+pub record Waiting (p : Player) : Type 0 where
+  pub first : p.first ≡ None
+  pub second : p.second ≡ None
+  pub here : is_waiting_in p.phase p.taken p.inputs ≡ true
+
+pub waiting-parts : (p : Player) → is_waiting p ≡ true → Waiting p
+waiting-parts p h = record { first = grind (arith, h); second = grind (arith, h); here = grind (arith, h) }
+
+-- no tick is allowed any more
+pub left-no_tick : (p q : Player) (allowed : ℕ) → Waiting p → p.phase ≡ phase.Ticking allowed → allowed ≡ 0 → q.phase ≡ phase.Stopped AgainLimit → q.first ≡ None → q.second ≡ None → left q ≡ left p
+unfolding left_in items_from numbered to_come
+left-no_tick p q allowed w at none stopped e f = grind (arith, left-of_stopped q AgainLimit stopped e f, w.first, w.second, at, none)
+
+-- a tick
+pub left-tick : (p : Player) (allowed : ℕ) → Waiting p → p.phase ≡ phase.Ticking allowed → (allowed ≡ 0 → ⊥) → left_with (allowed - 1) p.number p.taken (drop p.taken p.inputs) (tick_link p.board) ≡ left p
+unfolding left_in items_from numbered to_come
+left-tick p zero w at some = absurd (some refl)
+left-tick p (suc n) w at some =
+    let one : suc n - 1 ≡ n = omega arith in
+    ap (λ k. left_with k p.number p.taken (drop p.taken p.inputs) (tick_link p.board)) one
+    ∙ sym (left-at p None None w.first w.second ∙ ap (λ a. left_in a p.number [] p.taken (drop p.taken p.inputs) p.board) at)
+
+-- the next input
+pub left-begin : (p : Player) (input : Input) (n : ℕ) → Waiting p → p.phase ≡ phase.Between → p.taken < length p.inputs → input ≡ get_or p.inputs p.taken input → n ≡ ticks_after input → left_with n p.number (p.taken + 1) (drop (p.taken + 1) p.inputs) (begun input p.board) ≡ left p
+unfolding left_in items_from numbered to_come played
+left-begin p input n w at in_range is allowed =
+    let next : drop p.taken p.inputs ≡ input ∷ drop (p.taken + 1) p.inputs =
+    drop_more p.inputs p.taken input in_range ∙ ap (λ i. i ∷ drop (p.taken + 1) p.inputs) (sym is) in
+    ap (λ k. left_with k p.number (p.taken + 1) (drop (p.taken + 1) p.inputs) (begun input p.board)) allowed
+    ∙ sym (left-at p None None w.first w.second ∙ ap (λ a. left_in a p.number [] p.taken (drop p.taken p.inputs) p.board) at ∙ ap (λ l. left_in phase.Between p.number [] p.taken l p.board) next)

@@ -1,6 +1,5 @@
 mod Common
 pub mod Leaving
-pub mod Advancing
 pub mod Bounds
 pub mod BoardLemmas
 pub mod LabelledLemmas

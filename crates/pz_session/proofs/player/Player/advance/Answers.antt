@@ -1,6 +1,6 @@
 use Rattle.pz_session.proofs.Common.{arith, ◌≡◌, ◌<◌, length, ap, refl, ◌∙◌, true, get_or, get_or_default, Input, Press, Up, on_ok_weaker}
 use Rattle.std.proofs.lemmas.Bool.Decides.{nat_tests}
-use Rattle.pz_session.proofs.Advancing.{waiting-parts, left-no_tick, left-tick, left-begin}
+use Rattle.pz_session.proofs.Leaving.{waiting-parts, left-no_tick, left-tick, left-begin}
 use Rattle.pz_session.proofs.player.Player.advance.Goals as goal
 
 pub returns-then-allowed-eq0-clause-left : goal.returns-then-allowed-eq0-clause-left
