@@ -1,5 +1,5 @@
 -- Going through all combinations in order.
-use Rattle.pz_turn.proofs.Common.{◌≡◌, ℕ, ◌+◌, ◌*◌, ◌<◌, List, [], ◌∷◌, ◌++◌, map, take, drop, length, get_or, set, fold, refl, ap, sym, ◌∙◌, append_assoc, arith, flat_map, take_more, append-nil, map-append, drop-drop, combinations, common_steps, fold-append, drop-set_at}
+use Rattle.pz_turn.proofs.Common.{◌≡◌, ℕ, ◌+◌, ◌*◌, ◌<◌, List, [], ◌∷◌, ◌++◌, map, take, length, get_or, fold, refl, ap, ◌∙◌, append_assoc, arith, flat_map, take_more, append-nil, map-append, combinations, common_steps, fold-append}
 use Rattle.std.proofs.lemmas.List.Concat.{flat_map-append}
 use Rattle.pz_base.specs.Lists.{product_of}
 

@@ -2,7 +2,7 @@
 pub use Rattle.std.proofs.Common.{Bool, Err, List, None, Ok, Option, Result, Some, [], add-one, ap, append_assoc, arith, below_more, cond, drop, eqb, false, fold, get_or, inl, inr, length, map, min, nat_eq, not, refl, set, subst, suc, sym, take, true, zero, ℕ, ◌*◌, ◌++◌, ◌+◌, ◌<◌, ◌&&◌, ◌||◌, ◌∙◌, ◌∷◌, ◌≡◌, ◌≢◌, ◌≤◌, ◌⊎◌}
 pub use Rattle.std.proofs.Math.Bool.{and-true, or-false, or_assoc}
 pub use Rattle.std.proofs.lemmas.Bool.Decides.{nat_tests}
-pub use Rattle.std.proofs.lemmas.Bool.{cases_Bool, cases_lt, le-ltb, lt-ltb, not-false, not-true, or_parts}
+pub use Rattle.std.proofs.lemmas.Bool.{cases_Bool, cases_lt, le-ltb, not-false, not-true, or_parts}
 pub use Rattle.std.proofs.lemmas.Grind.{common_steps, drop-set_at, fold-append}
 pub use Rattle.std.proofs.lemmas.List.Elements.{All-cons, All-drop, All-head, All-nil, All-tail, All-take, Contains-append_right}
 pub use Rattle.std.proofs.lemmas.List.Folds.{fold_stays}
@@ -46,6 +46,6 @@ pub use Rattle.pz_turn.specs.Step.{ended, given_input, keeps_player, step_ended,
 pub use Rattle.pz_turn.specs.Win.{fits_both, fits_if, line_holds}
 unfoldable pub use Rattle.pz_turn.specs.Win.{has_won}
 pub use Rattle.pz_turn.specs.declared.outcome.Given.{Given}
-pub use Rattle.pz_turn.specs.declared.outcome.StepFault.TheVariants.{LoopLimit, MatchLimit, Memory}
+pub use Rattle.pz_turn.specs.declared.outcome.StepFault.TheVariants.{LoopLimit, Memory}
 pub use Rattle.pz_turn.specs.declared.outcome.StepFault.{StepFault}
 pub use Rattle.pz_turn.specs.declared.resting.TheConstants.{PASSES}

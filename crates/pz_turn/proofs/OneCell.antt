@@ -15,8 +15,7 @@ kept_again : (left right : List Item) (here : Option Piece) → kept left right 
 kept_again left right here = grind arith
 
 replaced_again : (placed : Option Item) (told : Bool) (left right : List Item) (here : Option Piece) → replaced placed told left right (replaced placed told left right here) ≡ replaced placed told left right here
-replaced_again None told left right here = kept_again left right here
-replaced_again (Some item) told left right here = ap (λ (heading : Option Dir). Some (record { object = item.object; heading = heading })) (heads_again item.word told here item.object)
+replaced_again placed told left right here = grind (arith, kept_again left right here, λ (item : Item). heads_again item.word told here item.object)
 
 -- a cell that is rewritten twice from the same left to the same right is as it was after the first time
 rewritten_again : (left right : List Item) (cell : List (Option Piece)) → rewritten_cell left right (rewritten_cell left right cell) ≡ rewritten_cell left right cell
@@ -118,13 +117,11 @@ module _ (instance : Instance) (left right : List Item) (one : IsOfOneCell insta
   unasked : (found : List Place) (so_far : Rewriting) → ((place : Place) → Contains found place → IsSettled true so_far.grid place) → fold (applied_at instance) so_far (map (λ (p : Place). p ∷ []) found) ≡ fold rewrites so_far found
   unasked [] so_far settled = refl
   unasked (place ∷ found) so_far settled =
-      ap (λ (r : Rewriting). fold (applied_at instance) r (map (λ (p : Place). p ∷ []) found)) (asks_settled true so_far place (settled place (0, omega arith, refl)))
-      ∙ unasked found (rewrites so_far place) (λ other in_found. settled_more true so_far place other (settled other (Contains-append_right (place ∷ []) found other in_found)))
+      grind (arith, asks_settled true so_far place (settled place (0, omega arith, refl)), unasked found (rewrites so_far place) (λ other in_found. settled_more true so_far place other (settled other (Contains-append_right (place ∷ []) found other in_found))))
 
   leaves : (found : List Place) (end : Grid) → ((place : Place) → IsSettled false end place) → fold (applied_at instance) (in_rewrite end false) (map (λ (p : Place). p ∷ []) found) ≡ in_rewrite end false
   leaves [] end settled = refl
-  leaves (place ∷ found) end settled =
-      ap (λ (r : Rewriting). fold (applied_at instance) r (map (λ (p : Place). p ∷ []) found)) (asks_settled false (in_rewrite end false) place (settled place)) ∙ leaves found end settled
+  leaves (place ∷ found) end settled = grind (arith, asks_settled false (in_rewrite end false) place (settled place), leaves found end settled)
 
   -- what was found are all places of the row
   all_of_one : (grid : Grid) (row_now : RuleRow) (found : List Place) → instance.left ≡ row_now ∷ [] → found_or_stop (searched grid row_now instance.scan) ≡ Ok found → found ≡ places grid row instance.scan

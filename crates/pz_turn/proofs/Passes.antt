@@ -1,5 +1,5 @@
 -- Passes: one that leaves calm items out gives what the whole pass gives; and when a loop of passes ends.
-use Rattle.pz_turn.proofs.Common.{◌≡◌, ℕ, suc, ◌+◌, ◌<◌, ◌≤◌, Result, Ok, Err, List, [], ◌∷◌, Bool, true, false, cond, ◌||◌, ◌⊎◌, inl, inr, fold, take, drop, length, get_or, refl, ap, sym, ◌∙◌, arith, subst, cases_lt, or_parts, take_more, take-append-drop, get_or-drop, length-drop, get_or_default, Commands, no_commands, either, StepFault, Outcome, untouched, followed_by, joined, Runs, pass_of, ends, IsCalm, AreCalmFrom, fold-append, not, Some, None, at_drop_more, add-one, below_more, find, range_with_len, passes, ends_after, is_last, up_to, rest_of, fold_stays, length-range_with_len, get_or-range_with_len, LoopLimit}
+use Rattle.pz_turn.proofs.Common.{◌≡◌, ℕ, suc, ◌+◌, ◌<◌, ◌≤◌, Result, Ok, Err, List, [], ◌∷◌, Bool, true, false, cond, ◌||◌, ◌⊎◌, inl, inr, fold, take, drop, length, get_or, refl, ap, sym, ◌∙◌, arith, subst, cases_lt, or_parts, take_more, take-append-drop, get_or-drop, length-drop, get_or_default, Commands, no_commands, either, StepFault, Outcome, untouched, followed_by, joined, Runs, pass_of, ends, IsCalm, AreCalmFrom, fold-append, not, Some, None, at_drop_more, add-one, below_more, find, range_with_len, passes, ends_after, is_last, up_to, rest_of, fold_stays, length-range_with_len, get_or-range_with_len}
 use Rattle.std.specs.Int.RustNames.{bit_or}
 use Rattle.std.proofs.lemmas.Nat.{or_comm}
 use Rattle.std.proofs.lemmas.Nat.Bits.{bit_at_or, same_from_bits}
@@ -113,20 +113,15 @@ module _ {L I : Type 0} (runs : I → Runs L) (items : List I) where
         later.2 ∙ (sym (either_assoc commands given here.gives) ∙ known_still commands given here.gives here.known),
       )
 
-  -- a pass that changed nothing before calm items
-  pub calm_pass : (commands given : Commands) (level : L) (calm_from : ℕ) → AreCalmFrom runs commands level items calm_from → pass_of runs (take calm_from items) level ≡ Ok (record { level = level; commands = given; changed = false })
-      → (all : Commands) × (pass_of runs items level ≡ Ok (record { level = level; commands = all; changed = false })) × (either commands all ≡ either commands given)
-  calm_pass commands given level calm_from calm quiet =
-      let rest = calm_fold commands level (drop calm_from items) (λ number other below. subst (IsCalm runs commands level) (sym (get_or-drop calm_from items number other)) (calm (calm_from + number) other (omega arith) (omega (arith, below, length-drop calm_from items)))) given in
-      (rest.0, split level calm_from _ quiet ∙ rest.1, rest.2)
-
-  -- with it a group is at rest
+  -- with a pass that changed nothing before calm items a group is at rest
   pub calm_rest : (o : Outcome L) (given : Commands) (changed : Bool) (after : L) (calm_from : ℕ) → AreCalmFrom runs o.commands o.level items calm_from → pass_of runs (cond changed items (take calm_from items)) o.level ≡ Ok (record { level = after; commands = given; changed = changed }) → changed ≡ false → after ≡ o.level
       → (ends (pass_of runs items o.level) ≡ true) × (joined o (pass_of runs items o.level) ≡ Ok (record { level = after; commands = either o.commands given; changed = o.changed || changed }))
   calm_rest o given true after calm_from calm is quiet keeps = cc
   calm_rest o given false after calm_from calm is quiet keeps =
-      let rest = calm_pass o.commands given o.level calm_from calm (is ∙ ap (λ (level : L). Ok (record { level = level; commands = given; changed = false })) keeps) in
-      (ap ends rest.1, grind (arith, rest.1, rest.2, keeps))
+      let before = is ∙ ap (λ (level : L). Ok (record { level = level; commands = given; changed = false })) keeps in
+      let rest = calm_fold o.commands o.level (drop calm_from items) (λ number other below. subst (IsCalm runs o.commands o.level) (sym (get_or-drop calm_from items number other)) (calm (calm_from + number) other (omega arith) (omega (arith, below, length-drop calm_from items)))) given in
+      let whole = split o.level calm_from _ before ∙ rest.1 in
+      (ap ends whole, grind (arith, whole, rest.2, keeps))
 
   pub calm_more : (before given : Commands) (level : L) (from : ℕ) → AreCalmFrom runs given level items from → AreCalmFrom runs (either before given) level items from
   calm_more before given level from calm number other at below = calm_known runs before given level _ (calm number other at below)

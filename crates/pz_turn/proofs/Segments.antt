@@ -35,7 +35,7 @@ module _ {L I : Type 0} (runs : I → Runs L) where
   fold_joined o a [] = refl
   fold_joined o a (x ∷ xs) = ap (λ (r : Result (Outcome L) StepFault). fold step r xs) (joined_follow o a (runs x)) ∙ fold_joined o (followed_by a (runs x)) xs
 
-  follow_pass : (a : Result (Outcome L) StepFault) (xs : List I) → followed_by a (pass_of runs xs) ≡ fold step a xs
+  pub follow_pass : (a : Result (Outcome L) StepFault) (xs : List I) → followed_by a (pass_of runs xs) ≡ fold step a xs
   follow_pass (Err fault) xs = sym (fold_stays step (Err fault) (λ x. refl) xs)
   follow_pass (Ok o) xs = sym (fold_joined o (Ok (untouched o.level)) xs) ∙ ap (λ (r : Result (Outcome L) StepFault). fold step r xs) (joined_none o)
 

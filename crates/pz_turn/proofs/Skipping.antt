@@ -1,6 +1,5 @@
 -- The places of rows, taken one row after another. Rows are left out at once if one has no place and those before it are within the limit.
-use Rattle.pz_turn.proofs.Common.{◌≡◌, List, [], ◌∷◌, map, length, refl, ap, ◌∙◌, arith, None, Ok, flat_map, Dir, Instance, RuleRow, Place, Grid, IsLawful, places, combinations, untouched, found_or_stop, after_row, taken, applied_to, applied_with, applied, ℕ, ◌+◌, ◌<◌, ◌++◌, get_or, drop, eqb, false, append_assoc, sym, Result, Err, at_drop_more, StepFault, searched, searched-within, searched-gapless}
-use Rattle.pz_turn.proofs.Combining.{combinations-last}
+use Rattle.pz_turn.proofs.Common.{◌≡◌, List, [], ◌∷◌, length, refl, ap, ◌∙◌, arith, None, Ok, Dir, Instance, RuleRow, Place, Grid, IsLawful, places, combinations, untouched, found_or_stop, after_row, taken, applied_to, applied_with, applied, ℕ, ◌+◌, ◌<◌, ◌++◌, get_or, drop, eqb, false, append_assoc, sym, Result, Err, at_drop_more, StepFault, searched, searched-within, searched-gapless}
 
 -- the places of some rows are taken without a stop, and have no combination
 pub record IsNoneTaken (grid : Grid) (dir : Dir) (rows : List RuleRow) : Type 0 where

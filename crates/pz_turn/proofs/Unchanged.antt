@@ -1,6 +1,7 @@
 -- What has not changed is as it was.
-use Rattle.pz_turn.proofs.Common.{arith, ◌≡◌, ℕ, ◌+◌, ◌*◌, List, [], ◌∷◌, Option, Some, None, Bool, true, false, not, fold, Result, Ok, Err, refl, ap, sym, ◌∙◌, IfOk, enumerate_from, zip, find, range_with_len, or_parts, set-get_or, Dir, Instance, RuleRow, Place, Grid, cell_at, position_of, Rewriting, in_rewrite, rewritten_at, rewritten_along, rewritten_row, StepFault, Given, Outcome, followed_by, joined, GivesOutcome, applied_at, given, applied, pass_of, is_last, rest_of, rests, Item, rewritten_cell, same_cell_is, fold_stays}
+use Rattle.pz_turn.proofs.Common.{untouched, arith, ◌≡◌, ℕ, ◌+◌, ◌*◌, List, [], ◌∷◌, Option, Some, None, Bool, true, false, not, fold, Result, Ok, Err, refl, ◌∙◌, IfOk, enumerate_from, zip, find, range_with_len, or_parts, set-get_or, Dir, Instance, RuleRow, Place, Grid, cell_at, position_of, Rewriting, in_rewrite, rewritten_at, rewritten_along, rewritten_row, StepFault, Given, Outcome, followed_by, joined, GivesOutcome, applied_at, given, applied, pass_of, is_last, rest_of, rests, Item, rewritten_cell, same_cell_is}
 use Rattle.pz_cells.specs.Sameness.{same_cell}
+use Rattle.pz_turn.proofs.Segments.{follow_pass}
 
 -- if nothing has changed at the end, nothing had at the start, and the level is the same
 abbrev pub Kept : Rewriting → Rewriting → Type 0
@@ -41,18 +42,12 @@ pub call_leaves : (grid level : Grid) (outcome : Result (Outcome Grid) StepFault
 call_leaves grid level outcome (Err fault) leaves gives = tt
 call_leaves grid level outcome (Ok given) leaves gives = λ none. leaves _ gives none
 
-fold_leaves : (group : List Instance) (first o : Outcome Grid) → fold (λ so_far instance. followed_by so_far (applied instance)) (Ok first) group ≡ Ok o → o.changed ≡ false → (first.changed ≡ false) × (o.level ≡ first.level)
-fold_leaves [] first o e h = let same : first ≡ o = cc in (ap (λ (p : Outcome Grid). p.changed) same ∙ h, sym (ap (λ (p : Outcome Grid). p.level) same))
-fold_leaves (instance ∷ group) first o e h = by_run (λ next q. fold_leaves group next o q h) (applied instance first.level) refl e where
-  by_run : ((next : Outcome Grid) → fold (λ so_far i. followed_by so_far (applied i)) (Ok next) group ≡ Ok o → (next.changed ≡ false) × (o.level ≡ next.level)) → (r : Result (Outcome Grid) StepFault) → applied instance first.level ≡ r → fold (λ so_far i. followed_by so_far (applied i)) (joined first r) group ≡ Ok o → (first.changed ≡ false) × (o.level ≡ first.level)
-  by_run rest (Err fault) is q = let stop = sym (fold_stays (λ so_far i. followed_by so_far (applied i)) (Err fault) (λ i. refl) group) ∙ q in cc
-  by_run rest (Ok second) is q =
-      let later = rest _ q in
-      let both = or_parts first.changed second.changed later.0 in
-      (both.0, later.1 ∙ applied_leaves instance first.level second is both.1)
+leaves_more : (x : Instance) (xs : List Instance) (grid : Grid) (o : Outcome Grid) → ((level : Grid) → Leaves level (pass_of applied xs level)) → followed_by (joined (untouched grid) (applied x grid)) (pass_of applied xs) ≡ Ok o → o.changed ≡ false → o.level ≡ grid
+leaves_more x xs grid o rest both h = grind (arith, applied_leaves x grid, rest, both, h)
 
 pub pass_leaves : (group : List Instance) (grid : Grid) → Leaves grid (pass_of applied group grid)
-pass_leaves group grid o e h = (fold_leaves group _ o e h).1
+pass_leaves [] grid o e h = cc
+pass_leaves (x ∷ xs) grid o e h = leaves_more x xs grid o (pass_leaves xs) (follow_pass applied (joined (untouched grid) (applied x grid)) xs ∙ e) h
 
 find_passes : (p : ℕ → Bool) (xs : List ℕ) (n : ℕ) → find p xs ≡ Some n → p n ≡ true
 find_passes p [] n e = cc
