@@ -28,5 +28,5 @@ begun_with_gap grid row dir place at behind law has is head here =
     let before : run_holds grid dir place.x place.y (take at row.cells) ≡ true = ap (λ (o : Option ℕ). run_holds grid dir place.x place.y (cells_before o row.cells)) (sym has) ∙ head in
     enumerate_more (cell_holds grid row dir place) row.cells at behind within is
     (first_from_each (cell_holds grid row dir place) row.cells [] at (omega (arith, within)) (λ k low.
-      grind (arith, has, within, leb-true at k, get_or-take at row.cells k [] low, length-take at row.cells, each_from_all (holds_along grid dir place.x place.y) (take at row.cells) [] k, before)))
+    grind (arith, has, within, leb-true at k, get_or-take at row.cells k [] low, length-take at row.cells, each_from_all (holds_along grid dir place.x place.y) (take at row.cells) [] k, before)))
     (grind (arith, has, le-leb at at, here))

@@ -22,8 +22,11 @@ game_with wins levels = record {
   objects = codes "background" ∷ codes "wall" ∷ codes "player" ∷ [];
   names = codes "background" ∷ codes "wall" ∷ codes "player" ∷ codes "." ∷ codes "#" ∷ codes "p" ∷ [];
   values = object 0 ∷ object 1 ∷ object 2 ∷ object 0 ∷ object 1 ∷ object 2 ∷ [];
-  layers = 0 ∷ 1 ∷ 1 ∷ []; depth = 2;
-  rules = []; wins = wins; levels = levels;
+  layers = 0 ∷ 1 ∷ 1 ∷ [];
+  depth = 2;
+  rules = [];
+  wins = wins;
+  levels = levels;
   options = record { run_rules_on_level_start = false; require_player_movement = false };
 }
 
@@ -79,17 +82,17 @@ one_on = level 3 (floor ∷ player ∷ floor ∷ [])
 
 plays :
     (played_items (session walled (Press Right ∷ Press Right ∷ []))
-      ≡ shows walled 0 0 kind.Start (level 4 (wall ∷ player ∷ floor ∷ wall ∷ [])) ∷ shows walled 1 1 kind.Move (level 4 (wall ∷ floor ∷ player ∷ wall ∷ []))
-      ∷ shows walled 2 2 kind.Move (level 4 (wall ∷ floor ∷ player ∷ wall ∷ [])) ∷ closes walled (level 4 (wall ∷ floor ∷ player ∷ wall ∷ [])) ∷ [])
+    ≡ shows walled 0 0 kind.Start (level 4 (wall ∷ player ∷ floor ∷ wall ∷ [])) ∷ shows walled 1 1 kind.Move (level 4 (wall ∷ floor ∷ player ∷ wall ∷ []))
+    ∷ shows walled 2 2 kind.Move (level 4 (wall ∷ floor ∷ player ∷ wall ∷ [])) ∷ closes walled (level 4 (wall ∷ floor ∷ player ∷ wall ∷ [])) ∷ [])
     × (played_items (session free (Undo ∷ Press Right ∷ Undo ∷ []))
-      ≡ shows free 0 0 kind.Start at_start ∷ shows free 1 1 kind.Undo at_start ∷ shows free 2 2 kind.Move one_on ∷ shows free 3 3 kind.Undo at_start ∷ closes free at_start ∷ [])
+    ≡ shows free 0 0 kind.Start at_start ∷ shows free 1 1 kind.Undo at_start ∷ shows free 2 2 kind.Move one_on ∷ shows free 3 3 kind.Undo at_start ∷ closes free at_start ∷ [])
     -- a restart can be undone; one that changes nothing shows the level, and leaves the past
     × (played_items (session free (Press Right ∷ Restart ∷ Restart ∷ Undo ∷ []))
-      ≡ shows free 0 0 kind.Start at_start ∷ shows free 1 1 kind.Move one_on ∷ shows free 2 2 kind.Restart at_start ∷ shows free 3 3 kind.Restart at_start
-      ∷ shows free 4 4 kind.Undo one_on ∷ closes free one_on ∷ [])
+    ≡ shows free 0 0 kind.Start at_start ∷ shows free 1 1 kind.Move one_on ∷ shows free 2 2 kind.Restart at_start ∷ shows free 3 3 kind.Restart at_start
+    ∷ shows free 4 4 kind.Undo one_on ∷ closes free one_on ∷ [])
     -- a press that moves nothing shows the level, and leaves the past; an idle tick shows nothing, and counts as an input
     × (played_items (session free (Press Left ∷ Tick ∷ Undo ∷ []))
-      ≡ shows free 0 0 kind.Start at_start ∷ shows free 1 1 kind.Move at_start ∷ shows free 2 3 kind.Undo at_start ∷ closes free at_start ∷ [])
+    ≡ shows free 0 0 kind.Start at_start ∷ shows free 1 1 kind.Move at_start ∷ shows free 2 3 kind.Undo at_start ∷ closes free at_start ∷ [])
 unfolding played_items played numbered items_from frame_of start_link press_link tick_link undo_link restarted won_link kept_link reached_link effect begun settled level_from step_of rules_run blocks_run block_runs has_won
 plays = (refl, refl, refl, refl)
 
@@ -106,16 +109,16 @@ giving commands = record {
 gives_commands :
     -- a checkpoint is the end of its step, and an undo doesn't take it back
     (played_items (playing (game (free ∷ [])) (giving 4) (Press Right ∷ Undo ∷ Restart ∷ []))
-      ≡ shows free 0 0 kind.Start at_start ∷ shows free 1 1 kind.Move one_on ∷ shows free 2 2 kind.Undo at_start ∷ shows free 3 3 kind.Restart one_on ∷ closes free one_on ∷ [])
+    ≡ shows free 0 0 kind.Start at_start ∷ shows free 1 1 kind.Move one_on ∷ shows free 2 2 kind.Undo at_start ∷ shows free 3 3 kind.Restart one_on ∷ closes free one_on ∷ [])
     -- a step that restarts shows the target in its place
     × (played_items (playing (game (free ∷ [])) (giving 8) (Press Left ∷ Press Right ∷ []))
-      ≡ shows free 0 0 kind.Start at_start ∷ shows free 1 1 kind.Move at_start ∷ shows free 2 2 kind.Restart at_start ∷ closes free at_start ∷ [])
+    ≡ shows free 0 0 kind.Start at_start ∷ shows free 1 1 kind.Move at_start ∷ shows free 2 2 kind.Restart at_start ∷ closes free at_start ∷ [])
     -- `again` asks for a tick if the step changed the level; an idle tick isn't shown
     × (played_items (playing (game (free ∷ [])) (giving 1) (Press Right ∷ []))
-      ≡ shows free 0 0 kind.Start at_start ∷ shows free 1 1 kind.Move one_on ∷ closes free one_on ∷ [])
+    ≡ shows free 0 0 kind.Start at_start ∷ shows free 1 1 kind.Move one_on ∷ closes free one_on ∷ [])
     -- a cancelled press shows the level that stays
     × (played_items (playing (game (free ∷ [])) (giving 10) (Press Right ∷ []))
-      ≡ shows free 0 0 kind.Start at_start ∷ shows free 1 1 kind.Move at_start ∷ closes free at_start ∷ [])
+    ≡ shows free 0 0 kind.Start at_start ∷ shows free 1 1 kind.Move at_start ∷ closes free at_start ∷ [])
 unfolding played_items played numbered items_from frame_of start_link press_link tick_link undo_link restarted won_link kept_link reached_link effect begun settled level_from step_of rules_run blocks_run block_runs rest_of applied searched has_won
 gives_commands = (refl, refl, refl, refl)
 

@@ -18,8 +18,11 @@ game_with runs_at_start entries = record {
   objects = codes "background" ∷ codes "player" ∷ codes "crate" ∷ [];
   names = codes "background" ∷ codes "player" ∷ codes "crate" ∷ [];
   values = object 0 ∷ object 1 ∷ object 2 ∷ [];
-  layers = 0 ∷ 1 ∷ 1 ∷ []; depth = 2;
-  rules = []; wins = []; levels = entries;
+  layers = 0 ∷ 1 ∷ 1 ∷ [];
+  depth = 2;
+  rules = [];
+  wins = [];
+  levels = entries;
   options = record { run_rules_on_level_start = runs_at_start; require_player_movement = false };
 }
 
@@ -35,7 +38,10 @@ no_rules = record { early = []; late = [] }
 
 abbrev strip : List (Option Piece) → Grid
 strip pieces = record {
-  width = length pieces; height = 1; depth = 2; layers = 0 ∷ 1 ∷ 1 ∷ [];
+  width = length pieces;
+  height = 1;
+  depth = 2;
+  layers = 0 ∷ 1 ∷ 1 ∷ [];
   cells = map (λ here. Some (record { object = 0; heading = None }) ∷ here ∷ []) pieces;
 }
 
@@ -52,8 +58,16 @@ there = strip (None ∷ player ∷ [])
 -- a session with this level, this target and this past
 abbrev session_of : GameParts → Grid → Grid → List Grid → State
 session_of game level target past = record {
-  game = game; program = no_rules; order = Rows; recorded = []; entry = 0;
-  level = level; target = target; past = past; before = None; is_over = false;
+  game = game;
+  program = no_rules;
+  order = Rows;
+  recorded = [];
+  entry = 0;
+  level = level;
+  target = target;
+  past = past;
+  before = None;
+  is_over = false;
 }
 
 abbrev session : Grid → Grid → List Grid → State
@@ -90,7 +104,7 @@ ticks_at_start :
     -- with `run_rules_on_level_start` a tick follows a restart, and none an undo
     (restarted (session_of (game_with true (entry ∷ [])) here there []) ≡ links kind.Restart there (session_of (game_with true (entry ∷ [])) there there []) true)
     × (undo_link (session_of (game_with true (entry ∷ [])) here here (there ∷ []))
-      ≡ links kind.Undo there (session_of (game_with true (entry ∷ [])) there here []) false)
+    ≡ links kind.Undo there (session_of (game_with true (entry ∷ [])) there here []) false)
 unfolding restarted frame_of text_of_level undo_link
 ticks_at_start = (refl, refl)
 
@@ -185,7 +199,10 @@ frame kind text = record { kind = kind; level_text = text }
 
 abbrev plan : PlanState
 plan = record {
-  game = game; program = no_rules; first = 0; order = Rows;
+  game = game;
+  program = no_rules;
+  first = 0;
+  order = Rows;
   inputs = Press Right ∷ Undo ∷ Undo ∷ [];
   recorded = (codes "background" ∷ codes "player" ∷ []) ∷ (codes "background" ∷ []) ∷ [];
 }
@@ -193,7 +210,7 @@ plan = record {
 whole_sessions :
     -- a step to the right is taken back, the second undo finds nothing, and the last level is the recorded one
     (items_of_plan (Ok plan) ≡ item.Frame 0 0 (frame kind.Start here_text) ∷ item.Frame 1 1 (frame kind.Move there_text)
-      ∷ item.Frame 2 2 (frame kind.Undo here_text) ∷ item.Frame 3 3 (frame kind.Undo here_text) ∷ item.Close Passed ∷ [])
+    ∷ item.Frame 2 2 (frame kind.Undo here_text) ∷ item.Frame 3 3 (frame kind.Undo here_text) ∷ item.Close Passed ∷ [])
     -- without an input there is the start, and the close
     × (items_of_plan (Ok (record plan { inputs = []; recorded = [] })) ≡ item.Frame 0 0 (frame kind.Start here_text) ∷ item.Close Differs ∷ [])
     -- a refused session has its close alone

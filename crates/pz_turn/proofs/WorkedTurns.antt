@@ -26,8 +26,11 @@ game_with must_move wins = record {
   objects = codes "background" ∷ codes "player" ∷ codes "crate" ∷ codes "wall" ∷ [];
   names = codes "background" ∷ codes "player" ∷ codes "crate" ∷ codes "wall" ∷ codes "solid" ∷ codes "@" ∷ [];
   values = denotes Object (0 ∷ []) 0 ∷ denotes Object (1 ∷ []) 1 ∷ denotes Object (2 ∷ []) 2 ∷ denotes Object (3 ∷ []) 3 ∷ denotes Property (2 ∷ 3 ∷ []) 4 ∷ denotes Aggregate (0 ∷ 2 ∷ []) 5 ∷ [];
-  layers = 0 ∷ 1 ∷ 1 ∷ 1 ∷ []; depth = 2;
-  rules = []; wins = wins; levels = [];
+  layers = 0 ∷ 1 ∷ 1 ∷ 1 ∷ [];
+  depth = 2;
+  rules = [];
+  wins = wins;
+  levels = [];
   options = record { run_rules_on_level_start = false; require_player_movement = must_move };
 }
 
