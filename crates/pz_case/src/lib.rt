@@ -6,7 +6,6 @@
 //! - `first_level`: where a session starts, and which level follows one
 //! - `plan`, `case`, `job`: what is needed to play a session, a session of a job, and the job
 //! - `item`, `recording`: what a session shows, and what the sessions of a job showed
-//! - `playing`: what is asked of whoever plays the cases of a job
 #![tactic(auto)]
 
 pub mod case;
@@ -14,6 +13,5 @@ pub mod first_level;
 pub mod item;
 pub mod job;
 pub mod plan;
-pub mod playing;
 pub mod recording;
 pub mod rulebook;

@@ -7,52 +7,51 @@ use Rattle.std.proofs.lemmas.Bool.Decides.{nat_tests}
 use native.Mathlib.Decide.{ℕ_discrete}
 use mathlib.Core.Logic.{dite}
 use Rattle.pz_claims.specs.Rule.{times, once_below}
-use Rattle.pz_case.specs.declared.item.Item.{Item}
 use Rattle.pz_crew.specs.declared.lane.End.TheVariants.{Finished}
 use Rattle.pz_crew.specs.declared.lane.Message.TheVariants.{Last}
-use Rattle.pz_case.specs.Playing.{items_at}
+use Rattle.pz_crew.specs.Pieces.{pieces_at}
 use Rattle.pz_crew.specs.Sent.{messages_of, messages_for, sent_for}
 use Rattle.pz_crew.specs.Recorded.{of_session, Gathered}
 use Rattle.pz_crew.proofs.Gathering.{of_append}
 
-of_own : (k : ℕ) (xs : List Item) → of_session k (messages_of k xs) ≡ xs
+of_own : {T : Type 0} → (k : ℕ) (xs : List T) → of_session k (messages_of k xs) ≡ xs
 of_own k [] = refl
-of_own k (x ∷ xs) = rw (eq-eqb k k refl) (ap (λ (l : List Item). x ∷ l) (of_own k xs))
+of_own {T = T} k (x ∷ xs) = rw (eq-eqb k k refl) (ap (λ (l : List T). x ∷ l) (of_own k xs))
 
-of_others : (k c : ℕ) (xs : List Item) → c ≢ k → of_session k (messages_of c xs) ≡ []
+of_others : {T : Type 0} → (k c : ℕ) (xs : List T) → c ≢ k → of_session k (messages_of c xs) ≡ []
 of_others k c [] ne = refl
 of_others k c (x ∷ xs) ne = rw (ne_eqb c k ne) (of_others k c xs ne)
 
 pub counts : (k c : ℕ) (ks : List ℕ) → times k (c ∷ ks) ≡ cond (c == k) 1 0 + times k ks
 counts k c ks = sum_by-cons (λ y. cond (y == k) 1 0) c ks
 
-of_none : (sessions : List (List Item)) (k : ℕ) (ks : List ℕ) → times k ks ≡ 0 → of_session k (messages_for sessions ks) ≡ []
+of_none : {T : Type 0} → (sessions : List (List T)) (k : ℕ) (ks : List ℕ) → times k ks ≡ 0 → of_session k (messages_for sessions ks) ≡ []
 of_none sessions k [] e = refl
-of_none sessions k (c ∷ ks) e =
+of_none {T = T} sessions k (c ∷ ks) e =
     dite (ℕ_discrete c k)
     (λ same. absurd (let n = counts k c ks in let one : 1 ≤ cond (c == k) 1 0 = rw (eq-eqb c k same) (omega arith) in omega arith))
     (λ ne.
     let n = counts k c ks in
     let more : of_session k (messages_for sessions ks) ≡ [] = of_none sessions k ks (omega arith) in
-    of_append k (messages_of c (items_at sessions c)) (messages_for sessions ks) ∙ ap (λ (l : List Item). l ++ of_session k (messages_for sessions ks)) (of_others k c (items_at sessions c) ne) ∙ more)
+    of_append k (messages_of c (pieces_at sessions c)) (messages_for sessions ks) ∙ ap (λ (l : List T). l ++ of_session k (messages_for sessions ks)) (of_others k c (pieces_at sessions c) ne) ∙ more)
 
-of_one : (sessions : List (List Item)) (k : ℕ) (ks : List ℕ) → times k ks ≡ 1 → of_session k (messages_for sessions ks) ≡ items_at sessions k
+of_one : {T : Type 0} → (sessions : List (List T)) (k : ℕ) (ks : List ℕ) → times k ks ≡ 1 → of_session k (messages_for sessions ks) ≡ pieces_at sessions k
 of_one sessions k [] e = absurd (omega arith)
-of_one sessions k (c ∷ ks) e =
+of_one {T = T} sessions k (c ∷ ks) e =
     dite (ℕ_discrete c k)
     (λ same.
     let n = counts k c ks in
     let one : 1 ≤ cond (c == k) 1 0 = rw (eq-eqb c k same) (omega arith) in
     let more : of_session k (messages_for sessions ks) ≡ [] = of_none sessions k ks (omega arith) in
-    of_append k (messages_of c (items_at sessions c)) (messages_for sessions ks) ∙ ap (λ (l : List Item). of_session k (messages_of c (items_at sessions c)) ++ l) more ∙ append-nil (of_session k (messages_of c (items_at sessions c)))
-    ∙ subst (λ (m : ℕ). of_session k (messages_of m (items_at sessions m)) ≡ items_at sessions k) (sym same) (of_own k (items_at sessions k)))
+    of_append k (messages_of c (pieces_at sessions c)) (messages_for sessions ks) ∙ ap (λ (l : List T). of_session k (messages_of c (pieces_at sessions c)) ++ l) more ∙ append-nil (of_session k (messages_of c (pieces_at sessions c)))
+    ∙ subst (λ (m : ℕ). of_session k (messages_of m (pieces_at sessions m)) ≡ pieces_at sessions k) (sym same) (of_own k (pieces_at sessions k)))
     (λ ne.
     let n = counts k c ks in
     let zero_here : cond (c == k) 1 0 < 1 = rw (ne_eqb c k ne) (omega arith) in
-    let more : of_session k (messages_for sessions ks) ≡ items_at sessions k = of_one sessions k ks (omega arith) in
-    of_append k (messages_of c (items_at sessions c)) (messages_for sessions ks) ∙ ap (λ (l : List Item). l ++ of_session k (messages_for sessions ks)) (of_others k c (items_at sessions c) ne) ∙ more)
+    let more : of_session k (messages_for sessions ks) ≡ pieces_at sessions k = of_one sessions k ks (omega arith) in
+    of_append k (messages_of c (pieces_at sessions c)) (messages_for sessions ks) ∙ ap (λ (l : List T). l ++ of_session k (messages_for sessions ks)) (of_others k c (pieces_at sessions c) ne) ∙ more)
 
-of_sent : (sessions : List (List Item)) (k : ℕ) (ks : List ℕ) → of_session k (sent_for sessions ks) ≡ of_session k (messages_for sessions ks)
+of_sent : {T : Type 0} → (sessions : List (List T)) (k : ℕ) (ks : List ℕ) → of_session k (sent_for sessions ks) ≡ of_session k (messages_for sessions ks)
 of_sent sessions k ks = of_append k (messages_for sessions ks) (Last Finished ∷ []) ∙ append-nil (of_session k (messages_for sessions ks))
 
 each_none : (k : ℕ) (lists : List (List ℕ)) → sum_by (times k) lists ≡ 0 → (j : ℕ) → times k (get_or lists j []) ≡ 0
@@ -92,12 +91,12 @@ pub once_yes : (x n : ℕ) → x < n → once_below x n ≡ 1
 once_yes x n h = grind (arith, nat_tests)
 
 -- what the lane j has of the session k
-lane_at : (sessions : List (List Item)) (k : ℕ) (lists : List (List ℕ)) (j : ℕ) → of_session k (get_or (map (sent_for sessions) lists) j []) ≡ of_session k (messages_for sessions (get_or lists j []))
+lane_at : {T : Type 0} → (sessions : List (List T)) (k : ℕ) (lists : List (List ℕ)) (j : ℕ) → of_session k (get_or (map (sent_for sessions) lists) j []) ≡ of_session k (messages_for sessions (get_or lists j []))
 lane_at sessions k [] j = refl
 lane_at sessions k (ns ∷ lists) zero = of_sent sessions k ns
 lane_at sessions k (ns ∷ lists) (suc j) = lane_at sessions k lists j
 
-pub complete : (sessions recorded : List (List Item)) (lists : List (List ℕ)) → length recorded ≡ length sessions → Gathered (map (sent_for sessions) lists) recorded
+pub complete : {T : Type 0} → (sessions recorded : List (List T)) (lists : List (List ℕ)) → length recorded ≡ length sessions → Gathered (map (sent_for sessions) lists) recorded
     → ((k : ℕ) → sum_by (times k) lists ≡ once_below k (length sessions)) → recorded ≡ sessions
 unfolding OneHolds
 complete sessions recorded lists len g once =

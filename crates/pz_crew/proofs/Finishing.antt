@@ -1,12 +1,8 @@
 -- Once all workers are joined, each session's items are recorded.
 use Rattle.std.proofs.Common.{◌≡◌, ℕ, ◌<◌, ◌≤◌, List, [], ◌∷◌, ◌++◌, map, length, Result, Ok, Err, IfOk, IsErr, ◌⊎◌, inl, inr, ⊎_elim, refl, sym, ap, ◌∙◌, subst, arith}
-use Rattle.std.proofs.lemmas.List.{length-map}
 use Rattle.pz_claims.specs.Holders.{Numbers, Makes}
 use Rattle.pz_claims.specs.Rule.{times, once_below}
-use Rattle.pz_case.specs.declared.case.Case.{Case}
-use Rattle.pz_case.specs.declared.item.Item.{Item}
 use Rattle.pz_crew.specs.declared.lane.Message.{Message}
-use Rattle.pz_case.specs.Playing.{sessions_of}
 use Rattle.pz_crew.specs.Sent.{sent_for}
 use Rattle.pz_crew.specs.Recorded.{Gathered, taken_of, lane_of}
 use Rattle.pz_crew.specs.Workers.{IsDone, IsAll}
@@ -15,18 +11,17 @@ use Rattle.pz_crew.specs.declared.fault.ReplayFault.{ReplayFault}
 use Rattle.pz_crew.specs.declared.fault.ReplayFault.TheVariants.{Workers}
 use Rattle.pz_crew.proofs.Completing.{complete}
 
-no_inbox : (inboxes : List Inbox) → map lane_of inboxes ≡ [] → map taken_of inboxes ≡ []
+no_inbox : {T : Type 0} → (inboxes : List (Inbox T)) → map lane_of inboxes ≡ [] → map taken_of inboxes ≡ []
 no_inbox [] e = refl
 no_inbox (d ∷ ds) e = absurd (cc)
 
-pub finishes : (items_of : Case → List Item) (job : List Case) (claims : Numbers) (workers : ℕ) (m : Makes) (inboxes : List Inbox) (out : Result (Makes × List (List Item)) ReplayFault) → map lane_of inboxes ≡ []
-    → m.of ≡ claims → m.made ≡ 0 → m.joined ≡ 0 → m.numbers ≡ [] → claims.total ≡ length job → IfOk out (λ p. IsDone (sessions_of items_of job) m workers inboxes p.0 p.1) → IfOk out (λ p. IsAll (sessions_of items_of job) claims workers p.0 p.1)
-finishes items_of job claims workers m inboxes (Err f) none of made joined numbers total done = tt
-finishes items_of job claims workers m inboxes (Ok p) none of made joined numbers total done =
-    let sessions : List (List Item) = sessions_of items_of job in
+pub finishes : {T : Type 0} → (sessions : List (List T)) (claims : Numbers) (workers : ℕ) (m : Makes) (inboxes : List (Inbox T)) (out : Result (Makes × List (List T)) ReplayFault) → map lane_of inboxes ≡ []
+    → m.of ≡ claims → m.made ≡ 0 → m.joined ≡ 0 → m.numbers ≡ [] → claims.total ≡ length sessions → IfOk out (λ p. IsDone sessions m workers inboxes p.0 p.1) → IfOk out (λ p. IsAll sessions claims workers p.0 p.1)
+finishes sessions claims workers m inboxes (Err f) none of made joined numbers total done = tt
+finishes {T = T} sessions claims workers m inboxes (Ok p) none of made joined numbers total done =
     let lists = done.0 in
-    let all : Gathered (map (sent_for sessions) lists) p.1 = subst (λ (ts : List (List Message)). Gathered (ts ++ map (sent_for sessions) lists) p.1) (no_inbox inboxes none) done.1.0 in
-    let many : claims.total ≡ length sessions = total ∙ sym (length-map job items_of) in (
+    let all : Gathered (map (sent_for sessions) lists) p.1 = subst (λ (ts : List (List (Message T))). Gathered (ts ++ map (sent_for sessions) lists) p.1) (no_inbox inboxes none) done.1.0 in
+    let many : claims.total ≡ length sessions = total in (
       done.1.3 ∙ of,
       (let a = done.1.4 in omega arith),
       (let a = done.1.5 in omega arith),

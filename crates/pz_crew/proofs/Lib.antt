@@ -4,7 +4,6 @@ pub mod Joining
 pub mod Finishing
 pub mod Gathering
 pub mod Gating
-pub mod Named
 pub mod Sending
 pub mod Settling
 pub mod Visiting

@@ -6,9 +6,7 @@ use Rattle.std.proofs.lemmas.List.Elements.{All-push}
 use Rattle.std.proofs.lemmas.Option.{IfSome_then}
 use Rattle.std.specs.Prelude.{Some}
 use Rattle.pz_claims.specs.Holders.{Ending, Holding, Numbers}
-use Rattle.pz_case.specs.declared.item.Item.{Item}
-use Rattle.pz_case.specs.declared.case.Case.{Case}
-use Rattle.pz_case.specs.Playing.{items_at, sessions_of}
+use Rattle.pz_crew.specs.Pieces.{pieces_at}
 use Rattle.pz_crew.specs.Lane.{LaneId, Sends}
 use Rattle.pz_crew.specs.Sent.{messages_of, messages_for}
 use Rattle.pz_crew.specs.Worked.{IsWorked}
@@ -19,20 +17,20 @@ use Rattle.pz_crew.specs.declared.lane.Message.TheVariants as messages
 use Rattle.pz_crew.specs.declared.work.Worked.{Worked}
 
 -- the items shown are the first of the session
-pub first_messages : (session : ℕ) (shown rest items : List Item) → shown ++ rest ≡ items → messages_of session shown ≡ take (length shown) (messages_of session items)
-first_messages session shown rest items whole =
+pub first_messages : {T : Type 0} → (session : ℕ) (shown rest items : List T) → shown ++ rest ≡ items → messages_of session shown ≡ take (length shown) (messages_of session items)
+first_messages {T = T} session shown rest items whole =
     sym (ap (λ xs. take (length shown) (messages_of session xs)) (sym whole)
-    ∙ (ap (λ (ms : List Message). take (length shown) ms) (map-append (messages.Piece session) shown rest)
+    ∙ (ap (λ (ms : List (Message T)). take (length shown) ms) (map-append (messages.Piece session) shown rest)
     ∙ take_at (messages_of session shown) (messages_of session rest) (length shown) (length-map shown (messages.Piece session))))
 
 -- nothing was sent yet
-pub nothing_sent : (session : ℕ) (start : Sends) → start ≡ record start { sent = start.sent ++ messages_of session [] }
-nothing_sent session start = ap (λ (ms : List Message). record start { sent = ms }) (sym (append-nil start.sent))
+pub nothing_sent : {T : Type 0} → (session : ℕ) (start : (Sends T)) → start ≡ record start { sent = start.sent ++ messages_of session [] }
+nothing_sent {T = T} session start = ap (λ (ms : List (Message T)). record start { sent = ms }) (sym (append-nil start.sent))
 
 -- no item is left: all were sent
-pub all_sent : (session : ℕ) (start now : Sends) (shown rest items : List Item) → rest ≡ [] → shown ++ rest ≡ items → now ≡ record start { sent = start.sent ++ messages_of session shown } → now ≡ record start { sent = start.sent ++ messages_of session items }
-all_sent session start now shown rest items none whole so_far =
-    so_far ∙ ap (λ (xs : List Item). record start { sent = start.sent ++ messages_of session xs }) (sym (append-nil shown) ∙ ap (λ (xs : List Item). shown ++ xs) (sym none) ∙ whole)
+pub all_sent : {T : Type 0} → (session : ℕ) (start now : (Sends T)) (shown rest items : List T) → rest ≡ [] → shown ++ rest ≡ items → now ≡ record start { sent = start.sent ++ messages_of session shown } → now ≡ record start { sent = start.sent ++ messages_of session items }
+all_sent {T = T} session start now shown rest items none whole so_far =
+    so_far ∙ ap (λ (xs : List T). record start { sent = start.sent ++ messages_of session xs }) (sym (append-nil shown) ∙ ap (λ (xs : List T). shown ++ xs) (sym none) ∙ whole)
 
 pub memory_is_not_finished : Memory ≡ Finished → ⊥
 memory_is_not_finished e = cc
@@ -41,29 +39,29 @@ pub closed_is_not_finished : GateClosed ≡ Finished → ⊥
 closed_is_not_finished e = cc
 
 -- one item more was sent
-pub sends_more : (session : ℕ) (start before after : Sends) (shown : List Item) (item : Item)
+pub sends_more : {T : Type 0} → (session : ℕ) (start before after : (Sends T)) (shown : List T) (item : T)
     → before ≡ record start { sent = start.sent ++ messages_of session shown } → after ≡ record before { sent = before.sent ++ messages.Piece session item ∷ [] }
     → after ≡ record start { sent = start.sent ++ messages_of session (shown ++ item ∷ []) }
-sends_more session start before after shown item so_far more =
-    rw (more, so_far, map-append (messages.Piece session) shown (item ∷ [])) (ap (λ (ms : List Message). record start { sent = ms }) (append_assoc start.sent (messages_of session shown) (messages.Piece session item ∷ [])))
+sends_more {T = T} session start before after shown item so_far more =
+    rw (more, so_far, map-append (messages.Piece session) shown (item ∷ [])) (ap (λ (ms : List (Message T)). record start { sent = ms }) (append_assoc start.sent (messages_of session shown) (messages.Piece session item ∷ [])))
 
-pub messages_for_push : (sessions : List (List Item)) (numbers : List ℕ) (number : ℕ) → messages_for sessions (numbers ++ number ∷ []) ≡ messages_for sessions numbers ++ messages_of number (items_at sessions number)
-messages_for_push sessions [] number = append-nil (messages_of number (items_at sessions number))
-messages_for_push sessions (first ∷ later) number =
-    ap (λ (l : List Message). messages_of first (items_at sessions first) ++ l) (messages_for_push sessions later number)
-    ∙ sym (append_assoc (messages_of first (items_at sessions first)) (messages_for sessions later) (messages_of number (items_at sessions number)))
+pub messages_for_push : {T : Type 0} → (sessions : List (List T)) (numbers : List ℕ) (number : ℕ) → messages_for sessions (numbers ++ number ∷ []) ≡ messages_for sessions numbers ++ messages_of number (pieces_at sessions number)
+messages_for_push sessions [] number = append-nil (messages_of number (pieces_at sessions number))
+messages_for_push {T = T} sessions (first ∷ later) number =
+    ap (λ (l : List (Message T)). messages_of first (pieces_at sessions first) ++ l) (messages_for_push sessions later number)
+    ∙ sym (append_assoc (messages_of first (pieces_at sessions first)) (messages_for sessions later) (messages_of number (pieces_at sessions number)))
 
 -- all messages of some sessions and the first messages of one more are the first messages of them all
-take_of : (sessions : List (List Item)) (numbers : List ℕ) (number count : ℕ)
-    → take (length (messages_for sessions numbers) + count) (messages_for sessions (numbers ++ number ∷ [])) ≡ messages_for sessions numbers ++ take count (messages_of number (items_at sessions number))
-take_of sessions numbers number count =
-    ap (λ (ms : List Message). take (length (messages_for sessions numbers) + count) ms) (messages_for_push sessions numbers number)
-    ∙ take-append-add (messages_for sessions numbers) (messages_of number (items_at sessions number)) count
+take_of : {T : Type 0} → (sessions : List (List T)) (numbers : List ℕ) (number count : ℕ)
+    → take (length (messages_for sessions numbers) + count) (messages_for sessions (numbers ++ number ∷ [])) ≡ messages_for sessions numbers ++ take count (messages_of number (pieces_at sessions number))
+take_of {T = T} sessions numbers number count =
+    ap (λ (ms : List (Message T)). take (length (messages_for sessions numbers) + count) ms) (messages_for_push sessions numbers number)
+    ∙ take-append-add (messages_for sessions numbers) (messages_of number (pieces_at sessions number)) count
 
 -- one session more was sent
-pub session_more : (sessions : List (List Item)) (seat same : Holding) (number : ℕ) (before after : Sends)
+pub session_more : {T : Type 0} → (sessions : List (List T)) (seat same : Holding) (number : ℕ) (before after : (Sends T))
     → same ≡ record seat { numbers = seat.numbers ++ number ∷ [] }
-    → before.sent ≡ messages_for sessions seat.numbers → after ≡ record before { sent = before.sent ++ messages_of number (items_at sessions number) }
+    → before.sent ≡ messages_for sessions seat.numbers → after ≡ record before { sent = before.sent ++ messages_of number (pieces_at sessions number) }
     → after.sent ≡ messages_for sessions same.numbers
 session_more sessions seat same number before after claimed so_far more =
     rw (claimed, more, so_far, messages_for_push sessions seat.numbers number) refl
@@ -74,10 +72,10 @@ below_more claims seat same number claimed below table within =
     rw claimed (All-push (λ k. k < claims.total) seat.numbers number below (rw (← table) within))
 
 -- a worker that ends within a session breaks off
-pub breaks_off : (claims : Numbers) (sessions : List (List Item)) (lane : LaneId) (seat same : Holding) (number count : ℕ) (before after : Sends) (end : End) (worked : Worked)
+pub breaks_off : {T : Type 0} → (claims : Numbers) (sessions : List (List T)) (lane : LaneId) (seat same : Holding) (number count : ℕ) (before after : (Sends T)) (end : End) (worked : (Worked T))
     → seat.of ≡ claims → All (λ k. k < claims.total) seat.numbers → before.lane ≡ lane → before.sent ≡ messages_for sessions seat.numbers
     → number < seat.of.total → same ≡ record seat { numbers = seat.numbers ++ number ∷ [] }
-    → after ≡ record before { sent = before.sent ++ take count (messages_of number (items_at sessions number)) } → end ≢ Finished
+    → after ≡ record before { sent = before.sent ++ take count (messages_of number (pieces_at sessions number)) } → end ≢ Finished
     → worked.end ≡ end → worked.ended ≡ None → IfSome worked.sent (λ all. all ≡ record { lane = after.lane; sent = after.sent ++ messages.Last end ∷ [] })
     → IsWorked claims sessions lane worked
 breaks_off claims sessions lane seat same number count before after end worked table below here so_far within claimed part broken ends unended sent =
@@ -100,18 +98,14 @@ none_below n [] e = λ k d within. absurd (omega arith)
 none_below n (number ∷ numbers) e = absurd (cc)
 
 -- a worker begins with nothing
-pub begins : (claims : Numbers) (sessions : List (List Item)) (seat : Holding) (sent : List Message) → seat.numbers ≡ [] → sent ≡ [] → All (λ k. k < claims.total) seat.numbers × (sent ≡ messages_for sessions seat.numbers)
+pub begins : {T : Type 0} → (claims : Numbers) (sessions : List (List T)) (seat : Holding) (sent : List (Message T)) → seat.numbers ≡ [] → sent ≡ [] → All (λ k. k < claims.total) seat.numbers × (sent ≡ messages_for sessions seat.numbers)
 begins claims sessions seat sent none nothing = (none_below claims.total seat.numbers none, nothing ∙ sym (ap (messages_for sessions) none))
 
 pub case_there : (claims : Numbers) (many : ℕ) (seat : Holding) (number : ℕ) → number < seat.of.total → seat.of ≡ claims → claims.total ≡ many → number < many
 case_there claims many seat number within table whole = subst (λ n. number < n) (ap (λ (c : Numbers). c.total) table ∙ whole) within
 
--- the session of a number is one of the job's
-pub case_within : (items_of : Case → List Item) (job : List Case) (number : ℕ) → number < length job → number < length (sessions_of items_of job)
-case_within items_of job number within = subst (λ many. number < many) (sym (length-map job items_of)) within
-
 -- a worker that finds no number left has sent all
-pub ends_whole : (claims : Numbers) (sessions : List (List Item)) (lane : LaneId) (seat : Holding) (ended : Ending) (before : Sends) (worked : Worked)
+pub ends_whole : {T : Type 0} → (claims : Numbers) (sessions : List (List T)) (lane : LaneId) (seat : Holding) (ended : Ending) (before : (Sends T)) (worked : (Worked T))
     → seat.of ≡ claims → before.lane ≡ lane → before.sent ≡ messages_for sessions seat.numbers → ended.of ≡ seat.of → ended.numbers ≡ seat.numbers
     → worked.end ≡ Finished → worked.ended ≡ Some ended → IfSome worked.sent (λ all. all ≡ record { lane = before.lane; sent = before.sent ++ messages.Last Finished ∷ [] })
     → IsWorked claims sessions lane worked

@@ -27,8 +27,8 @@ none_at_all : first_fault None None ≡ None
 none_at_all = refl
 
 -- no lane is lost where a worker hands its token back, nor where it broke off
-whole : (all : All) → fault_at end.Finished (Some all) ≡ None
+whole : {T : Type 0} → (all : All T) → fault_at end.Finished (Some all) ≡ None
 whole all = refl
 
-broken_off : fault_at end.GateClosed None ≡ Some GateClosed
+broken_off : fault_at {T = Unit {0}} end.GateClosed None ≡ Some GateClosed
 broken_off = refl

@@ -21,13 +21,13 @@ first_fault (Some one) None = Some one
 first_fault (Some one) (Some other) = Some (if nat_lt (rank other) (rank one) then other else one)
 
 -- the fault of a worker that ended so and hands back this token; if it finished without one, its lane is lost
-abbrev pub fault_at : End → Option All → Option ReplayFault
+abbrev pub fault_at : {T : Type 0} → End → Option (All T) → Option ReplayFault
 fault_at end.Memory sent = Some fault.Memory
 fault_at end.GateClosed sent = Some fault.GateClosed
 fault_at end.Finished None = Some fault.LaneLost
 fault_at end.Finished (Some all) = None
 
-abbrev pub fault_of : Worked → Option ReplayFault
+abbrev pub fault_of : {T : Type 0} → Worked T → Option ReplayFault
 fault_of worked = fault_at worked.end worked.sent
 
 -- the fault that is answered, if one is

@@ -11,18 +11,18 @@ pub record LaneId : Type 0 where
   pub names : Names
 
 -- the end that sends: its lane, how many messages the lane holds at once, and what was sent
-pub record Sends : Type 0 where
+pub record Sends (T : Type 0) : Type 0 where
   pub lane : LaneId
   pub capacity : ℕ
-  pub sent : List Message
+  pub sent : List (Message T)
 
 -- the end that takes: its lane, what was taken, and the messages after that which are known to be there
-pub record Takes : Type 0 where
+pub record Takes (T : Type 0) : Type 0 where
   pub lane : LaneId
-  pub taken : List Message
-  pub known : List Message
+  pub taken : List (Message T)
+  pub known : List (Message T)
 
 -- the token: which lane, and all that was sent on it
-pub record All : Type 0 where
+pub record All (T : Type 0) : Type 0 where
   pub lane : LaneId
-  pub sent : List Message
+  pub sent : List (Message T)

@@ -1,3 +1,4 @@
+pub mod Pieces
 pub mod Workers
 pub mod Faults
 pub mod Lane

@@ -1,7 +1,6 @@
 -- What a worker hands back.
 use Rattle.std.specs.Prelude.{◌≡◌, ◌≢◌, ◌<◌, ℕ, List, [], ◌∷◌, ◌++◌, All, take, IfSome, IsSome}
 use Rattle.pz_claims.specs.Holders.{Numbers}
-use Rattle.pz_case.specs.declared.item.Item.{Item}
 use Rattle.pz_crew.specs.Lane.{LaneId}
 use Rattle.pz_crew.specs.Sent.{messages_for, sent_for}
 use Rattle.pz_crew.specs.declared.lane.End.{End}
@@ -11,7 +10,7 @@ use Rattle.pz_crew.specs.declared.lane.Message.TheVariants.{Last}
 use Rattle.pz_crew.specs.declared.work.Worked.{Worked}
 
 -- some first messages of sessions with numbers below n, and then the last message with its end
-pub record IsBroken (n : ℕ) (sessions : List (List Item)) (end : End) (sent : List Message) : Type 0 where
+pub record IsBroken {T : Type 0} (n : ℕ) (sessions : List (List T)) (end : End) (sent : List (Message T)) : Type 0 where
   pub numbers : List ℕ
   pub below : All (λ number. number < n) numbers
   pub count : ℕ
@@ -19,7 +18,7 @@ pub record IsBroken (n : ℕ) (sessions : List (List Item)) (end : End) (sent : 
 
 -- the token is of the lane, and the seat has ended exactly if the worker ended Finished;
 -- then it sent the items of the numbers that its seat holds, in the order claimed, and the last message; else it broke off
-pub record IsWorked (claims : Numbers) (sessions : List (List Item)) (lane : LaneId) (worked : Worked) : Type 0 where
+pub record IsWorked {T : Type 0} (claims : Numbers) (sessions : List (List T)) (lane : LaneId) (worked : Worked T) : Type 0 where
   pub token : IfSome worked.sent (λ all. all.lane ≡ lane)
   pub seat : worked.end ≡ Finished → IsSome worked.ended
   pub finished : IsSome worked.ended → worked.end ≡ Finished

@@ -3,7 +3,6 @@
 ghost use Rattle.std.specs.Prelude.{◌≡◌, ◌<◌, ◌≤◌, [], ◌∷◌, ◌++◌, length, IfOk, IfErr, IfSome, IfNone, OnOk, IsOk, IsSome};
 ghost use mathlib.Core.List.{IsPrefix};
 
-use pz_case::item::Item;
 use rtrb::{Consumer, Finished, Producer, PushError, RingBuffer};
 use std::alloc::{AllocError, Global};
 use std::marker::Model;
@@ -21,25 +20,25 @@ pub enum End {
 
 /// What a worker sends.
 #[derive(Drop)]
-pub enum Message {
-    /// The next item of the session of this number.
-    Piece(usize, Item),
+pub enum Message<T> {
+    /// The next piece of the session of this number.
+    Piece(usize, T),
     /// The last message of a lane.
     Last(End),
 }
 
 /// The end that sends.
 #[derive(Drop)]
-pub struct Sender {
-    producer: Producer<Message>,
+pub struct Sender<T> {
+    producer: Producer<Message<T>>,
 }
 
-impl Model for Sender {
+impl<T> Model for Sender<T> {
     ghost use Rattle.pz_crew.specs.Lane.{Sends};
     ghost use Rattle.std.specs.Prelude.{length, ◌≤◌, ◌+◌};
     ghost use Rattle.rtrb.specs.Ring.{sent, known_free, producer_capacity};
 
-    ghost Value = { Sends };
+    ghost Value = { Sends T };
 
     ghost view = { λ s. record { lane = record { words = s.producer.end.words; slots = s.producer.end.slots; names = s.producer.end.names }; capacity = producer_capacity s.producer; sent = sent s.producer } };
 
@@ -48,36 +47,36 @@ impl Model for Sender {
 
 /// The end that takes.
 #[derive(Drop)]
-pub struct Taker {
-    consumer: Consumer<Message>,
+pub struct Taker<T> {
+    consumer: Consumer<Message<T>>,
 }
 
-impl Model for Taker {
+impl<T> Model for Taker<T> {
     ghost use Rattle.pz_crew.specs.Lane.{Takes};
     ghost use Rattle.rtrb.specs.Ring.{received, known_items};
 
-    ghost Value = { Takes };
+    ghost Value = { Takes T };
 
     ghost view = { λ t. record { lane = record { words = t.consumer.end.words; slots = t.consumer.end.slots; names = t.consumer.end.names }; taken = received t.consumer; known = known_items t.consumer } };
 }
 
 /// Names all that was sent on a lane.
 #[derive(Drop)]
-pub struct SentAll {
-    finished: Finished<Message>,
+pub struct SentAll<T> {
+    finished: Finished<Message<T>>,
 }
 
-impl Model for SentAll {
+impl<T> Model for SentAll<T> {
     ghost use Rattle.pz_crew.specs.Lane.{All};
     ghost use Rattle.rtrb.specs.Ring.{all_sent};
 
-    ghost Value = { All };
+    ghost Value = { All T };
 
     ghost view = { λ a. record { lane = record { words = a.finished.end.words; slots = a.finished.end.slots; names = a.finished.end.names }; sent = all_sent a.finished } };
 }
 
 /// The two ends of a new lane, which holds this many messages at once.
-pub fn lane(alloc: Global, capacity: usize) -> Result<(Sender, Taker), AllocError>
+pub fn lane<T: Drop>(alloc: Global, capacity: usize) -> Result<(Sender<T>, Taker<T>), AllocError>
     requires { 1 ≤ capacity }
     ensures sender { IfOk result (λ ends. (ends.0.sent ≡ []) × (ends.0.capacity ≡ capacity)) }
     ensures taker { IfOk result (λ ends. (ends.1.lane ≡ ends.0.lane) × (ends.1.taken ≡ []) × (ends.1.known ≡ [])) }
@@ -86,9 +85,9 @@ pub fn lane(alloc: Global, capacity: usize) -> Result<(Sender, Taker), AllocErro
     Ok((Sender { producer }, Taker { consumer }))
 }
 
-impl Sender {
+impl<T: Drop> Sender<T> {
     /// Sends a message, or hands it back if the lane is full.
-    pub fn try_send(&mut self, message: Message) -> Result<(), Message>
+    pub fn try_send(&mut self, message: Message<T>) -> Result<(), Message<T>>
         ensures sent { OnOk result (self.new ≡ record self.old { sent = self.old.sent ++ message ∷ [] }) }
         ensures full { IfErr result (λ back. (back ≡ message) × (self.new ≡ self.old)) }
         ensures room { length self.old.sent < self.old.capacity → IsOk result }
@@ -100,7 +99,7 @@ impl Sender {
     }
 
     /// Ends the sending. The token names all that was sent. There is none if the other end is gone.
-    pub fn finish(self) -> Option<SentAll>
+    pub fn finish(self) -> Option<SentAll<T>>
         ensures { IfSome result (λ all. all ≡ record { lane = self.lane; sent = self.sent }) }
     {
         let Sender { producer } = self;
@@ -109,9 +108,9 @@ impl Sender {
     }
 }
 
-impl Taker {
+impl<T: Drop> Taker<T> {
     /// Takes the next message, if one is there.
-    pub fn try_take(&mut self) -> Option<Message>
+    pub fn try_take(&mut self) -> Option<Message<T>>
         ensures taken { IfSome result (λ message. (self.new.lane ≡ self.old.lane) × (self.new.taken ≡ self.old.taken ++ message ∷ [])) }
         ensures none { IfNone result ((self.new.lane ≡ self.old.lane) × (self.new.taken ≡ self.old.taken)) }
         ensures known { IfSome result (λ message. IsPrefix self.old.known (message ∷ self.new.known)) }
@@ -121,7 +120,7 @@ impl Taker {
     }
 
     /// How many messages of all that were sent are not taken yet; each of them is there.
-    pub fn left(&mut self, all: &mut SentAll) -> usize
+    pub fn left(&mut self, all: &mut SentAll<T>) -> usize
         requires { all.old.lane ≡ self.old.lane }
         ensures taken { (self.new.lane ≡ self.old.lane) × (self.new.taken ≡ self.old.taken) }
         ensures token { all.new ≡ all.old }

@@ -1,4 +1,4 @@
-//! The recorder, which takes the messages of all lanes, and keeps the items of each session.
+//! The recorder, which takes the messages of all lanes, and keeps the pieces of each session.
 
 ghost use Rattle.std.specs.Prelude.{◌≡◌, [], map, replicate, All, IfOk, IsTrue, OnOk};
 ghost use Rattle.pz_crew.specs.Recorded.{GoesOn, HasEnded, IsRecorded, IsVisited, kept};
@@ -6,69 +6,68 @@ ghost use Rattle.pz_crew.specs.declared.lane.Message.TheVariants as messages;
 
 use crate::lane::{End, Message, Taker};
 use crate::waiting::pause;
-use pz_case::item::Item;
 use std::alloc::{AllocError, Global};
 use std::marker::Model;
 use std::sync::Wait;
+use std::thread::Parker;
 
-/// The items of each session so far, by session number.
+/// The pieces of each session so far, by session number.
 #[derive(Drop)]
-pub(crate) struct Sessions {
-    items: Vec<Vec<Item>>,
+pub struct Sessions<T> {
+    pieces: Vec<Vec<T>>,
 }
 
-impl Model for Sessions {
+impl<T> Model for Sessions<T> {
     ghost use Rattle.std.specs.Prelude.{List, map};
-    ghost use Rattle.pz_case.specs.declared.item.Item.{Item};
 
-    ghost Value = { List (List Item) };
+    ghost Value = { List (List T) };
 
-    ghost view = { λ s. map (λ items. items.items) s.items.items };
+    ghost view = { λ s. map (λ pieces. pieces.items) s.pieces.items };
 }
 
-impl Sessions {
-    /// This many sessions, all without items.
-    pub(crate) fn blank(alloc: Global, count: usize) -> Result<Sessions, AllocError>
+impl<T: Drop> Sessions<T> {
+    /// This many sessions, all without pieces.
+    pub(crate) fn blank(alloc: Global, count: usize) -> Result<Sessions<T>, AllocError>
         ensures { IfOk result (λ s. s ≡ replicate count []) }
     {
-        let mut items = Vec::new(alloc);
+        let mut pieces = Vec::with_capacity(alloc, count)?;
         for _ in 0..count {
-            items.push(Vec::new(alloc))?;
+            pieces.push(Vec::new(alloc))?;
         }
-        Ok(Sessions { items })
+        Ok(Sessions { pieces })
     }
 
-    /// The items of each session.
-    pub(crate) fn into_items(self) -> Vec<Vec<Item>>
-        ensures { map (λ items. items.items) result.items ≡ self }
+    /// The pieces of each session.
+    pub fn into_pieces(self) -> Vec<Vec<T>>
+        ensures { map (λ pieces. pieces.items) result.items ≡ self }
     {
-        let Sessions { items } = self;
-        items
+        let Sessions { pieces } = self;
+        pieces
     }
 
-    /// Appends an item to its session.
-    fn keep(&mut self, session: usize, item: Item) -> Result<(), AllocError>
-        ensures { OnOk result (self.new ≡ kept self.old (messages.Piece session item)) }
+    /// Appends a piece to its session.
+    fn keep(&mut self, session: usize, piece: T) -> Result<(), AllocError>
+        ensures { OnOk result (self.new ≡ kept self.old (messages.Piece session piece)) }
     {
-        let Some(items) = self.items.get_mut(session) else {
+        let Some(pieces) = self.pieces.get_mut(session) else {
             return Ok(());
         };
-        items.push(item)?;
+        pieces.push(piece)?;
         Ok(())
     }
 }
 
 /// A lane at the recorder; how it ended, once its last message was taken; and whether it was empty at the last visit.
 #[derive(Drop)]
-pub(crate) struct Inbox {
-    pub(crate) taker: Taker,
+pub(crate) struct Inbox<T> {
+    pub(crate) taker: Taker<T>,
     pub(crate) end: Option<End>,
     pub(crate) is_quiet: bool,
 }
 
-/// Takes one message, if there is one and the lane has not ended, and says whether it has ended. If there is no memory for an
-/// item, no sessions are kept any more.
-fn visit(inbox: &mut Inbox, sessions: &mut Option<Sessions>) -> bool
+/// Takes one message, if there is one and the lane has not ended, and says whether it has ended. If there is no memory for a
+/// piece, no sessions are kept any more.
+fn visit<T: Drop>(inbox: &mut Inbox<T>, sessions: &mut Option<Sessions<T>>) -> bool
     ensures lane { inbox.new.taker.lane ≡ inbox.old.taker.lane }
     ensures visited { IsVisited inbox.old inbox.new sessions.old sessions.new }
     ensures ended { IsTrue result → HasEnded inbox.new }
@@ -86,10 +85,10 @@ fn visit(inbox: &mut Inbox, sessions: &mut Option<Sessions>) -> bool
             inbox.is_quiet = true;
             true
         }
-        Some(Message::Piece(session, item)) => {
+        Some(Message::Piece(session, piece)) => {
             inbox.is_quiet = false;
             if let Some(so_far) = sessions {
-                if so_far.keep(session, item).is_err() {
+                if so_far.keep(session, piece).is_err() {
                     *sessions = None;
                 }
             }
@@ -99,7 +98,7 @@ fn visit(inbox: &mut Inbox, sessions: &mut Option<Sessions>) -> bool
 }
 
 /// Visits each inbox, and says whether all lanes have ended.
-fn round(inboxes: &mut [Inbox], sessions: &mut Option<Sessions>) -> bool
+fn round<T: Drop>(inboxes: &mut [Inbox<T>], sessions: &mut Option<Sessions<T>>) -> bool
     requires { IsRecorded inboxes.old sessions.old }
     ensures recorded { IsRecorded inboxes.new sessions.new }
     ensures goes { GoesOn inboxes.old inboxes.new sessions.old sessions.new }
@@ -114,13 +113,18 @@ fn round(inboxes: &mut [Inbox], sessions: &mut Option<Sessions>) -> bool
 }
 
 /// Whether no lane had a message in the last round.
-fn are_quiet(inboxes: &[Inbox]) -> bool {
+fn are_quiet<T>(inboxes: &[Inbox<T>]) -> bool {
     inboxes.iter().all(|inbox| inbox.is_quiet)
 }
 
 /// Takes from every lane in turn until each has ended, and pauses after each round in which no lane had a message. It goes on
-/// even if there was no memory for an item, since a worker would otherwise wait for room on its lane.
-pub(crate) fn record<R: Wait>(rt: &R, inboxes: &mut [Inbox], sessions: &mut Option<Sessions>)
+/// even if there was no memory for a piece, since a worker would otherwise wait for room on its lane.
+pub(crate) fn record<T: Drop, R: Wait>(
+    rt: &R,
+    bell: &Parker,
+    inboxes: &mut [Inbox<T>],
+    sessions: &mut Option<Sessions<T>>,
+)
     requires { IsRecorded inboxes.old sessions.old }
     ensures recorded { IsRecorded inboxes.new sessions.new }
     ensures goes { GoesOn inboxes.old inboxes.new sessions.old sessions.new }
@@ -131,7 +135,7 @@ pub(crate) fn record<R: Wait>(rt: &R, inboxes: &mut [Inbox], sessions: &mut Opti
             return;
         }
         if are_quiet(inboxes) {
-            pause(rt);
+            pause(rt, bell);
         }
     }
     unreachable!()

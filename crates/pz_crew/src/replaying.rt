@@ -1,23 +1,20 @@
 //! The replay of a job, by several workers.
 
-ghost use Rattle.std.specs.Prelude.{◌≡◌, ◌≢◌, ◌↔◌, ◌⊎◌, ◌<◌, ◌≤◌, [], length, replicate, Err, IfOk};
+ghost use Rattle.std.specs.Prelude.{◌≡◌, ◌≢◌, ◌↔◌, ◌⊎◌, ◌<◌, ◌≤◌, [], length, replicate, All, Err, IfOk};
 ghost use Rattle.pz_crew.specs.Gates.{HasStop, MayPassAll, MayPassFor};
+ghost use Rattle.pz_crew.specs.Pieces.{IsShort};
 ghost use Rattle.pz_crew.specs.Workers.{IsAll};
-ghost use Rattle.pz_case.specs.Playing.{recording, sessions_of};
 
 use crate::fault::ReplayFault;
 use crate::gate::Gate;
+use crate::playing::Playable;
 use crate::recorder::Sessions;
 use crate::workers::{Shared, all_started};
-use pz_base::listed::Listed;
-use pz_base::text::Text;
-use pz_case::playing::Playable;
-use pz_case::recording::{Record, Recording};
 use pz_claims::{Claims, Maker};
-use std::alloc::{AllocError, Global};
+use std::alloc::Global;
 use std::sync::Wait;
 use std::thread;
-use std::thread::Threads;
+use std::thread::{Parker, Threads};
 
 /// The most workers that play a job.
 pub const MOST_WORKERS: usize = 64;
@@ -26,27 +23,6 @@ pub const MOST_WORKERS: usize = 64;
 pub fn workers_are_limited()
     ensures { MOST_WORKERS ≡ 64 }
 {}
-
-/// The records of a job that is played, from the items of its sessions.
-fn named<P: Playable>(
-    alloc: Global,
-    played: &P,
-    sessions: Sessions,
-) -> Result<Recording, AllocError>
-    requires { sessions ≡ sessions_of P.items_of (P.job played.now) }
-    ensures { IfOk result (λ records. records ≡ recording P.items_of (P.job played.now)) }
-{
-    let job = played.job();
-    let mut records = Vec::new(alloc);
-    for items in sessions.into_items() {
-        let case = job.case(records.len());
-        records.push(Record {
-            name: Text::of_str(alloc, case.name.as_str())?,
-            items: Listed::new(items),
-        })?;
-    }
-    Ok(Recording::new(records))
-}
 
 /// How many workers are started: no more than there are sessions, but at least one.
 fn crew_for(workers: usize, sessions: usize) -> usize
@@ -57,42 +33,50 @@ fn crew_for(workers: usize, sessions: usize) -> usize
     workers.min(sessions).max(1)
 }
 
-/// What every session of a job shows, by session number. At most so many workers play the sessions, each over a lane that holds
-/// `capacity` messages. No worker is started without a session for it.
-pub fn replay_with<'a, P: Playable + Sync, R: Threads + Wait + Sync, G: Gate + Sync>(
+/// How many workers there may be, how many messages each lane holds, and whether the calling thread is one of the workers.
+#[derive(Clone, Copy)]
+struct Crew {
+    workers: usize,
+    capacity: usize,
+    plays_too: bool,
+}
+
+/// What every session of a job shows, played by such a crew.
+fn replay_by<'a, P: Playable + Sync, R: Threads + Wait + Sync, G: Gate + Sync>(
     rt: &'a R,
     alloc: Global,
     played: &'a P,
-    workers: usize,
-    capacity: usize,
+    crew: Crew,
     gate: &'a G,
-) -> Result<Recording, ReplayFault>
+) -> Result<Sessions<P::Piece>, ReplayFault>
 where
     P::Run: Send,
-    requires capacity { 1 ≤ capacity }
-    ensures workers { (result ≡ Err ReplayFault.Workers) ↔ ((workers ≡ 0) ⊎ (MOST_WORKERS < workers)) }
-    ensures recording { IfOk result (λ r. r ≡ recording P.items_of (P.job played.now)) }
-    ensures passed { IfOk result (λ _. MayPassAll (G.may_pass gate.now) (sessions_of P.items_of (P.job played.now))) }
-    ensures closed { result ≡ Err ReplayFault.GateClosed → HasStop (G.may_stop gate.now) (sessions_of P.items_of (P.job played.now)) }
+    requires capacity { 1 ≤ crew.capacity }
+    ensures workers { (result ≡ Err ReplayFault.Workers) ↔ ((crew.workers ≡ 0) ⊎ (MOST_WORKERS < crew.workers)) }
+    ensures sessions { IfOk result (λ s. s ≡ P.sessions played.now) }
+    ensures passed { IfOk result (λ _. MayPassAll (G.may_pass gate.now) (P.sessions played.now)) }
+    ensures closed { result ≡ Err ReplayFault.GateClosed → HasStop (G.may_stop gate.now) (P.sessions played.now) }
 {
-    if workers == 0 || workers > MOST_WORKERS {
+    if crew.workers == 0 || crew.workers > MOST_WORKERS {
         return Err(ReplayFault::Workers);
     }
-    let count = played.job().len();
+    let count = played.count();
     let Ok(blank) = Sessions::blank(alloc, count) else {
         return Err(ReplayFault::Memory);
     };
     let Ok((claims, maker)) = Claims::new(alloc, count) else {
         return Err(ReplayFault::Memory);
     };
+    let bell = Parker::new();
     let table = &claims;
-    let crew = crew_for(workers, count);
+    let ring = &bell;
+    let started = crew_for(crew.workers, count);
     let all = thread::scope(
         thread::scope_env(),
         rt,
-        |scope| -> Result<(Maker, Sessions), ReplayFault>
-            requires { (1 ≤ capacity) × (1 ≤ crew) × (crew ≤ MOST_WORKERS) × (maker.of ≡ table.now) × (maker.made ≡ 0) × (maker.joined ≡ 0) × (maker.numbers ≡ []) × (table.now.total ≡ length (P.job played.now)) × (blank ≡ replicate (length (P.job played.now)) []) }
-            ensures { IfOk result (λ made. IsAll (sessions_of P.items_of (P.job played.entry.now)) table.entry.now crew made.0 made.1) × IfOk result (λ made. MayPassFor (G.may_pass gate.entry.now) (sessions_of P.items_of (P.job played.entry.now)) made.0.numbers) × (result ≡ Err ReplayFault.GateClosed → HasStop (G.may_stop gate.entry.now) (sessions_of P.items_of (P.job played.entry.now))) × (result ≢ Err ReplayFault.Workers) }
+        |scope| -> Result<(Maker, Sessions<P::Piece>), ReplayFault>
+            requires { (1 ≤ crew.capacity) × (1 ≤ started) × (started ≤ MOST_WORKERS) × (maker.of ≡ table.now) × (maker.made ≡ 0) × (maker.joined ≡ 0) × (maker.numbers ≡ []) × (table.now.total ≡ length (P.sessions played.now)) × (blank ≡ replicate (length (P.sessions played.now)) []) }
+            ensures { IfOk result (λ made. IsAll (P.sessions played.entry.now) table.entry.now started made.0 made.1) × IfOk result (λ made. MayPassFor (G.may_pass gate.entry.now) (P.sessions played.entry.now) made.0.numbers) × (result ≡ Err ReplayFault.GateClosed → HasStop (G.may_stop gate.entry.now) (P.sessions played.entry.now)) × (result ≢ Err ReplayFault.Workers) }
         {
             let shared = Shared {
                 rt,
@@ -100,15 +84,69 @@ where
                 claims: table,
                 played,
                 gate,
-                capacity,
+                bell: ring,
+                capacity: crew.capacity,
+                plays_too: crew.plays_too,
             };
-            all_started(scope, &shared, maker, crew, blank)
+            all_started(scope, &shared, maker, started, blank)
         },
     );
     let (maker, sessions) = all?;
     claims.close(maker);
-    match named(alloc, played, sessions) {
-        Ok(recording) => Ok(recording),
-        Err(_) => Err(ReplayFault::Memory),
-    }
+    Ok(sessions)
+}
+
+/// What every session of a job shows, by session number. At most so many workers play the sessions, each in a thread of its own and over a
+/// lane that holds `capacity` messages; the calling thread records. No worker is started without a session for it. Err: `Workers`, if
+/// their number is not from 1 to 64, which is tested first; else `Memory`, if a growth or the start of a thread was refused;
+/// `GateClosed`, if the gate answered false; or `LaneLost`. Of several the one named first is answered.
+pub fn replay_with<'a, P: Playable + Sync, R: Threads + Wait + Sync, G: Gate + Sync>(
+    rt: &'a R,
+    alloc: Global,
+    played: &'a P,
+    workers: usize,
+    capacity: usize,
+    gate: &'a G,
+) -> Result<Sessions<P::Piece>, ReplayFault>
+where
+    P::Run: Send,
+    requires capacity { 1 ≤ capacity }
+    ensures workers { (result ≡ Err ReplayFault.Workers) ↔ ((workers ≡ 0) ⊎ (MOST_WORKERS < workers)) }
+    ensures sessions { IfOk result (λ s. s ≡ P.sessions played.now) }
+    ensures passed { IfOk result (λ _. MayPassAll (G.may_pass gate.now) (P.sessions played.now)) }
+    ensures closed { result ≡ Err ReplayFault.GateClosed → HasStop (G.may_stop gate.now) (P.sessions played.now) }
+{
+    let crew = Crew {
+        workers,
+        capacity,
+        plays_too: false,
+    };
+    replay_by(rt, alloc, played, crew, gate)
+}
+
+/// The same, where the calling thread is the last of the workers, and records once it has played; if another worker's thread can't be
+/// made, the calling thread does its work too. Each session is one piece at most, so each lane holds all that a worker can send, and
+/// no worker ever waits for room.
+pub fn replay_along<'a, P: Playable + Sync, R: Threads + Wait + Sync, G: Gate + Sync>(
+    rt: &'a R,
+    alloc: Global,
+    played: &'a P,
+    workers: usize,
+    gate: &'a G,
+) -> Result<Sessions<P::Piece>, ReplayFault>
+where
+    P::Run: Send,
+    requires short { All IsShort (P.sessions played.now) }
+    ensures workers { (result ≡ Err ReplayFault.Workers) ↔ ((workers ≡ 0) ⊎ (MOST_WORKERS < workers)) }
+    ensures sessions { IfOk result (λ s. s ≡ P.sessions played.now) }
+    ensures passed { IfOk result (λ _. MayPassAll (G.may_pass gate.now) (P.sessions played.now)) }
+    ensures closed { result ≡ Err ReplayFault.GateClosed → HasStop (G.may_stop gate.now) (P.sessions played.now) }
+{
+    // (a message for each session, and the last one)
+    let crew = Crew {
+        workers,
+        capacity: played.count() + 1,
+        plays_too: true,
+    };
+    replay_by(rt, alloc, played, crew, gate)
 }

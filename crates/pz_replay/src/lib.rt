@@ -3,15 +3,18 @@
 //! and `pz_lines`.
 #![tactic(auto)]
 
+mod as_items;
+pub mod item_lane;
+mod naming;
 pub mod replaying;
 
+pub use item_lane::{Message, Sender, SentAll, Taker, Worked};
 pub use pz_case::recording::{Record, Recording};
 pub use pz_claims::{Claimed, Claims, Ended, Maker, Seat};
 pub use pz_crew::fault::ReplayFault;
 pub use pz_crew::gate::{Always, Gate};
-pub use pz_crew::lane::{End, Message, Sender, SentAll, Taker, lane};
+pub use pz_crew::lane::{End, lane};
 pub use pz_crew::replaying::MOST_WORKERS;
-pub use pz_crew::work::Worked;
 pub use pz_lines::fault::{Cause, WriteFault};
 pub use pz_lines::output::Output;
 pub use pz_lines::writing::write_recording;

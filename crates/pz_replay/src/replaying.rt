@@ -6,18 +6,19 @@ ghost use Rattle.pz_crew.specs.Worked.{IsWorked};
 ghost use Rattle.pz_crew.specs.declared.lane.End.TheVariants.{GateClosed};
 ghost use Rattle.pz_session.specs.Recording.{recording, sessions};
 
+use crate::as_items::AsItems;
+use crate::item_lane::{Sender, Worked};
+use crate::naming::named;
 use pz_case::job::Job;
 use pz_case::recording::Recording;
 use pz_claims::{Claims, Seat};
 use pz_crew::fault::ReplayFault;
 use pz_crew::gate::Gate;
-use pz_crew::lane::Sender;
 use pz_crew::replaying::MOST_WORKERS;
-use pz_crew::work::{Duty, Worked};
-use pz_session::by_rules::ByRules;
+use pz_crew::work::Duty;
 use std::alloc::Global;
 use std::sync::Wait;
-use std::thread::Threads;
+use std::thread::{Parker, Threads};
 
 /// How many messages a lane of `replay` holds at once.
 pub const CAPACITY: usize = 64;
@@ -39,8 +40,12 @@ pub fn replay_with<'a, R: Threads + Wait + Sync, G: Gate + Sync>(
     ensures passed { IfOk result (λ _. MayPassAll (G.may_pass gate.now) (sessions job.now)) }
     ensures closed { result ≡ Err ReplayFault.GateClosed → HasStop (G.may_stop gate.now) (sessions job.now) }
 {
-    let played = ByRules::new(job);
-    pz_crew::replaying::replay_with(rt, alloc, &played, workers, capacity, gate)
+    let played = AsItems { job };
+    let sessions = pz_crew::replaying::replay_with(rt, alloc, &played, workers, capacity, gate)?;
+    match named(alloc, job, sessions) {
+        Ok(recording) => Ok(recording),
+        Err(_) => Err(ReplayFault::Memory),
+    }
 }
 
 /// The recording of a job, played by at most so many workers, over lanes of `CAPACITY` messages.
@@ -77,12 +82,14 @@ pub fn work<R: Wait, G: Gate>(
     ensures passed { IsPassed (G.may_pass gate.now) (sessions job.now) result }
     ensures closed { result.end ≡ GateClosed → HasStop (G.may_stop gate.now) (sessions job.now) }
 {
-    let played = ByRules::new(job);
+    let played = AsItems { job };
+    let bell = Parker::new();
     let duty = Duty {
         alloc,
         claims,
         played: &played,
         gate,
+        bell: &bell,
     };
     pz_crew::work::work(rt, &duty, seat, sender)
 }

@@ -1,3 +1,3 @@
 pub mod Deciding
 pub mod Obeying
-pub mod Sharing
+pub mod Lines

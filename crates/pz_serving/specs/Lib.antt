@@ -1,6 +1,6 @@
 pub mod CommandLine
 pub mod Serving
-pub mod Shares
+pub mod AsLines
 pub use Rattle.pz_console.specs.Failures
 pub use Rattle.pz_console.specs.Options
 pub use Rattle.pz_console.specs.Reading

@@ -34,11 +34,12 @@ pub record WritesPart (order : Order) (bytes : List ℕ) (cut : WriteFault) (old
   pub ended : EndsFor cut (text_of (shown_of order entries)) old new
 
 -- what playing sessions leaves in its output, if it ends so: all lines of what they show, as many first bytes as a fault of writing
--- tells, or nothing
+-- tells, or nothing, if memory was refused or a worker's lane was lost
 abbrev pub Plays : List Record → Writes → Writes → Result Bool Failure → Type 0
 Plays shown old new (Ok passed) = (passed ≡ all_passed shown) × HasWritten (text_of shown) old new
 Plays shown old new (Err (failure.WriteFault cut)) = EndsFor cut (text_of shown) old new
 Plays shown old new (Err failure.Memory) = new ≡ old
+Plays shown old new (Err failure.LaneLost) = new ≡ old
 Plays shown old new (Err other) = ⊥
 
 -- these are the bytes of the input, if its bytes are known

@@ -15,6 +15,7 @@ use std::fs;
 use std::fs::Files;
 use std::io::{self, Read, Write};
 use std::mem::forget;
+use std::sync::Wait;
 use std::thread::Threads;
 
 /// The reader of the file of a name.
@@ -31,7 +32,7 @@ fn open<R: Files>(rt: &R, name: &str) -> io::Result<Counted<R::File>>
 /// else those of the input. The input is not read if FILE is named. Answers the exit status; at 2 one line says why there is no
 /// whole recording. The input's reader, or FILE's, is called at most 16,777,217 times. A process serves one command line, so the memory of
 /// what was played is left to its end: with a thousand games, giving it back would take as long as writing their lines.
-pub fn serve_words<T: Files + Threads + Sync + AllocGlobal, R: Read, W: Write, E: Write>(
+pub fn serve_words<T: Files + Threads + Wait + Sync + AllocGlobal, R: Read, W: Write, E: Write>(
     rt: &T,
     words: &[String],
     input: &mut Counted<R>,

@@ -2,9 +2,9 @@
 //! status.
 #![tactic(auto)]
 
+mod as_lines;
 pub mod command_line;
 pub mod serving;
-mod shares;
 
 pub use command_line::serve_words;
 pub use pz_console::counted::Counted;

@@ -9,7 +9,7 @@ ghost use Rattle.pz_lines.specs.Writing.{Writes};
 ghost use Rattle.pz_session.specs.Recording.{recording};
 ghost use Rattle.pz_serving.specs.Serving.{IsJobOf, Plays, ReadsFor, Reports, Serves, ServesOpened, failure_at, status_of};
 
-use crate::shares::play_shared;
+use crate::as_lines::play_as_lines;
 use pz_case::job::Job;
 use pz_console::counted::Counted;
 use pz_console::failure::{Failure, fail_with};
@@ -22,11 +22,11 @@ use pz_lines::output::Output;
 use pz_lines::writing::write_packed;
 use std::alloc::Global;
 use std::io::{self, ErrorKind, Read, Write};
+use std::sync::Wait;
 use std::thread::Threads;
 
-/// Plays a job by several workers, and writes the lines of its sessions; tells whether every session passed. A single worker plays in the
-/// calling thread.
-fn play_job<T: Threads + Sync, W: Write>(
+/// Plays a job by several workers, and writes the lines of its sessions; tells whether every session passed.
+fn play_job<T: Threads + Wait + Sync, W: Write>(
     rt: &T,
     alloc: Global,
     job: &Job,
@@ -38,7 +38,7 @@ fn play_job<T: Threads + Sync, W: Write>(
     requires few { workers ≤ MOST_WORKERS }
     ensures played { Plays (recording job.now) output.old output.new result }
 {
-    let played = play_shared(rt, alloc, job, workers)?;
+    let played = play_as_lines(rt, alloc, job, workers)?;
     match write_packed(alloc, &played.texts, output) {
         Ok(()) => Ok(played.passed),
         Err(fault) => Err(Failure::WriteFault(fault)),
@@ -87,7 +87,7 @@ fn status_of<E: Write>(end: Result<bool, Failure>, errors: &mut Output<E>) -> u8
 }
 
 /// Serves a file of sessions as `serve` does, and hands back the job that was played, if there is one.
-pub(crate) fn serve_and_keep<T: Threads + Sync, R: Read, W: Write, E: Write>(
+pub(crate) fn serve_and_keep<T: Threads + Wait + Sync, R: Read, W: Write, E: Write>(
     rt: &T,
     alloc: Global,
     input: &mut Counted<R>,
@@ -117,7 +117,7 @@ pub(crate) fn serve_and_keep<T: Threads + Sync, R: Read, W: Write, E: Write>(
 /// says why, and nothing is written to the output. Only if the writing itself failed does the output have the first bytes of the
 /// recording. The reader was not called yet, and is called at most 16,777,217 times. The run ends with a failed read exactly if a call of
 /// the reader answered an error.
-pub fn serve<T: Threads + Sync, R: Read, W: Write, E: Write>(
+pub fn serve<T: Threads + Wait + Sync, R: Read, W: Write, E: Write>(
     rt: &T,
     alloc: Global,
     input: &mut Counted<R>,
@@ -147,7 +147,7 @@ fn failure_at(error: &io::Error) -> Failure
 }
 
 /// Serves a file of sessions as `serve_opened` does, and hands back the job that was played, if there is one.
-pub(crate) fn serve_opened_and_keep<T: Threads + Sync, R: Read, W: Write, E: Write>(
+pub(crate) fn serve_opened_and_keep<T: Threads + Wait + Sync, R: Read, W: Write, E: Write>(
     rt: &T,
     alloc: Global,
     opened: &mut io::Result<Counted<R>>,
@@ -171,7 +171,7 @@ pub(crate) fn serve_opened_and_keep<T: Threads + Sync, R: Read, W: Write, E: Wri
 
 /// Serves a file of sessions that was opened, and not read yet, as `serve` does. If it was not opened, nothing is written to the
 /// output, and one line says why: want of memory, or that it can't be opened.
-pub fn serve_opened<T: Threads + Sync, R: Read, W: Write, E: Write>(
+pub fn serve_opened<T: Threads + Wait + Sync, R: Read, W: Write, E: Write>(
     rt: &T,
     alloc: Global,
     opened: &mut io::Result<Counted<R>>,

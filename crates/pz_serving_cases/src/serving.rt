@@ -10,6 +10,7 @@ use std::alloc::{AllocGlobal, Global};
 use std::fs::Files;
 use std::io;
 use std::io::{Read, Write};
+use std::sync::Wait;
 use std::test::Fail;
 use std::thread::Threads;
 
@@ -172,7 +173,7 @@ fn calls_a_reader_without_end_as_often_as_promised(rt: HostRuntime) -> Result<()
 
 /// What comes of serving these words, with a refused session as the input: the status, what was written, what was said, and how often the
 /// input was read.
-fn served<T: Files + Threads + Sync + AllocGlobal>(
+fn served<T: Files + Threads + Wait + Sync + AllocGlobal>(
     rt: &T,
     line: &[String],
 ) -> (u8, Vec<u8>, Vec<u8>, usize) {
@@ -302,7 +303,7 @@ const WALK: &str =
     r#"[["walk",["OBJECTS\nBackground .\nblack\nPlayer p\nwhite\nWall #\ngrey\nLEGEND\nCOLLISIONLAYERS\nBackground\nPlayer, Wall\nLEVELS\n#p.#\n",[3,3],"background wall:0,background:1,background player:2,0,\n"]]]"#;
 
 /// Serves the walk to a writer that fails at its fourth call: the status, and the bytes that the writer took.
-fn served_to_a_failing_writer<T: Threads + Sync, E: Write>(
+fn served_to_a_failing_writer<T: Threads + Wait + Sync, E: Write>(
     rt: &T,
     alloc: Global,
     errors: &mut Output<E>,

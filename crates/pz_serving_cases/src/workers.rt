@@ -5,6 +5,7 @@ ghost use Rattle.std.specs.Prelude.{◌≡◌, ◌≤◌};
 use pz_serving::{Counted, Options, Output, serve};
 use pz_session::Order;
 use std::alloc::Global;
+use std::sync::Wait;
 use std::test::Fail;
 use std::thread::Threads;
 
@@ -40,7 +41,7 @@ const PASSED: &str = concat!(
 );
 
 /// Serves sessions by rows: the status, and what was written.
-fn served<T: Threads + Sync>(
+fn served<T: Threads + Wait + Sync>(
     rt: &T,
     alloc: Global,
     sessions: &str,

@@ -2,7 +2,6 @@
 #![tactic(auto)]
 
 mod board;
-pub mod by_rules;
 mod chain;
 mod labelled;
 pub mod laws;
@@ -14,7 +13,6 @@ mod stage;
 mod tape;
 mod turn;
 
-pub use by_rules::ByRules;
 pub use level_texts::{equals, level_text};
 pub use pz_base::listed::Listed;
 pub use pz_base::text::Text;

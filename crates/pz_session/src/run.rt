@@ -11,7 +11,6 @@ use crate::tape::Tape;
 use pz_case::case::Case;
 use pz_case::item::{Item, Verdict};
 use pz_case::plan::Plan;
-use pz_case::playing::Playing;
 use std::alloc::{AllocError, Global};
 use std::marker::Model;
 
@@ -108,14 +107,6 @@ impl<'a> Run<'a> {
             },
             Stage::Failed => Err(AllocError),
         }
-    }
-}
-
-impl Playing for Run<'_> {
-    ghost left = { λ run. run.items };
-
-    fn next(&mut self) -> Result<Option<Item>, AllocError> {
-        Run::next(self)
     }
 }
 

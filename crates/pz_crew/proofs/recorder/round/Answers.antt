@@ -4,7 +4,7 @@ use Rattle.pz_crew.proofs.recorder.round.Goals as goal
 use Rattle.pz_crew.proofs.recorder.round.Goals.{then-all, else-all}
 
 pub loop-number-preserved : goal.loop-number-preserved
-loop-number-preserved c =
+loop-number-preserved g c =
     let d = c.index-inboxes-number.result in
     let v = visits c.args.inboxes.now c.loop-number.inboxes c.loop-number.number d (get_or c.loop-number.inboxes c.loop-number.number d) c.visit-ended.new.inbox c.args.sessions.now c.loop-number.sessions c.visit-ended.new.sessions (omega arith) refl c.visit-ended.ensures.lane c.visit-ended.ensures.visited c.loop-number.invariant.recorded c.loop-number.invariant.goes in record {
       recorded = v.0;

@@ -1,5 +1,4 @@
 use Rattle.std.proofs.Common.{◌≡◌, ◌<◌, All}
-use Rattle.pz_case.specs.Playing.{sessions_of}
 use Rattle.pz_crew.specs.Gates.{MayPassFor}
 use Rattle.pz_crew.specs.Sent.{messages_for}
 use Rattle.pz_crew.proofs.work.work.Given as goal
@@ -9,6 +8,6 @@ invariant-loop g l = record {
   table : l.seat.of ≡ l.duty.claims.now;
   below : All (λ number. number < l.duty.claims.now.total) l.seat.numbers;
   lane : l.sender.lane ≡ l.initial.sender.lane;
-  sent : l.sender.sent ≡ messages_for (sessions_of g.P.Playable.items_of (g.P.Playable.job l.duty.played.now)) l.seat.numbers;
-  passed : MayPassFor (g.G.Gate.may_pass l.duty.gate.now) (sessions_of g.P.Playable.items_of (g.P.Playable.job l.duty.played.now)) l.seat.numbers;
+  sent : l.sender.sent ≡ messages_for (g.P.Playable.sessions l.duty.played.now) l.seat.numbers;
+  passed : MayPassFor (g.G.Gate.may_pass l.duty.gate.now) (g.P.Playable.sessions l.duty.played.now) l.seat.numbers;
 }

@@ -1,9 +1,8 @@
 use Rattle.std.proofs.Common.{map, ap, ◌∙◌, ◌-◌, refl, sym, Err}
-use Rattle.pz_case.specs.Playing.{sessions_of}
 use Rattle.pz_crew.specs.Recorded.{lane_of}
 use Rattle.pz_crew.specs.declared.fault.ReplayFault.TheVariants.{Memory}
-use Rattle.pz_crew.proofs.Gating.{kept_by, moved_passed, moved_stop, settled_passed, settled_stop}
-use Rattle.pz_crew.proofs.Joining.{lanes_left, last_ended, last_lane, made_of, moved_maker, moved_worked, none_left, not_closed, not_workers, one_fewer, one_there, opens, others_ended, recorded_as, settles, some_left, taken_off, unopened}
+use Rattle.pz_crew.proofs.Gating.{kept_by, settled_passed, settled_stop}
+use Rattle.pz_crew.proofs.Joining.{lanes_left, last_ended, last_lane, made_of, moved_maker, none_left, not_closed, not_workers, one_fewer, one_there, opens, others_ended, recorded_as, settles, some_left, taken_off, unopened, worked_on}
 use Rattle.pz_crew.proofs.workers.+run_workers.Goals as goal
 
 -- Each goal is answered, since a search reads all that is known in so long a function.
@@ -18,13 +17,13 @@ pub returns-then-left-eq0-clause-ended : goal.returns-then-left-eq0-clause-ended
 returns-then-left-eq0-clause-ended g t c = c.gather.ensures.ended
 
 pub returns-then-left-eq0-clause-whole : goal.returns-then-left-eq0-clause-whole
-returns-then-left-eq0-clause-whole g t c = none_left g.P.Playable.items_of (g.P.Playable.job c.args.shared.now.played.now) c.args.maker c.args.left c.gather.new.inboxes.items c.args.sessions c.gather.result c.if-left-eq0.true c.gather.ensures.done c.requires.recorded.1
+returns-then-left-eq0-clause-whole g t c = none_left (g.P.Playable.sessions c.args.shared.now.played.now) c.args.maker c.args.left c.gather.new.inboxes.items c.args.sessions c.gather.result c.if-left-eq0.true c.gather.ensures.done c.requires.recorded.1
 
 pub returns-then-left-eq0-clause-workers : goal.returns-then-left-eq0-clause-workers
 returns-then-left-eq0-clause-workers g t c = not_workers c.gather.result c.gather.ensures.fault
 
 pub returns-then-left-eq0-clause-passed : goal.returns-then-left-eq0-clause-passed
-returns-then-left-eq0-clause-passed g t c = kept_by (g.G.Gate.may_pass c.args.shared.now.gate.now) (sessions_of g.P.Playable.items_of (g.P.Playable.job c.args.shared.now.played.now)) c.args.maker c.gather.new.inboxes.items c.args.sessions c.gather.result c.gather.ensures.done
+returns-then-left-eq0-clause-passed g t c = kept_by (g.G.Gate.may_pass c.args.shared.now.gate.now) (g.P.Playable.sessions c.args.shared.now.played.now) c.args.maker c.gather.new.inboxes.items c.args.sessions c.gather.result c.gather.ensures.done
 
 pub returns-then-left-eq0-clause-closed : goal.returns-then-left-eq0-clause-closed
 returns-then-left-eq0-clause-closed g t c = λ is. absurd (not_closed c.gather.result c.gather.ensures.fault is)
@@ -114,18 +113,16 @@ unreachable-requires g t c =
     one_there c.args.inboxes.now.items c.open_lane.new.inboxes.items c.run_workers-below.new.inboxes.items c.in-Some.sender.lane c.in-Some.ensures.some.1 c.run_workers-below.ensures.lanes (sym c.run_workers-below.new.inboxes.ok.0 ∙ c.in_default-pop.ensures.cases.0)
 
 pub settle-requires-clause-maker : goal.settle-requires-clause-maker
-settle-requires-clause-maker g t c =
-    made_of (sessions_of g.P.Playable.items_of (g.P.Playable.job c.args.shared.now.played.now)) c.args.shared.now.claims.now c.args.maker c.split-maker.result.0 (c.args.left - 1) c.run_workers-below.new.inboxes.items c.run_workers-below.result c.split-maker.ensures.maker c.requires.maker.0 c.run_workers-below.ensures.whole
+settle-requires-clause-maker g t c κs within =
+    made_of (g.P.Playable.sessions c.args.shared.now.played.now) c.args.shared.now.claims.now c.args.maker c.split-maker.result.0 (c.args.left - 1) c.run_workers-below.new.inboxes.items c.run_workers-below.result c.split-maker.ensures.maker c.requires.maker.0 c.run_workers-below.ensures.whole
 
 pub settle-requires-clause-worked : goal.settle-requires-clause-worked
-settle-requires-clause-worked g t c =
-    let e = c.in-Some-start.ensures in
+settle-requires-clause-worked g t c κs within =
     let lane = last_lane c.args.inboxes.now.items c.open_lane.new.inboxes.items c.run_workers-below.new.inboxes.items c.pop-2.new.self.items c.in-Some-pop.inbox c.in-Some.sender.lane c.in-Some.ensures.some.1 c.run_workers-below.ensures.lanes c.in-Some-pop.ensures.items in
-    let promise = c.in-Some-start.worker.promise in
-    moved_worked g.P.Playable.items_of g.P.Playable.job promise.claims.now c.args.shared.now.claims.now promise.played.now c.args.shared.now.played.now promise.lane.value.lane c.in-Some.sender.lane c.in-Some-pop.inbox.taker.lane c.join-worked.result e.0 e.1 e.3 lane c.join-worked.ensures.0
+    worked_on (g.P.Playable.sessions c.args.shared.now.played.now) c.args.shared.now.claims.now c.of-of.result.value.lane c.in-Some.sender.lane c.in-Some-pop.inbox.taker.lane c.join-worked.result (ap (λ s. s.lane) c.of-of.ensures) lane c.join-worked.ensures.0
 
 pub settle-requires-clause-inbox : goal.settle-requires-clause-inbox
-settle-requires-clause-inbox g t c = last_ended c.run_workers-below.new.inboxes.items c.pop-2.new.self.items c.in-Some-pop.inbox c.in-Some-pop.ensures.items c.run_workers-below.ensures.ended
+settle-requires-clause-inbox g t c κs within = last_ended c.run_workers-below.new.inboxes.items c.pop-2.new.self.items c.in-Some-pop.inbox c.in-Some-pop.ensures.items c.run_workers-below.ensures.ended
 
 pub returns-clause-lanes : goal.returns-clause-lanes
 returns-clause-lanes g t c =
@@ -136,7 +133,7 @@ returns-clause-ended g t c = others_ended c.run_workers-below.new.inboxes.items 
 
 pub returns-clause-whole : goal.returns-clause-whole
 returns-clause-whole g t c =
-    settles (sessions_of g.P.Playable.items_of (g.P.Playable.job c.args.shared.now.played.now)) c.args.maker c.split-maker.result.0 c.args.left c.run_workers-below.new.inboxes.items c.pop-2.new.self.items c.in-Some-pop.inbox c.run_workers-below.result c.settle.result c.split-maker.ensures.maker (some_left c.args.left c.if-left-eq0.false) c.in-Some-pop.ensures.items
+    settles (g.P.Playable.sessions c.args.shared.now.played.now) c.args.maker c.split-maker.result.0 c.args.left c.run_workers-below.new.inboxes.items c.pop-2.new.self.items c.in-Some-pop.inbox c.run_workers-below.result c.settle.result c.split-maker.ensures.maker (some_left c.args.left c.if-left-eq0.false) c.in-Some-pop.ensures.items
     c.run_workers-below.ensures.whole c.settle.ensures.settled c.settle.ensures.below
 
 pub returns-clause-workers : goal.returns-clause-workers
@@ -144,13 +141,9 @@ returns-clause-workers g t c = λ is. c.run_workers-below.ensures.workers (c.set
 
 pub returns-clause-passed : goal.returns-clause-passed
 returns-clause-passed g t c =
-    let promise = c.in-Some-start.worker.promise in
-    let mine = moved_passed g.G.Gate.may_pass (λ played. sessions_of g.P.Playable.items_of (g.P.Playable.job played)) promise.gate.now c.args.shared.now.gate.now promise.played.now c.args.shared.now.played.now c.join-worked.result c.in-Some-start.ensures.2 c.in-Some-start.ensures.1 c.join-worked.ensures.1 in
-    settled_passed (g.G.Gate.may_pass c.args.shared.now.gate.now) (sessions_of g.P.Playable.items_of (g.P.Playable.job c.args.shared.now.played.now)) c.split-maker.result.0 c.args.maker c.join-worked.result c.run_workers-below.result c.settle.result
-    (ap (λ made. made.numbers) c.split-maker.ensures.maker) c.run_workers-below.ensures.passed c.settle.ensures.joined c.settle.ensures.below mine
+    settled_passed (g.G.Gate.may_pass c.args.shared.now.gate.now) (g.P.Playable.sessions c.args.shared.now.played.now) c.split-maker.result.0 c.args.maker c.join-worked.result c.run_workers-below.result c.settle.result
+    (ap (λ made. made.numbers) c.split-maker.ensures.maker) c.run_workers-below.ensures.passed c.settle.ensures.joined c.settle.ensures.below c.join-worked.ensures.1
 
 pub returns-clause-closed : goal.returns-clause-closed
 returns-clause-closed g t c =
-    let promise = c.in-Some-start.worker.promise in
-    let stopped = moved_stop g.G.Gate.may_stop (λ played. sessions_of g.P.Playable.items_of (g.P.Playable.job played)) promise.gate.now c.args.shared.now.gate.now promise.played.now c.args.shared.now.played.now c.in-Some-start.ensures.2 c.in-Some-start.ensures.1 in
-    settled_stop (g.G.Gate.may_stop c.args.shared.now.gate.now) (sessions_of g.P.Playable.items_of (g.P.Playable.job c.args.shared.now.played.now)) c.join-worked.result c.run_workers-below.result c.settle.result (λ is. stopped (c.join-worked.ensures.2 is)) c.run_workers-below.ensures.closed c.settle.ensures.closed
+    settled_stop (g.G.Gate.may_stop c.args.shared.now.gate.now) (g.P.Playable.sessions c.args.shared.now.played.now) c.join-worked.result c.run_workers-below.result c.settle.result c.join-worked.ensures.2 c.run_workers-below.ensures.closed c.settle.ensures.closed

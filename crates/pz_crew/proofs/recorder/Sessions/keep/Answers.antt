@@ -5,6 +5,6 @@ use Rattle.pz_crew.proofs.Gathering.{grows_at}
 use Rattle.pz_crew.proofs.recorder.Sessions.keep.Goals as goal
 
 pub returns : goal.returns
-returns c =
-    grows_at (λ items. items.items) c.self.inside.items.items c.args.session c.args.item c.in-Some.items.now c.push.new.self c.in-Some.ensures.value (c.in-Some.ensures.item.3.0) c.in_ok-push.ensures.items
-    ∙ ap (λ sessions. kept sessions (messages.Piece c.args.session c.args.item)) c.self.view_is
+returns g c =
+    grows_at (λ pieces. pieces.items) c.self.inside.pieces.items c.args.session c.args.piece c.in-Some.pieces.now c.push.new.self c.in-Some.ensures.value (c.in-Some.ensures.item.3.0) c.in_ok-push.ensures.items
+    ∙ ap (λ sessions. kept sessions (messages.Piece c.args.session c.args.piece)) c.self.view_is

@@ -1,0 +1,11 @@
+use Rattle.std.proofs.Common.{sym, arith}
+use Rattle.pz_case.specs.Playing.{shown_by}
+use Rattle.pz_session.specs.Case.{items_of}
+use Rattle.pz_serving.proofs.Lines.{one_of, pieces-at}
+use Rattle.pz_serving.proofs.as_lines.AsLinesPlayable.begin.Goals as goal
+
+pub case-requires : goal.case-requires
+case-requires c = one_of c.args.number c.args.self.now.job.now c.requires
+
+pub returns : goal.returns
+returns c = sym (pieces-at 0 c.args.number (shown_by items_of) c.args.self.now.job.now c.args.number c.case.result.now c.case.ensures (omega arith))
