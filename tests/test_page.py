@@ -89,7 +89,8 @@ class Page(InARoom):
         elements = Elements(self.built()[0])
         ids = [words["id"] for _, words in elements.found if "id" in words]
         self.assertEqual(len(ids), len(set(ids)))
-        asked = set(re.findall(r'\bat\("([a-z-]+)"\)', elements.texts["script"])) | set(re.findall(r'\bclick\("([a-z-]+)"', elements.texts["script"]))
+        asked = set(re.findall(r'\b(?:at\("([a-z-]+)"\)|(?:click|say|tell)\("([a-z-]+)",)', elements.texts["script"]))
+        asked = {one or other for one, other in asked}
         self.assertEqual(asked - set(ids), set())
 
     def test_what_is_clicked_or_filled_in_has_a_name(self):
@@ -167,8 +168,10 @@ class Twins(unittest.TestCase):
                 self.assertEqual(it, {"sentence": sentence, "line": fault[1] if fault and fault[1] else None})
 
     def test_the_logic_of_the_page(self):
-        ran = subprocess.run([NODE, "--test", "--test-reporter=tap", OWN / "logic.test.mjs"], stdout=subprocess.PIPE, stderr=subprocess.STDOUT, check=False)
-        self.assertEqual(ran.returncode, 0, ran.stdout.decode(errors="replace"))
+        for name in ("logic", "state", "random"):
+            with self.subTest(name):
+                ran = subprocess.run([NODE, "--test", "--test-reporter=tap", OWN / f"{name}.test.mjs"], stdout=subprocess.PIPE, stderr=subprocess.STDOUT, check=False)
+                self.assertEqual(ran.returncode, 0, ran.stdout.decode(errors="replace"))
 
 
 if __name__ == "__main__":

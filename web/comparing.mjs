@@ -32,9 +32,10 @@ export function partingOf(one, other) {
 
 const closeTold = ({ close, cause }) => (cause === null ? close : `${close} (${cause})`);
 
-function afterTold(inputs, at) {
+// Inputs are counted from 0, as the command counts them.
+export function afterTold(inputs, at) {
   if (at === 0) return "at the start";
-  return at <= inputs.length ? `after input ${at} (${inputTold(inputs[at - 1])})` : `after input ${at}`;
+  return at <= inputs.length ? `after input ${at - 1} (${inputTold(inputs[at - 1])})` : `after input ${at - 1}`;
 }
 
 // Where two runs part, in a sentence without its end.

@@ -107,12 +107,22 @@ export class SessionFile {
 
   // The file with other recorded levels, [[number, level]].
   withLevels(changes) {
+    return this.withParts(2, changes);
+  }
+
+  // The file where these sessions have the empty text as their own.
+  withoutSources(numbers) {
+    return this.withParts(0, numbers.map((number) => [number, ""]));
+  }
+
+  // The file with another value at a place of the lists of some sessions, [[number, value]].
+  withParts(place, changes) {
     let file = this;
     const spans = this.spans();
     // from the last one on, so that the spans of those before stay
-    for (const [number, level] of [...changes].sort(([one], [other]) => other - one)) {
+    for (const [number, value] of [...changes].sort(([one], [other]) => other - one)) {
       const body = spansIn(file.bytes, spans[number])[1];
-      file = { bytes: spliced(file.bytes, spansIn(file.bytes, body)[2], encoded(level)) };
+      file = { bytes: spliced(file.bytes, spansIn(file.bytes, body)[place], encoded(value)) };
     }
     return new SessionFile(this.name, file.bytes);
   }
@@ -138,7 +148,6 @@ export class SessionFile {
     const span = number === 0 ? [spans[0][0], spans[1][0]] : [spans[number - 1][1], spans[number][1]];
     return this.changedBy(span, new Uint8Array(0));
   }
-
 }
 
 // An entry as a sessions file has it.
@@ -150,6 +159,7 @@ const REFUSALS = {
   "bad-entry": "session {number} is no entry of a name, a source, inputs and a level",
   "bad-level": "the recorded level of session {number} is no level text",
   memory: "there is not enough memory",
+  "too-many-frames": "its frames take more than 512 MiB, which a browser doesn't show at once: leave out inputs, or look at it by the command",
   broken: "the engine stopped at a fault of its own",
 };
 

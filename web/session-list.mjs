@@ -25,7 +25,7 @@ export function following(numbers, open, step) {
 }
 
 export class SessionList {
-  // open(number) opens a session. A row is { name, close (null: not played), frames, parting, isLookedAt }.
+  // open(number) opens a session. A row is { name, close (null: not played), frames, parting, isLookedAt, isOther }.
   constructor(open) {
     this.open = open;
     this.rows = [];
@@ -68,9 +68,9 @@ export class SessionList {
   }
 
   row(number) {
-    const { name, close, frames, parting, isLookedAt } = this.rows[number];
+    const { name, close, frames, parting, isLookedAt, isOther } = this.rows[number];
     const button = makeButton(close ?? "unplayed", "", () => this.open(number));
-    const told = [close ?? "not played", ...(parting === null ? [] : [`diverges at frame ${parting.frame}`]), ...(isLookedAt ? ["seen"] : [])].join(", ");
+    const told = [close ?? "not played", ...(parting === null ? [] : [`diverges at frame ${parting.frame}`]), ...(isLookedAt ? ["seen"] : []), ...(isOther ? ["another text"] : [])].join(", ");
     button.title = `${cut(name, LETTERS)}: ${told}`;
     button.dataset.number = number;
     const shape = close === null ? make("span", "shape", "") : shapeOf(close);

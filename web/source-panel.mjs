@@ -1,8 +1,6 @@
 // The game's text with the numbers of its lines, and the fault at its line.
 import { at, makeButton } from "./elements.mjs";
 
-const TYPING_PAUSE = 250; // milliseconds without a letter, after which what was typed is played
-
 // The numbers of so many lines, a line each.
 const numbersOf = (count) => Array.from({ length: count }, (_, place) => String(place + 1)).join("\n");
 
@@ -12,12 +10,7 @@ export class SourcePanel {
     this.numbers = at("numbers");
     this.count = 0;
     this.line = null;
-    let timer = 0;
-    this.text.addEventListener("input", () => {
-      this.showNumbers();
-      clearTimeout(timer);
-      timer = setTimeout(() => change(this.text.value), TYPING_PAUSE);
-    });
+    this.text.addEventListener("input", () => change(this.text.value));
     this.text.addEventListener("scroll", () => { this.numbers.scrollTop = this.text.scrollTop; });
     this.text.addEventListener("keydown", (event) => { if (event.key === "Escape") at("stage").focus(); });
   }

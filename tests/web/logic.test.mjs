@@ -7,83 +7,17 @@ import { meaningOf } from "../../web/keys.mjs";
 import { Labels, readCells, widthOf } from "../../web/level-text.mjs";
 import { framesIn, readRuns, runsOf } from "../../web/lines.mjs";
 import { likeness, nearest } from "../../web/nearest.mjs";
-import { Recording, markOf, windowAround } from "../../web/recording.mjs";
+import { firstFrom, joined, markOf, windowAround } from "../../web/recording.mjs";
 import { Refusal, SessionFile, refusalTold } from "../../web/session-file.mjs";
 import { following, isFailure, listed } from "../../web/session-list.mjs";
 
 const bytesOf = (text) => new TextEncoder().encode(text);
 const textOf = (bytes) => new TextDecoder().decode(bytes);
 
-// A game that shows a frame for each input, and two for a tick; it stops at an action, and is solved once it has gone right three times.
-function play(inputs, from) {
-  const frames = [{ at: 0, kind: "start", level: "0" }];
-  for (const [place, input] of inputs.entries()) {
-    if (input === 4) return { frames: frames.filter(({ at }) => at >= from), cause: "loop-limit", isSolved: false };
-    const frame = { at: place + 1, kind: "move", level: String(input) };
-    frames.push(...(input === "tick" ? [frame, frame] : [frame]));
-  }
-  return { frames: frames.filter(({ at }) => at >= from), cause: null, isSolved: inputs.filter((input) => input === 3).length >= 3 };
-}
-
-const levels = (recording) => recording.frames.map(({ level }) => level).join(" ");
-
-test("each input is played behind the frame that is looked at", () => {
-  const recording = new Recording(play);
-  for (const input of [0, "tick", 3]) assert.equal(recording.press(input), null);
-  assert.deepEqual([recording.inputs, levels(recording), recording.shown, recording.taken], [[0, "tick", 3], "0 0 tick tick 3", 4, 3]);
-  recording.showInput(1);
-  assert.deepEqual([recording.shown, recording.taken, recording.isAtEnd], [1, 1, false]);
-  recording.press(2);
-  assert.deepEqual([recording.inputs, levels(recording), recording.isAtEnd], [[0, 2], "0 0 2", true]);
-});
-
-test("what was cut off is put back", () => {
-  const recording = new Recording(play, [0, 1, 2]);
-  recording.show(1);
-  recording.press(3);
-  assert.deepEqual([recording.inputs, recording.before], [[0, 3], [0, 1, 2]]);
-  recording.putBack();
-  assert.deepEqual([recording.inputs, levels(recording), recording.before], [[0, 1, 2], "0 0 1 2", null]);
-  recording.cut();
-  recording.cut();
-  assert.deepEqual([recording.inputs, recording.before], [[0], [0, 1, 2]]);
-  recording.putBack();
-  recording.show(0);
-  recording.cut();
-  assert.deepEqual([recording.inputs, levels(recording)], [[], "0"]);
-});
-
-test("the last input is cut where its frame is looked at, also where it has several", () => {
-  const recording = new Recording(play, [0, "tick"]);
-  recording.showInput(2);
-  recording.cut();
-  assert.deepEqual(recording.inputs, [0]);
-});
-
-test("an input at which the game stops is left out", () => {
-  const recording = new Recording(play, [0]);
-  assert.equal(recording.press(4), "loop-limit");
-  assert.deepEqual([recording.inputs, levels(recording), recording.cause], [[0], "0 0", null]);
-});
-
-test("a recording that stops shows what there is, and its cause", () => {
-  const recording = new Recording(play, [0, 4, 1]);
-  assert.deepEqual([recording.inputs.length, levels(recording), recording.cause], [3, "0 0", "loop-limit"]);
-});
-
-test("whether it is solved is told at once", () => {
-  const recording = new Recording(play, [3, 3]);
-  assert.equal(recording.isSolved, false);
-  recording.press(3);
-  assert.equal(recording.isSolved, true);
-});
-
-test("a frame beyond the ends is the first or the last", () => {
-  const recording = new Recording(play, [0, 1]);
-  recording.show(-Infinity);
-  assert.equal(recording.shown, 0);
-  recording.show(Infinity);
-  assert.equal(recording.shown, 2);
+test("frames are joined behind those before so many inputs", () => {
+  const frames = [{ at: 0 }, { at: 1 }, { at: 1 }, { at: 2 }];
+  assert.deepEqual([firstFrom(frames, 0), firstFrom(frames, 1), firstFrom(frames, 2), firstFrom(frames, 3)], [0, 1, 3, 4]);
+  assert.deepEqual(joined(frames, 2, [{ at: 2, kind: "undo" }]), [{ at: 0 }, { at: 1 }, { at: 1 }, { at: 2, kind: "undo" }]);
 });
 
 test("a window has its place in it", () => {
@@ -112,6 +46,11 @@ test("a sessions file is read", () => {
 test("a changed level leaves all else letter by letter", () => {
   const file = new SessionFile("f.json", bytesOf(FILE)).withLevels([[0, 'é"\n'], [1, "c:0,"]]);
   assert.equal(textOf(file.bytes), FILE.replace('"a:0,"', '"é\\"\\n"').replace('"b:0,"', '"c:0,"'));
+});
+
+test("sessions get the empty text as their own, and all else stays letter by letter", () => {
+  const file = new SessionFile("f.json", bytesOf(FILE)).withoutSources([0]);
+  assert.equal(textOf(file.bytes), FILE.replace('"source"', '""'));
 });
 
 test("a session is added, replaced and removed", () => {
@@ -179,7 +118,7 @@ test("two runs part at the first frame that differs", () => {
 
 test("a parting is told with its input", () => {
   const one = run([START, [1, "move", "a:0,b:1,"]]), other = run([START], "stopped", "loop-limit");
-  assert.equal(partingTold(partingOf(one, other), one, other, [3]), "frame 1, after input 1 (right): no more frames there, which is stopped (loop-limit)");
+  assert.equal(partingTold(partingOf(one, other), one, other, [3]), "frame 1, after input 0 (right): no more frames there, which is stopped (loop-limit)");
   const differs = run(one.frames.map(({ at, kind, level }) => [at, kind, level]), "differs");
   assert.equal(partingTold(partingOf(one, differs), one, differs, [3]), "the same 2 frames, and then here passed, there differs");
 });

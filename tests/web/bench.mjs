@@ -1,0 +1,51 @@
+// The page without a browser: its state, played by the module in Node, with what is drawn left out. For the tests of the page's logic.
+import { existsSync, readFileSync } from "node:fs";
+import { load } from "../../engine/saxtegun.mjs";
+import { keptOf, stateOfVisit } from "../../web/kept-work.mjs";
+import { playedBy } from "../../web/page-engine.mjs";
+import { Runner } from "../../web/running.mjs";
+import { beginning } from "../../web/work.mjs";
+
+const TOP = new URL("../../", import.meta.url);
+const MODULE = ["engine/out/saxtegun.wasm", "released/saxtegun.wasm"].map((name) => new URL(name, TOP)).find((it) => existsSync(it));
+
+export const read = (name) => readFileSync(new URL(name, TOP));
+export const GAME = read("examples/day/game.txt").toString();
+export const module = MODULE && (await load(await WebAssembly.compile(readFileSync(MODULE))));
+
+// What the program makes of sessions: how each closed.
+export function closesOf(entries, order) {
+  const { lines, fault } = module.replay(JSON.stringify(entries), { order });
+  if (fault !== null) return fault;
+  return new TextDecoder().decode(lines).split("\n").filter((line) => line.includes('"close":')).map((line) => JSON.parse(line).close);
+}
+
+export class Bench {
+  constructor(state = beginning(GAME)) {
+    this.engine = { play: async (wanted) => playedBy(module, wanted), playAll: async (bytes, { order }) => module.replay(bytes, { order }) };
+    this.begin(state);
+  }
+
+  begin(state) {
+    this.runner = new Runner(state, { engine: this.engine, draw: () => {}, keep: (now, isPlaying) => { this.kept = keptOf(now, isPlaying); }, pause: 0 });
+    this.runner.update((now) => now);
+  }
+
+  get state() {
+    return this.runner.state;
+  }
+
+  // Does something to the state, and waits until all is played.
+  async act(change, ...words) {
+    this.runner.update((state) => change(state, ...words));
+    await this.runner.idle();
+    return this.state;
+  }
+
+  // Leaves the page, and visits it again.
+  async reload() {
+    const { state } = stateOfVisit([{ name: "work", value: structuredClone(this.kept) }], this.state.example);
+    this.begin(state);
+    await this.runner.idle();
+  }
+}

@@ -1,0 +1,372 @@
+// What an author does on the page, without a browser: the state is played by the module in Node. What is expected is written by hand.
+import assert from "node:assert/strict";
+import test from "node:test";
+import { stateFrom, stateOfVisit } from "../../web/kept-work.mjs";
+import { faultOfText, othersTold, ownTold, putBackTold, statusOf, stepTold, tabTold, verdictOf } from "../../web/page-words.mjs";
+import { SessionFile } from "../../web/session-file.mjs";
+import { accepted, compared, filed, followed, namesakeOf, removed, savedAs, withOtherFile } from "../../web/filing.mjs";
+import { framesOf, isPlayed, shownOf, sourceOf } from "../../web/replaying.mjs";
+import { differenceOf, playedAgain, rowsOf, seenOf, sessionOf, sessionOpened } from "../../web/suite.mjs";
+import { beginning, begunAnew, cutBack, edited, fromLevel, held, inOrder, lookedAt, lookedAtInput, named, pressed, putBack, released, withGame, withOwnText } from "../../web/work.mjs";
+import { Bench, GAME, module, read } from "./bench.mjs";
+
+const PUSH = "[ > Player | Crate ] -> [ > Player | > Crate ]", BROKEN = GAME.replace(PUSH, "[ > Player | Crate ] -> [ Player | Crate ]");
+const OTHER = GAME.replace("title ", "title Another ");
+const DAY = JSON.parse(read("examples/day/recordings.json"));
+const bytesOf = (value) => new TextEncoder().encode(JSON.stringify(value));
+const fileOf = (value, name = "mine.json") => new SessionFile(name, bytesOf(value));
+const entriesIn = (state) => JSON.parse(new TextDecoder().decode(state.file.bytes));
+const closes = (state) => rowsOf(state).map(({ close }) => close);
+const it = (name, act) => test(name, { skip: module === undefined && "there is no module" }, act);
+
+async function played(...inputs) {
+  const bench = new Bench();
+  for (const input of inputs) await bench.act(pressed, input);
+  return bench;
+}
+
+// The inputs that push a crate in the first level of the example, and a bench on which these are saved as "push".
+const PUSHING = [2, 1, 0];
+
+async function withPush() {
+  const bench = await played(...PUSHING);
+  await bench.act(named, "push");
+  await bench.act(savedAs);
+  return bench;
+}
+
+// ---- a recording
+
+it("each input is played behind the frame that is looked at, and what is cut off can be put back", async () => {
+  const bench = await played(1, 0, 3);
+  assert.deepEqual([bench.state.work.inputs, framesOf(bench.state).length, shownOf(bench.state)], [[1, 0, 3], 4, 3]);
+  await bench.act(lookedAtInput, 1);
+  await bench.act(pressed, 2);
+  assert.deepEqual([bench.state.work.inputs, putBackTold(bench.state)], [[1, 2], "Puts back a recording of 3 inputs"]);
+  await bench.act(putBack);
+  assert.deepEqual(bench.state.work.inputs, [1, 0, 3]);
+  await bench.act(putBack);
+  assert.deepEqual(bench.state.work.inputs, [1, 2]);
+});
+
+it("inputs are cut behind the frame that is looked at, or the last one", async () => {
+  const bench = await played(1, 0, 3);
+  await bench.act(cutBack);
+  await bench.act(cutBack);
+  assert.deepEqual([bench.state.work.inputs, bench.state.past.length], [[1], 1]);
+  await bench.act(putBack);
+  await bench.act(lookedAt, 0);
+  await bench.act(cutBack);
+  assert.deepEqual([bench.state.work.inputs, framesOf(bench.state).length], [[], 1]);
+});
+
+it("keys that are pressed before the first is played are all taken, each behind what was looked at then", async () => {
+  const bench = new Bench(), press = (...inputs) => inputs.forEach((input) => bench.runner.update((state) => pressed(state, input)));
+  press(1, 0, 3);
+  await bench.runner.idle();
+  assert.deepEqual(bench.state.work.inputs, [1, 0, 3]);
+  press(2);
+  await bench.act(lookedAt, 0);
+  assert.deepEqual([bench.state.work.inputs, shownOf(bench.state)], [[1, 0, 3, 2], 0]);
+  bench.runner.update((state) => lookedAtInput(state, 2));
+  press(1, 1);
+  await bench.runner.idle();
+  assert.deepEqual([bench.state.work.inputs, shownOf(bench.state)], [[1, 0, 1, 1], 4]);
+  press(2, 3);
+  await bench.act(cutBack);
+  assert.deepEqual(bench.state.work.inputs, [1, 0, 1, 1, 2]);
+});
+
+const LOOPING = GAME.replace(PUSH, "startloop\n[ right Player ] -> [ left Player ]\n[ left Player ] -> [ right Player ]\nendloop");
+
+it("a stop at the first key names that key, by the number that the command gives it", async () => {
+  const bench = new Bench();
+  await bench.act(withGame, LOOPING);
+  assert.equal(faultOfText(bench.state), null);
+  await bench.act(pressed, 3);
+  assert.deepEqual(bench.state.work.inputs, []);
+  assert.match(statusOf(bench.state).text, /at input 0 \(right\).*The input is left out\.$/);
+});
+
+it("an input is called by the number that the command gives it", async () => {
+  const bench = await played(1, 0);
+  assert.match(stepTold(bench.state), /^after input 1 \(up\); /);
+  await bench.act(lookedAt, 0);
+  assert.match(stepTold(bench.state), /^before any input; /);
+});
+
+// ---- one truth about the text
+
+it("a recording over the text at hand has no text of its own, and an edit is what is played", async () => {
+  const bench = await withPush();
+  assert.deepEqual(entriesIn(bench.state).map(([name, [source, inputs, , index]]) => [name, source, inputs, index]), [["push", "", PUSHING, 0]]);
+  assert.deepEqual([closes(bench.state), tabTold(bench.state)], [["passed"], "Sessions (1)"]);
+  await bench.act(edited, BROKEN);
+  assert.deepEqual([closes(bench.state), tabTold(bench.state)], [["differs"], "Sessions: 1 differs"]);
+  assert.match(statusOf(bench.state).text, /^Differs from what was recorded\. It passed before; since then it goes another way from frame 3 on, after input 2 \(up\)\.$/);
+  await bench.act(edited, GAME);
+  assert.deepEqual([closes(bench.state), tabTold(bench.state), verdictOf(bench.state, null).close], [["passed"], "Sessions (1)", "passed"]);
+});
+
+it("sessions with another text are told in the list and in the verdict, and follow the text at hand where that is wanted", async () => {
+  const bench = new Bench(), walk = [[1], "background:0,", 0];
+  await bench.act(withGame, GAME);
+  await bench.act(withOtherFile, fileOf([["own", [OTHER, ...walk]], ["same", [GAME, ...walk]], ["none", ["", ...walk]], ["own too", [OTHER, ...walk]]]));
+  assert.deepEqual(rowsOf(bench.state).map(({ isOther }) => isOther), [true, false, false, true]);
+  assert.equal(othersTold(bench.state), "2 sessions have another text, and are not played over the one on the left: `saxtegun source` makes them follow game.txt.");
+  assert.match(ownTold(bench.state), /^This recording has a text of its own/);
+  assert.deepEqual([sourceOf(bench.state), bench.state.text], [OTHER, GAME]);
+  await bench.act(followed);
+  assert.deepEqual([othersTold(bench.state), ownTold(bench.state), sourceOf(bench.state)], ["The sessions are played over the text on the left.", "", GAME]);
+  assert.deepEqual(entriesIn(bench.state).map(([, [source]]) => source), ["", GAME, "", ""]);
+  await bench.act(putBack);
+  assert.deepEqual(entriesIn(bench.state).map(([, [source]]) => source), [OTHER, GAME, "", OTHER]);
+});
+
+it("where all pass, but not over the text at hand, no tick is shown", async () => {
+  const bench = await played(1);
+  await bench.act(savedAs);
+  const [[name, [, inputs, level, index]]] = entriesIn(bench.state);
+  await bench.act(withGame, OTHER);
+  await bench.act(withOtherFile, fileOf([[name, [GAME, inputs, level, index]]]));
+  assert.deepEqual([closes(bench.state), verdictOf(bench.state, null).close], [["passed"], null]);
+  assert.match(verdictOf(bench.state, null).text, /^All passed, but not all over the text on the left/);
+});
+
+it("a forgotten text of the game is told as that", async () => {
+  const bench = new Bench();
+  await bench.act(edited, "");
+  assert.equal(faultOfText(bench.state).sentence, "there is no text of a game: open it, paste it, or write it here");
+});
+
+it("the text of a file is taken to hand where nothing was written yet, and else stays where it is", async () => {
+  const file = fileOf(DAY.map(([name, body]) => [name, [OTHER, ...body.slice(1)]]));
+  const bench = new Bench();
+  await bench.act(withOtherFile, file);
+  assert.deepEqual([bench.state.text, othersTold(bench.state)], [OTHER, ""]);
+  const another = new Bench();
+  await another.act(edited, BROKEN);
+  await another.act(withOtherFile, file);
+  assert.equal(another.state.text, BROKEN);
+  await another.act(withOwnText);
+  assert.deepEqual([another.state.text, ownTold(another.state)], [OTHER, ""]);
+  await another.act(putBack);
+  assert.equal(another.state.text, BROKEN);
+});
+
+// ---- all is played at each edit, and the first that broke is shown
+
+it("the first session that breaks is shown where nothing is in the way, and else the tab tells it", async () => {
+  const bench = await withPush();
+  await bench.act(named, "left alone");
+  await bench.act(fromLevel, 1);
+  await bench.act(savedAs);
+  await bench.act(sessionOpened, 1);
+  await bench.act(edited, BROKEN);
+  assert.deepEqual([bench.state.work.opened, differenceOf(bench.state)?.why], [0, null]);
+  await bench.act(edited, GAME);
+  await bench.act(begunAnew);
+  await bench.act(pressed, 3);
+  await bench.act(edited, BROKEN);
+  assert.deepEqual([bench.state.work.inputs, bench.state.work.opened, tabTold(bench.state)], [[3], null, "Sessions: 1 differs"]);
+});
+
+it("Play all shows the first that doesn't pass", async () => {
+  const bench = new Bench();
+  await bench.act(withOtherFile, new SessionFile("block-pushing.json", new Uint8Array(read("examples/block-pushing.json"))));
+  assert.deepEqual([bench.state.work.opened, closes(bench.state)], [4, ["passed", "passed", "passed", "passed", "differs"]]);
+  await bench.act(sessionOpened, 1);
+  await bench.act(playedAgain);
+  assert.deepEqual([bench.state.work.opened, sessionOf(bench.state) !== null, shownOf(bench.state) === framesOf(bench.state).length - 1], [4, true, true]);
+});
+
+// ---- accepting
+
+it("only what is on the screen is accepted", async () => {
+  const bench = await withPush();
+  await bench.act(edited, BROKEN);
+  assert.notEqual(differenceOf(bench.state), null);
+  await bench.act(lookedAt, 1);
+  assert.equal(differenceOf(bench.state), null);
+  await bench.act(lookedAt, Infinity);
+  await bench.act(pressed, 3);
+  assert.equal(differenceOf(bench.state), null);
+  await bench.act(sessionOpened, 0);
+  const { reached } = differenceOf(bench.state);
+  await bench.act(accepted, [0]);
+  assert.deepEqual([entriesIn(bench.state)[0][1][2], closes(bench.state)], [reached, ["passed"]]);
+  await bench.act(putBack);
+  assert.deepEqual(closes(bench.state), ["differs"]);
+});
+
+it("what was seen before an edit was not seen as it differs under the new text", async () => {
+  const bench = new Bench();
+  await bench.act(withGame, GAME);
+  await bench.act(withOtherFile, fileOf(DAY));
+  for (const number of [0, 1, 2]) await bench.act(sessionOpened, number);
+  await bench.act(edited, BROKEN);
+  const differing = closes(bench.state).map((close, number) => [close, number]).filter(([close]) => close === "differs").map(([, number]) => number);
+  assert.ok(differing.length > 1);
+  // what is on the screen now is one of them, and no other was looked at
+  assert.deepEqual(seenOf(bench.state), [bench.state.work.opened]);
+  await bench.act(accepted, seenOf(bench.state));
+  assert.equal(closes(bench.state).filter((close) => close === "differs").length, differing.length - 1);
+});
+
+it("what was recorded in the other order of cells is seen and not accepted", async () => {
+  const bench = await played(2, 3);
+  await bench.act(savedAs);
+  await bench.act(inOrder, "rows");
+  assert.deepEqual(closes(bench.state), ["differs"]);
+  await bench.act(sessionOpened, 0);
+  assert.match(differenceOf(bench.state).why, /other order/);
+  assert.deepEqual(seenOf(bench.state), []);
+});
+
+// ---- nothing is lost
+
+it("typed text is put back, whatever took its place", async () => {
+  for (const act of [(state) => withGame(state, GAME), (state) => withGame(state, OTHER), (state) => withOtherFile(state, fileOf([])), (state) => withOwnText(sessionOpened(withOtherFile(state, fileOf(DAY.map(([name, body]) => [name, [OTHER, ...body.slice(1)]]))), 0))]) {
+    const bench = new Bench();
+    await bench.act(edited, BROKEN);
+    await bench.act(act);
+    if (bench.state.text !== BROKEN) await bench.act(putBack);
+    assert.equal(bench.state.text, BROKEN);
+  }
+});
+
+it("a session that is opened leaves the text at hand as it is", async () => {
+  const bench = new Bench();
+  await bench.act(edited, BROKEN);
+  await bench.act(withOtherFile, new SessionFile("block-pushing.json", new Uint8Array(read("examples/block-pushing.json"))));
+  for (const number of [0, 4]) {
+    await bench.act(sessionOpened, number);
+    assert.equal(bench.state.text, BROKEN);
+  }
+});
+
+it("a file that was closed or replaced unsaved is put back, and what is put back besides another file opens no session of that", async () => {
+  const bench = await withPush();
+  await bench.act(withOtherFile, null);
+  await bench.act(putBack);
+  assert.deepEqual([bench.state.file.name, closes(bench.state), bench.state.isUnsaved], ["recordings.json", ["passed"], true]);
+  await bench.act(sessionOpened, 0);
+  await bench.act(lookedAt, Infinity);
+  await bench.act(pressed, 1);
+  await bench.act(withOtherFile, fileOf(DAY, "b.json"));
+  // the recording that made way for a session of the file comes first
+  await bench.act(putBack);
+  assert.deepEqual([bench.state.work.inputs, bench.state.work.opened], [[...PUSHING, 1], null]);
+  await bench.act(putBack);
+  assert.equal(bench.state.file.name, "recordings.json");
+  await bench.act(filed);
+  await bench.act(withOtherFile, fileOf(DAY, "b.json"));
+  while (bench.state.past.length > 0 && bench.state.work.inputs.length !== 4) await bench.act(putBack);
+  assert.equal(bench.state.work.opened, null);
+  await bench.act(removed);
+  assert.equal(bench.state.file.entries.length, DAY.length);
+});
+
+it("a session that was removed or replaced is put back", async () => {
+  const bench = await withPush();
+  await bench.act(pressed, 3);
+  await bench.act(savedAs, namesakeOf(bench.state));
+  assert.deepEqual(entriesIn(bench.state).map(([, [, inputs]]) => inputs), [[...PUSHING, 3]]);
+  await bench.act(putBack);
+  assert.deepEqual(entriesIn(bench.state).map(([, [, inputs]]) => inputs), [PUSHING]);
+  await bench.act(sessionOpened, 0);
+  await bench.act(removed);
+  assert.deepEqual(entriesIn(bench.state), []);
+  await bench.act(putBack);
+  assert.equal(entriesIn(bench.state).length, 1);
+});
+
+it("a key behind a session that was closed, and put back, does no harm", async () => {
+  const bench = new Bench();
+  await bench.act(withOtherFile, new SessionFile("a.json", new Uint8Array(read("examples/block-pushing.json"))));
+  await bench.act(sessionOpened, 1);
+  await bench.act(pressed, "undo");
+  await bench.act(sessionOpened, 2);
+  await bench.act(withOtherFile, null);
+  await bench.act(putBack);
+  await bench.act(pressed, 1);
+  await bench.reload();
+  assert.ok(isPlayed(bench.state));
+  await bench.act(begunAnew);
+  await bench.act(accepted, seenOf(bench.state));
+  await bench.act(removed);
+});
+
+// ---- what is kept
+
+it("all is there at the next visit: text, inputs, name, the file and what can be put back", async () => {
+  const bench = await withPush();
+  await bench.act(edited, BROKEN);
+  await bench.act(begunAnew);
+  await bench.act(pressed, 1);
+  await bench.act(cutBack);
+  await bench.act(named, "half");
+  const before = bench.state;
+  await bench.reload();
+  const { text, work, past } = bench.state;
+  assert.deepEqual([text, work.inputs, work.name, entriesIn(bench.state), past.length], [BROKEN, [], "half", entriesIn(before), before.past.length]);
+  await bench.act(putBack);
+  assert.deepEqual(bench.state.work.inputs, [1]);
+});
+
+it("what can't be read, or has another version, leaves a page that works", async () => {
+  const { kept } = await withPush();
+  const strange = [null, 1, "", {}, [], { version: 3 }, { ...kept, version: 9 }, { ...kept, text: 5 }, { ...kept, work: null }, { ...kept, work: { ...kept.work, inputs: [9] } }, { ...kept, past: 3 },
+    { ...kept, file: { name: "f", bytes: new Uint8Array([1]) } }, { ...kept, order: "up" }, { source: "title", index: 0, inputs: null }];
+  for (const value of strange) assert.equal(stateFrom(value, GAME), null, JSON.stringify(value));
+  const { state, read: names, unreadable } = stateOfVisit([{ name: "one", value: strange[4] }, { name: "two", value: kept }], GAME);
+  assert.deepEqual([state.work.inputs, names, unreadable], [PUSHING, ["two"], 1]);
+  assert.deepEqual(stateOfVisit([{ name: "one", value: {} }], GAME).state, beginning(GAME));
+});
+
+it("what an earlier page kept without a version is read", async () => {
+  const bytes = bytesOf(DAY), former = { name: "former.json", bytes: bytesOf([]) };
+  const state = stateFrom({ source: BROKEN, index: 1, inputs: [0], name: "old", opened: 0, order: "columns", file: { name: "f.json", bytes }, former, isUnsaved: true }, GAME);
+  assert.deepEqual([state.text, state.work, state.file.entries.length, state.past.length], [BROKEN, { own: null, index: 1, inputs: [0], name: "old", opened: 0 }, DAY.length, 1]);
+});
+
+it("what a closed tab left can be put back in the one that goes on", async () => {
+  const one = await played(1, 2), other = await played(3);
+  await other.act(edited, BROKEN);
+  const bench = new Bench(stateOfVisit([{ name: "one", value: one.kept }, { name: "other", value: other.kept }], GAME).state);
+  await bench.runner.idle();
+  assert.deepEqual(bench.state.work.inputs, [1, 2]);
+  await bench.act(putBack);
+  assert.deepEqual([bench.state.text, bench.state.work.inputs], [BROKEN, [3]]);
+  await bench.act(putBack);
+  assert.deepEqual([bench.state.text, bench.state.work.inputs], [GAME, [1, 2]]);
+});
+
+it("a visit after one that ended while something was played begins with the text, and plays nothing until it is asked for", async () => {
+  const bench = await played(1);
+  bench.kept.isBusy = true;
+  await bench.reload();
+  assert.deepEqual([bench.state.isHeld, bench.state.played, statusOf(bench.state).text], [true, null, "This is not played yet. An edit, a key or Play plays it."]);
+  await bench.act(released);
+  assert.deepEqual([isPlayed(bench.state), bench.state.work.inputs], [true, [1]]);
+  await bench.act(held);
+  await bench.act(pressed, 0);
+  assert.deepEqual(bench.state.work.inputs, [1, 0]);
+});
+
+// ---- another engine
+
+it("lines of another engine are compared, and an edit ends that", async () => {
+  const bench = new Bench();
+  await bench.act(withOtherFile, new SessionFile("a.json", new Uint8Array(read("examples/block-pushing.json"))));
+  const lines = new TextDecoder().decode(bench.state.suite.lines);
+  await bench.act(compared, "theirs", lines);
+  assert.equal(verdictOf(bench.state, null).text, "Compared with theirs: 5 the same, 0 diverge.");
+  const rows = lines.split("\n"), place = rows.findIndex((line) => line.includes('"session":2') && line.includes('"frame":7'));
+  rows[place] = rows[place].replace("player", "crate");
+  await bench.act(compared, "theirs", rows.join("\n"));
+  assert.deepEqual([bench.state.work.opened, shownOf(bench.state)], [2, 7]);
+  assert.match(statusOf(bench.state).text, /^Diverges at frame 7, after input 6 \(/);
+  await bench.act(edited, BROKEN);
+  assert.equal(bench.state.comparison, null);
+});

@@ -1,0 +1,84 @@
+// Changes of the sessions file in the state of the page: sessions are saved, accepted and removed, another file is opened, or another engine's lines.
+import { partingOf } from "./comparing.mjs";
+import { plural } from "./elements.mjs";
+import { readRuns } from "./lines.mjs";
+import { remembering } from "./past.mjs";
+import { framesOf, isPlayed } from "./replaying.mjs";
+import { Refusal, SessionFile } from "./session-file.mjs";
+import { isOther, runWithFrames, runsOfNow, sessionOpened } from "./suite.mjs";
+import { RECORDED_ORDER } from "./work.mjs";
+
+export const RECORDINGS = "recordings.json";
+const NAMELESS = "a recording";
+
+const withFile = (state, file, more) => remembering(state, { ...state, file, isUnsaved: true, told: null, saved: "", ...more });
+
+// Makes what was seen the recorded level of these sessions.
+export function accepted(state, numbers) {
+  if (numbers.length === 0) return state;
+  const file = state.file.withLevels(numbers.map((number) => [number, state.seen.get(number).reached]));
+  return withFile(state, file, { saved: `${plural(numbers.length, "recorded level")} changed` });
+}
+
+// Whether what is worked on can be saved: it is played to its end, in the order of recorded levels.
+export const isSavable = (state) => isPlayed(state) && state.played.cause === null && framesOf(state).length > 0 && state.queue.length === 0;
+
+const nameOf = (state) => state.work.name || NAMELESS;
+
+// The number of the session that has the name which is written, or -1.
+export const namesakeOf = (state) => (state.file?.entries ?? []).findIndex((entry) => entry.name === nameOf(state));
+
+// Saves the recording as a session, in the place of another where one is named. A recording over the text at hand has no text of its own.
+export function savedAs(state, number = null) {
+  if (!isSavable(state) || state.order !== RECORDED_ORDER) return state;
+  const { own, inputs, index } = state.work, entry = { name: nameOf(state), source: own ?? "", inputs, level: framesOf(state).at(-1).level, index };
+  const former = state.file ?? SessionFile.empty(RECORDINGS), file = number === null ? former.with(entry) : former.withReplaced(number, entry);
+  const opened = number ?? file.entries.length - 1;
+  const next = withFile({ ...state, work: { ...state.work, opened: null } }, file, { work: { ...state.work, opened }, looked: null });
+  return { ...next, saved: `Saved in ${file.name} as session ${opened}.` };
+}
+
+export function removed(state) {
+  if (state.work.opened === null) return state;
+  return withFile(state, state.file.without(state.work.opened), { work: { ...state.work, opened: null }, seen: new Map(), comparison: null, good: null });
+}
+
+// Lets the sessions that have another text follow the one at hand.
+export function followed(state) {
+  const numbers = state.file.entries.map((_, number) => number).filter((number) => isOther(state, number));
+  const { work } = state, isOpenOther = work.opened !== null && numbers.includes(work.opened);
+  const next = withFile(state, state.file.withoutSources(numbers), { seen: new Map(), work: isOpenOther ? { ...work, own: null } : work });
+  return { ...next, saved: `${plural(numbers.length, "session")} ${numbers.length === 1 ? "follows" : "follow"} the text on the left` };
+}
+
+export const filed = (state) => ({ ...state, isUnsaved: false });
+
+// Another file takes the place of the one that is open, or none.
+export function withOtherFile(state, file) {
+  const work = { ...state.work, opened: null }, own = file === null ? null : theOneText(file);
+  const isUntouched = state.text.trim() === "" || state.text === state.example;
+  const taken = own !== null && isUntouched && work.own === null ? { text: own } : {};
+  const next = { ...state, ...taken, file, work, isUnsaved: false, suite: null, good: null, seen: new Map(), comparison: null, isHeld: false, isNew: file !== null, tab: "sessions", told: null, saved: "", since: null };
+  return remembering(state, next);
+}
+
+// The text that all sessions of a file have as their own, or null.
+function theOneText({ entries }) {
+  const source = entries[0]?.source ?? "";
+  return source !== "" && entries.every((entry) => entry.source === source) ? source : null;
+}
+
+// ---- another engine
+
+// Compares how the sessions went with the lines of another engine.
+export function compared(state, name, text) {
+  const runs = runsOfNow(state), { file } = state;
+  if (runs === null) throw new Refusal(`${name} has lines: open and play the sessions file first that they are of`);
+  const others = readRuns(text);
+  if (others.length !== runs.length) throw new Refusal(`${name} has ${plural(others.length, "session")}, and ${file.name} ${runs.length}`);
+  const strange = others.findIndex((run, number) => run.name !== runs[number].name);
+  if (strange >= 0) throw new Refusal(`session ${strange} has another name in ${name}`);
+  const partings = others.map((other, number) => partingOf(runWithFrames(state.suite, number), other)), first = partings.findIndex((it) => it !== null);
+  const next = { ...state, comparison: { name, others, partings }, tab: "sessions", told: null };
+  return first < 0 ? next : sessionOpened(next, first);
+}

@@ -1,0 +1,130 @@
+// What the page says of its state, in words. Inputs are counted from 0, as the command and the reports count them.
+import { afterTold, endingTold, partingTold } from "./comparing.mjs";
+import { plural } from "./elements.mjs";
+import { inputTold } from "./faults.mjs";
+import { countOf } from "./closes.mjs";
+import { isFailure } from "./session-list.mjs";
+import { causeOf, framesOf, gameOf, isPlayed, shownOf, sourceOf } from "./replaying.mjs";
+import { countOfOthers, rowsOf, runWithFrames, runsOfNow, sessionOf } from "./suite.mjs";
+
+const upper = (text) => `${text[0].toUpperCase()}${text.slice(1)}.`;
+
+// Why the text isn't played, { sentence, line }, or null.
+export function faultOfText(state) {
+  const { played } = state;
+  if (played === null || played.source !== state.text || played.frames.length > 0 || played.cause === null || !isPlayed(state)) return null;
+  return causeOf(played.cause, played);
+}
+
+function stoppedTold({ played }) {
+  const { sentence } = causeOf(played.cause, played);
+  return played.frames.length === 0 ? { text: `Not played: ${sentence}.`, close: "refused" } : { text: `Stopped: ${sentence}.`, close: "stopped" };
+}
+
+// Where a session began to go another way than before.
+function sinceTold({ since, work }) {
+  return since === null ? "" : ` It passed before; since then it goes another way from frame ${since.frame} on, ${afterTold(work.inputs, since.at)}.`;
+}
+
+function sessionTold(state) {
+  const { opened, inputs } = state.work, run = runsOfNow(state)?.[opened] ?? null, parting = state.comparison?.partings[opened] ?? null;
+  if (run === null) return null;
+  if (parting !== null) return { text: `Diverges at ${partingTold(parting, runWithFrames(state.suite, opened), state.comparison.others[opened], inputs)}.`, close: "differs" };
+  if (run.close === "passed") return { text: "Passed: the last level is the recorded one.", close: "passed" };
+  return run.close === "differs" ? { text: `Differs from what was recorded.${sinceTold(state)}`, close: "differs" } : null;
+}
+
+// What stands above the level: { text, close }.
+export function statusOf(state) {
+  if (state.told !== null) return state.told;
+  if (state.isHeld) return { text: "This is not played yet. An edit, a key or Play plays it.", close: null };
+  if (!isPlayed(state)) return { text: "", close: null };
+  if (state.played.cause !== null) return stoppedTold(state);
+  const session = sessionOf(state) === null ? null : sessionTold(state);
+  return session ?? { text: state.played.isSolved ? "Solved: all levels are won." : "", close: null };
+}
+
+// What is said where what is played isn't the text on the left.
+export const ownTold = (state) => (state.work.own === null ? "" : "This recording has a text of its own, and is played over that: not over the text on the left.");
+
+const KIND_TOLD = { start: "the start", load: "the next level", over: "play is over", restart: "begins again" };
+
+export function stepTold(state) {
+  const frames = framesOf(state), shown = shownOf(state), frame = frames[shown];
+  if (frame === undefined) return "";
+  const { inputs } = state.played, isSame = shown > 0 && frames[shown - 1].level === frame.level;
+  const undone = isSame ? "nothing to take back" : "taken back", moved = isSame ? "nothing changes" : frame.kind === "tick" ? "a tick" : "moves";
+  const where = frame.at === 0 ? "before any input" : `after input ${frame.at - 1} (${inputTold(inputs[frame.at - 1])})`;
+  return `${where}; ${KIND_TOLD[frame.kind] ?? (frame.kind === "undo" ? undone : moved)}`;
+}
+
+// ---- the sessions
+
+const failuresOf = (state) => rowsOf(state).filter(isFailure);
+
+// "2 differ", "1 stopped", or "3 did not pass" where they ended in several ways.
+function failuresTold(failures) {
+  const closes = [...new Set(failures.map(({ close }) => close))];
+  return closes.length === 1 && closes[0] !== "passed" ? countOf(closes[0], failures.length) : `${failures.length} did not pass`;
+}
+
+export function tabTold(state) {
+  if (state.file === null) return "Sessions";
+  const failures = failuresOf(state).filter(({ close }) => close !== "passed");
+  return failures.length > 0 ? `Sessions: ${failuresTold(failures)}` : `Sessions (${state.file.entries.length})`;
+}
+
+function suiteTold(state, runs) {
+  const failures = failuresOf(state).filter(({ close }) => close !== "passed").length, took = `${plural(runs.length, "session")} in ${(state.suite.milliseconds / 1000).toFixed(1)} s`;
+  if (runs.length === 0) return { text: "The file has no session.", close: null };
+  if (failures > 0) return { text: `${failures} did not pass: ${took}.`, close: "differs" };
+  // no tick where a session was played over something else
+  return countOfOthers(state) > 0 ? { text: `All passed, but not all over the text on the left: ${took}.`, close: null } : { text: `All passed: ${took}.`, close: "passed" };
+}
+
+function comparisonTold({ comparison: { name, partings } }) {
+  const parting = partings.filter((it) => it !== null).length;
+  return { text: `Compared with ${name}: ${partings.length - parting} the same, ${parting} ${parting === 1 ? "diverges" : "diverge"}.`, close: parting === 0 ? "passed" : "differs" };
+}
+
+// How the sessions closed: { text, close }.
+export function verdictOf(state, doing) {
+  const runs = runsOfNow(state);
+  if (doing !== null) return { text: `Playing: ${doing.done} of ${plural(doing.total, "session")}`, close: null };
+  if (state.comparison !== null) return comparisonTold(state);
+  if (runs !== null) return suiteTold(state, runs);
+  return { text: state.suite?.why ?? "Not played yet.", close: null };
+}
+
+// What is said of sessions that are not played over the text at hand.
+export function othersTold(state) {
+  const count = countOfOthers(state);
+  if (count === 0) return state.file.isOverAGame ? "The sessions are played over the text on the left." : "";
+  return `${plural(count, "session")} ${count === 1 ? "has" : "have"} another text, and ${count === 1 ? "is" : "are"} not played over the one on the left: \`saxtegun source\` makes ${count === 1 ? "it" : "them"} follow game.txt.`;
+}
+
+// What a level differs in from the one beside it.
+export function unlikenessTold(state, ending, isOfEngines) {
+  const { cells } = ending;
+  if (isOfEngines) return cells === null ? "The two levels can't be compared cell by cell." : `${plural(cells.length, "cell")} of this frame ${cells.length === 1 ? "differs" : "differ"} (framed).`;
+  if (sessionOf(state).level === "") return "No level was recorded.";
+  return cells?.length === 0 ? "This is the recorded level." : upper(`${endingTold(ending)}${cells ? " (framed)" : ""}`);
+}
+
+// ---- what can be put back
+
+function lostTold({ text, work, file }) {
+  const parts = [
+    text === undefined ? "" : `the text of ${gameOf(text).title}`,
+    work === undefined ? "" : work.inputs.length > 0 ? `a recording of ${plural(work.inputs.length, "input")}` : `the name ${work.name}`,
+    file === undefined ? "" : `${file.name} with ${plural(file.entries.length, "session")}`,
+  ];
+  return parts.filter(Boolean).join(", ");
+}
+
+export const putBackTold = ({ past }) => (past.length === 0 ? "Nothing was left out or replaced yet" : `Puts back ${lostTold(past.at(-1))}`);
+
+export const toldOfLevel = (state) => {
+  const frames = framesOf(state), shown = shownOf(state), won = frames.slice(0, shown + 1).filter(({ kind }) => kind === "load").length;
+  return `${gameOf(sourceOf(state)).title}, ${won > 0 ? `${plural(won, "level")} won` : "the level"}, frame ${shown}`;
+};

@@ -1,0 +1,94 @@
+// What the engine is wanted to play of a state, what its answer leads to, and the frames that were played.
+import { culpritTold } from "./faults.mjs";
+import { Game } from "./game.mjs";
+import { isSameList, remembering } from "./past.mjs";
+import { joined } from "./recording.mjs";
+import { refusalTold } from "./session-file.mjs";
+
+// The text that is played.
+export const sourceOf = (state) => state.work.own ?? state.text;
+
+const MOST_GAMES = 8; // whose looks are kept
+const games = new Map();
+
+// How a text looks.
+export function gameOf(source) {
+  if (games.has(source)) return games.get(source);
+  if (games.size >= MOST_GAMES) games.delete(games.keys().next().value);
+  games.set(source, new Game(source));
+  return games.get(source);
+}
+
+const isPlayOf = (played, { source, index, order }) => played !== null && played.source === source && played.index === index && played.order === order;
+
+// Whether what was played is what is worked on now.
+export function isPlayed(state) {
+  const { work: { index, inputs }, order, played } = state;
+  return isPlayOf(played, { source: sourceOf(state), index, order }) && isSameList(played.inputs, inputs);
+}
+
+// ---- the frames of the recording
+
+export const framesOf = (state) => state.played?.frames ?? [];
+
+export function shownOf(state) {
+  const last = framesOf(state).length - 1;
+  return Math.max(0, Math.min(last, state.looked ?? last));
+}
+
+export const isAtEnd = (state) => shownOf(state) >= framesOf(state).length - 1;
+
+// How many inputs stand before what is looked at.
+export const takenOf = (state) => (isAtEnd(state) ? state.work.inputs.length : framesOf(state)[shownOf(state)].at);
+
+// ---- what is played
+
+// What the engine is wanted to play: all of the recording, or one more input behind what is looked at. Null where nothing is.
+export function wantedPlay(state) {
+  if (state.isHeld) return null;
+  const { work: { index, inputs }, order, queue } = state, source = sourceOf(state);
+  if (!isPlayed(state)) return { source, index, order, inputs, from: 0, isKey: false };
+  if (queue.length === 0) return null;
+  const taken = Math.min(inputs.length, queue[0].behind ?? inputs.length);
+  return { source, index, order, inputs: [...inputs.slice(0, taken), queue[0].input], from: taken + 1, isKey: true };
+}
+
+const isSamePlay = (one, other) => isPlayOf(one, other) && one.from === other.from && one.isKey === other.isKey && isSameList(one.inputs, other.inputs);
+
+// Whether an answer to this is still of use.
+export const isWanted = (state, asked) => {
+  const wanted = wantedPlay(state);
+  return wanted !== null && isSamePlay(wanted, asked);
+};
+
+const capital = (text) => `${text[0].toUpperCase()}${text.slice(1)}`;
+
+// Why something isn't played, as a sentence without its end, and the line that is named.
+export function causeOf(cause, { source, inputs, frames }) {
+  if (cause.startsWith("engine:")) return { sentence: `the engine gave no answer: ${refusalTold(cause.slice(7))}`, line: null };
+  if (source.trim() === "") return { sentence: "there is no text of a game: open it, paste it, or write it here", line: null };
+  return culpritTold(cause, { source, inputs, game: gameOf(source), frames });
+}
+
+// The keys that wait behind one that was left out: where they were pressed.
+const leftOut = ([{ behind }, next, ...rest]) => (next === undefined ? [] : [{ ...next, behind: next.behind ?? behind }, ...rest]);
+
+function answeredKey(state, asked, { frames: more, cause, isSolved }) {
+  const [key, ...queue] = state.queue, frames = joined(state.played.frames, asked.from, more);
+  if (cause !== null) {
+    const { sentence } = causeOf(cause, { ...asked, frames });
+    return { ...state, queue: leftOut(state.queue), told: { text: `${capital(sentence)}. The input is left out.`, close: null } };
+  }
+  const work = { ...state.work, inputs: asked.inputs }, isNext = more.some((frame) => frame.kind === "load");
+  const told = isSolved ? "Solved: all levels are won." : isNext ? "The next level." : null;
+  // who went to another frame since the key was pressed looks at that
+  const looked = state.looked === key.looked ? null : state.looked;
+  return remembering(state, { ...state, queue, work, looked, played: { ...asked, frames, cause, isSolved }, told: told && { text: told, close: null } });
+}
+
+// Takes the answer of the engine to what was wanted.
+export function answered(state, asked, answer) {
+  if (!isWanted(state, asked)) return state;
+  if (asked.isKey) return answeredKey(state, asked, answer);
+  return { ...state, played: { ...asked, ...answer }, queue: answer.frames.length === 0 ? [] : state.queue };
+}

@@ -1,0 +1,119 @@
+// Runs the page: after each change of the state the engine is asked for what is wanted of it, the state is drawn, and it is kept.
+import { answered, isWanted, wantedPlay } from "./replaying.mjs";
+import { seeing, suiteCame, wantedSuite } from "./suite.mjs";
+import { held } from "./work.mjs";
+
+const SLOW = 500; // milliseconds, after which it is said that something is being played
+const TYPING_PAUSE = 250; // milliseconds without a letter, after which what was typed is played
+
+export class Runner {
+  // engine.play(request, signal) and engine.playAll(bytes, { order, signal, progress }) are asked; draw(state, doing, isBusy) shows what there
+  // is, and keep(state, isPlaying) keeps it.
+  constructor(state, { engine, draw, keep, pause = TYPING_PAUSE }) {
+    Object.assign(this, { state, engine, draw, keep, pause });
+    this.doing = { play: null, suite: null }; // what is asked now: { wanted, controller, done, total, isSlow }
+    this.typing = 0;
+    this.waiting = [];
+  }
+
+  // Takes the state to its next, by a function.
+  update(act) {
+    this.state = seeing(act(this.state));
+    this.ask();
+    this.show();
+  }
+
+  // Takes what is typed, which is played once nothing more is typed for a while.
+  type(act) {
+    clearTimeout(this.typing);
+    this.typing = setTimeout(() => {
+      this.typing = 0;
+      this.update((state) => state);
+    }, this.pause);
+    this.update(act);
+  }
+
+  show() {
+    this.draw(this.state, this.doing, this.isBusy);
+    this.keep(this.state, this.doing.play?.isSlow ?? false);
+    if (!this.isBusy) this.waiting.splice(0).forEach((settle) => settle());
+  }
+
+  get isBusy() {
+    return this.typing !== 0 || this.doing.play !== null || this.doing.suite !== null;
+  }
+
+  // Settles once nothing is typed, asked or wanted.
+  idle() {
+    return this.isBusy ? new Promise((settle) => this.waiting.push(settle)) : Promise.resolve();
+  }
+
+  ask() {
+    if (this.typing !== 0) return;
+    this.askPlay();
+    this.askSuite();
+  }
+
+  // Begins what is wanted where something else is asked now, which is ended.
+  begin(name, wanted, isSame, act) {
+    const doing = this.doing[name];
+    if (doing !== null && wanted !== null && isSame(doing.wanted)) return;
+    this.leave(name);
+    if (wanted === null) return;
+    const next = { wanted, controller: new AbortController(), done: 0, total: 0, isSlow: false };
+    next.timer = setTimeout(() => this.showSlow(next), SLOW);
+    this.doing[name] = next;
+    act(next).then((answer) => this.end(name, next, answer));
+  }
+
+  showSlow(doing) {
+    doing.isSlow = true;
+    this.show();
+  }
+
+  leave(name) {
+    clearTimeout(this.doing[name]?.timer);
+    this.doing[name]?.controller.abort();
+    this.doing[name] = null;
+  }
+
+  end(name, doing, act) {
+    if (this.doing[name] !== doing) return;
+    clearTimeout(doing.timer);
+    this.doing[name] = null;
+    this.update(act);
+  }
+
+  askPlay() {
+    this.begin("play", wantedPlay(this.state), (wanted) => isWanted(this.state, wanted), async ({ wanted, controller }) => {
+      const answer = await this.engine.play(wanted, controller.signal);
+      return (state) => answered(state, wanted, answer);
+    });
+  }
+
+  askSuite() {
+    const { file, text, order } = this.state;
+    const isSame = (wanted) => wanted.file === file && wanted.order === order && (wanted.text === text || !file.isOverAGame);
+    this.begin("suite", wantedSuite(this.state), isSame, async (doing) => {
+      const { wanted, controller: { signal } } = doing, begun = performance.now();
+      const progress = (done, total) => {
+        Object.assign(doing, { done, total });
+        this.draw(this.state, this.doing, true);
+      };
+      const answer = await this.engine.playAll(wanted.file.playedOver(wanted.text), { order: wanted.order, signal, progress }).catch((error) => ({ fault: error.message, lines: null }));
+      return (state) => suiteCame(state, wanted, answer, performance.now() - begun);
+    });
+  }
+
+  // Ends what is played, at the wish of whoever sits before the page.
+  stopPlay() {
+    this.update(held);
+  }
+
+  stopSuite() {
+    const { wanted } = this.doing.suite ?? {};
+    if (wanted === undefined) return;
+    this.leave("suite");
+    this.update((state) => suiteCame(state, wanted, null, 0));
+  }
+}

@@ -1,0 +1,124 @@
+// The sessions of the file in the state of the page: how they closed over the text at hand, which of them is open, and what was seen of it.
+import { Ending, obstacleTold, partingOf } from "./comparing.mjs";
+import { framesIn, runsOf } from "./lines.mjs";
+import { isSameList } from "./past.mjs";
+import { framesOf, isAtEnd, isPlayed, sourceOf } from "./replaying.mjs";
+import { refusalTold } from "./session-file.mjs";
+import { isFailure } from "./session-list.mjs";
+import { withWork } from "./work.mjs";
+
+// ---- how all sessions closed
+
+// Whether an answer is one to the file as it stands, over the text at hand.
+const isOfNow = (suite, { file, text, order }) => suite !== null && suite.file === file && suite.order === order && (suite.text === text || !file.isOverAGame);
+
+// What is wanted of the engine for the sessions of the file, or null.
+export function wantedSuite(state) {
+  const { file, text, order, suite, isHeld } = state;
+  return file === null || isHeld || isOfNow(suite, state) ? null : { file, text, order };
+}
+
+// How the sessions closed, or null where they aren't played as they stand.
+export const runsOfNow = (state) => (state.file !== null && isOfNow(state.suite, state) ? state.suite.runs : null);
+
+// A run with its frames, as its lines have them.
+export const runWithFrames = ({ lines, runs }, number) => ({ ...runs[number], frames: framesIn(lines, runs[number]) });
+
+// Whether a session has a text of its own that isn't the one at hand.
+export const isOther = (state, number) => ![ "", state.text ].includes(state.file.entries[number].source);
+
+export const countOfOthers = (state) => (state.file?.entries ?? []).filter((_, number) => isOther(state, number)).length;
+
+// What is listed of each session.
+export function rowsOf(state) {
+  const runs = runsOfNow(state), { partings = null } = state.comparison ?? {};
+  return (state.file?.entries ?? []).map(({ name }, number) => ({
+    name, close: runs?.[number].close ?? null, frames: runs?.[number].count ?? null, parting: partings?.[number] ?? null, isLookedAt: isSeen(state, number), isOther: isOther(state, number),
+  }));
+}
+
+// The first frame from which on a session goes another way than when all was played last, where it passed then; null where nothing is known.
+function changeOf({ good, suite }, number) {
+  const entry = suite.file.entries[number], former = good?.file.entries[number];
+  if (suite.runs === null || former === undefined || good === suite || good.order !== suite.order || good.runs[number].close !== "passed") return null;
+  if (former.name !== entry.name || former.index !== entry.index || !isSameList(former.inputs, entry.inputs)) return null;
+  const parting = partingOf(runWithFrames(good, number), runWithFrames(suite, number));
+  return parting === null || parting.kind === "close" ? null : { ...parting, at: (runWithFrames(suite, number).frames[parting.frame] ?? runWithFrames(good, number).frames[parting.frame]).at };
+}
+
+// Whether what is worked on may make way for a session: it is nothing, or stands in the file.
+function isFree(state) {
+  const { work, file } = state;
+  if (work.opened !== null) return isSessionOpen(state);
+  return work.inputs.length === 0 && work.name === "" && file !== null;
+}
+
+const isBroken = ({ close }) => close === "differs" || close === "stopped";
+
+// Opens what is to be looked at once all is played: of a file that was just opened the first failure, and else the first that broke.
+function showingFailure(state) {
+  const { isNew, work, suite } = state, next = { ...state, isNew: false };
+  if (isNew) return suite.runs.length === 0 ? next : sessionOpened(next, Math.max(0, rowsOf(next).findIndex(isFailure)));
+  if (work.opened !== null && isBroken(suite.runs[work.opened])) return { ...next, since: isSessionOpen(next) ? changeOf(next, work.opened) : null };
+  const first = suite.runs.findIndex((run, number) => isBroken(run) && state.good?.runs[number]?.close === "passed");
+  return first < 0 || !isFree(next) ? next : sessionOpened(next, first);
+}
+
+// Takes what the sessions came to: { fault, lines }, in so many milliseconds, or null where it was stopped.
+export function suiteCame(state, { file, text, order }, answer, milliseconds) {
+  if (wantedSuite(state) === null || !isOfNow({ file, text, order }, state)) return state;
+  const why = answer === null ? "Stopped: not all sessions were played." : answer.fault === null ? null : `${file.name} is not played: ${refusalTold(answer.fault)}.`;
+  const suite = { file, text, order, why, lines: why === null ? answer.lines : null, runs: why === null ? runsOf(answer.lines) : null, milliseconds };
+  const next = { ...state, suite, comparison: null };
+  if (why !== null) return { ...next, isNew: false };
+  return { ...showingFailure(next), good: isNoWorse(state.good, suite) ? suite : state.good };
+}
+
+// Whether all sessions still pass that passed before.
+const isNoWorse = (good, { runs }) => good === null || good.runs.every(({ close }, number) => close !== "passed" || runs[number]?.close === "passed");
+
+// Plays all sessions again, and shows the first that doesn't pass.
+export const playedAgain = (state) => ({ ...state, suite: null, isHeld: false, isNew: state.file !== null, saved: "", told: null });
+
+// ---- the session that is open
+
+// Whether what is worked on is the session that is open, as the file has it.
+export function isSessionOpen(state) {
+  const { work, file, text } = state, entry = work.opened === null ? undefined : file?.entries[work.opened];
+  return entry !== undefined && (entry.source || text) === sourceOf(state) && entry.index === work.index && isSameList(entry.inputs, work.inputs);
+}
+
+export const sessionOf = (state) => (isSessionOpen(state) ? state.file.entries[state.work.opened] : null);
+
+export function sessionOpened(state, number) {
+  const { name, source, inputs, index } = state.file.entries[number], parting = state.comparison?.partings[number] ?? null;
+  const work = { own: source === "" || source === state.text ? null : source, index, inputs, name, opened: number };
+  const isPassed = runsOfNow(state)?.[number].close === "passed" && parting === null;
+  const next = withWork(state, work, { looked: parting?.frame ?? (isPassed ? 0 : null) });
+  return runsOfNow(next) !== null && isBroken(next.suite.runs[number]) ? { ...next, since: changeOf(next, number) } : next;
+}
+
+// What the session that is open reached beside what was recorded: { reached, recorded, why }, where both are on the screen and differ; `why` says what
+// stands against accepting it. Else null.
+export function differenceOf(state) {
+  const entry = sessionOf(state), run = entry === null ? null : runsOfNow(state)?.[state.work.opened] ?? null;
+  if (run === null || run.close !== "differs" || !isPlayed(state) || !isAtEnd(state) || (state.comparison?.partings[state.work.opened] ?? null) !== null) return null;
+  const reached = framesOf(state).at(-1)?.level;
+  if (reached === undefined) return null;
+  return { reached, recorded: entry.level, why: obstacleTold(run, new Ending(reached, entry.level, state.order)) };
+}
+
+// The state where what is on the screen counts as seen.
+export function seeing(state) {
+  const difference = differenceOf(state), { opened } = state.work;
+  if (difference === null || state.seen.get(opened)?.reached === difference.reached) return state;
+  return { ...state, seen: new Map([...state.seen, [opened, difference]]) };
+}
+
+// Whether a session was seen as it differs now.
+export function isSeen(state, number) {
+  const seen = state.seen.get(number);
+  return seen !== undefined && runsOfNow(state)?.[number].close === "differs" && state.file.entries[number].level === seen.recorded;
+}
+
+export const seenOf = (state) => [...state.seen.keys()].filter((number) => isSeen(state, number) && state.seen.get(number).why === null).sort((one, other) => one - other);

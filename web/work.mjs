@@ -1,0 +1,129 @@
+// The state of the page, which is never changed, and what can be done with a text and a recording: functions from a state to the next. Nothing here
+// knows the page or the engine. What the engine is wanted to play follows from the state, and its answer leads to the next (replaying.mjs, suite.mjs).
+import { levelsOf } from "./game.mjs";
+import { behindAll, remembering } from "./past.mjs";
+import { firstFrom } from "./recording.mjs";
+import { framesOf, isAtEnd, isPlayed, takenOf } from "./replaying.mjs";
+import { MOST_INPUTS } from "./session-file.mjs";
+
+export const RECORDED_ORDER = "columns"; // the one of the published level texts, in which `saxtegun test` plays
+
+// A recording of a text that has nothing in it yet. Where `own` is null it is one over the text at hand.
+const workOn = (text, more = {}) => ({ own: null, index: levelsOf(text)[0]?.index ?? 0, inputs: [], name: "", opened: null, ...more });
+
+export function beginning(example) {
+  return {
+    example, // the text of the example
+    text: example, // the text at hand
+    order: RECORDED_ORDER,
+    work: workOn(example), // what is recorded: its own text or null, the entry of LEVELS, inputs, a name, the number of the session that is open
+    looked: null, // the number of the frame that is looked at; null for the last
+    queue: [], // keys that were pressed and aren't played yet: { input, behind (so many inputs, or null for all), looked }
+    played: null, // what was played last, with its frames
+    isHeld: false, // whether nothing is played until it is asked for
+    file: null,
+    isUnsaved: false, // whether the file has changes that were not saved as a file
+    suite: null, // what the sessions of the file came to
+    good: null, // the last such answer in which all passed that had passed before
+    isNew: false, // whether the first failure is opened, once all is played
+    seen: new Map(), // which sessions were seen as they differ, with both levels
+    comparison: null, // what another engine made of the same sessions
+    past: [],
+    tab: "game",
+    since: null, // where the session that is open began to go another way
+    told: null, // what was said of the last act
+    saved: "",
+  };
+}
+
+// What no longer holds once another text is at hand.
+const AFRESH = { seen: new Map(), isHeld: false, comparison: null, told: null, saved: "", since: null };
+
+// ---- the recording
+
+// Goes to a frame.
+export function lookedAt(state, frame) {
+  const last = Math.max(0, framesOf(state).length - 1), number = Math.max(0, Math.min(last, frame));
+  return { ...state, looked: number === last ? null : number, told: null };
+}
+
+// Goes to what so many inputs led to: the last frame of these.
+export const lookedAtInput = (state, taken) => lookedAt(state, firstFrom(framesOf(state), taken + 1) - 1);
+
+// Ends what is being played: it is played again where that is asked for.
+export const held = (state) => ({ ...state, isHeld: true, queue: [], told: null });
+
+export const released = (state) => ({ ...state, isHeld: false, told: null });
+
+// Takes a key, which is played behind the frame that is looked at.
+export function pressed(state, input) {
+  const { queue, looked } = state, last = queue.at(-1);
+  if (isPlayed(state) && framesOf(state).length === 0) return state;
+  if (state.work.inputs.length + queue.length >= MOST_INPUTS) return { ...state, told: { text: `A session has ${MOST_INPUTS} inputs at most.`, close: null } };
+  const isBehindLast = last === undefined ? isAtEnd(state) : last.looked === looked;
+  return { ...state, queue: [...queue, { input, behind: isBehindLast ? null : takenOf(state), looked }], isHeld: false, told: null };
+}
+
+// The state with something else worked on.
+export function withWork(state, work, more = {}) {
+  return remembering(state, { ...state, work, looked: null, queue: [], told: null, saved: "", since: null, ...more });
+}
+
+// Leaves out all inputs behind the frame that is looked at, or the last one where that is looked at; a key that isn't played yet is the last.
+export function cutBack(state) {
+  const { inputs } = state.work;
+  if (state.queue.length > 0) return { ...state, queue: state.queue.slice(0, -1) };
+  return inputs.length === 0 ? state : withWork(state, { ...state.work, inputs: inputs.slice(0, isAtEnd(state) ? -1 : takenOf(state)) });
+}
+
+export const named = (state, name) => ({ ...state, work: { ...state.work, name } });
+
+export const begunAnew = (state) => withWork(state, { ...state.work, inputs: [], name: "", opened: null });
+
+export const fromLevel = (state, index) => withWork(state, { ...state.work, index, inputs: [], name: "", opened: null });
+
+// ---- the text at hand
+
+// The recording as it goes on over the text at hand: one of a text of its own is no session of the file then.
+function overText(state) {
+  const { work, file } = state, entry = work.opened === null ? null : file.entries[work.opened];
+  return entry !== null && entry.source !== "" ? { ...work, own: null, opened: null } : { ...work, own: null };
+}
+
+// Takes what is typed. The browser's own undo leads back.
+export function edited(state, text) {
+  if (text === state.text) return state;
+  return remembering({ ...state, text }, { ...state, text, work: overText(state), looked: null, queue: [], ...AFRESH });
+}
+
+// Takes another game.
+export function withGame(state, text) {
+  return withWork(state, workOn(text), { ...AFRESH, text, tab: "game" });
+}
+
+// Takes the text of the session that is open to hand.
+export function withOwnText(state) {
+  const { own } = state.work;
+  return own === null ? state : withWork(state, { ...state.work, own: null }, { ...AFRESH, text: own, tab: "game" });
+}
+
+export const inOrder = (state, order) => ({ ...state, ...AFRESH, order, looked: null, queue: [] });
+
+// ---- what is put back
+
+// The number of the session in a file that a recording is one of, or null.
+function stillOpened(work, file, text) {
+  const entry = work.opened === null ? undefined : file?.entries[work.opened];
+  const isOne = entry !== undefined && entry.name === work.name && entry.index === work.index && (entry.source || text) === (work.own ?? text);
+  return isOne ? work.opened : null;
+}
+
+// Puts back what was lost last.
+export function putBack(state) {
+  const last = state.past.at(-1);
+  if (last === undefined) return state;
+  const { text = state.text, work = state.work, file = state.file, isUnsaved = state.isUnsaved } = last;
+  const open = { ...work, opened: stillOpened(work, file, text) };
+  const next = { ...state, text, work: open, file, isUnsaved, past: state.past.slice(0, -1), looked: null, queue: [], ...AFRESH };
+  return behindAll(state, next);
+}
