@@ -324,12 +324,22 @@ class Release(NamedTuple):
     def name(self) -> str:
         return f"saxtegun-{self.version}-linux-x86_64"
 
+    def archive(self) -> bytes:
+        return archive(self.files, self.name, self.time)
+
+    def package(self) -> bytes:
+        """The Debian package."""
+        return package(package_files(self.files, self.version, self.time), self.time)
+
+    def node_package(self) -> bytes:
+        return archive(self.engine, "package", self.time)
+
     def made(self) -> Dict[str, bytes]:
         """The files of the release, by their names."""
         made = {
-            f"{self.name}.tar.gz": archive(self.files, self.name, self.time),
-            f"saxtegun_{self.version}_amd64.deb": package(package_files(self.files, self.version, self.time), self.time),
-            f"saxtegun-engine-{self.version}.tgz": archive(self.engine, "package", self.time),
+            f"{self.name}.tar.gz": self.archive(),
+            f"saxtegun_{self.version}_amd64.deb": self.package(),
+            f"saxtegun-engine-{self.version}.tgz": self.node_package(),
             "saxtegun.html": self.files["saxtegun.html"].content,
         }
         return {**made, SUMS: sums_of(made).encode()}

@@ -1,4 +1,7 @@
-"""Holds a file of a release against what the commit that it names makes: the archive, the Debian package, the package for Node, the page or the sums."""
+"""Holds a file of a release against what the commit that it names makes: the archive, the Debian package, the package for Node, the page or the sums.
+
+The whole file is compared, byte by byte: a forged archive can hold members that one reader skips and another unpacks. An archive is read only to find its
+commit and how its gate ended, and to name what differs once something does."""
 from __future__ import annotations
 
 import io
@@ -13,7 +16,7 @@ from releasing import SUMS, Broken, Built, File, ends_in, gate_of, package_files
 
 # A member that no release has: a link, a device, a file with other rights.
 STRANGE = File(b"", False)
-SUM = re.compile(r"([0-9a-f]{64})  (\S+)")
+SUM = re.compile(r"([0-9a-f]{64})  ([^\s/]+)")
 
 
 def members(content: bytes) -> Dict[str, File]:
@@ -63,13 +66,21 @@ def between(theirs: Dict[str, File], ours: Dict[str, File]) -> List[str]:
     return [f"differs: {name}" for name in sorted({*theirs, *ours}) if theirs.get(name) != ours.get(name)]
 
 
+def compared(ours: bytes, content: bytes, named: List[str]) -> List[str]:
+    """What differs between two files, nothing only where they are the same byte by byte. `named` are the members that are seen to differ."""
+    if ours == content:
+        return []
+    return named or ["differs: the file itself, in bytes that no member shows: it was packed otherwise, or hides another file"]
+
+
 def of_archive(top: Path, path: Path, content: bytes, built: Built) -> List[str]:
     found = members(content)
     theirs = below(next(iter(found), "").partition("/")[0], found)
     if "PROVED.txt" not in theirs or len(theirs) != len(found):
         raise Broken(f"{path} is no archive of a release: it has no PROVED.txt in its one folder")
     check_commit(top, path, commit_in(theirs))
-    return between(theirs, release_of(top, version_of(top), built._replace(ends=ends_of(theirs))).files)
+    ours = release_of(top, version_of(top), built._replace(ends=ends_of(theirs)))
+    return compared(ours.archive(), content, between(theirs, ours.files))
 
 
 def of_node_package(top: Path, path: Path, content: bytes, built: Built) -> List[str]:
@@ -79,18 +90,18 @@ def of_node_package(top: Path, path: Path, content: bytes, built: Built) -> List
     except (KeyError, ValueError, TypeError):
         raise Broken(f"{path} is no package of a release: its package.json names no commit (gitHead)") from None
     check_commit(top, path, commit)
-    ours = release_of(top, version_of(top), built).engine
-    return between(theirs, {f"package/{name}": file for name, file in ours.items()})
+    ours = release_of(top, version_of(top), built)
+    return compared(ours.node_package(), content, between(theirs, {f"package/{name}": file for name, file in ours.engine.items()}))
 
 
-def of_package(top: Path, path: Path, built: Built) -> List[str]:
+def of_package(top: Path, path: Path, content: bytes, built: Built) -> List[str]:
     theirs = parts_of_package(path)
     inside = below("usr/lib/saxtegun", theirs)
     if "PROVED.txt" not in inside:
         raise Broken(f"{path} is no package of a release: it has no PROVED.txt")
     check_commit(top, path, commit_in(inside))
     ours = release_of(top, version_of(top), built._replace(ends=ends_of(inside)))
-    return between(theirs, package_files(ours.files, ours.version, ours.time))
+    return compared(ours.package(), content, between(theirs, package_files(ours.files, ours.version, ours.time)))
 
 
 def of_sums(top: Path, path: Path, text: str, built: Built) -> List[str]:
@@ -108,9 +119,11 @@ def of_sums(top: Path, path: Path, text: str, built: Built) -> List[str]:
         raise Broken(f"the archive that {path} names isn't beside it, and it says how the gate ended: fetch it too")
     else:
         built = built._replace(ends=gate.ends)
-    ours = {name: sum_of(content) for name, content in release_of(top, version_of(top), built).made().items() if name != SUMS}
-    changed = [f"another file than its sum: {it}" for it in sorted(theirs) if (path.parent / it).is_file() and sum_of((path.parent / it).read_bytes()) != theirs[it]]
-    return changed + [f"differs: {name}" for name in sorted({*theirs, *ours}) if theirs.get(name) != ours.get(name)]
+    made = release_of(top, version_of(top), built).made()
+    ours = {name: sum_of(content) for name, content in made.items() if name != SUMS}
+    changed = [f"another file than its sum: {it}" for it in sorted(ours) if (path.parent / it).is_file() and sum_of((path.parent / it).read_bytes()) != theirs.get(it)]
+    differing = [f"differs: {name}" for name in sorted({*theirs, *ours}) if theirs.get(name) != ours.get(name)]
+    return compared(made[SUMS], text.encode(), differing) + changed
 
 
 def version_of(top: Path) -> str:
@@ -121,9 +134,9 @@ def differences(top: Path, path: Path, built: Built) -> List[str]:
     """What of a file of a release this commit doesn't make so, a line for each."""
     content = path.read_bytes()
     if content.startswith(b"!<arch>\n"):
-        return of_package(top, path, built)
+        return of_package(top, path, content, built)
     if content.startswith(b"<!DOCTYPE html>"):
-        return [] if release_of(top, version_of(top), built).files["saxtegun.html"].content == content else ["differs: saxtegun.html"]
+        return compared(release_of(top, version_of(top), built).files["saxtegun.html"].content, content, ["differs: saxtegun.html"])
     if content.startswith(b"\x1f\x8b"):
         is_for_node = "package/package.json" in members(content)
         return (of_node_package if is_for_node else of_archive)(top, path, content, built)

@@ -15,6 +15,7 @@ from pathlib import Path
 TOP = Path(__file__).resolve().parent.parent
 sys.path.insert(0, str(TOP / "dev"))
 from releasing import MODULE, PROGRAM, Broken, Built, check_version, ends_in, gate_of, headline, make, make_released, package_files, release_of, sum_of, told  # noqa: E402
+from forging import EVIL, forged, forged_packages  # noqa: E402
 from symbols import c_library_of  # noqa: E402
 from tool import PROGRAM as PROVED, plays  # noqa: E402
 from verifying import differences  # noqa: E402
@@ -225,6 +226,44 @@ class Release(unittest.TestCase):
         changed = Path(self.kept.name) / "changed.deb"
         subprocess.run(["dpkg-deb", "--root-owner-group", "--build", str(room), str(changed)], check=True, stdout=subprocess.DEVNULL)
         self.assertEqual(differences(self.one, changed, STAND_IN), ["differs: DEBIAN/postinst", "differs: usr/lib/saxtegun/examples/day.lines"])
+
+    def assert_forged(self, ways, ending, unpacks, path):
+        """None of these files is taken for ours, and the first of them does unpack to another program."""
+        file, room = Path(self.kept.name) / f"forged{ending}", Path(self.kept.name) / f"unpacked{ending}"
+        room.mkdir()
+        for way, content in ways.items():
+            file.write_bytes(content)
+            with self.subTest(f"{ending}: {way}"):
+                self.assertTrue(differences(self.one, file, STAND_IN))
+        file.write_bytes(ways["a member that Python skips"])
+        self.assertEqual(subprocess.run([*unpacks, str(file)], cwd=room, capture_output=True).returncode, 0)
+        self.assertEqual((room / path).read_bytes(), EVIL)
+        hidden = ["differs: the file itself, in bytes that no member shows: it was packed otherwise, or hides another file"]
+        self.assertEqual(differences(self.one, file, STAND_IN), hidden)
+
+    def test_a_forged_archive_is_not_taken_for_ours(self):
+        path = f"saxtegun-{self.version}-linux-x86_64/bin/pz_replayer"
+        self.assert_forged(forged(self.archive.read_bytes(), path), ".tar.gz", ["tar", "-xzf"], path)
+
+    def test_a_forged_package_for_node_is_not_taken_for_ours(self):
+        genuine = (self.release / f"saxtegun-engine-{self.version}.tgz").read_bytes()
+        self.assert_forged(forged(genuine, "package/replay.mjs"), ".tgz", ["tar", "-xzf"], "package/replay.mjs")
+
+    def test_a_forged_debian_package_is_not_taken_for_ours(self):
+        genuine = (self.release / f"saxtegun_{self.version}_amd64.deb").read_bytes()
+        path = "usr/lib/saxtegun/bin/pz_replayer"
+        room = Path(self.kept.name) / "unpacked.deb"
+        unpacks = ["sh", "-c", f'dpkg-deb -x "$0" "{room}"']
+        self.assert_forged(forged_packages(genuine, f"./{path}"), ".deb", unpacks, path)
+
+    def test_sums_with_another_line_are_not_taken_for_ours(self):
+        room = Path(self.kept.name) / "more sums"
+        shutil.copytree(self.release, room)
+        text = (room / "SHA256SUMS").read_text()
+        first = text.splitlines()[0]
+        for changed in (f"{'0' * 64}  {first.split()[1]}\n{text}", text + f"{'0' * 64}  another\n", text.rstrip("\n")):
+            (room / "SHA256SUMS").write_text(changed)
+            self.assertTrue(differences(self.one, room / "SHA256SUMS", STAND_IN), changed)
 
     def test_another_page_and_another_sum_are_named(self):
         page, sums = Path(self.kept.name) / "other.html", Path(self.kept.name) / "other sums"
