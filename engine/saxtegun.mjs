@@ -13,6 +13,8 @@ const ROOM = 256 * MIB - 16;
 const LEAST_ROOM = MIB;
 /** The bytes from which on the memory of an instance, which never shrinks, is given back after a call. */
 const LARGE = 1024 * MIB;
+/** The bytes of lines of which frames are made; those of more would take a page's memory. */
+const MOST_OF_FRAMES = 512 * MIB;
 const OUTCOME_BYTES = 24;
 const MOST_WORKERS = 64;
 const PARTS_OF_A_WORKER = 8;
@@ -31,7 +33,8 @@ function idleProcessors() {
 
 /** What is said of a call that did not come back. */
 function faultOf(error) {
-  return error instanceof RangeError || error?.name === 'InternalError' ? 'memory' : 'broken';
+  const isTooLong = error instanceof RangeError || error?.code === 'ERR_STRING_TOO_LONG' || error?.name === 'InternalError';
+  return isTooLong ? 'memory' : 'broken';
 }
 
 /** The bytes of a text, no more than tell that they are too many; null where it is no text, since it has half of a surrogate pair. */
@@ -128,10 +131,8 @@ class Engine {
 
   frames({ source, inputs, level = '', index = 0 }, { order = 'columns', from = 0 } = {}) {
     const number = numberOf(order), first = inputOf(from);
-    const { lines, fault } = this.#ask(JSON.stringify([['', [source, inputs, level, index]]]), (exports, input, room, outcome) =>
-      exports.saxtegun_frames(input.at, BigInt(input.size), number, first, room.at, BigInt(room.size), outcome));
-    const frames = parse(lines), close = frames.pop() ?? null;
-    return { frames, close, fault };
+    return framesOf(this.#ask(JSON.stringify([['', [source, inputs, level, index]]]), (exports, input, room, outcome) =>
+      exports.saxtegun_frames(input.at, BigInt(input.size), number, first, room.at, BigInt(room.size), outcome)));
   }
 
   async replayInWorkers(text, { order = 'columns', workers = idleProcessors(), progress = () => {}, signal } = {}) {
@@ -188,8 +189,25 @@ export async function load(source = new URL('out/saxtegun.wasm', import.meta.url
   return new Engine(await moduleOf(source), worker);
 }
 
+/** Each line by itself: all of them may be longer than a string can be. */
 export function parse(lines) {
-  return new TextDecoder().decode(lines).split('\n').slice(0, -1).map(line => JSON.parse(line));
+  const decoder = new TextDecoder(), values = [];
+  for (let begin = 0, end = lines.indexOf(0x0a); end >= 0; begin = end + 1, end = lines.indexOf(0x0a, begin)) {
+    values.push(JSON.parse(decoder.decode(lines.subarray(begin, end))));
+  }
+  return values;
+}
+
+/** The frames and the close of the one session that was played. */
+function framesOf({ lines, fault }) {
+  if (fault !== null) return { frames: [], close: null, fault };
+  if (lines.length > MOST_OF_FRAMES) return { frames: [], close: null, fault: 'memory' };
+  try {
+    const frames = parse(lines), close = frames.pop() ?? null;
+    return { frames, close, fault };
+  } catch (error) {
+    return { frames: [], close: null, fault: faultOf(error) };
+  }
 }
 
 // A file in parts.

@@ -3,6 +3,7 @@ import assert from 'node:assert/strict';
 import { existsSync, readFileSync, readdirSync } from 'node:fs';
 import test from 'node:test';
 import { elementsOf, load, numbered, parse, partsOf } from '../../engine/saxtegun.mjs';
+import { attack } from './hostile.mjs';
 
 const CASES = new URL('../../conformance/cases/', import.meta.url);
 const WALK = 'walk-two-steps-right-against-a-wall';
@@ -61,6 +62,29 @@ test('a file that is refused has its fault and no lines', async () => {
       assert.deepEqual(await engine.replayInWorkers(file, { workers: 2 }), refused(fault));
     }
   }
+});
+
+test('hostile calls are answered, and take no other answer away', async () => {
+  const counts = await attack(75, 600);
+  assert.equal(Object.values(counts).reduce((sum, count) => sum + count, 0), 600);
+});
+
+/** A game whose level texts are long: each of 1,000 cells has another set of ten objects, whose names have this many letters. */
+function gameOfLongNames(letters) {
+  const names = [...'abcdefghij'], glyphs = Array.from({ length: 1000 }, (_, k) => String.fromCodePoint(0x4e00 + k));
+  const membersOf = number => names.filter((_, k) => ((number + 1) >> k) & 1).map(it => `q${it}`).join(' and ');
+  const objects = names.map(it => `z${it}${'x'.repeat(letters)} q${it}\nred\n`).join('');
+  const legend = glyphs.map((it, k) => `${it} = ${membersOf(k)}\n`).join('');
+  const layers = names.map(it => `q${it}\n`).join(''), rows = Array.from({ length: 20 }, (_, k) => glyphs.slice(50 * k, 50 * k + 50).join(''));
+  return `OBJECTS\nBackground .\nblack\nPlayer p\nwhite\n${objects}LEGEND\n${legend}COLLISIONLAYERS\nBackground\nPlayer\n${layers}RULES\nWINCONDITIONS\nLEVELS\np${'.'.repeat(49)}\n${rows.join('\n')}\n`;
+}
+
+test('frames of more lines than a page can hold are a fault that is told', async () => {
+  const engine = await load(), source = gameOfLongNames(11_000);
+  const few = engine.frames({ source, inputs: [] });
+  assert.deepEqual([few.fault, few.frames.length, few.close.close], [null, 1, 'differs']);
+  assert.deepEqual(engine.frames({ source, inputs: Array(12).fill(3) }), { frames: [], close: null, fault: 'memory' });
+  assert.equal(engine.frames({ source, inputs: Array(12).fill(3) }, { from: 12 }).frames.length, 1);
 });
 
 test('what is no file, no order and no number of workers is an error', async () => {
