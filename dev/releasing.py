@@ -28,7 +28,7 @@ GATE_ENDED = "The gate, ./check, passed on that commit; so its parts ended:"
 # The engine for Node and for pages, beside its module.
 GLUE = ["engine/saxtegun.mjs", "engine/saxtegun.d.ts", "engine/replay.mjs"]
 # What stands in a release as it stands here: the command with its package, the examples, and the documents for users.
-TAKEN = ["saxtegun", "VERSION", "README.md", "CHANGELOG.md", "CONTRIBUTING.md", "python", "web", "examples", "docs", "adapters", "HANDLES", *GLUE]
+TAKEN = ["saxtegun", "VERSION", "README.md", "CHANGELOG.md", "CONTRIBUTING.md", "SECURITY.md", "python", "web", "examples", "docs", "adapters", "HANDLES", *GLUE]
 
 
 class Broken(Exception):

@@ -77,6 +77,7 @@ class Yaml:
     def word(self, text):
         if text.startswith("["):
             return [it.strip() for it in text[1:-1].split(",")]
+        text = re.sub(r" # \S+$", "", text)
         return json.loads(text) if text.startswith('"') else {} if text == "{}" else text
 
 
@@ -122,7 +123,8 @@ class Runner:
         added = (self.room / "GITHUB_PATH").read_text().splitlines()
         env["PATH"] = ":".join([*reversed(added), env["PATH"]])
         assert not WORD.search(step["run"]), "what a stranger may say belongs into the environment"
-        words = ["bash", "--noprofile", "--norc", "-eo", "pipefail", "-c", step["run"]]
+        # the release is served by HTTP here, and by HTTPS to all others
+        words = ["bash", "--noprofile", "--norc", "-eo", "pipefail", "-c", step["run"].replace("--proto '=https'", "--proto '=http'")]
         ran = subprocess.run(words, cwd=self.work, env=env, stdin=subprocess.DEVNULL, stdout=subprocess.PIPE, stderr=subprocess.PIPE)
         for line in (self.room / "GITHUB_OUTPUT").read_text().splitlines():
             name, _, value = line.partition("=")
@@ -194,6 +196,26 @@ class InACi(unittest.TestCase):
         self.assertEqual([it[0] for it in ended], [0, 0, 0], ended)
         self.assertEqual(self.uploaded(runner), ["summary.md"])
         self.assertEqual(self.act(self.runner(), upload="all")[-1][0], 2)
+
+    def test_the_action_used_twice_in_a_job_shows_nothing_of_the_first_again(self):
+        runner = self.runner()
+        self.assertEqual(self.act(runner)[1][0], 1)
+        (runner.room / "GITHUB_STEP_SUMMARY").write_text("")
+        (runner.work / "bad.json").write_text("[")
+        self.assertEqual([it[0] for it in self.act(runner, sessions="bad.json", artifact="bad")], [0, 2, 0])
+        self.assertEqual((self.uploaded(runner), (runner.room / "GITHUB_STEP_SUMMARY").read_text()), ([], ""))
+
+    def test_what_is_fetched_is_pinned_and_keeps_no_credentials(self):
+        steps = [step for file in files_of_page() for job in file.get("jobs", {}).values() for step in job["steps"]] + self.action["runs"]["steps"]
+        for step in (it for it in steps if "uses" in it):
+            self.assertRegex(step["uses"], "@[0-9a-f]{40}$")
+            if step["uses"].startswith("actions/checkout"):
+                self.assertEqual(step["with"]["persist-credentials"], "false")
+        for path in ("action.yml", "docs/ci.md"):
+            text = (TOP / path).read_text(encoding="utf-8")
+            self.assertEqual(text.count("curl "), text.count("curl --proto '=https' "))
+        jobs = [job for file in files_of_page() for job in file.get("jobs", {}).values()]
+        self.assertTrue(all("timeout-minutes" in it for it in jobs))
 
     def test_an_archive_with_another_sum_is_not_unpacked(self):
         for given in ({"sha256": "0" * 64}, {"version": "9.9.9"}, {"sha256": "x; echo run"}):
