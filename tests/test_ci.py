@@ -251,6 +251,16 @@ class InACi(unittest.TestCase):
         self.assertEqual(runner.run({"run": f"set +e +o pipefail\n{commands_of_page()[1]}"}), (0, "1\n", ""))
         self.assertEqual((runner.work / "lines").read_text(encoding="utf-8"), lines_of_example(EXAMPLE.read_text(encoding="utf-8")))
 
+    def test_the_commands_for_a_suite_over_one_game_give_its_lines_and_report(self):
+        runner = self.runner()
+        self.act(runner, sessions="", sha256=self.sum)
+        for name in ("game.txt", "recordings.json"):
+            shutil.copy(TOP / "examples/day" / name, runner.work)
+        commands = next(it for it in commands_of_page() if "--game" in it)
+        self.assertEqual(runner.run({"run": commands}), (0, "", ""))
+        self.assertEqual((runner.work / "lines").read_text(encoding="utf-8"), (TOP / "examples/day.lines").read_text(encoding="utf-8"))
+        self.assertIn("a recording that has gone stale", (runner.work / "report.html").read_text(encoding="utf-8"))
+
     def test_the_job_for_gitlab_runs(self):
         job = next(it["replay"] for it in files_of_page() if "script" in it.get("replay", {}))
         runner = self.runner(env={**job["variables"], "FROM": self.address, "SHA256": self.sum})

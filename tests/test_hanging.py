@@ -4,7 +4,7 @@ import unittest
 
 from day import OnSessions
 from tool import plays, run
-from saxtegun.hanging import Player, hung_told, source_from, things_of
+from saxtegun.hanging import Finder, source_from, things_of
 from saxtegun.lines import Frame, Run
 from saxtegun.playing import Engine
 from saxtegun.sessions import sessions_in
@@ -74,7 +74,7 @@ class Hanging(OnSessions):
         program.chmod(0o755)
         sessions = sessions_in("s.json", json.dumps([["a", [SOURCE % "[ Crate ] -> [ ]", [3], ""]]]))
         hung = Run(0, "a", "stopped", "loop-limit", [Frame(0, "start", "background player:0,background:1,background crate:2,\n")])
-        self.assertEqual(hung_told(sessions.entries[0], hung, Player(sessions, Engine(program=str(program)))), "")
+        self.assertEqual(Finder(sessions, Engine(program=str(program))).told(sessions.entries[0], hung), "")
 
     def test_things_are_in_the_order_in_which_they_run(self):
         source = "RULES\nLATE [ a ] -> [ ]\n+ [ b ] -> [ ]\nstartloop\nlate up [ c ] -> [ ]\n[ late ] -> [ ]\nendloop\ndown [ d ] -> [ ]\n"

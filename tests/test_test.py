@@ -15,7 +15,7 @@ from saxtegun.games import Game
 from saxtegun.lines import Frame, Run
 from saxtegun.levelsets import count_of_levels, entries_of_levels, first_level, still_in
 from saxtegun.sessions import sessions_in
-from saxtegun.telling import Failure, annotation, for_a_ci, markdown
+from saxtegun.telling import Failure, annotation, markdown
 
 # Of the example's sessions the first two play both levels to their end, the others stay within a level.
 ENDS = ("passed, solved: both levels solved", "passed, solved: the second level alone", "passed, not solved: half way through the first", "passed, not solved: there and back again")
@@ -194,10 +194,7 @@ class Words(OfAGame):
             run_of_it = Run(0, "a", "differs", None, [Frame(0, "start", "background wall:0,background player:1,background:2,")])
             self.assertEqual(still_in(entry, run_of_it, "rows"), f"still in level 1, and the recorded level {told} level 2")
 
-    def test_no_line_of_a_game_is_a_command_of_a_ci(self):
-        for line in ("::error::", "   ::set-output name=a::", "##[error]x", "a ##[group]"):
-            self.assertFalse(for_a_ci(line).strip().startswith("::"))
-            self.assertNotIn("##[", for_a_ci(line))
+    def test_an_annotation_is_one_command(self):
         told = annotation(Failure("a,b:c\n::error::", "differs", "50%\r\n::x", ["::error::y"], "g:1,a", 7))
         self.assertEqual(told.count("\n"), 0)
         self.assertTrue(told.startswith("::error file=g%3A1%2Ca,line=7,title=a%2Cb%3Ac"))

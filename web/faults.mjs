@@ -41,6 +41,7 @@ const RULE_WORDS = new Set((
   + "> < ^ v + startloop endloop cancel checkpoint restart win again message all any some on and or").split(" "));
 const COMMAND = /^sfx\d+$/;
 const MOST_LINES = 8;
+const WORDS_TOLD = 20; // of a line are told
 
 // The fault of a source and its line that a cause names, or null.
 export function faultIn(cause) {
@@ -56,10 +57,11 @@ export function causeTold(cause) {
   return FAULTS[fault.code].replace("{line}", `line ${fault.line}`);
 }
 
-// Words of a stranger behind the words of a fault, or nothing.
-function quoted(words) {
-  const told = [...new Set(words)].map((word) => `\`${shortened(word)}\``);
-  return told.length > 0 ? `: ${told.join(", ")}` : "";
+// The first words of a stranger behind the words of a fault, or nothing.
+function quoted(words, tell = (word) => `\`${shortened(word)}\``) {
+  const all = [...new Set(words)], told = all.slice(0, WORDS_TOLD).map(tell);
+  const more = all.length > WORDS_TOLD ? ` and ${all.length - WORDS_TOLD} more` : "";
+  return told.length > 0 ? `: ${told.join(", ")}${more}` : "";
 }
 
 const namesIn = (game) => new Set([...game.firstNames.keys(), ...game.definitions.keys()]);
@@ -74,11 +76,11 @@ function unknownIn(line, game) {
 // Which name isn't there, and the nearest one that is.
 function unknownTold(line, game) {
   if (line === null) return "";
-  const told = unknownIn(line, game).map((word) => {
-    const near = nearest(fold(word), namesIn(game));
+  const names = namesIn(game);
+  return quoted(unknownIn(line, game), (word) => {
+    const near = nearest(fold(word), names);
     return `\`${shortened(word)}\`${near === null ? "" : ` (near: \`${shortened(near)}\`)`}`;
   });
-  return told.length > 0 ? `: ${told.join(", ")}` : "";
 }
 
 // The letters of a row of a level that draw nothing, as far as the row is read.
@@ -99,8 +101,8 @@ function againTold(source, number) {
   for (const line of linesOf(source).filter((it) => ofObjects.has(it.number) || it.section === "legend")) {
     const words = wordsOf(line.section === "objects" ? line.text : line.text.slice(0, line.text.indexOf("=", 1)));
     const folded = words.map(fold);
-    if (line.number === number) return quoted(words.filter((_, place) => names.has(folded[place]) || folded.slice(0, place).includes(folded[place])));
-    folded.forEach((name) => names.add(name));
+    const again = words.filter((_, place) => names.has(folded[place]) || names.size === names.add(folded[place]).size);
+    if (line.number === number) return quoted(again);
   }
   return "";
 }

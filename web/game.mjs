@@ -16,6 +16,7 @@ const PIXELS = /^[0-9.]+$/;
 const ROWS = 5; // of a sprite, each of as many pixels
 const MOST_COLOURS = 10; // a pixel is a digit, so no further colour is drawn
 const MOST_LETTERS = 200; // of a text of a stranger that is read in a line among others
+const NAMES_GONE_THROUGH = 500_000; // are gone through to find what all others stand for: far more than in a game that is played
 
 export const shortened = (text) => {
   const letters = [...text];
@@ -87,6 +88,9 @@ export class Game {
     const blocks = blocksOf(of("objects"));
     this.firstNames = firsts(blocks.flatMap((block) => block.names.map((name) => [name, block.names[0]])));
     this.definitions = firsts(of("legend").map(definitionOf).filter(Boolean));
+    this.namesLeft = NAMES_GONE_THROUGH;
+    this.knownMembers = new Map();
+    this.drawingNames = new Map();
     const layers = this.layersOf(of("collisionlayers"));
     this.objects = blocks.map((block) => ({ name: block.names[0], colours: this.coloursOf(block), sprite: this.spriteOf(block), layer: layers.get(block.names[0]) ?? null }));
     this.glyphs = this.glyphsOf([...of("objects"), ...of("legend")], layers);
@@ -129,7 +133,17 @@ export class Game {
 
   // The objects that a name stands for, in the order of first mention. A name that reaches itself is gone through once.
   members(name) {
-    const found = new Set(), seen = new Set(), left = [name];
+    if (!this.knownMembers.has(name)) {
+      const seen = new Set();
+      this.knownMembers.set(name, this.namesLeft > 0 ? this.membersBeyond(name, seen) : []);
+      this.namesLeft -= seen.size;
+    }
+    return this.knownMembers.get(name);
+  }
+
+  // The objects that a name stands for and that are not reached through names that are seen; those that are gone through are seen then.
+  membersBeyond(name, seen) {
+    const found = new Set(), left = [name];
     while (left.length > 0) {
       const word = left.pop();
       if (seen.has(word)) continue;
@@ -140,25 +154,26 @@ export class Game {
     return [...found];
   }
 
-  // Whether a name is one of an object or an aggregate, or a synonym of one.
+  // Whether a name is one of an object or an aggregate, or a synonym of one. What is found out is kept for all synonyms on the way.
   draws(name) {
-    const seen = new Set();
+    const way = new Set();
     let word = name;
-    while (this.definitions.get(word)?.how === "same" && !seen.has(word)) {
-      seen.add(word);
+    while (!this.drawingNames.has(word) && this.definitions.get(word)?.how === "same" && !way.has(word)) {
+      way.add(word);
       word = this.definitions.get(word).names[0];
     }
-    return this.firstNames.has(word) || this.definitions.get(word)?.how === "and";
+    const does = this.drawingNames.get(word) ?? (this.firstNames.has(word) || this.definitions.get(word)?.how === "and");
+    for (const synonym of way) this.drawingNames.set(synonym, does);
+    return does;
   }
 
-  // The layer of each object: the last that names it.
+  // The layer of each object: the last that names it. So they are read from the last, and no name is gone through twice.
   layersOf(lines) {
-    const layers = new Map();
-    let number = 0;
-    for (const line of lines) {
-      const names = new Set(wordsOf(line.replaceAll(",", " ")).map(fold));
-      for (const name of names) for (const member of this.members(name)) layers.set(member, number);
-      number += names.size > 0;
+    const layers = new Map(), seen = new Set();
+    const named = lines.map((line) => wordsOf(line.replaceAll(",", " ")).map(fold)).filter((names) => names.length > 0);
+    for (let number = named.length - 1; number >= 0; number -= 1) {
+      const members = named[number].flatMap((name) => this.membersBeyond(name, seen));
+      for (const member of members) if (!layers.has(member)) layers.set(member, number);
     }
     return layers;
   }
@@ -170,7 +185,7 @@ export class Game {
 
   // For a set of objects the letter that draws it in LEVELS, as it was written first.
   glyphsOf(lines, layers) {
-    const letters = new Set(lines.flatMap(wordsOf).filter((word) => [...word].length === 1));
+    const letters = new Set(lines.flatMap(wordsOf).filter((word) => word.length <= 2 && [...word].length === 1));
     return firsts([...letters].filter((letter) => this.draws(fold(letter))).map((letter) => [keyOf(this.drawnBy(letter, layers)), letter]));
   }
 

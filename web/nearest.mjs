@@ -1,6 +1,9 @@
 // The nearest of some words, as Python's difflib finds it, which the command line tells too.
 
 const CUTOFF = 0.6;
+// So many letters of a word are compared, with so many words at most: those whose length is nearest.
+const LETTERS_COMPARED = 40;
+const WORDS_COMPARED = 300;
 
 // The longest stretch that two words share, between places of each.
 function longestShared(one, other, [low, high], [lowOther, highOther]) {
@@ -38,11 +41,20 @@ export function likeness(one, other) {
   return both === 0 ? 1 : (2 * shared(letters, others)) / both;
 }
 
+const beginOf = (word) => [...word].slice(0, LETTERS_COMPARED).join("");
+
+// The words that are compared with a word, of so many letters.
+function compared(words, size) {
+  const all = [...words].sort().map((word) => ({ word, distance: Math.abs([...word].length - size) }));
+  return (all.length <= WORDS_COMPARED ? all : all.sort((one, other) => one.distance - other.distance).slice(0, WORDS_COMPARED)).map((it) => it.word).sort();
+}
+
 // The word of a list that is nearest to a word, or null where none is near.
 export function nearest(word, words) {
+  const begin = beginOf(word);
   let best = null, most = CUTOFF;
-  for (const candidate of [...words].sort()) {
-    const like = likeness(candidate, word);
+  for (const candidate of compared(words, [...word].length)) {
+    const like = likeness(beginOf(candidate), begin);
     if (like >= most) [best, most] = [candidate, like];
   }
   return best;

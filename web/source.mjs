@@ -4,7 +4,6 @@
 const WHITE = "\\t-\\r \\x85\\xa0\\u1680\\u2000-\\u200a\\u2028\\u2029\\u202f\\u205f\\u3000";
 const SPACE = new RegExp(`[${WHITE}]`);
 const WORD = new RegExp(`[^${WHITE}]+`, "g");
-const ENDS = new RegExp(`^[${WHITE}]+|[${WHITE}]+$`, "g");
 const HEADINGS = ["objects", "legend", "sounds", "collisionlayers", "rules", "winconditions", "levels"];
 // So many letters tell a word from all keywords that end the reading of comments, and are kept of it.
 const WORD_KEPT = 10;
@@ -12,11 +11,19 @@ const WORD_KEPT = 10;
 // A name as names are compared: the case of ASCII letters is ignored, and of no others.
 export const fold = (text) => text.replace(/[A-Z]/g, (letter) => letter.toLowerCase());
 
-export const trimmed = (text) => text.replace(ENDS, "");
-
 export const wordsOf = (text) => text.match(WORD) ?? [];
 
 export const isSpace = (letter) => letter !== undefined && SPACE.test(letter);
+
+// A text without the letters at its two ends that fit. A pattern that ends with `+$` would begin again at each of them.
+export function stripped(text, fits) {
+  let begin = 0, end = text.length;
+  while (begin < end && fits(text[begin])) begin += 1;
+  while (end > begin && fits(text[end - 1])) end -= 1;
+  return text.slice(begin, end);
+}
+
+export const trimmed = (text) => stripped(text, isSpace);
 
 // The first word of a line and what stands behind the white space that ends it.
 export function cutAtSpace(line) {
@@ -85,5 +92,5 @@ export function linesOf(source) {
 // A line of a source by its number, or null.
 export function lineOf(source, number) {
   const lines = source.split("\n");
-  return number >= 1 && number <= lines.length ? lines[number - 1].replace(/\r+$/, "") : null;
+  return number >= 1 && number <= lines.length ? stripped(lines[number - 1], (letter) => letter === "\r") : null;
 }

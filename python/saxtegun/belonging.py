@@ -12,15 +12,19 @@ from saxtegun.sessions import Entry, Sessions
 
 class Tests(NamedTuple):
     """What is tested of each run beside its name and its inputs: that it is closed as its last level says, and that its first frame is not the
-    level that the source draws in the other order than this one. `is_drawn`: that it is that level in this order."""
+    level that the source draws in the other order than this one. `is_drawn`: that it is that level in this order. `is_played`: that it has frames, of
+    no more inputs than there are."""
 
     is_closed: bool = True
     order: Optional[str] = None
     is_drawn: bool = False
+    is_played: bool = True
 
 
 ALL_BUT_ORDER = Tests()
 NAMES_ALONE = Tests(False)
+# What an engine writes that may have any error.
+OF_ANY_ENGINE = Tests(False, is_played=False)
 
 
 def read_runs(path: str, sessions: Optional[Sessions] = None, tests: Tests = ALL_BUT_ORDER) -> Iterator[Run]:
@@ -47,6 +51,8 @@ def mismatch(sessions: Sessions, run: Run, tests: Tests) -> Optional[str]:
     entry = sessions.entries[run.number]
     if entry.name != run.name:
         return f"session {run.number} is named {cut(run.name)!r}, and in the file {cut(entry.name)!r}"
+    if not tests.is_played:
+        return None
     if run.frames and run.frames[-1].at > len(entry.inputs):
         return f"session {run.number} takes more inputs than its {len(entry.inputs)}"
     if run.close in ("passed", "differs"):

@@ -23,6 +23,8 @@ VERBS = {
     "split": "splits a sessions file into parts",
     "join": "joins the lines of the parts",
 }
+# Those whose standard output is a file for other tools.
+OF_DATA = ("lines", "report", "junit", "accept", "source", "testdata", "join")
 
 
 def overview() -> str:
@@ -54,4 +56,5 @@ def main() -> int:
 
 def call() -> None:
     """Runs the command, and ends with its status."""
-    serve("saxtegun" if len(sys.argv) < 2 or sys.argv[1] not in VERBS else f"saxtegun {sys.argv[1]}", main)
+    verb = sys.argv[1] if len(sys.argv) > 1 and sys.argv[1] in VERBS else ""
+    serve(f"saxtegun {verb}".strip(), main, verb in OF_DATA)

@@ -2,9 +2,13 @@
 from __future__ import annotations
 
 import argparse
+import gc
 import os
+import signal
 import sys
 from typing import Any, Callable, NoReturn, Optional, TextIO
+
+from saxtegun.guarding import Log, is_log
 
 
 class Refused(Exception):
@@ -16,6 +20,9 @@ ORDERS = ("rows", "columns")
 # So many letters of a name or a line of a source are told.
 MOST_LETTERS = 200
 MOST_WORKERS = 64
+MOST_SECONDS = 1_000_000
+# What ends this process, or its terminal, in a way that it can still tidy up.
+ENDING = tuple(getattr(signal, it) for it in ("SIGTERM", "SIGHUP") if hasattr(signal, it))
 
 
 def fold(text: str) -> str:
@@ -72,6 +79,10 @@ def add_order(words: argparse.ArgumentParser) -> None:
     words.add_argument("--order", choices=ORDERS, default="columns", help="the order in which levels list their cells (columns)")
 
 
+def add_game(words: argparse.ArgumentParser) -> None:
+    words.add_argument("--game", metavar="GAME.txt", help="the text of recordings whose source is the empty text")
+
+
 def workers_in(word: str) -> int:
     """A number of workers, as the program takes it."""
     if not (word.isascii() and word.isdigit() and 1 <= int(word[-9:]) <= MOST_WORKERS and len(word) < 9):
@@ -79,11 +90,23 @@ def workers_in(word: str) -> int:
     return int(word)
 
 
+def seconds_in(word: str) -> float:
+    """A limit of time."""
+    try:
+        seconds = float(word)
+    except ValueError:
+        seconds = 0
+    if not 0 < seconds <= MOST_SECONDS:
+        raise argparse.ArgumentTypeError(f"must be a number of seconds up to {MOST_SECONDS}")
+    return seconds
+
+
 def add_playing(words: argparse.ArgumentParser) -> None:
-    """The words of verbs that play: in which order, by how many workers, and with which program."""
+    """The words of verbs that play: in which order, by how many workers, with which program, and how long a session at most."""
     add_order(words)
     words.add_argument("--workers", metavar="N", type=workers_in, help="the number of threads that play (2)")
     words.add_argument("--program", metavar="PROGRAM", help="play with this program (./replay, or what SAXTEGUN_PROGRAM names)")
+    words.add_argument("--timeout", metavar="SECONDS", type=seconds_in, help="stop a session that isn't answered in so many seconds (none is stopped)")
 
 
 def silence(stream: TextIO, descriptor: int) -> None:
@@ -95,18 +118,72 @@ def silence(stream: TextIO, descriptor: int) -> None:
         pass
 
 
-def serve(name: str, main: Callable[[], int]) -> NoReturn:
-    """Runs a tool and ends with its status: 2, and a line on standard error, where it refuses or can't write."""
-    for stream in (sys.stdout, sys.stderr):
+def failure_told(why: OSError) -> str:
+    """What failed, of which nobody else has said more."""
+    if why.filename:
+        return f"{why.filename} can't be read or written: {why.strerror}"
+    return "the working folder isn't there any more" if isinstance(why, FileNotFoundError) else f"writing failed: {why.strerror}"
+
+
+class Ended(BaseException):
+    """This process is to end, by this signal: whatever runs is left by the way of its `finally`."""
+
+    def __init__(self, number: int) -> None:
+        super().__init__()
+        self.number = number
+
+
+def end_by(number: int, frame: Any) -> NoReturn:
+    for it in ENDING:
+        signal.signal(it, signal.SIG_IGN)
+    raise Ended(number)
+
+
+def listen_for_ends() -> None:
+    """Lets what ends this process end what it has started, and take its folders away; but what it was told to ignore stays ignored."""
+    for it in ENDING:
+        if signal.getsignal(it) == signal.SIG_DFL:
+            signal.signal(it, end_by)
+
+
+def open_streams(name: str, is_data: bool) -> None:
+    """Makes the streams what they are to be: of UTF-8, and logs, but for one that takes data."""
+    for which in ("stdout", "stderr"):
+        stream = getattr(sys, which)
         if hasattr(stream, "reconfigure"):
             stream.reconfigure(encoding="utf-8", newline="\n", errors="backslashreplace")
-    status = 2
+            if is_log(stream) and not (is_data and which == "stdout"):
+                setattr(sys, which, Log(stream))
     if sys.stderr is None:
         # the lowest number that is free is that of what is closed
         sys.stderr = open(os.devnull, "w", encoding="utf-8")
     if sys.stdout is None:
         fail(name, "standard output is closed")
         sys.exit(2)
+
+
+def serve(name: str, main: Callable[[], int], is_data: bool = False) -> NoReturn:
+    """Runs a tool and ends with its status: 2, and a line on standard error, where it refuses or can't write; where a signal ends it, by that. `is_data`:
+    what it writes to standard output is no text for people."""
+    open_streams(name, is_data)
+    listen_for_ends()
+    number = 0
+    try:
+        status = status_of(name, main)
+    except Ended as by:
+        number = by.number
+    if number:
+        # what is still held is let go, and then this ends as it was told to
+        gc.collect()
+        silence(sys.stdout, 1)
+        signal.signal(number, signal.SIG_DFL)
+        os.kill(os.getpid(), number)
+    sys.exit(status)
+
+
+def status_of(name: str, main: Callable[[], int]) -> int:
+    """The status with which a tool ends, which has said why where that is 2."""
+    status = 2
     try:
         status = main()
         sys.stdout.flush()
@@ -118,7 +195,7 @@ def serve(name: str, main: Callable[[], int]) -> NoReturn:
         status = 2
         silence(sys.stdout, 1)
     except OSError as why:
-        fail(name, f"{why.filename} can't be read or written: {why.strerror}" if why.filename else f"writing failed: {why.strerror}")
+        fail(name, failure_told(why))
         status = 2
         silence(sys.stdout, 1)
     except MemoryError:
@@ -134,4 +211,4 @@ def serve(name: str, main: Callable[[], int]) -> NoReturn:
         except OSError:
             status = 2
             silence(sys.stdout, 1)
-    sys.exit(status)
+    return status

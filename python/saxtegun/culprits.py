@@ -3,7 +3,7 @@ from __future__ import annotations
 
 import re
 from difflib import get_close_matches
-from typing import Iterable, List, NamedTuple, Optional, Set
+from typing import Callable, Iterable, List, NamedTuple, Optional, Set
 
 from saxtegun.commands import cut, fold
 from saxtegun.games import Game
@@ -17,6 +17,10 @@ RULE_WORDS = set(
     "> < ^ v + startloop endloop cancel checkpoint restart win again message all any some on and or".split()
 )
 MOST_LINES = 8
+# So many words of a line are told, and for each the nearest name is looked for by so many letters of it, among so many names.
+MOST_WORDS = 20
+MOST_LETTERS = 40
+MOST_NAMES = 300
 
 
 def is_command(word: str) -> bool:
@@ -39,19 +43,33 @@ def unknown_in(source: str, game: Game, number: int) -> List[str]:
     return [word for word in dict.fromkeys(words) if fold(word) not in known and not is_command(fold(word))]
 
 
+def nearest(word: str, names: Iterable[str]) -> str:
+    """The name that is nearest to a word, or nothing. Comparing takes the product of their lengths, so their beginnings are compared, and of many
+    names those whose length is nearest."""
+    known = sorted(names)
+    if len(known) > MOST_NAMES:
+        known = sorted(sorted(known, key=lambda it: abs(len(it) - len(word)))[:MOST_NAMES])
+    begins = {it[:MOST_LETTERS]: it for it in known}
+    near = get_close_matches(word[:MOST_LETTERS], begins, 1, 0.6)
+    return begins[near[0]] if near else ""
+
+
 def unknown_told(source: str, game: Game, number: int) -> str:
     """Which name isn't there, and the nearest one that is: behind the words of a fault, or nothing."""
-    told = []
-    for word in unknown_in(source, game, number):
-        near = get_close_matches(fold(word), sorted(names_in(game)), 1, 0.6)
-        told.append(f"`{cut(word)}`" + (f" (near: `{cut(near[0])}`)" if near else ""))
-    return f": {', '.join(told)}" if told else ""
+    names = names_in(game)
+
+    def told(word: str) -> str:
+        near = nearest(fold(word), names)
+        return f"`{cut(word)}`" + (f" (near: `{cut(near)}`)" if near else "")
+
+    return listed(unknown_in(source, game, number), told)
 
 
-def listed(words: Iterable[str]) -> str:
-    """Words of a stranger behind the words of a fault, or nothing."""
-    told = [f"`{cut(it)}`" for it in dict.fromkeys(words)]
-    return f": {', '.join(told)}" if told else ""
+def listed(words: Iterable[str], told: Callable[[str], str] = lambda word: f"`{cut(word)}`") -> str:
+    """The first words of a stranger behind the words of a fault, or nothing."""
+    known = list(dict.fromkeys(words))
+    more = f" and {len(known) - MOST_WORDS} more" if len(known) > MOST_WORDS else ""
+    return f": {', '.join(map(told, known[:MOST_WORDS]))}{more}" if known else ""
 
 
 def glyphs_told(source: str, game: Game, number: int) -> str:
@@ -72,10 +90,13 @@ def again_told(source: str, number: int) -> str:
     of_objects = {it.numbers[0] for it in things_of(source)}
     for line in (it for it in lines_of(source) if it.number in of_objects or it.section == "legend"):
         words = words_of(line.text if line.section == "objects" else line.text[: line.text.find("=", 1)])
+        again: List[str] = []
+        for word in words:
+            if fold(word) in names:
+                again.append(word)
+            names.add(fold(word))
         if line.number == number:
-            seen = [fold(it) for it in words]
-            return listed(word for place, word in enumerate(words) if seen[place] in names or seen[place] in seen[:place])
-        names |= {fold(it) for it in words}
+            return listed(again)
     return ""
 
 

@@ -5,9 +5,11 @@ from collections import Counter
 from typing import Iterable, List, Optional, Tuple, Union
 
 from saxtegun import culprits, levelsets
+from saxtegun.budget import EXPLAINING, NOT_LOOKED_AT
 from saxtegun.commands import cut, plural, printable
 from saxtegun.games import Game, game_of
-from saxtegun.lines import Run
+from saxtegun.lines import UNANSWERED, Run
+from saxtegun.running import UNANSWERED_BEGIN
 from saxtegun.sessions import Entry
 from saxtegun.levels import Labels, differing, in_rows, position, read_cells, width_of
 
@@ -56,6 +58,8 @@ def fault_in(cause: str) -> Optional[Tuple[str, int]]:
 def cause_told(cause: str) -> str:
     """A cause as a sentence without its end."""
     fault = fault_in(cause)
+    if cause.startswith(UNANSWERED_BEGIN):
+        return cause
     if fault is None or fault[0] not in FAULTS:
         return STOPS.get(cause, f"its cause is {cause}")
     code, number = fault
@@ -169,8 +173,18 @@ def input_told(it: Union[int, str]) -> str:
 
 
 def told(run: Run, entry: Optional[Entry] = None, order: str = "columns", game: str = "", hung: str = "") -> Tuple[str, List[str]]:
-    """What a session that did not pass came to: a sentence, and lines below it. Without its entry only what its lines say. `game` is the file
-    of its source, where it has one, and `hung` tells where it hung, where that was found out by playing."""
+    """What a session that did not pass came to: a sentence, and lines below it. Without its entry only what its lines say, and so too where the time to
+    explain is used up. `game` is the file of its source, where it has one, and `hung` tells where it hung, where that was found out by playing."""
+    if run.close == UNANSWERED:
+        return run.cause or "", []
+    if entry is not None and run.close != "passed" and not EXPLAINING.is_left():
+        return f"{told_in_full(run)[0]}; {NOT_LOOKED_AT}", []
+    with EXPLAINING.spent():
+        return told_in_full(run, entry, order, game, hung)
+
+
+def told_in_full(run: Run, entry: Optional[Entry] = None, order: str = "columns", game: str = "", hung: str = "") -> Tuple[str, List[str]]:
+    """What a session came to, however long it takes to say."""
     if run.cause is not None:
         fault = fault_in(run.cause)
         line = source_line(entry.source, fault[1]) if entry and fault else None
@@ -193,8 +207,9 @@ def told(run: Run, entry: Optional[Entry] = None, order: str = "columns", game: 
 def summary(closes: Iterable[str]) -> str:
     """How many sessions closed in which way."""
     counts = Counter(closes)
-    words = {"differs": "differs" if counts["differs"] == 1 else "differ"}
-    parts = [f"{counts[close]} {words.get(close, close)}" for close in ("passed", "differs", "stopped", "refused")]
+    words = {"differs": "differs" if counts["differs"] == 1 else "differ", UNANSWERED: "not answered"}
+    told_always = ("passed", "differs", "stopped", "refused")
+    parts = [f"{counts[close]} {words.get(close, close)}" for close in (*told_always, *([UNANSWERED] if counts[UNANSWERED] else []))]
     return f"{plural(sum(counts.values()), 'session')}: {', '.join(parts)}"
 
 

@@ -5,11 +5,16 @@ import os
 import stat
 import sys
 import tempfile
+from contextlib import contextmanager
 from typing import BinaryIO, Iterator, Optional, Sequence, Tuple
 
 from saxtegun.commands import Refused
 
 MARK = "\ufeff"
+NEW_LINE = b"\n"
+MIB = 2**20
+# So many bytes a text has at most that is read at once, unless a format allows more or less.
+MOST_BYTES = 64 * MIB
 
 
 def opened(path: str) -> BinaryIO:
@@ -35,9 +40,27 @@ def read_lines(path: str) -> Iterator[Tuple[int, str]]:
             raise Refused(f"{path}, line {number}: byte {why.start} of it is not UTF-8") from None
 
 
-def read_text(path: str) -> str:
-    """The text of a file."""
-    return "".join(line for _, line in read_lines(path))
+def read_bytes(path: str, most: int) -> bytes:
+    """The bytes of a file, which has at most so many: one that is longer is refused before it is read."""
+    with opened(path) as file:
+        try:
+            size = os.fstat(file.fileno()).st_size
+            data = file.read(most + 1) if size <= most else b""
+        except OSError as why:
+            raise Refused(f"{path} can't be read: {why.strerror}") from None
+    if max(size, len(data)) > most:
+        raise TooLong(f"{path} has more than {most // MIB} MiB, and is not read")
+    return data
+
+
+def read_text(path: str, most: int = MOST_BYTES) -> str:
+    """The text of a file of at most so many bytes."""
+    data = read_bytes(path, most)
+    try:
+        return data.decode("utf-8")
+    except UnicodeDecodeError as why:
+        begin = data.rfind(b"\n", 0, why.start) + 1
+        raise Refused(f"{path}, line {data.count(NEW_LINE, 0, why.start) + 1}: byte {why.start - begin} of it is not UTF-8") from None
 
 
 def guard_output(*paths: str) -> None:
@@ -62,6 +85,42 @@ def guard_files(written: Sequence[Optional[str]], read: Sequence[str]) -> None:
             known[place] = "is written already"
 
 
+class TooLong(Refused):
+    """A file is longer than what is read of one."""
+
+
+class Changed(Refused):
+    """A file is another than the one that was read."""
+
+
+@contextmanager
+def locked(folder: str) -> Iterator[None]:
+    """Lets nobody else of us write into a folder, where its file system knows of that."""
+    number = os.open(folder, os.O_RDONLY)
+    try:
+        try:
+            import fcntl
+
+            fcntl.flock(number, fcntl.LOCK_EX)
+        except (ImportError, OSError):
+            pass
+        yield
+    finally:
+        os.close(number)
+
+
+def write_again(path: str, was: Optional[str], text: str) -> None:
+    """Writes a file again that was read, or that was not there (None). Refused where it has been changed since."""
+    try:
+        with locked(os.path.dirname(os.path.realpath(path))):
+            now = read_text(path) if os.path.exists(path) else None
+            if now != was:
+                raise Changed(f"{path} was changed since it was read: call this again")
+            write_whole(path, text)
+    except OSError as why:
+        raise Refused(f"{path} can't be written: {why.strerror}") from None
+
+
 def write_whole(path: str, text: str) -> None:
     """Writes a file beside its place and renames it there, so that nobody meets half of it and nothing is lost where writing fails."""
     target = os.path.realpath(path)
@@ -81,6 +140,7 @@ def write_whole(path: str, text: str) -> None:
         os.chmod(new, mode)
         os.replace(new, target)
     except OSError as why:
+        raise Refused(f"{path} can't be written: {why.strerror}") from None
+    finally:
         if new and os.path.exists(new):
             os.unlink(new)
-        raise Refused(f"{path} can't be written: {why.strerror}") from None

@@ -24,6 +24,8 @@ PIXELS = re.compile("[0-9.]+")
 SIDE = 5
 # A pixel is a digit, so no further colour is drawn.
 MOST_COLOURS = 10
+# So many names are gone through to find what all others stand for: far more than in a game that is played.
+MOST_NAMES = 500_000
 
 
 class Object(NamedTuple):
@@ -56,6 +58,9 @@ class Game:
         blocks = blocks_of(of["objects"])
         self.first_names = {name: block.names[0] for block in reversed(blocks) for name in block.names}
         self.definitions: Dict[str, Tuple[str, List[str]]] = dict(reversed([it for it in map(definition_of, of["legend"]) if it]))
+        self.names_left = MOST_NAMES
+        self.known_members: Dict[str, List[str]] = {}
+        self.drawing_names: Dict[str, bool] = {}
         layers = self.layers_of(of["collisionlayers"])
         self.objects = [Object(it.names[0], self.colours_of(it), self.sprite_of(it), layers.get(it.names[0])) for it in blocks]
         self.glyphs = self.glyphs_of(of["objects"] + of["legend"], layers)
@@ -95,8 +100,15 @@ class Game:
 
     def members(self, name: str) -> List[str]:
         """The objects that a name stands for, in the order of first mention. A name that reaches itself is gone through once."""
+        if name not in self.known_members:
+            seen: Set[str] = set()
+            self.known_members[name] = self.members_beyond(name, seen) if self.names_left > 0 else []
+            self.names_left -= len(seen)
+        return self.known_members[name]
+
+    def members_beyond(self, name: str, seen: Set[str]) -> List[str]:
+        """The objects that a name stands for and that are not reached through names that are seen; those that are gone through are seen then."""
         found: Dict[str, bool] = {}
-        seen: Set[str] = set()
         left = [name]
         while left:
             it = left.pop()
@@ -109,30 +121,33 @@ class Game:
         return list(found)
 
     def draws(self, name: str) -> bool:
-        """Whether a name is one of an object or an aggregate, or a synonym of one."""
-        seen: Set[str] = set()
-        while name in self.definitions and self.definitions[name][0] == "same" and name not in seen:
-            seen.add(name)
+        """Whether a name is one of an object or an aggregate, or a synonym of one. What is found out is kept for all synonyms on the way."""
+        way: Dict[str, bool] = {}
+        while name not in self.drawing_names and name in self.definitions and self.definitions[name][0] == "same" and name not in way:
+            way[name] = True
             name = self.definitions[name][1][0]
-        return name in self.first_names or (name in self.definitions and self.definitions[name][0] == "and")
+        does = self.drawing_names.get(name, name in self.first_names or (name in self.definitions and self.definitions[name][0] == "and"))
+        self.drawing_names.update(dict.fromkeys(way, does))
+        return does
 
     def layers_of(self, lines: Sequence[str]) -> Dict[str, int]:
-        """The layer of each object: the last that names it."""
+        """The layer of each object: the last that names it. So they are read from the last, and no name is gone through twice."""
         layers: Dict[str, int] = {}
-        number = 0
-        for line in lines:
-            names = dict.fromkeys(map(fold, words_of(line.replace(",", " "))))
-            for name in names:
-                layers.update(dict.fromkeys(self.members(name), number))
-            number += bool(names)
+        seen: Set[str] = set()
+        named = [it for it in (words_of(line.replace(",", " ")) for line in lines) if it]
+        for number in reversed(range(len(named))):
+            for member in (it for name in named[number] for it in self.members_beyond(fold(name), seen)):
+                layers.setdefault(member, number)
         return layers
 
     def glyphs_of(self, lines: Sequence[str], layers: Dict[str, int]) -> Dict[FrozenSet[str], str]:
         """For a set of objects the letter that draws it in LEVELS, as it was written first. Of one layer the last object stands."""
         glyphs: Dict[FrozenSet[str], str] = {}
         for letter in dict.fromkeys(word for line in lines for word in words_of(line) if len(word) == 1):
-            if self.draws(fold(letter)):
+            if self.draws(fold(letter)) and self.names_left > 0:
                 glyphs.setdefault(frozenset({layers.get(name): name for name in self.members(fold(letter))}.values()), letter)
+        if self.names_left <= 0:
+            self.notes.append(f"its legend goes through more than {MOST_NAMES} names, and is not looked at further")
         return glyphs
 
     def glyph_of(self, names: Iterable[str]) -> Optional[str]:

@@ -1,15 +1,18 @@
 """In which input, and in which loop, group or rule a session hung: found by playing it again from the level before, with ever more of its rules."""
 from __future__ import annotations
 
-from typing import AbstractSet, Callable, Dict, FrozenSet, List, NamedTuple, Optional, Sequence, Tuple
+from bisect import bisect_left, bisect_right
+from typing import AbstractSet, Dict, FrozenSet, List, NamedTuple, Optional, Sequence, Tuple
 
+from saxtegun.budget import EXPLAINING, NOT_LOOKED_AT
 from saxtegun.commands import Refused, fold
 from saxtegun.culprits import Repeated, repeated_in
-from saxtegun.explaining import input_told
+from saxtegun.explaining import input_told, stop_of
 from saxtegun.games import game_of
 from saxtegun.levels import Labels, in_rows, read_cells, width_of
 from saxtegun.lines import Run
-from saxtegun.playing import Engine, runs_of
+from saxtegun.playing import Engine, runs_within
+from saxtegun.running import Unanswered
 from saxtegun.sessions import Entry, Input, Sessions
 from saxtegun.sources import lines_of, words_of
 
@@ -18,19 +21,20 @@ HUNG = "loop-limit"
 MOST_HUNG = 20
 # The first of the letters that draw cells: none that anybody writes.
 FIRST_LETTER = 0xE000
-# So much is tried at most: a sessions file has a limit.
-MOST_LETTERS = 8_000_000
 START_OPTION = "run_rules_on_level_start"
 
 
 class Player(NamedTuple):
-    """How entries of some sessions are played."""
+    """How entries of some sessions are played, as long as there is time to explain."""
 
     of: Sessions
     engine: Engine
 
     def runs(self, entries: Sequence[Entry]) -> List[Run]:
-        return runs_of(entries, self.of, self.engine)
+        if not EXPLAINING.is_left():
+            raise Unanswered(NOT_LOOKED_AT)
+        with EXPLAINING.spent():
+            return list(runs_within(entries, self.of, self.engine, EXPLAINING.left))
 
 
 class Hung(NamedTuple):
@@ -61,18 +65,26 @@ class Thing(NamedTuple):
 def things_of(source: str) -> List[Thing]:
     """What is repeated in a step, in the order in which it is run: all that is early, and then all that is late."""
     rules = {it.number: it.text for it in lines_of(source) if it.section == "rules" and it.text}
-    repeated = repeated_in(source)
+    numbers, repeated = list(rules), repeated_in(source)
 
     def thing(it: Repeated) -> Thing:
-        return Thing(f"it is {it}", frozenset(number for number in rules if it.first <= number <= it.last))
+        return Thing(f"it is {it}", frozenset(numbers[bisect_left(numbers, it.first) : bisect_right(numbers, it.last)]))
 
     def is_late(it: Repeated) -> bool:
         return "late" in words_of(fold(rules[it.first].partition("[")[0]))
 
+    # a loop stands behind its groups, of which none is in two loops
+    groups: Dict[int, List[Repeated]] = {}
+    inside: List[Repeated] = []
+    for it in repeated:
+        if it.is_loop:
+            groups[it.first], inside = inside, []
+        elif it.is_in_loop:
+            inside.append(it)
     found: List[Thing] = []
     for wanted in (False, True):
         for it in repeated:
-            inner = tuple(thing(group) for group in repeated if not group.is_loop and it.first < group.first < it.last and is_late(group) == wanted)
+            inner = tuple(thing(group) for group in groups.get(it.first, []) if it.is_loop and is_late(group) == wanted)
             if it.is_loop and inner:
                 found.append(Thing(f"it is in {it}", frozenset({it.first, it.last}).union(*(group.lines for group in inner)), inner))
             elif not it.is_loop and not it.is_in_loop and is_late(it) == wanted:
@@ -118,17 +130,26 @@ class Step(NamedTuple):
     step: Input
     player: Player
 
-    def first_that_hangs(self, before: FrozenSet[int], things: Sequence[Thing]) -> Optional[int]:
-        """The first of these things with which the step hangs, each behind those before it; None where there is none, or it isn't sure."""
-        kept = [before.union(*(it.lines for it in things[: place + 1])) for place in range(len(things))]
-        sources = [source_from(self.entry.source, self.rows, it) for it in kept]
-        runs = self.player.runs([self.entry._replace(source=it, inputs=[self.step], level="", index=0) for it in sources])
+    def hangs_with(self, kept: FrozenSet[int]) -> Optional[bool]:
+        """Whether the step hangs with these rules alone; None where they can't be played."""
+        source = source_from(self.entry.source, self.rows, kept)
+        run = self.player.runs([self.entry._replace(source=source, inputs=[self.step], level="", index=0)])[0]
         # in the step itself, which shows nothing then, and not in what would follow it
-        hung = [it.cause == HUNG and len(it.frames) == 1 for it in runs]
-        if True not in hung or any(not it.frames for it in runs):
+        return run.cause == HUNG and len(run.frames) == 1 if run.frames else None
+
+    def first_that_hangs(self, before: FrozenSet[int], things: Sequence[Thing]) -> Optional[int]:
+        """The first of these things with which the step hangs, each behind those before it; None where there is none, or it isn't sure. What hangs
+        with some of them hangs with more behind, so half of those that are left are asked for at a time."""
+        low, high = 0, len(things) - 1
+        if self.hangs_with(before.union(*(it.lines for it in things))) is not True:
             return None
-        first = hung.index(True)
-        return first if all(hung[first:]) else None
+        while low < high:
+            middle = (low + high) // 2
+            hangs = self.hangs_with(before.union(*(it.lines for it in things[: middle + 1])))
+            if hangs is None:
+                return None
+            low, high = (low, middle) if hangs else (middle + 1, high)
+        return low
 
 
 def hung_in(entry: Entry, run: Run, step: Input, player: Player) -> str:
@@ -136,7 +157,7 @@ def hung_in(entry: Entry, run: Run, step: Input, player: Player) -> str:
     In a loop it is a group where that hangs in the first pass; else the loop, or a group in a later pass."""
     rows = rows_before(run, entry.source, player.engine.order)
     things = things_of(entry.source)
-    if rows is None or not things or len(things) * (len(entry.source) + len(run.frames[-1].level)) > MOST_LETTERS:
+    if rows is None or not things:
         return ""
     of = Step(entry, rows, step, player)
     first = of.first_that_hangs(frozenset(), things)
@@ -159,31 +180,37 @@ def hung_of(entry: Entry, run: Run, player: Player) -> Optional[Found]:
     """Where and in what a session hung, or None where it did not, or that isn't found out."""
     if run.cause != HUNG or not run.frames:
         return None
+    hung: Optional[Hung] = None
     try:
         hung = hung_at(entry, run, player)
         name = hung_in(entry, run, hung.step, player)
+    except Unanswered:
+        name = f"in what is {NOT_LOOKED_AT}"
     except Refused:
         # the session was played, and what is tried beside it must not take its answer away
         return None
+    if hung is None:
+        return Found(stop_of(entry, run), f"; where is {NOT_LOOKED_AT}")
     where = " at the start" if hung.number is None else f" at input {hung.number} ({input_told(entry.inputs[hung.number])})"
     tick = ", in a tick behind it" if hung.step == "tick" and hung.number is not None and entry.inputs[hung.number] != "tick" else ""
     return Found(hung.number, f"{where}{tick}" + (f"; {name}" if name else ""))
 
 
-def hung_told(entry: Entry, run: Run, player: Player) -> str:
-    """Where and in what a session hung, in words that go on behind its sentence, or nothing."""
-    found = hung_of(entry, run, player)
-    return found.told if found else ""
+class Finder:
+    """Finds out in what sessions hung, for the first of them, each once."""
 
+    def __init__(self, sessions: Sessions, engine: Engine) -> None:
+        self.player = Player(sessions, engine)
+        self.known: Dict[int, Optional[Found]] = {}
 
-def finder(sessions: Sessions, engine: Engine) -> Callable[[Entry, Run], Optional[Found]]:
-    """Finds out in what sessions hung, for the first of them."""
-    player = Player(sessions, engine)
-    left = MOST_HUNG
+    def __call__(self, entry: Entry, run: Run) -> Optional[Found]:
+        if run.cause != HUNG or (entry.number not in self.known and len(self.known) >= MOST_HUNG):
+            return None
+        if entry.number not in self.known:
+            self.known[entry.number] = hung_of(entry, run, self.player)
+        return self.known[entry.number]
 
-    def found(entry: Entry, run: Run) -> Optional[Found]:
-        nonlocal left
-        left -= run.cause == HUNG
-        return hung_of(entry, run, player) if run.cause == HUNG and left >= 0 else None
-
-    return found
+    def told(self, entry: Entry, run: Run) -> str:
+        """Where and in what a session hung, in words that go on behind its sentence, or nothing."""
+        found = self(entry, run)
+        return found.told if found else ""

@@ -18,12 +18,12 @@ NUMBERS = re.compile(r"(?:0|[1-9]\d*)(?:\s*,\s*(?:0|[1-9]\d*))*(?=\s*[\],])")
 WORD = re.compile(r"-?(?:0|[1-9]\d*)(?:\.\d+)?(?:[eE][-+]?\d+)?(?![\w.])|[A-Za-z_]\w*")
 WORDS = {"null": "null", "undefined": "null", "true": "true", "false": "false"}
 TEXTS = {
-    '"': re.compile(r'"(?:[^"\\\n]|\\(?:\r\n|.))*"', re.S),
-    "'": re.compile(r"'(?:[^'\\\n]|\\(?:\r\n|.))*'", re.S),
-    "`": re.compile(r"`(?:[^`\\$]|\\(?:\r\n|.)|\$(?!\{))*`", re.S),
+    '"': re.compile(r'"[^"\\\n]*(?:\\(?:\r\n|.)[^"\\\n]*)*"', re.S),
+    "'": re.compile(r"'[^'\\\n]*(?:\\(?:\r\n|.)[^'\\\n]*)*'", re.S),
+    "`": re.compile(r"`[^`\\$]*(?:(?:\\(?:\r\n|.)|\$(?!\{))[^`\\$]*)*`", re.S),
 }
-# A text that is JSON as it stands.
-PLAIN = re.compile(r'"(?:[^"\\\x00-\x1f]|\\["\\/bfnrt])*"')
+# A text that is JSON as it stands. Runs of letters are one step each: a step for each letter would take a hundred times its memory.
+PLAIN = re.compile(r'"[^"\\\x00-\x1f]*(?:\\["\\/bfnrt][^"\\\x00-\x1f]*)*"')
 ESCAPE = re.compile(r"\\(?:u\{([0-9a-fA-F]+)\}|u([0-9a-fA-F]{4})|x([0-9a-fA-F]{2})|(\r\n|.))", re.S)
 ESCAPES = {"n": "\n", "r": "\r", "t": "\t", "b": "\b", "f": "\f", "v": "\v", "0": "\0", "\n": "", "\r\n": ""}
 MOST_DEPTH = 100

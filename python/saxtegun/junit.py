@@ -6,7 +6,7 @@ from typing import Dict, Iterable, Optional, Set, Tuple
 from xml.etree import ElementTree
 
 from saxtegun.explaining import told
-from saxtegun.lines import Run
+from saxtegun.lines import UNANSWERED, Run
 from saxtegun.sessions import Entry, Sessions
 
 # What XML 1.0 has no way to write.
@@ -21,7 +21,7 @@ def writable(text: str) -> str:
 def case_of(run: Run, name: str, entry: Optional[Entry], order: str, refused: str, failure: Optional[str]) -> Tuple[ElementTree.Element, Optional[str]]:
     """The test case of a session, and what it counts as. `failure` is why one that passed counts as failed."""
     sentence, below = told(run, entry, order)
-    counted = {"passed": None, "refused": refused}.get(run.close, "failure")
+    counted = {"passed": None, "refused": refused, UNANSWERED: "error"}.get(run.close, "failure")
     kind = run.close
     if failure and counted is None:
         sentence, counted, kind = failure, "failure", "unsolved"

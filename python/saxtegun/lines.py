@@ -13,6 +13,10 @@ from saxtegun.sessions import LONE_SURROGATE, is_number
 KINDS = ("start", "move", "undo", "restart", "load", "tick", "over")
 READER = json.JSONDecoder()
 CLOSES = ("passed", "differs", "stopped", "refused")
+# How a session is closed that the command has stopped, since it had no answer in its time. No program writes that.
+UNANSWERED = "unanswered"
+# How each line of the program ends.
+SESSION = re.compile(r'"session":(\d{1,9})}$')
 NUMBER = "(0|[1-9][0-9]{0,18})"
 # The line of a frame as the program writes it, up to the text of its level.
 LEVEL = '"level":'

@@ -7,6 +7,7 @@ import json
 from pathlib import Path
 from typing import Any, Callable, Dict, List, Optional, Sequence, Tuple, Union
 
+from saxtegun.budget import EXPLAINING, NOT_LOOKED_AT
 from saxtegun.commands import cut, plural
 from saxtegun.culprits import repeated_in
 from saxtegun.explaining import Ending, cause_told, culprit_told, ending_told, fault_in, stop_of
@@ -14,7 +15,7 @@ from saxtegun.games import Game, game_of
 from saxtegun.hanging import HUNG, Found
 from saxtegun.levels import Follower, Labels, differing, width_of
 from saxtegun.levelsets import still_in
-from saxtegun.lines import CLOSES, KINDS, Run
+from saxtegun.lines import CLOSES, KINDS, UNANSWERED, Run
 from saxtegun.parting import Parting, close_told, sentence_of
 from saxtegun.sessions import Entry, Sessions
 from saxtegun.webpages import page_of, script_of, style_of
@@ -110,6 +111,16 @@ def recorded_side(entry: Entry, ending: Ending) -> List[Any]:
 
 def told_of(entry: Entry, run: Run, ending: Optional[Ending], order: str, found: Optional[Found]) -> str:
     """How a session ended, in a sentence."""
+    if run.close == UNANSWERED:
+        return run.cause or ""
+    if not EXPLAINING.is_left():
+        return f"{cause_told(run.cause or run.close)}; {NOT_LOOKED_AT}"
+    with EXPLAINING.spent():
+        return told_in_full(entry, run, ending, order, found)
+
+
+def told_in_full(entry: Entry, run: Run, ending: Optional[Ending], order: str, found: Optional[Found]) -> str:
+    """How a session ended, however long it takes to say."""
     if run.cause is not None:
         return f"{cause_told(run.cause)}{found.told if found else culprit_told(entry, run)} ({run.cause})"
     if ending is None:
@@ -189,7 +200,9 @@ class Report:
     def add(self, run: Run) -> None:
         entry = self.sessions.entries[run.number]
         game = self.game(entry.source) if run.frames else None
-        self.put(run.name, run.close, len(run.frames), session_of(entry, run, game, self.order, self.hung(entry, run)))
+        # the page has a word and a colour for each close of the program's, and none for what the command has stopped itself
+        close = "stopped" if run.close == UNANSWERED else run.close
+        self.put(run.name, close, len(run.frames), session_of(entry, run, game, self.order, self.hung(entry, run)))
 
     def add_pair(self, parting: Parting, one: Run, other: Run, names: Sequence[str]) -> None:
         """Adds a session of which two runs part, with the names of the two."""

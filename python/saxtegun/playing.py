@@ -7,14 +7,16 @@ import subprocess
 import tempfile
 from argparse import Namespace
 from contextlib import contextmanager
-from typing import IO, Any, Iterator, List, NamedTuple, Optional, Sequence
+from time import monotonic
+from typing import Iterator, List, NamedTuple, Optional, Sequence
 
-from saxtegun.belonging import Tests, read_runs
-from saxtegun.commands import Refused, plural, say
-from saxtegun.files import write_whole
-from saxtegun.lines import Run, frame_of, line_of, runs_in
+from saxtegun.belonging import ALL_BUT_ORDER, Tests, read_runs
+from saxtegun.commands import Refused, cut, plural
+from saxtegun.files import read_lines
+from saxtegun.lines import SESSION, UNANSWERED, Run, frame_of, line_of
 from saxtegun.programs import has_played, program_words
-from saxtegun.sessions import Entry, Sessions, written
+from saxtegun.running import Unanswered, watched
+from saxtegun.sessions import MOST_BYTES, MOST_ENTRIES, Entry, Sessions, written_entry
 
 # What the program's lines at status 2 mean; the number is that of a session or of bytes.
 REFUSALS = {
@@ -30,19 +32,20 @@ REFUSALS = {
 }
 
 
-class Played(NamedTuple):
-    """What a program wrote, as a file, and how it ended: 0 or 1."""
-
-    lines: str
-    status: int
+# So many sessions are played first where each has a limit of time, which all of them together keep too; then twice as many as long as that is quick.
+FIRST_BATCH = 64
+QUICK = 0.25
 
 
 class Engine(NamedTuple):
-    """How sessions are played: in which order of cells, by how many workers (None: as many as the program takes), with which program (None: ours)."""
+    """How sessions are played: in which order of cells, by how many workers (None: as many as the program takes), with which program (None: ours),
+    how many seconds each has (None: as many as it takes), and what is tested of what the program writes."""
 
     order: str = "columns"
     workers: Optional[int] = None
     program: Optional[str] = None
+    seconds: Optional[float] = None
+    tests: Tests = ALL_BUT_ORDER
 
     def words(self) -> List[str]:
         return [*program_words(self.program), "--order", self.order, *(["--workers", str(self.workers)] if self.workers else [])]
@@ -50,7 +53,7 @@ class Engine(NamedTuple):
 
 def engine_of(given: Namespace) -> Engine:
     """The engine that the words of a verb name."""
-    return Engine(given.order, given.workers, given.program)
+    return Engine(given.order, given.workers, given.program, getattr(given, "timeout", None))
 
 
 def refusal(said: str, path: str, entries: Sequence[Entry] = ()) -> str:
@@ -58,89 +61,130 @@ def refusal(said: str, path: str, entries: Sequence[Entry] = ()) -> str:
     line = (said.strip().splitlines() or ["nothing is told"])[-1]
     match = re.fullmatch(r"([a-z-]+)(?: (\d+))?", line)
     if match is None or match[1] not in REFUSALS:
-        return f"{path} was not played: {line}"
-    number = int(match[2]) if match[2] else None
-    name = f" ({entries[number].name})" if number is not None and match[1].startswith("bad-") and number < len(entries) else ""
-    told = REFUSALS[match[1]].format(number=f"{match[2]}{name}")
-    return f"{path} was not played: {told} ({line})"
+        return f"{path} was not played: {cut(line)}"
+    number = int(match[2]) if match[2] and len(match[2]) < 20 else None
+    is_known = number is not None and match[1].startswith("bad-") and number < len(entries)
+    named = f"{entries[number].number} ({cut(entries[number].name)})" if is_known and number is not None else match[2]
+    return f"{path} was not played: {REFUSALS[match[1]].format(number=named)} ({line})"
 
 
-def check_library(said: str) -> None:
-    """Refuses where a program isn't even begun, since the C library of this machine is too old for it."""
-    missing = re.search(r"version `(GLIBC_[\d.]+)' not found", said)
-    if missing is not None:
-        raise Refused(f"the program needs a newer C library than this machine has ({missing[1]}): play in Node, as docs/engine.md tells")
-
-
-class Ran(NamedTuple):
-    """How a program ended, and the last line that it said on standard error."""
-
-    status: int
-    said: str
-
-
-def watched(words: Sequence[str], output: IO[Any], stdin: Optional[int] = None) -> Ran:
-    """Runs a program. What it says before its last line, as ./replay does while it builds, is handed on at once."""
-    last = ""
-    try:
-        with subprocess.Popen(words, stdin=stdin, stdout=output, stderr=subprocess.PIPE) as ran:
-            assert ran.stderr is not None
-            for line in ran.stderr:
-                if last:
-                    say(last)
-                last = line.decode("utf-8", "replace").rstrip("\n")
-    except OSError as why:
-        raise Refused(f"{words[0]} can't be run: {why.strerror}") from None
-    check_library(last)
-    if ran.returncode in (0, 1) and last:
-        say(last)
-    return Ran(ran.returncode, last)
-
-
-def play_file(path: str, lines: str, engine: Engine, of: Optional[Sessions] = None) -> Played:
-    """Plays a sessions file, and leaves its lines in a file. Refused where there is no whole output."""
+def play_file(path: str, lines: str, engine: Engine, of: Optional[Sessions] = None, seconds: Optional[float] = None) -> int:
+    """Plays a sessions file, and leaves its lines in a file; the status of the program, 0 or 1. Refused where there is no whole output."""
     words = [*engine.words(), path]
     try:
         with open(lines, "wb") as file:
-            ran = watched(words, file, subprocess.DEVNULL)
+            ran = watched(words, file, subprocess.DEVNULL, seconds)
     except OSError as why:
         raise Refused(f"{lines} can't be written: {why.strerror}") from None
     if ran.status not in (0, 1):
         raise Refused(refusal(ran.said, of.path if of else path, of.entries if of else ()))
     has_played()
-    return Played(lines, ran.status)
+    return ran.status
+
+
+def batches(entries: Sequence[Entry]) -> Iterator[List[bytes]]:
+    """The entries as JSON, in batches of which each is as large as a file may be: the copies of a game that is the source of many don't count."""
+    batch: List[bytes] = []
+    size = 0
+    for entry in entries:
+        text = written_entry(entry).encode()
+        if batch and (size + len(text) + len("[]") > MOST_BYTES or len(batch) == MOST_ENTRIES):
+            yield batch
+            batch, size = [], 0
+        batch.append(text)
+        # with the comma behind it
+        size += len(text) + 1
+    yield batch
 
 
 @contextmanager
-def playing(entries: Sequence[Entry], of: Sessions, engine: Engine) -> Iterator[Played]:
-    """Plays entries; the lines are there as long as this lasts."""
+def playing(batch: List[bytes], of: Sessions, engine: Engine, seconds: Optional[float]) -> Iterator[str]:
+    """Plays a batch, which is all of these sessions; the file of its lines is there as long as this lasts."""
     with tempfile.TemporaryDirectory(prefix="saxtegun-") as room:
-        path = os.path.join(room, "sessions.json")
-        write_whole(path, written(entries))
-        yield play_file(path, os.path.join(room, "lines"), engine, of._replace(entries=list(entries)))
+        path, lines = os.path.join(room, "sessions.json"), os.path.join(room, "lines")
+        with open(path, "wb") as file:
+            file.write(b"[" + b",".join(batch) + b"]")
+        play_file(path, lines, engine, of, seconds)
+        yield lines
+
+
+def written_runs(lines: str, of: Sessions, engine: Engine) -> Iterator[Run]:
+    """What a program wrote into a file for sessions."""
+    try:
+        yield from read_runs(lines, of, engine.tests)
+    except Refused as why:
+        told = str(why)
+        raise Refused(f"{of.path} was not played: what the program wrote{told[len(lines) :]}" if told.startswith(lines) else told) from None
+
+
+def runs_within(entries: Sequence[Entry], of: Sessions, engine: Engine, seconds: Optional[float] = None) -> Iterator[Run]:
+    """What playing entries shows, numbered from 0 as they stand here, batch by batch; each has so many seconds."""
+    first = 0
+    for batch in batches(entries):
+        behind = first + len(batch)
+        of_batch = of._replace(entries=list(entries[first:behind]))
+        with playing(batch, of_batch, engine, seconds) as lines:
+            for run in written_runs(lines, of_batch, engine):
+                yield run._replace(number=first + run.number)
+        first = behind
+
+
+def lines_within(entries: Sequence[Entry], of: Sessions, engine: Engine) -> Iterator[str]:
+    """The lines of entries as the program writes them, batch by batch, their sessions numbered from 0 as they stand here."""
+    first = 0
+    for batch in batches(entries):
+        of_batch = of._replace(entries=list(entries[first : first + len(batch)]))
+        with playing(batch, of_batch, engine, engine.seconds) as lines:
+            for number, line in read_lines(lines):
+                session = SESSION.search(line)
+                if session is None:
+                    raise Refused(f"{of.path} was not played: line {number} of the program names no session at its end")
+                yield f'{line[: session.start()]}"session":{first + int(session[1])}}}\n'
+        first += len(batch)
+
+
+def answered(entries: Sequence[Entry], of: Sessions, engine: Engine) -> List[Run]:
+    """What playing entries shows that have the time of one of them; where that isn't enough, each half of them has it, down to one alone."""
+    try:
+        return list(runs_within(entries, of, engine, engine.seconds))
+    except Unanswered as why:
+        if len(entries) == 1:
+            return [Run(0, entries[0].name, UNANSWERED, str(why), [])]
+    middle = len(entries) // 2
+    return [*answered(entries[:middle], of, engine), *answered(entries[middle:], of, engine)]
+
+
+def runs_in_time(entries: Sequence[Entry], of: Sessions, engine: Engine) -> Iterator[Run]:
+    """What playing entries shows, of which each has the engine's time; one that isn't answered in it is closed so."""
+    first, size = 0, FIRST_BATCH
+    while first < len(entries):
+        begin = monotonic()
+        for place, run in enumerate(answered(entries[first : first + size], of, engine)):
+            yield run._replace(number=first + place)
+        first += size
+        size = 2 * size if monotonic() - begin < QUICK * (engine.seconds or 0) else FIRST_BATCH
+
+
+def runs_played(entries: Sequence[Entry], of: Sessions, engine: Engine) -> Iterator[Run]:
+    """What playing entries shows, session by session, numbered from 0 as they stand here."""
+    return runs_within(entries, of, engine) if engine.seconds is None else runs_in_time(entries, of, engine)
 
 
 def runs_of(entries: Sequence[Entry], of: Sessions, engine: Engine) -> List[Run]:
     """What playing entries shows, numbered from 0 as they stand here."""
-    with playing(entries, of, engine) as played:
-        runs = [run for _, run in runs_in(played.lines)]
-    names = [it.name for it in entries]
-    if [it.name for it in runs] != names:
-        raise Refused(f"{of.path} was not played: the program closed other sessions than the {len(names)} that it was given")
-    return runs
+    return list(runs_played(entries, of, engine))
 
 
 def shown_beyond(entry: Entry, known: int, engine: Engine) -> Run:
     """What a session shows behind its first frames, which are known, and how it is closed."""
-    words = engine.words()
-    try:
-        ran = subprocess.run(words, input=written([entry]).encode(), stdout=subprocess.PIPE, stderr=subprocess.PIPE, check=False)
-    except OSError as why:
-        raise Refused(f"{words[0]} can't be run: {why.strerror}") from None
-    check_library(ran.stderr.decode("utf-8", "replace"))
-    if ran.returncode not in (0, 1):
-        raise Refused(refusal(ran.stderr.decode("utf-8", "replace"), entry.name, [entry]))
-    lines = ran.stdout.decode("utf-8", "replace").split("\n")[known:-1]
+    with tempfile.TemporaryFile() as given, tempfile.TemporaryFile() as shown:
+        given.write(b"[" + written_entry(entry).encode() + b"]")
+        given.seek(0)
+        ran = watched(engine.words(), shown, given, engine.seconds)
+        if ran.status not in (0, 1):
+            raise Refused(refusal(ran.said, entry.name, [entry]))
+        shown.seek(0)
+        lines = shown.read().decode("utf-8", "replace").split("\n")[known:-1]
     path = "what the program wrote"
     values = [line_of(path, number, it) for number, it in enumerate(lines, known + 1)]
     frames = [it for it in map(frame_of, values[:-1]) if it is not None]
@@ -156,5 +200,4 @@ def lines_or_played(sessions: Sessions, lines: Optional[str], engine: Engine, is
     if lines is not None:
         yield read_runs(lines, sessions, Tests(order=engine.order, is_drawn=is_drawn))
     else:
-        with playing(sessions.entries, sessions, engine) as played:
-            yield read_runs(played.lines, sessions)
+        yield runs_played(sessions.entries, sessions, engine)

@@ -7,11 +7,14 @@ from fnmatch import fnmatchcase
 from typing import Any, Dict, List, NamedTuple, NoReturn, Optional, Sequence, Tuple, Union
 
 from saxtegun.commands import Refused, cut
-from saxtegun.files import MARK, read_text
+from saxtegun.files import MARK, TooLong, read_text
 
 SPACE = re.compile(r"[ \t\n\r]*")
 LONE_SURROGATE = re.compile("[\ud800-\udfff]")
 WORDS = ("undo", "restart", "tick")
+# What a sessions file holds at most.
+MOST_BYTES = 16_777_216
+MOST_ENTRIES = 65_536
 
 Input = Union[int, str]
 Item = Tuple[Any, int, int]
@@ -124,7 +127,16 @@ def sessions_in(path: str, text: str) -> Sessions:
 
 def read_sessions(path: str) -> Sessions:
     """The sessions of a file."""
-    return sessions_in(path, read_text(path))
+    try:
+        return sessions_in(path, read_text(path, MOST_BYTES))
+    except TooLong:
+        raise Refused(f"{path} has more than {MOST_BYTES // 2**20} MiB: play it in parts, by saxtegun split") from None
+
+
+def read_over(path: str, game: Optional[str]) -> Sessions:
+    """The sessions of a file; where a game's text is named, that is the source of each whose own is the empty text."""
+    sessions = read_sessions(path)
+    return with_source(sessions, game, read_text(game).lstrip(MARK)) if game else sessions
 
 
 def changed(sessions: Sessions, changes: Dict[int, Tuple[str, str]]) -> str:
@@ -166,6 +178,10 @@ def value_of(entry: Entry) -> List[Any]:
     return [entry.name, [entry.source, entry.inputs, entry.level, entry.index]]
 
 
+def written_entry(entry: Entry) -> str:
+    return json.dumps(value_of(entry), ensure_ascii=False, separators=(",", ":"))
+
+
 def written(entries: Sequence[Entry]) -> str:
     """A sessions file of entries."""
-    return "[\n" + ",\n".join(json.dumps(value_of(it), ensure_ascii=False, separators=(",", ":")) for it in entries) + "\n]\n"
+    return "[\n" + ",\n".join(map(written_entry, entries)) + "\n]\n"

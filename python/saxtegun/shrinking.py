@@ -6,6 +6,7 @@ from typing import Callable, List, NamedTuple, Optional, Sequence, Set, Tuple
 from saxtegun.commands import Refused
 from saxtegun.lines import Run
 from saxtegun.parting import Parting, parting_of
+from saxtegun.belonging import OF_ANY_ENGINE
 from saxtegun.playing import Engine, runs_of
 from saxtegun.sessions import Entry, Sessions
 from saxtegun.smaller import STAGES, Stage
@@ -26,7 +27,7 @@ class Programs(NamedTuple):
 
     def pairs(self, entries: Sequence[Entry]) -> List[Tuple[Run, Run]]:
         """What both show of entries."""
-        one, other = (runs_of(entries, self.of, self.engine._replace(program=program)) for program in (self.one, self.other))
+        one, other = (runs_of(entries, self.of, self.engine._replace(program=program, tests=OF_ANY_ENGINE)) for program in (self.one, self.other))
         return list(zip(one, other))
 
 

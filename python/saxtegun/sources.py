@@ -8,10 +8,9 @@ from typing import List, NamedTuple, Optional, Tuple
 from saxtegun.commands import fold
 
 # What Unicode calls white space; Python's own idea of it has four letters more.
-WHITE = "\t-\r \x85\xa0\u1680\u2000-\u200a\u2028\u2029\u202f\u205f\u3000"
+WHITE = "\t\n\x0b\x0c\r \x85\xa0\u1680\u2000\u2001\u2002\u2003\u2004\u2005\u2006\u2007\u2008\u2009\u200a\u2028\u2029\u202f\u205f\u3000"
 SPACE = re.compile(f"[{WHITE}]")
 WORD = re.compile(f"[^{WHITE}]+")
-ENDS = re.compile(f"^[{WHITE}]+|[{WHITE}]+$")
 HEADINGS = ("objects", "legend", "sounds", "collisionlayers", "rules", "winconditions", "levels")
 # So many letters tell a word from all keywords that end the reading of comments, and are kept of it.
 WORD_KEPT = 10
@@ -26,7 +25,7 @@ class Line(NamedTuple):
 
 
 def trimmed(text: str) -> str:
-    return ENDS.sub("", text)
+    return text.strip(WHITE)
 
 
 def words_of(text: str) -> List[str]:

@@ -1,7 +1,6 @@
 """What did not pass, for those who read it elsewhere: a Markdown summary, and the annotations of GitHub."""
 from __future__ import annotations
 
-import html
 import re
 from typing import Iterable, List, NamedTuple
 
@@ -23,7 +22,7 @@ class Failure(NamedTuple):
 
 def in_table(text: str) -> str:
     """A text of a stranger in a cell of a table of Markdown."""
-    return re.sub(r"([\\`*_{}\[\]()#+!|~@:-])", lambda it: f"&#{ord(it[1])};", html.escape(cut(printable(text))))
+    return re.sub(r"[&<>\"'\\`*_{}\[\]()#+!|~@:-]", lambda it: f"&#{ord(it[0])};", cut(printable(text)))
 
 
 def fenced(lines: Iterable[str]) -> str:
@@ -55,8 +54,3 @@ def annotation(failure: Failure) -> str:
     place = f"file={escaped(failure.file, True)},line={failure.line}," if failure.file else ""
     below = "\n".join([cut(printable(failure.sentence)), *map(printable, failure.below)])
     return f"::error {place}title={escaped(cut(printable(failure.name)), True)}::{escaped(below)}"
-
-
-def for_a_ci(line: str) -> str:
-    """A line of a log in which no letters are a command of the CI's."""
-    return re.sub(r"##(?=\[)", "#\\\\u{23}", re.sub(r"^(\s*)::", r"\1| ::", line))

@@ -28,7 +28,7 @@ from typing import Dict, List, Optional, Tuple
 
 from saxtegun.commands import Refused, add_playing, plural, printable, say
 from saxtegun.explaining import UNREADABLE, Ending, cause_told, heading, told
-from saxtegun.files import MARK, guard_output, read_text, write_whole
+from saxtegun.files import MARK, guard_output, read_text, write_again
 from saxtegun.lines import Run
 from saxtegun.playing import engine_of, lines_or_played
 from saxtegun.sessions import Entry, changed, chosen, read_sessions, with_source
@@ -115,7 +115,7 @@ def main(given: Namespace) -> int:
         sys.stdout.write(changed(sessions, changes))
         sys.stdout.flush()
     elif changes:
-        write_whole(given.sessions, changed(sessions, changes))
+        write_again(given.sessions, sessions.text, changed(sessions, changes))
     for line in said:
         say(f"accept: {printable(line)}")
     say(f"accept: {len(changes)} of {plural(len(sessions.entries), 'recorded level')} changed")

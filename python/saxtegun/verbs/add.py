@@ -19,11 +19,11 @@ from __future__ import annotations
 import json
 import os
 from argparse import ArgumentParser, Namespace
-from typing import List
+from typing import List, Optional, Tuple
 
 from saxtegun.commands import Refused, add_playing, cut, plural, say
 from saxtegun.explaining import told
-from saxtegun.files import MARK, read_text, write_whole
+from saxtegun.files import MARK, Changed, read_text, write_again
 from saxtegun.javascript import entries_of
 from saxtegun.playing import engine_of, runs_of
 from saxtegun.sessions import Entry, Sessions, read_sessions, sessions_in
@@ -64,11 +64,29 @@ def with_more(old: Sessions, new: List[str]) -> str:
     return head + (",\n" if old.entries else "\n") + ",\n".join(new) + "\n" + old.text[close:]
 
 
+def read_old(path: str) -> Tuple[Sessions, Optional[str]]:
+    """What a sessions file holds, and its text; nothing, and None, where it isn't there."""
+    if not os.path.exists(path):
+        return Sessions(path, "[]\n", []), None
+    sessions = read_sessions(path)
+    return sessions, sessions.text
+
+
+def write_more(path: str, new: List[str]) -> Sessions:
+    """Adds entries to a sessions file behind those that it has by now; what it had. Others may add to it at the same time."""
+    while True:
+        old, text = read_old(path)
+        try:
+            write_again(path, text, with_more(old, new))
+            return old
+        except Changed:
+            pass
+
+
 def main(given: Namespace) -> int:
     if given.sessions == "-":
         raise Refused("name a sessions file: nothing can be added to standard input")
-    is_there = os.path.exists(given.sessions)
-    old = read_sessions(given.sessions) if is_there else Sessions(given.sessions, "[]\n", [])
+    old, _ = read_old(given.sessions)
     new = read_new(given.console)
     game = read_text(given.game).lstrip(MARK) if given.game else ""
     entries = [it._replace(source=game) if game and not it.source else it for it in new.entries]
@@ -87,6 +105,6 @@ def main(given: Namespace) -> int:
         return 1
     texts = [without_source(it, new.text) if game and same_text(it.source, game) else new.text[slice(*it.spans["entry"])] for it in new.entries]
     if texts:
-        write_whole(given.sessions, with_more(old, texts))
+        old = write_more(given.sessions, texts)
     say(f"add: {plural(len(texts), 'recording')} added to {given.sessions}, which has {len(old.entries) + len(texts)}")
     return 0

@@ -16,19 +16,18 @@ from __future__ import annotations
 
 import sys
 from argparse import ArgumentParser, Namespace
-from contextlib import ExitStack
 from itertools import zip_longest
 from pathlib import Path
 from typing import Iterator, List, Optional, Sequence, Tuple
 
-from saxtegun.belonging import NAMES_ALONE, read_runs
+from saxtegun.belonging import NAMES_ALONE, OF_ANY_ENGINE, read_runs
 from saxtegun.commands import Refused, add_playing, cut, plural, printable
 from saxtegun.files import MARK, guard_files, guard_output, read_text, write_whole
 from saxtegun.lines import Run
 from saxtegun.origins import add_date, origin_of
 from saxtegun.pages import Report, comparison
 from saxtegun.parting import below_of, parting_of, sentence_of
-from saxtegun.playing import engine_of, playing
+from saxtegun.playing import engine_of, runs_played
 from saxtegun.sessions import Entry, Sessions, read_sessions
 
 USAGE = "compare (ONE.lines OTHER.lines [SESSIONS] | --engines P Q SESSIONS | --sources OLD.txt NEW.txt SESSIONS) [options]"
@@ -59,7 +58,7 @@ def pairs_of(one: Iterator[Run], other: Iterator[Run], paths: Sequence[str]) -> 
         yield left, right
 
 
-def runs_to_compare(given: Namespace, stack: ExitStack) -> Tuple[Optional[Sessions], Iterator[Tuple[Run, Run]]]:
+def runs_to_compare(given: Namespace) -> Tuple[Optional[Sessions], Iterator[Tuple[Run, Run]]]:
     files = given.files
     if given.engines and given.sources:
         raise Refused("--engines and --sources exclude each other")
@@ -74,8 +73,8 @@ def runs_to_compare(given: Namespace, stack: ExitStack) -> Tuple[Optional[Sessio
     sessions = read_sessions(files[0])
     entries = [over(sessions, it) for it in given.sources] if given.sources else [sessions.entries, sessions.entries]
     programs = given.engines or [given.program, given.program]
-    played = [stack.enter_context(playing(it, sessions, engine_of(given)._replace(program=program))) for it, program in zip(entries, programs)]
-    return sessions._replace(entries=entries[1]), pairs_of(read_runs(played[0].lines), read_runs(played[1].lines), given.engines or given.sources)
+    one, other = (runs_played(it, sessions, engine_of(given)._replace(program=program, tests=OF_ANY_ENGINE)) for it, program in zip(entries, programs))
+    return sessions._replace(entries=entries[1]), pairs_of(one, other, given.engines or given.sources)
 
 
 def names_of(given: Namespace) -> List[str]:
@@ -90,25 +89,24 @@ def main(given: Namespace) -> int:
     guard_files([given.report], [*given.files, *(given.sources or [])])
     count, parted = 0, 0
     report: Optional[Report] = None
-    with ExitStack() as stack:
-        sessions, pairs = runs_to_compare(given, stack)
-        if given.report and sessions is None:
-            raise Refused("--report needs the sessions file after the lines")
-        names = names_of(given)
-        if given.report and sessions:
-            report = comparison(sessions, given.order, origin_of(sessions, given, f"Compared: {names[0]} with {names[1]}"))
-        for one, other in pairs:
-            count += 1
-            parting = parting_of(one, other)
-            if parting is None:
-                continue
-            entry = sessions.entries[one.number] if sessions else None
-            print(printable(f"session {one.number}, {cut(one.name)}: {sentence_of(parting, one, other, entry)}"))
-            for line in below_of(parting, entry, given.order):
-                print(printable(f"    {line}"))
-            parted += 1
-            if report:
-                report.add_pair(parting, one, other, names)
+    sessions, pairs = runs_to_compare(given)
+    if given.report and sessions is None:
+        raise Refused("--report needs the sessions file after the lines")
+    names = names_of(given)
+    if given.report and sessions:
+        report = comparison(sessions, given.order, origin_of(sessions, given, f"Compared: {names[0]} with {names[1]}"))
+    for one, other in pairs:
+        count += 1
+        parting = parting_of(one, other)
+        if parting is None:
+            continue
+        entry = sessions.entries[one.number] if sessions else None
+        print(printable(f"session {one.number}, {cut(one.name)}: {sentence_of(parting, one, other, entry)}"))
+        for line in below_of(parting, entry, given.order):
+            print(printable(f"    {line}"))
+        parted += 1
+        if report:
+            report.add_pair(parting, one, other, names)
     result = f"{plural(count, 'session')}: {count - parted} the same, {parted} {'diverges' if parted == 1 else 'diverge'}"
     print(result)
     sys.stdout.flush()

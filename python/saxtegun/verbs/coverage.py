@@ -21,7 +21,7 @@ from saxtegun.commands import Refused, add_playing, cut, plural, printable
 from saxtegun.files import MARK, guard_output, read_text
 from saxtegun.games import game_of
 from saxtegun.leaving import Part, parts_of
-from saxtegun.lines import Run
+from saxtegun.lines import UNANSWERED, Run
 from saxtegun.levelsets import wins_of
 from saxtegun.playing import engine_of, runs_of
 from saxtegun.sessions import Entry, Sessions, read_sessions, with_source
@@ -86,6 +86,9 @@ class Coverage:
     def signatures(self, entries: List[Entry]) -> List[Tuple[Signature, Signature]]:
         """For each session how it closes, and how it wins."""
         runs = self.play([it for entry in entries for it in (entry, longer(entry))])
+        late = [it for it in runs if it.close == UNANSWERED]
+        if late:
+            raise Refused(f"{cut(late[0].name)}: {late[0].cause}, so there is no whole answer")
         return [((one.close, one.cause), (wins_of(more), any(it.kind == "over" for it in more.frames))) for one, more in zip(runs[::2], runs[1::2])]
 
     def trials(self) -> List[Trial]:

@@ -17,24 +17,26 @@ import sys
 from argparse import ArgumentParser, Namespace
 from typing import List
 
-from saxtegun.commands import add_playing, printable
+from saxtegun.commands import add_game, add_playing, printable
 from saxtegun.explaining import heading, summary, told
 from saxtegun.files import guard_output
+from saxtegun.lines import UNANSWERED
 from saxtegun.playing import engine_of, lines_or_played
-from saxtegun.sessions import read_sessions
+from saxtegun.sessions import read_over
 
-USAGE = "explain SESSIONS [LINES] [--order rows|columns]"
+USAGE = "explain SESSIONS [LINES] [--game GAME.txt] [--order rows|columns]"
 
 
 def add_words(words: ArgumentParser) -> None:
     words.add_argument("sessions", metavar="SESSIONS")
     words.add_argument("lines", metavar="LINES", nargs="?")
+    add_game(words)
     add_playing(words)
 
 
 def main(given: Namespace) -> int:
     guard_output(given.sessions, *([given.lines] if given.lines else []))
-    sessions = read_sessions(given.sessions)
+    sessions = read_over(given.sessions, given.game)
     closes: List[str] = []
     lines: List[str] = []
     with lines_or_played(sessions, given.lines, engine_of(given)) as runs:
@@ -44,4 +46,4 @@ def main(given: Namespace) -> int:
                 sentence, below = told(run, sessions.entries[run.number], given.order)
                 lines += [f"{heading(run)}: {printable(sentence)}", *(f"    {printable(it)}" for it in below)]
     sys.stdout.write("\n".join([*lines, summary(closes)]) + "\n")
-    return 0
+    return 2 if UNANSWERED in closes else 0

@@ -12,17 +12,16 @@ from __future__ import annotations
 
 import json
 import os
-import re
 import sys
 from argparse import ArgumentParser, Namespace
 from typing import Tuple
 
 from saxtegun.commands import Refused
 from saxtegun.files import guard_output, read_lines
+from saxtegun.lines import SESSION
 from saxtegun.parts import Part, read_manifest
 
 USAGE = "join FOLDER >lines"
-SESSION = re.compile(r'"session":(\d{1,9})}$')
 
 
 def add_words(words: ArgumentParser) -> None:

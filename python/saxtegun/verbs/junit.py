@@ -12,16 +12,17 @@ from argparse import ArgumentParser, Namespace
 from pathlib import Path
 
 from saxtegun.belonging import Tests, read_runs
-from saxtegun.commands import Refused, add_order
+from saxtegun.commands import Refused, add_game, add_order
 from saxtegun.files import guard_output
 from saxtegun.junit import junit_of
-from saxtegun.sessions import read_sessions
+from saxtegun.sessions import read_over
 
-USAGE = "junit [SESSIONS] LINES [--order rows|columns] [--refused error|skipped] >junit.xml"
+USAGE = "junit [SESSIONS] LINES [--game GAME.txt] [--order rows|columns] [--refused error|skipped] >junit.xml"
 
 
 def add_words(words: ArgumentParser) -> None:
     words.add_argument("files", metavar="[SESSIONS] LINES", nargs="+")
+    add_game(words)
     add_order(words)
     words.add_argument("--refused", choices=("error", "skipped"), default="error")
 
@@ -30,6 +31,6 @@ def main(given: Namespace) -> int:
     if len(given.files) > 2:
         raise Refused("name one or two files: the lines, or the sessions and then the lines")
     guard_output(*given.files)
-    sessions = read_sessions(given.files[0]) if len(given.files) == 2 else None
+    sessions = read_over(given.files[0], given.game) if len(given.files) == 2 else None
     sys.stdout.write(junit_of(read_runs(given.files[-1], sessions, Tests(order=given.order)), Path(given.files[0]).name, sessions, given.order, given.refused))
     return 0

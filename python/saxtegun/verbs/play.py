@@ -23,7 +23,7 @@ from typing import Iterator, List, Optional
 
 from saxtegun.commands import Refused, plural, printable, say
 from saxtegun.explaining import cause_told, told
-from saxtegun.files import MARK, read_text, write_whole
+from saxtegun.files import MARK, read_text
 from saxtegun.games import game_of
 from saxtegun.levels import Labels, in_rows, read_cells, width_of
 from saxtegun.levelsets import count_of_levels, entries_of_levels
@@ -31,7 +31,7 @@ from saxtegun.lines import Frame
 from saxtegun.playing import Engine, runs_of, shown_beyond
 from saxtegun.sessions import Entry, Input, Sessions, read_sessions
 from saxtegun.terminal import CLEAR, KEYS, lettered, painted
-from saxtegun.verbs.add import with_more
+from saxtegun.verbs.add import write_more
 
 USAGE = "play GAME.txt [--level N] [--save NAME SESSIONS.json] [--letters]"
 HELP = "arrows move, x acts, z undoes, r restarts, t ticks, q ends"
@@ -116,9 +116,8 @@ class Play:
         sys.stdout.flush()
 
     def save(self, name: str, path: str) -> None:
-        old = read_sessions(path) if os.path.exists(path) else Sessions(path, "[]\n", [])
         value = [name, ["", self.inputs, self.frames[-1].level, self.index]]
-        write_whole(path, with_more(old, [json.dumps(value, ensure_ascii=False, separators=(",", ":"))]))
+        write_more(path, [json.dumps(value, ensure_ascii=False, separators=(",", ":"))])
         say(f"play: {name}: {plural(len(self.inputs), 'input')} saved in {path}")
 
 

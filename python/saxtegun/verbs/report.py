@@ -14,31 +14,32 @@ import sys
 from argparse import ArgumentParser, Namespace
 from pathlib import Path
 
-from saxtegun.commands import add_playing
+from saxtegun.commands import add_game, add_playing
 from saxtegun.files import guard_output
-from saxtegun.hanging import finder
+from saxtegun.hanging import Finder
 from saxtegun.origins import add_date, origin_of, program_told
 from saxtegun.pages import Report
 from saxtegun.playing import engine_of, lines_or_played
-from saxtegun.sessions import read_sessions
+from saxtegun.sessions import read_over
 
-USAGE = "report SESSIONS [LINES] [--order rows|columns] >report.html"
+USAGE = "report SESSIONS [LINES] [--game GAME.txt] [--order rows|columns] >report.html"
 
 
 def add_words(words: ArgumentParser) -> None:
     words.add_argument("sessions", metavar="SESSIONS")
     words.add_argument("lines", metavar="LINES", nargs="?")
     add_date(words)
+    add_game(words)
     add_playing(words)
 
 
 def main(given: Namespace) -> int:
     guard_output(given.sessions, *([given.lines] if given.lines else []))
-    sessions = read_sessions(given.sessions)
+    sessions = read_over(given.sessions, given.game)
     engine = engine_of(given)
     with lines_or_played(sessions, given.lines, engine) as runs:
         played = f"Lines: {Path(given.lines).name}" if given.lines else program_told(engine.words())
-        report = Report(sessions, given.order, origin_of(sessions, given, played), *([] if given.lines else [finder(sessions, engine)]))
+        report = Report(sessions, given.order, origin_of(sessions, given, played), *([] if given.lines else [Finder(sessions, engine)]))
         for run in runs:
             report.add(run)
     sys.stdout.write(report.page())

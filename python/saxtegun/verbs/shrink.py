@@ -79,7 +79,7 @@ def files_of_case(entry: Entry, given: Namespace, of: Sessions) -> Dict[str, byt
         path, lines = os.path.join(room, "input.json"), os.path.join(room, "lines")
         with open(path, "w", encoding="utf-8", newline="") as file:
             file.write(text)
-        status = play_file(path, lines, Engine(given.order, None, given.one), of._replace(entries=[entry])).status
+        status = play_file(path, lines, Engine(given.order, None, given.one), of._replace(entries=[entry]))
         with open(lines, "rb") as shown:
             stdout = shown.read()
     args = "--order\nrows\n" if given.order == "rows" else ""

@@ -23,12 +23,12 @@ from typing import Any, List, NamedTuple, Tuple
 from saxtegun.commands import Refused
 from saxtegun.files import read_text
 from saxtegun.parts import MANIFEST, Part, manifest_of, name_in
-from saxtegun.sessions import after_space
+from saxtegun.sessions import MOST_BYTES, MOST_ENTRIES, after_space
 
 USAGE = "split SESSIONS PARTS FOLDER"
-MOST_BYTES = 16_777_216
-MOST_ENTRIES = 65_536
 READER = json.JSONDecoder()
+# So many bytes are cut into parts at most; each takes some more of memory.
+MOST_SPLIT = 2**30
 
 
 class Cut(NamedTuple):
@@ -113,7 +113,7 @@ def main(given: Namespace) -> int:
     if given.parts < 1:
         raise Refused("PARTS must be 1 or more")
     try:
-        entries = entries_in(read_text(given.sessions))
+        entries = entries_in(read_text(given.sessions, MOST_SPLIT))
     except (ValueError, RecursionError) as why:
         raise Refused(f"{given.sessions} is no JSON list: {why}") from None
     if os.path.exists(given.folder):

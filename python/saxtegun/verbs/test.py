@@ -10,7 +10,8 @@ session also says whether it is solved (all levels), solved up to a level, or
 not. A session that --solved names must be solved, and so must an entry with a
 further element, [name, [..], "solved"]; otherwise it fails. With
 --watch all is played again at each save of a file that was read, until you stop
-it.
+it. With --timeout N a session that isn't answered in N seconds is stopped and
+named, and the others are told as ever.
 
 Exit status: 0 all passed, 1 some session did not, 2 there is no whole answer."""
 from __future__ import annotations
@@ -24,18 +25,20 @@ from collections import Counter
 from pathlib import Path
 from typing import Dict, List, NamedTuple, Optional, Tuple
 
-from saxtegun import hanging
+from saxtegun.budget import EXPLAINING, SECONDS
 from saxtegun.commands import Refused, add_playing, cut, fail, plural, printable, say
 from saxtegun.explaining import fault_in, summary, told
 from saxtegun.files import MARK, guard_files, guard_output, read_text, write_whole
+from saxtegun.guarding import write_command
+from saxtegun.hanging import Finder
 from saxtegun.junit import junit_of
-from saxtegun.lines import Run
+from saxtegun.lines import UNANSWERED, Run
 from saxtegun.origins import add_date, origin_of, program_told
 from saxtegun.pages import Report
 from saxtegun.playing import engine_of, runs_of
 from saxtegun.sessions import Entry, Sessions, fits, read_sessions, with_source
 from saxtegun.solving import SOLVED, solved_of
-from saxtegun.telling import Failure, annotation, for_a_ci, markdown
+from saxtegun.telling import Failure, annotation, markdown
 
 USAGE = "test [GAME.txt] SESSIONS.json.. [options]"
 PAUSE = 0.2
@@ -109,17 +112,15 @@ def unsolved_in(suite: Suite, patterns: List[str]) -> Dict[int, str]:
     return {number: f"no longer solved: {end}" for number, end in ends.items() if end != SOLVED and suite.runs[number].close == "passed"}
 
 
-def failures_of(suite: Suite, unsolved: Dict[int, str], given: Namespace) -> List[Failure]:
+def failures_of(suite: Suite, unsolved: Dict[int, str], given: Namespace, hung: Finder) -> List[Failure]:
     game, paths = split_files(given.files)
     found: List[Failure] = []
-    player = hanging.Player(suite.sessions, engine_of(given))
     for entry, run in zip(suite.sessions.entries, suite.runs):
         path, number = suite.files[entry.number]
         place = f"{path}: session {number}" if len(paths) > 1 else f"session {number}"
         if run.close == "passed" and entry.number not in unsolved:
             continue
-        is_told_hung = run.cause == hanging.HUNG and len(found) < hanging.MOST_HUNG
-        sentence, below = told(run, entry, given.order, game, hanging.hung_told(entry, run, player) if is_told_hung else "")
+        sentence, below = told(run, entry, given.order, game, hung.told(entry, run))
         fault = fault_in(run.cause or "")
         if run.close == "passed":
             sentence, below = unsolved[entry.number], []
@@ -128,43 +129,40 @@ def failures_of(suite: Suite, unsolved: Dict[int, str], given: Namespace) -> Lis
     return found
 
 
-def show(line: str, is_for_ci: bool) -> None:
-    line = printable(line)
-    print(for_a_ci(line) if is_for_ci else line)
+def show(line: str) -> None:
+    print(printable(line))
 
 
 def tell(suite: Suite, failures: List[Failure], given: Namespace) -> str:
     """Says how the sessions ended; the counts are handed on."""
-    is_for_ci = given.github or bool(os.environ.get("CI"))
     if not given.quiet:
         for run in suite.runs:
             if run.close == "passed":
-                show(f"passed, {suite.solved.get(run.number, 'not played')}: {cut(run.name)}", is_for_ci)
+                show(f"passed, {suite.solved.get(run.number, 'not played')}: {cut(run.name)}")
     most = given.max_fail if given.max_fail is not None else len(failures)
     for failure in failures[:most]:
-        show(f"{failure.name}: {failure.close}: {failure.sentence}", is_for_ci)
+        show(f"{failure.name}: {failure.close}: {failure.sentence}")
         for line in failure.below:
-            show(f"    {line}", is_for_ci)
+            show(f"    {line}")
     if len(failures) > most:
-        show(f"and {plural(len(failures) - most, 'more failure')}", is_for_ci)
+        show(f"and {plural(len(failures) - most, 'more failure')}")
     ends = Counter("solved" if it == SOLVED else "not solved" if it == "not solved" else "solved in part" for it in suite.solved.values())
     unsolved = sum(it.close == "passed" for it in failures)
     counts = summary(it.close for it in suite.runs) + (f", {unsolved} no longer solved" if unsolved else "")
     counts += f"; {', '.join(f'{ends[it]} {it}' for it in ('solved', 'solved in part', 'not solved'))}"
-    show(counts, is_for_ci)
+    show(counts)
     if given.github:
         for failure in failures[:most]:
-            print(annotation(failure))
+            write_command(sys.stdout, annotation(failure))
     sys.stdout.flush()
     return counts
 
 
-def write_files(suite: Suite, failures: List[Failure], unsolved: Dict[int, str], counts: str, given: Namespace) -> None:
+def write_files(suite: Suite, failures: List[Failure], unsolved: Dict[int, str], counts: str, given: Namespace, hung: Finder) -> None:
     if given.junit:
         write_whole(given.junit, junit_of(suite.runs, suite.sessions.path, suite.sessions, given.order, "error", unsolved))
     if given.report:
-        engine = engine_of(given)
-        report = Report(suite.sessions, given.order, origin_of(suite.sessions, given, program_told(engine.words())), hanging.finder(suite.sessions, engine))
+        report = Report(suite.sessions, given.order, origin_of(suite.sessions, given, program_told(engine_of(given).words())), hung)
         for run in suite.runs:
             report.add(run)
         write_whole(given.report, report.page())
@@ -175,9 +173,10 @@ def write_files(suite: Suite, failures: List[Failure], unsolved: Dict[int, str],
 def test(given: Namespace) -> int:
     suite = played(given)
     unsolved = unsolved_in(suite, given.solved)
-    failures = failures_of(suite, unsolved, given)
-    write_files(suite, failures, unsolved, tell(suite, failures, given), given)
-    return 1 if failures else 0
+    hung = Finder(suite.sessions, engine_of(given))
+    failures = failures_of(suite, unsolved, given, hung)
+    write_files(suite, failures, unsolved, tell(suite, failures, given), given, hung)
+    return 2 if any(it.close == UNANSWERED for it in suite.runs) else 1 if failures else 0
 
 
 def times_of(files: List[str]) -> List[Optional[Tuple[int, int]]]:
@@ -199,6 +198,7 @@ def watch(given: Namespace) -> int:
     try:
         while True:
             times = times_of(given.files)
+            EXPLAINING.left = SECONDS
             try:
                 status = test(given)
             except Refused as why:

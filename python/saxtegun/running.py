@@ -1,0 +1,141 @@
+"""Runs a program in bounds that are told: of time, of what it writes, and of what it says. It ends with this process, however that ends, and with it
+all that it has started."""
+from __future__ import annotations
+
+import os
+import re
+import signal
+import subprocess
+from contextlib import contextmanager
+from threading import Thread
+from time import monotonic
+from typing import IO, Any, Callable, Iterator, NamedTuple, Optional, Sequence
+
+from saxtegun.commands import Refused, say
+
+GIB = 2**30
+# So many bytes of lines a program may write into a file of ours, and so many it may say on standard error.
+MOST_WRITTEN = 8 * GIB
+MOST_SAID = 2**24
+# So many bytes of a line that it says are told, and so long is waited between two looks at what it does.
+MOST_OF_LINE = 1000
+PAUSE = 0.05
+UNANSWERED_BEGIN = "not answered in"
+
+
+class Unanswered(Refused):
+    """A program had no answer in the time that it had."""
+
+
+class Ran(NamedTuple):
+    """How a program ended, and the last line that it said on standard error."""
+
+    status: int
+    said: str
+
+
+def end(ran: "subprocess.Popen[bytes]") -> None:
+    """Ends a program, with all that it has started."""
+    try:
+        os.killpg(ran.pid, signal.SIGKILL)
+    except (AttributeError, OSError):
+        ran.kill()
+    ran.wait()
+
+
+@contextmanager
+def started(words: Sequence[str], stdin: Any, output: Any) -> "Iterator[subprocess.Popen[bytes]]":
+    """A program in a group of its own, as long as this lasts."""
+    try:
+        ran = subprocess.Popen(words, stdin=stdin, stdout=output, stderr=subprocess.PIPE, start_new_session=True)
+    except OSError as why:
+        raise Refused(f"{words[0]} can't be run: {why.strerror}") from None
+    try:
+        yield ran
+    finally:
+        if ran.poll() is None:
+            end(ran)
+
+
+class Said(Thread):
+    """Reads what a program says. What stands before its last line, as ./replay says while it builds, is handed on at once."""
+
+    def __init__(self, stream: IO[bytes]) -> None:
+        super().__init__(daemon=True)
+        self.stream, self.last, self.count = stream, "", 0
+        self.start()
+
+    def run(self) -> None:
+        is_begin = True
+        with self.stream:
+            for piece in iter(lambda: self.stream.readline(MOST_OF_LINE), b""):
+                self.count += len(piece)
+                if is_begin:
+                    self.take(piece.decode("utf-8", "replace").rstrip("\n"))
+                is_begin = piece.endswith(b"\n")
+
+    def take(self, line: str) -> None:
+        if self.last and self.count <= MOST_SAID:
+            say(self.last)
+        self.last = line
+
+
+def written_to(output: Any) -> Callable[[], int]:
+    """How many bytes more a file has since now; none where it is a pipe or a device, whose reader decides how much it takes."""
+    try:
+        number = output.fileno()
+    except OSError as why:
+        raise Refused(f"what is played can't be written: {why}") from None
+    begin = os.fstat(number).st_size
+    return lambda: os.fstat(number).st_size - begin
+
+
+def check_bounds(name: str, written: int, said: int) -> None:
+    if written > MOST_WRITTEN:
+        raise Refused(f"{name} was stopped: it wrote more than {MOST_WRITTEN // GIB} GiB of lines; play fewer sessions at once (saxtegun split)")
+    if said > MOST_SAID:
+        raise Refused(f"{name} was stopped: it said more than {MOST_SAID // 2**20} MiB on standard error")
+
+
+def time_left(begin: float, seconds: Optional[float]) -> float:
+    """How long is waited until the next look. Refused where there is no time left."""
+    left = PAUSE if seconds is None else begin + seconds - monotonic()
+    if left <= 0 and seconds is not None:
+        raise Unanswered(f"{UNANSWERED_BEGIN} {seconds:g} s")
+    return min(left, PAUSE)
+
+
+def check_library(said: str) -> None:
+    """Refuses where a program isn't even begun, since the C library of this machine is too old for it."""
+    missing = re.search(r"version `(GLIBC_[\d.]+)' not found", said)
+    if missing is not None:
+        raise Refused(f"the program needs a newer C library than this machine has ({missing[1]}): play in Node, as docs/engine.md tells")
+
+
+def watched(words: Sequence[str], output: Any, stdin: Any = None, seconds: Optional[float] = None) -> Ran:
+    """Runs a program to its end, or so many seconds."""
+    begin, written = monotonic(), written_to(output)
+    with started(words, stdin, output) as ran:
+        assert ran.stderr is not None
+        said = Said(ran.stderr)
+        while ran.poll() is None:
+            check_bounds(words[0], written(), said.count)
+            said.join(time_left(begin, seconds))
+            if not said.is_alive():
+                wait_a_while(ran, time_left(begin, seconds))
+        said.join(PAUSE)
+        if said.is_alive():
+            # what it has started, and left behind, still holds its stream
+            end(ran)
+            said.join(PAUSE)
+    check_library(said.last)
+    if ran.returncode in (0, 1) and said.last:
+        say(said.last)
+    return Ran(ran.returncode, said.last)
+
+
+def wait_a_while(ran: "subprocess.Popen[bytes]", seconds: float) -> None:
+    try:
+        ran.wait(seconds)
+    except subprocess.TimeoutExpired:
+        pass

@@ -1,0 +1,87 @@
+"""Logs: what a stranger has named is no command of a CI's, in no verb and on neither stream."""
+import json
+import random
+import re
+import unittest
+
+from day import EXAMPLE, OnSessions
+from tool import run
+from saxtegun.guarding import guarded
+
+SEED = 75
+# Commands of GitHub, Azure and TeamCity, with what may stand before them.
+COMMANDS = ("::error::x", "::set-output name=x::y", "::add-mask::passed", "::stop-commands::x", "##[error]x", "##[set-output name=x;]y", "##[add-mask]passed", "##vso[task.setvariable variable=x]y", "##teamcity[buildProblem description='x']")
+BEFORE = ("", " ", "\t", "\r", "\u00a0", "\u2028", "\u2029", "\x85", "\x0b", "\x0c", "\x1c", "\u200b", "\ufeff", "\u3000", "a\r", "a\n", "#", "##", "%0A", "::")
+# A program that plays nothing: it writes the lines that lie beside it.
+WRITES = '#!/bin/sh\ncat "$(dirname "$0")/shown"\nexit 1\n'
+
+
+def is_command(line):
+    """Whether a CI may take a line for a command, as GitHub's runner and Azure's agent look for them."""
+    return any(it.strip().strip("\u200b\ufeff").startswith("::") for it in re.split("[\r\x0b\x0c\x1c-\x1e\x85\u2028\u2029]", line)) or re.search(r"##[a-zA-Z]*\[", line) is not None
+
+
+def texts(count):
+    """Texts of a stranger, the same ones each time."""
+    random.seed(SEED)
+    made = [before + command for before in BEFORE for command in COMMANDS]
+    return [*made, *("".join(random.choices([*BEFORE, *COMMANDS, "x", "[", ":"], k=random.randint(1, 6))) for _ in range(count - len(made)))]
+
+
+class Guarding(unittest.TestCase):
+    def test_no_text_is_a_command(self):
+        for text in texts(2000):
+            for line in text.split("\n"):
+                with self.subTest(line):
+                    self.assertFalse(is_command(guarded(line)), guarded(line))
+
+    def test_what_is_no_command_stays(self):
+        for line in ("", "a :: b", "x::y", "# [ a ]", "## [a]", "| ##.#", "passed, solved: the first", "    ####"):
+            self.assertEqual(guarded(line), line)
+
+
+class Logs(OnSessions):
+    def setUp(self):
+        super().setUp()
+        names = [it.replace("\n", " ") for it in texts(200)]
+        source = json.loads(EXAMPLE.read_text(encoding="utf-8"))[0][1][0]
+        title = "title ::add-mask::passed\n"
+        entries = [[name, [title + source, [], "background:0,"]] for name in names]
+        frame = {"at": 0, "frame": 0, "kind": "start", "level": "background wall:0,"}
+        lines = []
+        for number, name in enumerate(names):
+            lines += [{**frame, "session": number}, {"close": "differs", "frames": 1, "name": name, "session": number}]
+        self.sessions = self.write("s.json", json.dumps(entries))
+        self.lines = self.write("shown", "".join(json.dumps(it, separators=(",", ":")) + "\n" for it in lines))
+        self.other = self.write("other", self.lines.read_text(encoding="utf-8").replace("wall:0", "player:0"))
+        self.program = self.write("program", WRITES)
+        self.program.chmod(0o755)
+        self.refuses = self.write("refuses", "#!/bin/sh\necho '##[error]x' >&2\necho '::error::y' >&2\necho bad-level 0 >&2\nexit 2\n")
+        self.refuses.chmod(0o755)
+        self.bad = self.write("##[error]x.json", json.dumps([["##[set-output name=x;]y", [source, [], "junk"]]]))
+
+    def assert_safe(self, answer, commands=0):
+        lines = [*answer.out.split("\n"), *answer.errors.split("\n")]
+        self.assertGreater(len(lines), 2)
+        found = [it for it in lines if is_command(it)]
+        self.assertEqual(len(found), commands, found[:3])
+        self.assertTrue(all(it.startswith("::error ") for it in found), found[:3])
+
+    def test_no_verb_writes_a_command_of_a_stranger_s(self):
+        program, refuses = ("--program", self.program), ("--program", self.refuses)
+        for words in (
+            ("test", self.sessions, *program), ("explain", self.sessions, self.lines), ("compare", self.lines, self.other, self.sessions),
+            ("accept", self.sessions, self.lines, "--in-place"), ("test", self.bad, *refuses), ("lines", self.bad, *refuses),
+            ("add", self.room / "::new.json", self.bad, *refuses), ("coverage", self.bad, *refuses), ("join", self.room / "::none"),
+            ("test", "::error::x"), ("::error::x", "y"), ("play", "::error::none.txt"), ("split", self.bad, "0", "##[x]"),
+        ):  # fmt: skip
+            with self.subTest(words[0]):
+                self.assert_safe(run(*words))
+
+    def test_annotations_are_the_only_commands(self):
+        answer = run("test", self.sessions, "--program", self.program, "--github")
+        self.assert_safe(answer, 200)
+
+
+if __name__ == "__main__":
+    unittest.main()

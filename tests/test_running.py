@@ -1,0 +1,193 @@
+"""How a program is run: in bounds that are told, and ended with the command; and wrong programs, which must not be believed."""
+import json
+import os
+import signal
+import subprocess
+import sys
+import time
+import unittest
+
+from day import EXAMPLE, OnSessions, lines_of_example
+from tool import TOP, environment, run
+from saxtegun import running
+from saxtegun.commands import Refused
+from saxtegun.playing import Engine, batches, runs_of
+from saxtegun.sessions import MOST_BYTES, Sessions, read_sessions, sessions_in
+
+# Answers each session of its file at once, but for one that is named slow, whose answer takes as long as nobody waits.
+PLAYER = f"""#!{sys.executable}
+import json, sys, time
+entries = json.load(open(sys.argv[-1], encoding="utf-8"))
+with open(sys.argv[0] + ".log", "a") as log:
+    log.write(f"{{len(entries)}}\\n")
+for number, (name, (source, inputs, level, *more)) in enumerate(entries):
+    time.sleep(1000 if name == "slow" else 0.001)
+    print(json.dumps({{"at": 0, "frame": 0, "kind": "start", "level": level, "session": number}}, separators=(",", ":")))
+    print(json.dumps({{"close": "passed", "frames": 1, "name": name, "session": number}}, separators=(",", ":")))
+"""
+LEVEL = "background:0,\n"
+# What a program may do wrong that is called to play; `exec` keeps what it starts from being left behind.
+WRONG = {
+    "writes nothing": "exit 0",
+    "writes nothing, and says that some did not pass": "exit 1",
+    "fails without a word": "exit 2",
+    "fails with another status": "exit 77",
+    "is killed": "kill -9 $$",
+    "is ended": "kill -15 $$",
+    "has no memory": "kill -6 $$",
+    "writes no lines": "echo hello",
+    "writes an empty line": "echo",
+    "writes half a line": "printf '{\"at\":0'",
+    "writes zeros": "head -c 1000 /dev/zero",
+    "writes no UTF-8": "printf '\\377\\376\\n'",
+    "writes a list": "echo '[]'",
+    "writes one line of all": "head -n 1 shown",
+    "leaves the last line out": "head -n -1 shown",
+    "writes a line twice": "sed '1p' shown",
+    "writes another name": "sed 's/\"name\":\"/&x/' shown",
+    "writes another number": "sed 's/\"session\":1/\"session\":7/' shown",
+    "says that all passed": "sed 's/\"close\":\"differs\"/\"close\":\"passed\"/' shown",
+    "says that none passed": "sed 's/\"close\":\"passed\"/\"close\":\"differs\"/' shown; exit 1",
+    "says much, and nothing else": "head -c 3000000 /dev/zero | tr '\\0' a >&2; exit 2",
+}
+
+
+class Programs(OnSessions):
+    def program(self, text):
+        file = self.write("program", text if text.startswith("#!") else f"#!/bin/sh\ncd '{self.room}'\n{text}\n")
+        file.chmod(0o755)
+        return file
+
+    def suite(self, names):
+        return self.write("s.json", json.dumps([[name, ["OBJECTS", [], LEVEL]] for name in names]))
+
+
+class Wrong(Programs):
+    def test_no_wrong_program_is_believed(self):
+        self.write("shown", lines_of_example(EXAMPLE.read_text(encoding="utf-8")))
+        self.assertEqual(len(WRONG), 21)
+        for number, (what, script) in enumerate(WRONG.items()):
+            for verb in ("test", "explain", "report")[: 1 if number % 7 else 3]:
+                with self.subTest(f"{verb}: {what}"):
+                    answer = run(verb, EXAMPLE, "--program", self.program(script))
+                    self.assertEqual((answer.status, answer.out), (2, ""))
+                    self.assertRegex(answer.errors, rf"(?s)\A(?!.*Traceback).{{1,6000}}saxtegun {verb}: .*\n\Z|\Asaxtegun {verb}: .*\n\Z")
+                    self.assertLess(len(answer.errors), 6000)
+
+
+class Time(Programs):
+    def test_a_session_that_is_not_answered_is_told_and_no_other_is_lost(self):
+        sessions = self.suite([*(f"quick {it}" for it in range(20)), "slow", *(f"late {it}" for it in range(10))])
+        answer = run("test", sessions, "--program", self.program(PLAYER), "--timeout", "1")
+        self.assertEqual((answer.status, answer.errors), (2, ""))
+        self.assertEqual(answer.out.count("passed, not solved: "), 30)
+        self.assertIn("session 20, slow: unanswered: not answered in 1 s\n", answer.out)
+        self.assertIn("31 sessions: 30 passed, 0 differ, 0 stopped, 0 refused, 1 not answered; 0 solved, 0 solved in part, 30 not solved\n", answer.out)
+
+    def test_reports_have_what_is_not_answered(self):
+        sessions = self.suite(["quick", "slow"])
+        words = ["--program", self.program(PLAYER), "--timeout", "1"]
+        answer = run("test", sessions, *words, "--junit", self.room / "xml", "--report", self.room / "page", "--markdown", self.room / "md")
+        self.assertEqual(answer.status, 2, answer.errors)
+        self.assertIn('<testcase classname="sessions" name="slow"><error message="not answered in 1 s" type="unanswered">', (self.room / "xml").read_text())
+        self.assertIn('["slow","stopped",0]', (self.room / "page").read_text())
+        self.assertIn("| unanswered | not answered in 1 s |", (self.room / "md").read_text())
+        self.assertEqual(run("explain", sessions, *words).status, 2)
+        self.assertEqual(run("coverage", sessions, *words).status, 2)
+        lines = run("lines", sessions, *words)
+        self.assertEqual((lines.status, lines.errors), (2, "saxtegun lines: not answered in 1 s\n"))
+
+    def test_a_limit_is_a_number_of_seconds(self):
+        for word in ("0", "-1", "x", "nan", "inf", "1e9"):
+            self.assert_refused(run("test", EXAMPLE, "--timeout", word), "must be a number of seconds")
+
+
+class Bounds(Programs):
+    def watched(self, script, **bounds):
+        with open(self.room / "lines", "wb") as lines:
+            before = {name: getattr(running, name) for name in bounds}
+            try:
+                for name, value in bounds.items():
+                    setattr(running, name, value)
+                return running.watched([str(self.program(script))], lines)
+            finally:
+                for name, value in before.items():
+                    setattr(running, name, value)
+
+    def test_an_endless_program_is_cut_and_that_is_told(self):
+        with self.assertRaisesRegex(Refused, "was stopped: it wrote more than 0 GiB of lines; play fewer sessions at once"):
+            self.watched("exec yes", MOST_WRITTEN=2**20)
+        with self.assertRaisesRegex(Refused, "was stopped: it said more than 1 MiB on standard error"):
+            self.watched("exec 1>&2; exec head -c 500000000 /dev/zero", MOST_SAID=2**20)
+
+    def test_what_a_program_leaves_behind_is_ended_with_it(self):
+        self.assertEqual(self.watched(f"sleep 1000 & echo $! >'{self.room}/left'; exit 0").status, 0)
+        self.assert_gone(int((self.room / "left").read_text()))
+
+    def assert_gone(self, number):
+        for _ in range(100):
+            try:
+                os.kill(number, 0)
+            except ProcessLookupError:
+                return
+            time.sleep(0.05)
+        self.fail(f"process {number} is left")
+
+    def test_the_command_takes_its_program_and_its_folders_with_it(self):
+        script = f"echo $$ >'{self.room}/number'; exec sleep 1000"
+        for number in (signal.SIGTERM, signal.SIGHUP, signal.SIGINT):
+            folder = self.room / f"temp {number}"
+            folder.mkdir()
+            (self.room / "number").unlink(missing_ok=True)
+            words = [sys.executable, TOP / "saxtegun", "test", EXAMPLE, "--program", self.program(script)]
+            with subprocess.Popen(words, env={**environment(), "TMPDIR": str(folder)}, stdout=subprocess.DEVNULL, stderr=subprocess.PIPE, preexec_fn=lambda: signal.signal(signal.SIGINT, signal.default_int_handler)) as ran, self.subTest(number):
+                while not (self.room / "number").exists() or not (self.room / "number").read_text():
+                    time.sleep(0.02)
+                self.assertNotEqual(list(folder.iterdir()), [])
+                ran.send_signal(number)
+                self.assertNotIn(b"Traceback", ran.stderr.read())
+                self.assertEqual(ran.wait(timeout=20), 2 if number == signal.SIGINT else -number)
+                self.assertEqual(list(folder.iterdir()), [])
+                self.assert_gone(int((self.room / "number").read_text()))
+
+
+class Copies(Programs):
+    def test_the_copies_of_a_game_count_against_no_limit(self):
+        """18 KB of recordings over a game of 56 KB are more than a file may hold, where each has the game."""
+        game = self.write("game.txt", "title x\n(" + "x" * 56_000 + ")\nOBJECTS\n")
+        recordings = self.write("r.json", json.dumps([[f"session {it}", ["", [3], LEVEL]] for it in range(310)]))
+        program = self.program(PLAYER)
+        answer = run("test", game, recordings, "--program", program, "--quiet")
+        self.assertEqual((answer.status, answer.errors), (0, ""))
+        self.assertIn("310 sessions: 310 passed", answer.out)
+        played = list(map(int, (self.room / "program.log").read_text().split()))
+        self.assertEqual((sum(played), len(played) > 2), (2 * 310, True))
+
+    def test_the_lines_of_a_suite_over_one_game_are_those_of_one_run(self):
+        """`lines --game` plays it in batches, and numbers the sessions through."""
+        text = "title x\n(" + "x" * 56_000 + ")\nOBJECTS\n"
+        entries = [[f"session {it}", ["", [3], LEVEL]] for it in range(310)]
+        game, recordings = self.write("game.txt", text), self.write("r.json", json.dumps(entries))
+        answer = run("lines", recordings, "--game", game, "--program", self.program(PLAYER))
+        self.assertEqual((answer.status, answer.errors), (0, ""))
+        frame = {"at": 0, "frame": 0, "kind": "start", "level": LEVEL}
+        wanted = [line for it in range(310) for line in ({**frame, "session": it}, {"close": "passed", "frames": 1, "name": f"session {it}", "session": it})]
+        self.assertEqual([json.loads(it) for it in answer.out.splitlines()], wanted)
+        self.assertGreater(len((self.room / "program.log").read_text().split()), 1)
+
+    def test_batches_hold_all_entries_in_their_order_and_none_is_too_large(self):
+        sessions = sessions_in("x", json.dumps([[str(it), ["x" * 3_000_000, [], ""]] for it in range(13)]))
+        found = list(batches(sessions.entries))
+        self.assertEqual([json.loads(it)[0] for batch in found for it in batch], [str(it) for it in range(13)])
+        self.assertTrue(all(sum(map(len, it)) + len(it) + 1 <= MOST_BYTES for it in found))
+        self.assertEqual([len(it) for it in found], [5, 5, 3])
+
+    def test_sessions_are_numbered_through(self):
+        sessions = read_sessions(str(self.suite([f"s{it}" for it in range(200)])))
+        for seconds in (None, 20.0):
+            runs = runs_of(sessions.entries, Sessions("s.json", "", []), Engine(program=str(self.program(PLAYER)), seconds=seconds))
+            self.assertEqual([(it.number, it.name) for it in runs], [(it, f"s{it}") for it in range(200)])
+
+
+if __name__ == "__main__":
+    unittest.main()
