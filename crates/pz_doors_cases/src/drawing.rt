@@ -1,7 +1,6 @@
 //! The instances of a program, drawn on a line: for each its scan, the rows of its left and its right, and the letters of its commands.
 
-use bitflags::Flags;
-use pz_rules::{Block, Group, Groups, Instance, Item, Pattern, Row, Segment, Word};
+use pz_rules::{Block, Flags, Group, Groups, Instance, Item, Pattern, Row, Segment, Word};
 use pz_source::Dir;
 use std::alloc::{AllocError, Global};
 

@@ -13,9 +13,6 @@ use pz_case::recording::{Record, Recording};
 use std::alloc::Global;
 use std::io::Write;
 
-/// Lines go out together once they have so many bytes, however many sessions they are of.
-const PIECE: usize = 65_536;
-
 /// Writes lines and counts their bytes, those written before them included. If no u64 holds the count, the writing ends as at a
 /// device's fault; no recording is so long.
 fn write_lines<W: Write>(
@@ -42,6 +39,57 @@ fn write_lines<W: Write>(
     }
 }
 
+/// Writes the lines of what a session showed, each by itself, and counts their bytes, those written before them included.
+fn write_session<W: Write>(
+    alloc: Global,
+    session: u64,
+    shown: &Record,
+    written: &mut u64,
+    output: &mut Output<W>,
+) -> Result<(), Cause>
+    requires { output.old.failure ≡ None }
+    ensures ok { OnOk result (IsSent (lines_of session shown.now) written.old written.new output.old output.new) }
+    ensures err { IfErr result (IsSentInPart (lines_of session shown.now) written.old written.new output.old output.new) }
+{
+    let items = shown.items.items();
+    let frames = frame_count(items);
+    let mut line = Vec::new(alloc);
+    for item in items {
+        line.clear();
+        let name = shown.name.as_str();
+        let Ok(next) = write_item(alloc, line, session, name, frames, item) else {
+            return Err(Cause::Memory);
+        };
+        write_lines(next.as_slice(), written, output)?;
+        line = next;
+    }
+    Ok(())
+}
+
+/// Writes the text of a recording: all of it, or as many first bytes as the fault tells. Each write is handed the whole rest of one
+/// line. After a failed write nothing more is written.
+#[tactic(auto, unfolding(crate::specs::Lines::text_of))]
+pub fn write_recording<W: Write>(
+    alloc: Global,
+    recording: &Recording,
+    output: &mut Output<W>,
+) -> Result<(), WriteFault>
+    requires { output.old.failure ≡ None }
+    ensures ok { OnOk result (HasWritten (text_of recording.now) output.old output.new) }
+    ensures err { IfErr result (λ fault. EndsFor fault (text_of recording.now) output.old output.new) }
+{
+    let mut written = 0;
+    for (session, shown) in recording.records().iter().enumerate() {
+        if let Err(cause) = write_session(alloc, session as u64, shown, &mut written, output) {
+            return Err(WriteFault { written, cause });
+        }
+    }
+    Ok(())
+}
+
+/// Packed lines go out together once they have so many bytes, however many sessions they are of.
+const PIECE: usize = 65_536;
+
 /// Writes lines if there are enough to go out together, and answers those that are left.
 fn write_full<W: Write>(
     lines: Vec<u8>,
@@ -58,58 +106,6 @@ fn write_full<W: Write>(
         lines.clear();
     }
     Ok(lines)
-}
-
-/// Puts the lines of what a session showed after others, writes them if there are enough, and answers those that are left.
-fn write_session<W: Write>(
-    alloc: Global,
-    before: Vec<u8>,
-    session: u64,
-    shown: &Record,
-    written: &mut u64,
-    output: &mut Output<W>,
-) -> Result<Vec<u8>, Cause>
-    requires { output.old.failure ≡ None }
-    ensures ok { IfOk result (λ left. (sent : List ℕ) × (before.items ++ lines_of session shown.now ≡ sent ++ left.items) × IsSent sent written.old written.new output.old output.new) }
-    ensures err { IfErr result (IsSentInPart (before.items ++ lines_of session shown.now) written.old written.new output.old output.new) }
-{
-    let items = shown.items.items();
-    let frames = frame_count(items);
-    let mut lines = before;
-    for item in items {
-        let name = shown.name.as_str();
-        let Ok(more) = write_item(alloc, lines, session, name, frames, item) else {
-            return Err(Cause::Memory);
-        };
-        lines = write_full(more, written, output)?;
-    }
-    Ok(lines)
-}
-
-/// Writes the text of a recording: all of it, or as many first bytes as the fault tells. After a failed write nothing more is
-/// written.
-#[tactic(auto, unfolding(crate::specs::Lines::text_of))]
-pub fn write_recording<W: Write>(
-    alloc: Global,
-    recording: &Recording,
-    output: &mut Output<W>,
-) -> Result<(), WriteFault>
-    requires { output.old.failure ≡ None }
-    ensures ok { OnOk result (HasWritten (text_of recording.now) output.old output.new) }
-    ensures err { IfErr result (λ fault. EndsFor fault (text_of recording.now) output.old output.new) }
-{
-    let mut written = 0;
-    let mut lines = Vec::new(alloc);
-    for (session, shown) in recording.records().iter().enumerate() {
-        match write_session(alloc, lines, session as u64, shown, &mut written, output) {
-            Ok(left) => lines = left,
-            Err(cause) => return Err(WriteFault { written, cause }),
-        }
-    }
-    match write_lines(&lines, &mut written, output) {
-        Ok(()) => Ok(()),
-        Err(cause) => Err(WriteFault { written, cause }),
-    }
 }
 
 /// Puts packed lines after others, writes them whenever there are enough, and answers those that are left.

@@ -81,6 +81,23 @@ impl Write for Cut {
     }
 }
 
+/// A writer that takes so many bytes at most, and notes how many it was lent.
+struct Noting {
+    lent: Vec<usize>,
+    most: usize,
+}
+
+impl Write for Noting {
+    fn write(&mut self, buf: &[u8]) -> io::Result<usize> {
+        self.lent.push(buf.len())?;
+        Ok(buf.len().min(self.most))
+    }
+
+    fn flush(&mut self) -> io::Result<()> {
+        Ok(())
+    }
+}
+
 fn frame(alloc: Global, number: u64, kind: FrameKind, level: &str) -> Result<Item, AllocError> {
     let level_text = QuotedText::of_str(alloc, level)?;
     Ok(Item::Frame {
@@ -120,6 +137,27 @@ fn writes_the_walk(rt: HostRuntime) -> Result<(), Fail> {
     let mut output = Output::new(Vec::new(rt.alloc()));
     assert!(rt; write_recording(rt.alloc(), &recording, &mut output).is_ok());
     assert!(rt; output.into_writer().as_slice() == WALK.as_bytes());
+    Ok(())
+}
+
+/// How many bytes each write of the walk is lent by a writer that takes so many at most.
+fn lent(alloc: Global, most: usize) -> Result<Vec<usize>, Fail> {
+    let recording = walk(alloc)?;
+    let mut output = Output::new(Noting {
+        lent: Vec::new(alloc),
+        most,
+    });
+    write_recording(alloc, &recording, &mut output).map_err(|_| "not written whole")?;
+    let Noting { lent, .. } = output.into_writer();
+    Ok(lent)
+}
+
+#[test]
+fn lends_each_write_the_rest_of_one_line(rt: HostRuntime) -> Result<(), Fail> {
+    let whole = lent(rt.alloc(), 1000)?;
+    assert_eq!(rt; whole.as_slice(), [112, 111, 111, 56].as_slice());
+    let cut = lent(rt.alloc(), 100)?;
+    assert_eq!(rt; cut.as_slice(), [112, 12, 111, 11, 111, 11, 56].as_slice());
     Ok(())
 }
 

@@ -4,9 +4,8 @@ ghost use Rattle.std.specs.Prelude.{IfOk};
 ghost use Rattle.pz_rules.specs.Instance.{IsBlockOf, IsProgramOf};
 ghost use Rattle.pz_grid.specs.Grid.{IsOfGame};
 
-use bitflags::Flags;
 use pz_grid::{Level, push_players, resolve};
-use pz_rules::{Block, Commands, Program};
+use pz_rules::{Block, Commands, Flags, Program};
 use pz_sample_game::{expect_level, game_of, loaded, program_of};
 use pz_source::{Dir, Game};
 use pz_turn::{StepFault, rest, rest_loop};

@@ -2,8 +2,8 @@
 
 ghost use Rattle.pz_grid.specs.Grid.{IsOfGame};
 
-use bitflags::Flags;
 use pz_grid::Level;
+use pz_rules::Flags;
 use pz_sample_game::{expect_level, game_of, loaded, program_of};
 use pz_source::{Dir, Game};
 use pz_turn::{StepEnd, StepFault, step, won};

@@ -1,6 +1,6 @@
 //! The replay of a job by several workers.
 
-use crate::sessions::{ClosedTo, LONG, REFUSED, STALE, WALK, job_of, many_sources};
+use crate::sessions::{ClosedTo, FirstAlone, LONG, REFUSED, STALE, WALK, job_of, many_sources};
 use pz_replay::{
     Always, Gate, Output, Record, Recording, ReplayFault, replay, replay_with, write_recording,
 };
@@ -220,5 +220,13 @@ fn misses_each_item_that_may_not_pass(rt: HostRuntime) -> Result<(), Fail> {
         let items = frames(rt.alloc(), job.case(session))?.len();
         assert!(rt; misses_each_item(&rt, rt.alloc(), &job, session, items));
     }
+    Ok(())
+}
+
+#[test]
+fn stops_behind_the_first_item_if_it_alone_may_pass(rt: HostRuntime) -> Result<(), Fail> {
+    let job = nine_sessions(&rt, rt.alloc())?;
+    let found = replay_with(&rt, rt.alloc(), &job, 2, 1, &FirstAlone);
+    assert!(rt; matches!(found, Err(ReplayFault::GateClosed)));
     Ok(())
 }

@@ -1,6 +1,6 @@
 //! Sessions, and the jobs that they make.
 
-ghost use Rattle.std.specs.Prelude.{◌≡◌};
+ghost use Rattle.std.specs.Prelude.{◌≡◌, ◌<◌};
 
 use pz_replay::Gate;
 use pz_session::{Job, Order, prepare_with, read_sessions};
@@ -65,5 +65,18 @@ impl Gate for ClosedTo {
 
     fn pass(&self, session: usize, item: u64) -> bool {
         (session, item) != (self.session, self.item)
+    }
+}
+
+/// Lets the first item of each session pass.
+pub(crate) struct FirstAlone;
+
+impl Gate for FirstAlone {
+    ghost may_pass = { λ gate session item. item ≡ 0 };
+
+    ghost may_stop = { λ gate session item. 0 < item };
+
+    fn pass(&self, session: usize, item: u64) -> bool {
+        item == 0
     }
 }

@@ -12,6 +12,7 @@ pub mod patterns;
 pub mod sides;
 pub mod turning;
 
+pub use bitflags::Flags;
 pub use expanding::expand;
 pub use pz_game::pattern::{Item, Pattern, Row, Rows, Word};
 pub use pz_program::commands::Commands;
