@@ -173,6 +173,10 @@ class Twins(unittest.TestCase):
                 ran = subprocess.run([NODE, "--test", "--test-reporter=tap", OWN / f"{name}.test.mjs"], stdout=subprocess.PIPE, stderr=subprocess.STDOUT, check=False)
                 self.assertEqual(ran.returncode, 0, ran.stdout.decode(errors="replace"))
 
+    def test_what_the_page_reads_takes_time_by_its_length(self):
+        ran = subprocess.run([NODE, "--test", "--test-reporter=tap", OWN / "costs.test.mjs"], stdout=subprocess.PIPE, stderr=subprocess.STDOUT, check=False)
+        self.assertEqual(ran.returncode, 0, ran.stdout.decode(errors="replace"))
+
 
 if __name__ == "__main__":
     unittest.main()

@@ -1,0 +1,55 @@
+// What the page reads of a game takes not much more than twice the time for twice the text.
+import assert from 'node:assert/strict';
+import test from 'node:test';
+import { culpritTold } from '../../web/faults.mjs';
+import { Game } from '../../web/game.mjs';
+import { lineOf, linesOf, trimmed } from '../../web/source.mjs';
+
+const HEAD = 'OBJECTS\nBackground .\nblack\nPlayer p\nwhite\n';
+const LETTERS = Array.from({ length: 20_000 }, (_, k) => String.fromCharCode(0x4e00 + k));
+const MOST = 2.3, LEAST_MS = 40, LARGE = 1_000_000;
+
+function told(code, text, before = 'RULES\n') {
+  const source = `${HEAD}${before}${text}\n`;
+  return culpritTold(`${code}:${source.split('\n').length - 1}`, { source, inputs: [], game: new Game(source) });
+}
+
+function chain(size) {
+  const names = Array.from({ length: size }, (_, k) => `a${k}`);
+  return `${HEAD}LEGEND\n${names.map((it, k) => `${it} = a${k + 1}`).join('\n')}\nCOLLISIONLAYERS\n${names.join(' ')}\n`;
+}
+
+const READINGS = {
+  'blanks behind a title': [100_000, size => trimmed(`title x${' '.repeat(size)}x`)],
+  'returns at the end of a line': [100_000, size => lineOf(`${'\r'.repeat(size)}x`, 1)],
+  'names that stand for one another': [2000, size => new Game(chain(size))],
+  'letters that stand for one another': [2000, size => new Game(`${HEAD}LEGEND\n${LETTERS.slice(0, size).map((it, k) => `${it} = ${LETTERS[k + 1]}`).join('\n')}\n`)],
+  'a name that is not there, of many letters': [10_000, size => told('Unknown', `[ ${'ab'.repeat(size)} ]`, `${'ba'.repeat(size)}\nred\nRULES\n`)],
+  'many names that are not there': [1000, size => told('Unknown', `[ ${LETTERS.slice(0, size).join(' ')} ]`)],
+  'a name again and again': [10_000, size => told('Duplicate', `${'a b '.repeat(size)}\nred`, '')],
+  'letters that draw nothing': [5000, size => told('BadGlyph', LETTERS.slice(0, size).join(''), 'LEVELS\n')],
+  'brackets': [20_000, size => linesOf(`${'('.repeat(size)}${')'.repeat(size)}\n${HEAD}`)],
+};
+
+function timeOf(act, size) {
+  const begin = performance.now();
+  act(size);
+  return performance.now() - begin;
+}
+
+const leastOf = (act, size) => Math.min(...[1, 2, 3].map(() => timeOf(act, size)));
+
+/** How many times the time of a size the double takes, once a size takes long enough to be timed. */
+function growthOf(act, first) {
+  let size = first;
+  for (; timeOf(act, size) < LEAST_MS; size *= 2) if (size > LARGE) return 0;
+  return leastOf(act, 2 * size) / leastOf(act, size);
+}
+
+for (const [what, [size, act]] of Object.entries(READINGS)) {
+  test(`twice the input takes about twice the time: ${what}`, () => {
+    const growths = [];
+    while (growths.length < 4 && !growths.some(it => it <= MOST)) growths.push(growthOf(act, size));
+    assert.ok(growths.some(it => it <= MOST), `${growths}`);
+  });
+}
