@@ -1,0 +1,107 @@
+"""conformance/run: how it tells a case that differs, that hangs or that fails, with programs that answer wrong; and what the suite says of itself."""
+import re
+import subprocess
+import sys
+import unittest
+from fnmatch import fnmatchcase
+from xml.etree import ElementTree
+
+from tool import CASES, TOP, InARoom
+
+RUN = TOP / "conformance/run"
+UNDO = "undo-with-nothing-past-then-undo-of-a-move"
+
+
+class Runner(InARoom):
+    def program(self, script):
+        path = self.room / "program"
+        path.write_text(f"#!/bin/sh\n{script}\n", encoding="utf-8")
+        path.chmod(0o755)
+        return path
+
+    def answers(self, name, change):
+        """A program that writes what a case wants, changed."""
+        self.room.joinpath("shown").write_text(change((CASES / name / "stdout").read_text(encoding="utf-8")), encoding="utf-8")
+        return self.program(f"cat '{self.room}/shown'")
+
+    def ran(self, *words):
+        ran = subprocess.run([sys.executable, RUN, *map(str, words)], stdout=subprocess.PIPE, stderr=subprocess.PIPE)
+        return ran.returncode, ran.stdout.decode(), ran.stderr.decode()
+
+    def test_a_case_that_passes_is_counted(self):
+        self.assertEqual(self.ran("--only", UNDO, self.answers(UNDO, str)), (0, "1 passed, 0 failed\n", ""))
+
+    def test_a_case_that_differs_is_told_by_its_first_line_and_by_boards(self):
+        program = self.answers(UNDO, lambda it: it.replace('"undo","level":"background player:0,background:1,1', '"undo","level":"background:0,background player:1,0', 1))
+        status, out, errors = self.ran("--only", UNDO, program)
+        self.assertEqual((status, errors), (1, ""))
+        self.assertEqual(out.splitlines()[:7], [
+            f"case {UNDO} ... differs: stdout",
+            '    line 2, wanted:   {"at":1,"frame":1,"kind":"undo","level":"background player:0,background:1,1,\\n","session":0}',
+            '    line 2, answered: {"at":1,"frame":1,"kind":"undo","level":"background:0,background player:1,0,\\n","session":0}',
+            "    session 0 (a), behind input 0 (undo):",
+            "    | before      wanted      answered",
+            "    | p..         p..         .p.",
+            f"    more: {program} --order rows <conformance/cases/{UNDO}/input.json | ./saxtegun compare conformance/cases/{UNDO}/stdout - conformance/cases/{UNDO}/input.json --order rows",
+        ])
+        self.assertEqual(out.splitlines()[7:], ["playing: 1 of 1 fail", "0 passed, 1 failed"])
+
+    def test_a_line_that_is_none_is_told(self):
+        for change, wanted in ((lambda it: "no line\n" + it, "answered: no line"), (lambda it: "", "answered: nothing"), (lambda it: it + "\x1b[2J\n", "answered: \\u{1b}[2J")):
+            self.assertIn(wanted, self.ran("--only", UNDO, self.answers(UNDO, change))[1])
+
+    def test_a_status_and_a_word_of_failure_are_told(self):
+        status, out, _ = self.ran("--only", "file-with-a-fraction", self.program("echo memory >&2; exit 3"))
+        self.assertEqual(status, 1)
+        self.assertIn("    stderr, wanted: bad-entry 0; answered: memory\n    status, wanted: 2; answered: 3\nfiles: 1 of 1 fail\n", out)
+
+    def test_a_program_that_hangs_is_stopped_and_the_others_are_played(self):
+        program = self.answers(UNDO, str)
+        program.write_text(f"{program.read_text()}\ngrep -q undo || sleep 100\n")
+        status, out, _ = self.ran("--limit", "1", "--jobs", "8", "--only", "undo-*", "--only", "walk-two*", "--only", "movement-*", program)
+        self.assertEqual((status, out.count("not answered in 1 s")), (1, 2))
+        self.assertIn("1 passed, 3 failed\n", out)
+
+    def test_a_junit_file_has_each_case(self):
+        self.ran("--junit", self.room / "x.xml", "--only", UNDO, "--only", "movement-*", self.answers(UNDO, str))
+        suite = ElementTree.parse(self.room / "x.xml").getroot()
+        self.assertEqual([(it.get("classname"), it.get("name"), len(it)) for it in suite], [("movement", "movement-goes-column-by-column", 1), ("playing", UNDO, 0)])
+
+    def test_words_that_are_wrong_are_refused(self):
+        for words, what in ((("--only", "none-*", RUN), "no case fits none-*"), (("--jobs", "0", RUN), "--jobs wants a number from 1 to 64"), (("--limit", "x", RUN), "--limit wants"), (("--only",), "wants a word behind it")):
+            status, out, errors = self.ran(*words)
+            self.assertEqual((status, out), (2, ""))
+            self.assertIn(what, errors)
+
+    def test_both_programs_are_compared(self):
+        one, file = self.answers(UNDO, str), CASES / UNDO / "input.json"
+        other = self.room / "other"
+        other.write_text(f"#!/bin/sh\nsed 's/move/tick/' '{self.room}/shown'\n")
+        other.chmod(0o755)
+        self.assertEqual(self.ran("--both", one, one, file), (0, "1 passed, 0 failed\n", ""))
+        status, out, _ = self.ran("--both", one, other, file)
+        self.assertEqual((status, out.splitlines()[0], out.splitlines()[-1]), (1, f"file {file} ... differs: stdout", "0 passed, 1 failed"))
+
+
+class Suite(unittest.TestCase):
+    def names(self):
+        return [it.name for kind in ("cases", "files") for it in (TOP / "conformance" / kind).iterdir()] + ["file-of-16777216-bytes", "file-of-16777217-bytes"]
+
+    def test_the_version_says_how_many_cases_there_are(self):
+        said = re.fullmatch(r"suite \d+, (\d+) cases\n", (TOP / "conformance/VERSION").read_text())
+        self.assertEqual(int(said[1]), len(self.names()))
+
+    def test_each_rule_has_cases_and_each_pattern_fits_one(self):
+        left = self.names()
+        for line in (TOP / "conformance/rules.txt").read_text(encoding="utf-8").splitlines():
+            rule, _, patterns = line.partition(":")
+            fitting = [name for name in left if any(fnmatchcase(name, it) for it in patterns.split())]
+            self.assertTrue(fitting, rule)
+            for pattern in patterns.split():
+                self.assertTrue(any(fnmatchcase(name, pattern) for name in self.names()), f"{rule}: {pattern}")
+            left = [it for it in left if it not in fitting]
+        self.assertEqual(left, [])
+
+
+if __name__ == "__main__":
+    unittest.main()
