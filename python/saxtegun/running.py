@@ -20,6 +20,8 @@ MOST_SAID = 2**24
 # So many bytes of a line that it says are told, and so long is waited between two looks at what it does.
 MOST_OF_LINE = 1000
 PAUSE = 0.05
+# So long a program that is to end may tidy up.
+PATIENCE = 0.5
 UNANSWERED_BEGIN = "not answered in"
 
 
@@ -35,11 +37,13 @@ class Ran(NamedTuple):
 
 
 def end(ran: "subprocess.Popen[bytes]") -> None:
-    """Ends a program, with all that it has started."""
-    try:
-        os.killpg(ran.pid, signal.SIGKILL)
-    except (AttributeError, OSError):
-        ran.kill()
+    """Ends a program, with all that it has started: it may tidy up, but not for long."""
+    for name in ("SIGTERM", "SIGKILL"):
+        try:
+            os.killpg(ran.pid, getattr(signal, name))
+        except (AttributeError, OSError):
+            ran.kill()
+        wait_a_while(ran, PATIENCE)
     ran.wait()
 
 
