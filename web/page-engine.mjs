@@ -5,8 +5,10 @@ import { MOST_INPUTS } from "./session-file.mjs";
 
 // The last win shows no frame of its own; with one more input that runs no rule, play that is over shows it.
 const ONE_MORE = "undo";
-export const PLAYER = "saxtegun-player"; // the name of the worker that plays one recording
+export const PLAYER = "saxtegun-player"; // the name of the workers that play for the page
 
+const FEW = 131_072; // bytes of a sessions file that one worker plays
+const SOON = 400; // milliseconds that it may take for it
 const GRACE = 100; // milliseconds that a worker has to end what isn't wanted any more
 
 // The module, which stands in the page compressed.
@@ -15,22 +17,23 @@ async function moduleBytes() {
   return new Response(new Blob([packed]).stream().pipeThrough(new DecompressionStream("deflate"))).arrayBuffer();
 }
 
+const refusedPlay = (fault) => ({ frames: [], cause: `engine:${fault}`, isSolved: false });
+
 // What the engine makes of a recording: { frames, cause, isSolved }. A fault of the engine is a cause that begins with `engine:`.
 export function playedBy(engine, { source, index, order, inputs, from }) {
-  const refused = (fault) => ({ frames: [], cause: `engine:${fault}`, isSolved: false });
   const isFull = inputs.length >= MOST_INPUTS;
   try {
     const { frames, close, fault } = engine.frames({ source, index, inputs: isFull ? inputs : [...inputs, ONE_MORE] }, { order, from });
-    if (fault !== null) return refused(fault);
+    if (fault !== null) return refusedPlay(fault);
     const isSolved = frames.at(-1)?.kind === "over";
     return { frames: frames.filter((frame) => frame.at <= inputs.length), cause: close.cause ?? null, isSolved };
   } catch {
     // beyond 512 MiB a text of lines can't be made
-    return refused("too-many-frames");
+    return refusedPlay("too-many-frames");
   }
 }
 
-// The worker that plays recordings, one at a time. One that isn't wanted any more is given a moment, and then ended, whatever it does.
+// A worker that answers one question at a time. One whose answer isn't wanted any more is given a moment, and then ended, whatever it does.
 class PlayerThread {
   constructor(begin, module) {
     Object.assign(this, { begin, module, worker: null, last: Promise.resolve() });
@@ -46,17 +49,17 @@ class PlayerThread {
     this.worker = null;
   }
 
-  async ask(wanted, signal) {
+  async ask(question, signal) {
     const before = this.last;
     let settled = () => {};
     this.last = new Promise((settle) => { settled = settle; });
     await before;
-    const answer = signal.aborted ? null : await this.answer(wanted, signal);
+    const answer = signal.aborted ? null : await this.answer(question, signal);
     settled();
     return answer;
   }
 
-  answer(wanted, signal) {
+  answer(question, signal) {
     if (this.worker === null) this.start();
     return new Promise((settle) => {
       const leave = (answer) => {
@@ -70,10 +73,10 @@ class PlayerThread {
       };
       this.worker.onerror = (event) => {
         event.preventDefault();
-        leave({ frames: [], cause: "engine:broken", isSolved: false });
+        leave({ ...refusedPlay("broken"), fault: "broken", lines: null });
       };
       signal.addEventListener("abort", () => { timer = setTimeout(() => leave(null), GRACE); });
-      this.worker.postMessage({ wanted });
+      this.worker.postMessage(question);
     });
   }
 }
@@ -83,8 +86,20 @@ export function servePlayer() {
   let engine = null;
   globalThis.addEventListener("message", async ({ data }) => {
     if (data.module) engine = load(data.module);
-    else globalThis.postMessage(playedBy(await engine, data.wanted));
+    else if (data.wanted) globalThis.postMessage(playedBy(await engine, data.wanted));
+    else globalThis.postMessage((await engine).replay(data.bytes, { order: data.order }));
   });
+}
+
+// The answer to a question, or null where it takes too long, or isn't wanted any more.
+async function soon(thread, question, signal) {
+  const ending = new AbortController(), end = () => ending.abort();
+  signal.addEventListener("abort", end);
+  const timer = setTimeout(end, SOON);
+  const answer = await thread.ask(question, ending.signal);
+  clearTimeout(timer);
+  signal.removeEventListener("abort", end);
+  return answer;
 }
 
 // Loads the module. Workers are started from the page's own script, which does nothing but play in them.
@@ -92,6 +107,11 @@ export async function startEngine() {
   const module = await WebAssembly.compile(await moduleBytes());
   const address = URL.createObjectURL(new Blob([at("script").textContent], { type: "text/javascript" }));
   const begin = (name) => new Worker(address, { name });
-  const engine = await load(module, { worker: begin }), thread = new PlayerThread(begin, module);
-  return { play: (wanted, signal) => thread.ask(wanted, signal), playAll: (bytes, options) => engine.replayInWorkers(bytes, options) };
+  const engine = await load(module, { worker: begin }), [player, few] = [new PlayerThread(begin, module), new PlayerThread(begin, module)];
+  // few sessions are played by a worker that is there already
+  const playAll = async (bytes, options) => {
+    const answer = bytes.length > FEW ? null : await soon(few, { bytes, order: options.order }, options.signal);
+    return answer ?? engine.replayInWorkers(bytes, options);
+  };
+  return { play: (wanted, signal) => player.ask({ wanted }, signal), playAll };
 }

@@ -170,6 +170,7 @@ class Firefox(Browser):
         self.socket, self.rest, self.count = self.connected(profile / "MarionetteActivePort"), b"", 0
         self.message()
         self.call("WebDriver:NewSession", capabilities={"alwaysMatch": {"unhandledPromptBehavior": "ignore"}})
+        self.call("WebDriver:SetTimeouts", script=600_000)
         self.size(1280, 760)
 
     def connected(self, file):
