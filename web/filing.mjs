@@ -62,6 +62,25 @@ export function withOtherFile(state, file) {
   return remembering(state, next);
 }
 
+// A name that no session has: with a number where one has it.
+function freeName(name, entries) {
+  const names = new Set(entries.map((entry) => entry.name));
+  for (let number = 2, free = name; ; number += 1) {
+    if (!names.has(free)) return free;
+    free = `${name} ${number}`;
+  }
+}
+
+// Adds recordings that an editor printed. Those of the text at hand follow that.
+export function withRecordings(state, recordings) {
+  const one = theOneText({ entries: recordings }), isUntouched = state.text.trim() === "" || state.text === state.example;
+  const text = state.file === null && isUntouched ? one ?? state.text : state.text;
+  let file = state.file ?? SessionFile.empty(RECORDINGS);
+  for (const it of recordings) file = file.with({ ...it, name: freeName(it.name, file.entries), source: it.source === text ? "" : it.source });
+  const next = withFile(state, file, { text, isNew: true, tab: "sessions" });
+  return { ...next, saved: `${plural(recordings.length, "recording")} added to ${file.name}` };
+}
+
 // The text that all sessions of a file have as their own, or null.
 function theOneText({ entries }) {
   const source = entries[0]?.source ?? "";

@@ -1,5 +1,6 @@
 // The playground: a game is played, recorded and replayed, by the engine that stands in the page. What is clicked and pressed leads from one state to
 // the next (work.mjs, suite.mjs), which is drawn (drawn.mjs), played (running.mjs) and kept (keeping.mjs).
+import { recordingsInText } from "./console.mjs";
 import { Drawn } from "./drawn.mjs";
 import { at, json } from "./elements.mjs";
 import { download, kindOf, takeFiles } from "./handing.mjs";
@@ -10,12 +11,22 @@ import { PLAYER, servePlayer, startEngine } from "./page-engine.mjs";
 import { Runner } from "./running.mjs";
 import { Refusal, SessionFile, textOf } from "./session-file.mjs";
 import { following, isFailure } from "./session-list.mjs";
-import { RECORDINGS, compared, filed, savedAs, withOtherFile } from "./filing.mjs";
+import { RECORDINGS, compared, filed, savedAs, withOtherFile, withRecordings } from "./filing.mjs";
 import { framesOf, isAtEnd, shownOf } from "./replaying.mjs";
 import { rowsOf, sessionOpened } from "./suite.mjs";
 import { RECORDED_ORDER, edited, inOrder, lookedAt, lookedAtInput, pressed, released, withGame } from "./work.mjs";
 
 const FRAME_PAUSE = 160; // milliseconds between two frames when playing
+
+// Whether a text is a sessions file, or meant to be one.
+function isJson(text) {
+  try {
+    const value = JSON.parse(text);
+    return Array.isArray(value) && (value.length === 0 || Array.isArray(value[0]));
+  } catch {
+    return false;
+  }
+}
 
 class Playground {
   constructor(state, engine, store) {
@@ -93,8 +104,9 @@ class Playground {
   // Takes a file by what is in it.
   async take(name, bytes) {
     try {
-      const text = textOf(bytes, name), kind = kindOf(text);
-      if (kind === "sessions") this.act(withOtherFile, new SessionFile(name, bytes));
+      const text = textOf(bytes, name), kind = kindOf(text), recordings = isJson(text) ? [] : recordingsInText(text);
+      if (recordings.length > 0) this.act(withRecordings, recordings);
+      else if (kind === "sessions") this.act(withOtherFile, new SessionFile(name, bytes));
       else if (kind === "lines") await this.runner.idle().then(() => this.act(compared, name, text));
       else this.takeGame(text);
     } catch (error) {

@@ -14,15 +14,21 @@ export const MOST_INPUTS = 65_536;
 
 const isInput = (value) => WORDS.includes(value) || (Number.isInteger(value) && value >= 0 && value <= 4);
 
-// What makes a value no entry of a sessions file, or null.
-function faultOf(entry) {
-  if (!Array.isArray(entry) || typeof entry[0] !== "string" || !Array.isArray(entry[1])) return "it is no list of a name and a list";
-  const [source, inputs, level, index = null] = entry[1];
+const hasHalfALetter = (text) => HALF_A_LETTER.test(text);
+
+// What makes a value no body of a session, a list of its source, inputs, level and index, or null.
+export function bodyFault([source, inputs, level, index = null]) {
   if (typeof source !== "string" || !Array.isArray(inputs) || typeof level !== "string") return "after its name there is no list of a source, a list of inputs and a level text";
   const bad = inputs.findIndex((input) => !isInput(input));
   if (bad >= 0) return `its input ${bad} is neither 0 to 4 nor undo, restart or tick`;
   if (index !== null && !(Number.isInteger(index) && index >= 0 && index <= MOST_INDEX)) return "its index is no whole number";
-  return [entry[0], source, level].some((text) => HALF_A_LETTER.test(text)) ? "a text of it holds half a letter (a lone surrogate)" : null;
+  return [source, level].some(hasHalfALetter) ? "a text of it holds half a letter (a lone surrogate)" : null;
+}
+
+// What makes a value no entry of a sessions file, or null.
+function faultOf(entry) {
+  if (!Array.isArray(entry) || typeof entry[0] !== "string" || !Array.isArray(entry[1])) return "it is no list of a name and a list";
+  return bodyFault(entry[1]) ?? (hasHalfALetter(entry[0]) ? "a text of it holds half a letter (a lone surrogate)" : null);
 }
 
 // A span of bytes without the white space around it.

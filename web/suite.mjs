@@ -71,7 +71,7 @@ export function suiteCame(state, { file, text, order }, answer, milliseconds) {
   const suite = { file, text, order, why, lines: why === null ? answer.lines : null, runs: why === null ? runsOf(answer.lines) : null, milliseconds };
   const next = { ...state, suite, comparison: null };
   if (why !== null) return { ...next, isNew: false };
-  return { ...showingFailure(next), good: isNoWorse(state.good, suite) ? suite : state.good };
+  return { ...showingFailure(next), saved: state.saved, good: isNoWorse(state.good, suite) ? suite : state.good };
 }
 
 // Whether all sessions still pass that passed before.

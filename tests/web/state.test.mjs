@@ -1,10 +1,11 @@
 // What an author does on the page, without a browser: the state is played by the module in Node. What is expected is written by hand.
 import assert from "node:assert/strict";
 import test from "node:test";
+import { recordingsInText } from "../../web/console.mjs";
 import { stateFrom, stateOfVisit } from "../../web/kept-work.mjs";
 import { faultOfText, othersTold, ownTold, putBackTold, statusOf, stepTold, tabTold, verdictOf } from "../../web/page-words.mjs";
 import { SessionFile } from "../../web/session-file.mjs";
-import { accepted, compared, filed, followed, namesakeOf, removed, savedAs, withOtherFile } from "../../web/filing.mjs";
+import { accepted, compared, filed, followed, namesakeOf, removed, savedAs, withOtherFile, withRecordings } from "../../web/filing.mjs";
 import { framesOf, isPlayed, shownOf, sourceOf } from "../../web/replaying.mjs";
 import { differenceOf, playedAgain, rowsOf, seenOf, sessionOf, sessionOpened } from "../../web/suite.mjs";
 import { beginning, begunAnew, cutBack, edited, fromLevel, held, inOrder, lookedAt, lookedAtInput, named, pressed, putBack, released, withGame, withOwnText } from "../../web/work.mjs";
@@ -369,4 +370,39 @@ it("lines of another engine are compared, and an edit ends that", async () => {
   assert.match(statusOf(bench.state).text, /^Diverges at frame 7, after input 6 \(/);
   await bench.act(edited, BROKEN);
   assert.equal(bench.state.comparison, null);
+});
+
+// ---- what an editor's console prints
+
+const BODY = JSON.stringify([GAME, [2, 1], "background:0,", 0, "1663245234.123"]), ENTRY = `[\n"Checkpoint",\n${BODY}\n],`;
+
+test("recordings are found in what an editor's console prints, with whatever stands around them", () => {
+  const forms = [
+    ENTRY, ENTRY.slice(0, -1), `Successful Compilation, generated 36 instructions.\n\n${ENTRY}\n`, `${ENTRY}\nundefined\nline 5 : [ weird ]`, `VM123:1 ${ENTRY}`, JSON.stringify(ENTRY), `var testdata = [\n${ENTRY}\n];`,
+    ENTRY.replaceAll("&", "&amp;").replaceAll("<", "&lt;").replaceAll(">", "&gt;").replaceAll('"', "&quot;").replaceAll("\n", "<br>"), `[\n"Checkpoint",\n${JSON.stringify([GAME, [], 0])}\n],\nRecorded play session data:\n${ENTRY}`,
+    `\ufeff${ENTRY.replaceAll("\n", "\r\n")}`, ENTRY.replace('"1663245234.123"', "undefined"), ENTRY.replace('"Checkpoint"', "'Check\\x70oint'"), `\`\`\`json\n${ENTRY}\n\`\`\``,
+  ];
+  for (const form of forms) assert.deepEqual(recordingsInText(form), [{ name: "Checkpoint", source: GAME, inputs: [2, 1], level: "background:0,", index: 0 }], form.slice(0, 60));
+  assert.deepEqual(recordingsInText(`${ENTRY}\n${ENTRY}`).length, 2);
+  assert.deepEqual(recordingsInText(BODY).map(({ name, inputs }) => [name, inputs]), [["Simple Block Pushing Game", [2, 1]]]);
+  for (const none of [GAME, "", "Successful Compilation, generated 36 instructions.", ENTRY.slice(0, -30), ENTRY.replace("[2,1]", '["wait"]'), "[]"]) assert.deepEqual(recordingsInText(none), [], none.slice(0, 60));
+});
+
+test("what only looks like recordings is read in no time", () => {
+  const took = (text) => {
+    const begun = performance.now();
+    recordingsInText(text);
+    return performance.now() - begun;
+  };
+  for (const piece of ["[", '["a",[', "['", '["', "[`", '["\\', '["a",//', "[ \n"]) assert.ok(took(piece.repeat(100_000)) < 5000, piece);
+});
+
+it("what an editor printed is added to the sessions, and follows the text at hand", async () => {
+  const bench = await withPush(), recordings = recordingsInText(`${ENTRY}\n${ENTRY}`);
+  await bench.act(withRecordings, recordings);
+  assert.deepEqual(entriesIn(bench.state).map(([name, [source, inputs]]) => [name, source, inputs]), [["push", "", PUSHING], ["Checkpoint", "", [2, 1]], ["Checkpoint 2", "", [2, 1]]]);
+  assert.deepEqual([bench.state.work.opened, bench.state.saved], [1, "2 recordings added to recordings.json"]);
+  const another = new Bench();
+  await another.act(withRecordings, recordingsInText(ENTRY.replace("title ", "title Another ")));
+  assert.deepEqual([another.state.text, entriesIn(another.state)[0][1][0]], [OTHER, ""]);
 });
