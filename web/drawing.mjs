@@ -4,6 +4,7 @@
 import { heightOf, isDrawn, placeOf } from "./levels.mjs";
 
 export const SIDE = 5; // pixels of a sprite
+const DARK = "#000000"; // of the inner line of a frame
 
 function paintObject(context, [, , colours, sprite]) {
   const pixels = sprite === "" ? [[0, 0, 0, SIDE]] : Array.from(sprite, (letter, number) => [letter, number % SIDE, Math.floor(number / SIDE), 1]);
@@ -55,15 +56,24 @@ function frameLines(left, top, side, isWhole) {
   return corners.map(([x, y, across, down]) => [[x + across * part, y], [x, y], [x, y + down * part]]);
 }
 
-function strokeFrame(context, level, number, size, thickness, isWhole) {
+function strokeFrame(context, level, number, size, inset, isWhole) {
   const [column, row] = placeOf(level, number);
-  const inset = thickness / 2;
   context.beginPath();
-  for (const [begin, ...more] of frameLines(column * size + inset, row * size + inset, size - thickness, isWhole)) {
+  for (const [begin, ...more] of frameLines(column * size + inset, row * size + inset, size - 2 * inset, isWhole)) {
     context.moveTo(...begin);
     for (const point of more) context.lineTo(...point);
   }
   context.stroke();
+}
+
+// Frames cells by two lines, a bright one and within it a dark one: one of them is seen on any ground.
+function frameCells(context, level, size, { cells, colour, isWhole = true }) {
+  const thickness = Math.max(1, Math.round(size / 12));
+  context.lineWidth = thickness;
+  for (const [line, inset] of [[colour, thickness / 2], [DARK, thickness * 1.5]]) {
+    context.strokeStyle = line;
+    for (const number of cells) strokeFrame(context, level, number, size, inset, isWhole);
+  }
 }
 
 // Draws a level so many pixels for each of a sprite's. `framed` are cells that get a frame, whole or its corners alone: [{ cells, colour, isWhole }].
@@ -79,12 +89,7 @@ export function drawLevel(canvas, level, pictures, scale, framed = []) {
     const [column, row] = placeOf(level, number);
     context.drawImage(pictures.of(label), column * size, row * size, size, size);
   });
-  const thickness = Math.max(1, Math.round(size / 12));
-  context.lineWidth = thickness;
-  for (const { cells, colour, isWhole = true } of framed) {
-    context.strokeStyle = colour;
-    for (const number of cells) strokeFrame(context, level, number, size, thickness, isWhole);
-  }
+  for (const frame of framed) frameCells(context, level, size, frame);
 }
 
 // The column and the row of the cell below a pointer, both from 0.

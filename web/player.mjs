@@ -13,7 +13,7 @@ const FITTING = 12;     // and where the level is fitted into the room
 const LEAST_ROOM = 120; // pixels of height that a level has at least
 const BELOW = 64;       // pixels kept free below a level, for what stands in a cell
 const INPUT = 26;       // pixels of an input in the strip
-const DIFFERS = { colour: "#ff2a6d", isWhole: true };
+const DIFFERS = { colour: "#ff85ad", isWhole: true };
 const CHANGED = { colour: "#35c3ff", isWhole: false };
 const POINT = "Point at a cell, or tap it, to see what stands in it.";
 

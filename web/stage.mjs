@@ -3,7 +3,7 @@ import { Pictures, cellBelow, drawLevel, scaleFor } from "./drawing.mjs";
 import { at } from "./elements.mjs";
 import { heightOf, isDrawn, numberAt } from "./levels.mjs";
 
-const MARK = "#ff2a6d";
+const MARK = "#ff85ad";
 const MOST_SCALE = 14;
 const HEIGHTS = [220, 520]; // of a level, as the window has room
 const BESIDE = { wide: 330, narrow: 450 }; // what stands above and below a level

@@ -69,10 +69,25 @@ class Chromium(Browser):
         os.close(it_writes)
         self.rest, self.count, self.events, self.session = b"", 0, [], None
         page = next(it for it in self.call("Target.getTargets")["targetInfos"] if it["type"] == "page")
-        self.session = self.call("Target.attachToTarget", targetId=page["targetId"], flatten=True)["sessionId"]
+        self.attach(page["targetId"])
+        self.size(1280, 760)
+
+    def attach(self, target):
+        self.session = None
+        self.session = self.call("Target.attachToTarget", targetId=target, flatten=True)["sessionId"]
         for part in ("Page", "Network", "Runtime", "Log"):
             self.call(f"{part}.enable")
-        self.size(1280, 760)
+
+    def another_tab(self):
+        """Goes on in a new tab; what leads back by `to_tab`."""
+        before, self.session = self.session, None
+        self.attach(self.call("Target.createTarget", url="about:blank")["targetId"])
+        return before
+
+    def to_tab(self, tab):
+        """Goes on in a tab; what leads back."""
+        before, self.session = self.session, tab
+        return before
 
     def message(self):
         while b"\0" not in self.rest:
@@ -172,6 +187,16 @@ class Firefox(Browser):
         self.call("WebDriver:NewSession", capabilities={"alwaysMatch": {"unhandledPromptBehavior": "ignore"}})
         self.call("WebDriver:SetTimeouts", script=600_000)
         self.size(1280, 760)
+
+    def another_tab(self):
+        """Goes on in a new tab; what leads back by `to_tab`."""
+        return self.to_tab(self.call("WebDriver:NewWindow", type="tab")["handle"])
+
+    def to_tab(self, tab):
+        """Goes on in a tab; what leads back."""
+        before = self.call("WebDriver:GetWindowHandle")["value"]
+        self.call("WebDriver:SwitchToWindow", handle=tab)
+        return before
 
     def connected(self, file):
         end = time.monotonic() + 60
