@@ -80,6 +80,12 @@ class Joined(unittest.TestCase):
             for other in re.findall(r'from "\./([a-z-]+\.mjs)"', (WEB / name).read_text(encoding="utf-8")):
                 self.assertIn(other, modules[:number])
 
+    def test_no_name_is_declared_by_two_modules_of_a_page(self):
+        declared = re.compile(r"^(?:export )?(?:async )?(?:function\*?|class|const|let) (\w+)", re.M)
+        for page in ("report.mjs", "playground.mjs"):
+            names = [name for module in modules_of(page) for name in declared.findall((WEB / module).read_text(encoding="utf-8"))]
+            self.assertEqual(sorted({name for name in names if names.count(name) > 1}), [], page)
+
     def test_nothing_of_modules_is_left(self):
         self.assertNotRegex(script_of("report.mjs"), r"(?m)^\s*(import|export)\b")
 

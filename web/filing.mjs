@@ -90,7 +90,7 @@ function theOneText({ entries }) {
 // ---- another engine
 
 // Compares how the sessions went with the lines of another engine.
-export function compared(state, name, text) {
+export function comparedWithLines(state, name, text) {
   const runs = runsOfNow(state), { file } = state;
   if (runs === null) throw new Refusal(`${name} has lines: open and play the sessions file first that they are of`);
   const others = readRuns(text);

@@ -19,18 +19,15 @@ async function moduleBytes() {
 
 const refusedPlay = (fault) => ({ frames: [], cause: `engine:${fault}`, isSolved: false });
 
+// The answer of a worker that can't give one.
+const BROKEN = { ...refusedPlay("broken"), fault: "broken", lines: null };
+
 // What the engine makes of a recording: { frames, cause, isSolved }. A fault of the engine is a cause that begins with `engine:`.
 export function playedBy(engine, { source, index, order, inputs, from }) {
   const isFull = inputs.length >= MOST_INPUTS;
-  try {
-    const { frames, close, fault } = engine.frames({ source, index, inputs: isFull ? inputs : [...inputs, ONE_MORE] }, { order, from });
-    if (fault !== null) return refusedPlay(fault);
-    const isSolved = frames.at(-1)?.kind === "over";
-    return { frames: frames.filter((frame) => frame.at <= inputs.length), cause: close.cause ?? null, isSolved };
-  } catch {
-    // beyond 512 MiB a text of lines can't be made
-    return refusedPlay("too-many-frames");
-  }
+  const { frames, close, fault } = engine.frames({ source, index, inputs: isFull ? inputs : [...inputs, ONE_MORE] }, { order, from });
+  if (fault !== null) return refusedPlay(fault);
+  return { frames: frames.filter((frame) => frame.at <= inputs.length), cause: close.cause ?? null, isSolved: frames.at(-1)?.kind === "over" };
 }
 
 // A worker that answers one question at a time. One whose answer isn't wanted any more is given a moment, and then ended, whatever it does.
@@ -73,21 +70,22 @@ class PlayerThread {
       };
       this.worker.onerror = (event) => {
         event.preventDefault();
-        leave({ ...refusedPlay("broken"), fault: "broken", lines: null });
+        leave(BROKEN);
       };
+      this.worker.onmessageerror = () => leave(BROKEN);
       signal.addEventListener("abort", () => { timer = setTimeout(() => leave(null), GRACE); });
       this.worker.postMessage(question);
     });
   }
 }
 
-// What the worker does.
+// What the worker does: it answers whatever it is asked, also where it can't.
 export function servePlayer() {
   let engine = null;
+  const answerTo = async ({ wanted, bytes, order }) => (wanted ? playedBy(await engine, wanted) : (await engine).replay(bytes, { order }));
   globalThis.addEventListener("message", async ({ data }) => {
     if (data.module) engine = load(data.module);
-    else if (data.wanted) globalThis.postMessage(playedBy(await engine, data.wanted));
-    else globalThis.postMessage((await engine).replay(data.bytes, { order: data.order }));
+    else globalThis.postMessage(await answerTo(data).catch(() => BROKEN));
   });
 }
 

@@ -11,7 +11,7 @@ import { PLAYER, servePlayer, startEngine } from "./page-engine.mjs";
 import { Runner } from "./running.mjs";
 import { Refusal, SessionFile, textOf } from "./session-file.mjs";
 import { following, isFailure } from "./session-list.mjs";
-import { RECORDINGS, compared, filed, savedAs, withOtherFile, withRecordings } from "./filing.mjs";
+import { RECORDINGS, comparedWithLines, filed, savedAs, withOtherFile, withRecordings } from "./filing.mjs";
 import { framesOf, isAtEnd, shownOf } from "./replaying.mjs";
 import { rowsOf, sessionOpened } from "./suite.mjs";
 import { RECORDED_ORDER, edited, inOrder, lookedAt, lookedAtInput, pressed, released, withGame } from "./work.mjs";
@@ -107,7 +107,7 @@ class Playground {
       const text = textOf(bytes, name), kind = kindOf(text), recordings = isJson(text) ? [] : recordingsInText(text);
       if (recordings.length > 0) this.act(withRecordings, recordings);
       else if (kind === "sessions") this.act(withOtherFile, new SessionFile(name, bytes));
-      else if (kind === "lines") await this.runner.idle().then(() => this.act(compared, name, text));
+      else if (kind === "lines") await this.runner.idle().then(() => this.act(comparedWithLines, name, text));
       else this.takeGame(text);
     } catch (error) {
       if (!(error instanceof Refusal)) throw error;

@@ -65,6 +65,7 @@ const capital = (text) => `${text[0].toUpperCase()}${text.slice(1)}`;
 
 // Why something isn't played, as a sentence without its end, and the line that is named.
 export function causeOf(cause, { source, inputs, frames }) {
+  if (cause === "engine:memory") return { sentence: "its frames need more memory than a page has: leave out inputs, or look at it by the command", line: null };
   if (cause.startsWith("engine:")) return { sentence: `the engine gave no answer: ${refusalTold(cause.slice(7))}`, line: null };
   if (source.trim() === "") return { sentence: "there is no text of a game: open it, paste it, or write it here", line: null };
   return culpritTold(cause, { source, inputs, game: gameOf(source), frames });

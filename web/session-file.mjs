@@ -165,7 +165,6 @@ const REFUSALS = {
   "bad-entry": "session {number} is no entry of a name, a source, inputs and a level",
   "bad-level": "the recorded level of session {number} is no level text",
   memory: "there is not enough memory",
-  "too-many-frames": "its frames take more than 512 MiB, which a browser doesn't show at once: leave out inputs, or look at it by the command",
   broken: "the engine stopped at a fault of its own",
 };
 

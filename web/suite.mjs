@@ -47,7 +47,7 @@ function changeOf({ good, suite }, number) {
 }
 
 // Whether what is worked on may make way for a session: it is nothing, or stands in the file.
-function isFree(state) {
+function mayMakeWay(state) {
   const { work, file } = state;
   if (work.opened !== null) return isSessionOpen(state);
   return work.inputs.length === 0 && work.name === "" && file !== null;
@@ -61,7 +61,7 @@ function showingFailure(state) {
   if (isNew) return suite.runs.length === 0 ? next : sessionOpened(next, Math.max(0, rowsOf(next).findIndex(isFailure)));
   if (work.opened !== null && isBroken(suite.runs[work.opened])) return { ...next, since: isSessionOpen(next) ? changeOf(next, work.opened) : null };
   const first = suite.runs.findIndex((run, number) => isBroken(run) && state.good?.runs[number]?.close === "passed");
-  return first < 0 || !isFree(next) ? next : sessionOpened(next, first);
+  return first < 0 || !mayMakeWay(next) ? next : sessionOpened(next, first);
 }
 
 // Takes what the sessions came to: { fault, lines }, in so many milliseconds, or null where it was stopped.

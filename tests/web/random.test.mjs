@@ -5,7 +5,7 @@ import test from "node:test";
 import { isDeepStrictEqual } from "node:util";
 import { MOST_PAST } from "../../web/past.mjs";
 import { SessionFile } from "../../web/session-file.mjs";
-import { accepted, compared, filed, followed, namesakeOf, removed, savedAs, withOtherFile } from "../../web/filing.mjs";
+import { accepted, comparedWithLines, filed, followed, namesakeOf, removed, savedAs, withOtherFile } from "../../web/filing.mjs";
 import { isPlayed, sourceOf } from "../../web/replaying.mjs";
 import { differenceOf, playedAgain, rowsOf, runsOfNow, seenOf, sessionOf, sessionOpened } from "../../web/suite.mjs";
 import { begunAnew, cutBack, edited, fromLevel, held, inOrder, lookedAt, named, pressed, putBack, released, withGame, withOwnText } from "../../web/work.mjs";
@@ -102,7 +102,7 @@ const ACTIONS = [
   () => change((state) => (differenceOf(state)?.why === null ? accepted(state, [state.work.opened]) : state)), () => change((state) => accepted(state, seenOf(state))),
   () => change((state) => (state.file === null ? state : followed(state))), (random) => change((state) => inOrder(state, pick(random, ["columns", "columns", "rows"]))), () => change(withOwnText),
   () => change(held), () => change(released),
-  () => change((state) => (runsOfNow(state) === null ? state : compared(state, "lines", new TextDecoder().decode(state.suite.lines)))),
+  () => change((state) => (runsOfNow(state) === null ? state : comparedWithLines(state, "lines", new TextDecoder().decode(state.suite.lines)))),
 ];
 
 // Not each time that it could be closed.
