@@ -51,9 +51,11 @@ class PlayerThread {
     let settled = () => {};
     this.last = new Promise((settle) => { settled = settle; });
     await before;
-    const answer = signal.aborted ? null : await this.answer(question, signal);
-    settled();
-    return answer;
+    try {
+      return signal.aborted ? null : await this.answer(question, signal);
+    } finally {
+      settled();
+    }
   }
 
   answer(question, signal) {

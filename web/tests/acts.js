@@ -5,7 +5,7 @@
   const KEYS = ["ArrowUp", "ArrowLeft", "ArrowDown", "ArrowRight", "x", "z", "r", ".", "[", "]", "Home", "End", "Backspace", "p", "j", "k", "n", "N"];
   const NOT_CLICKED = ["open", "save-game", "save-lines", "stop", "stop-play"]; // these open a dialog of the system, hand out what there is, or depend on time
   const NAMES = ["walk", "push", "", "\u202ename"];
-  const PATIENCE = 20_000; // milliseconds
+  const PATIENCE = 60_000; // milliseconds
   const wrong = window.wrong ??= [];
   if (!window.isListening) {
     window.isListening = true;
