@@ -28,7 +28,7 @@ class Log(io.TextIOWrapper):
     """A stream that a CI may read, line by line."""
 
     def __init__(self, stream: TextIO) -> None:
-        super().__init__(stream.detach(), encoding="utf-8", newline="\n", errors="backslashreplace", line_buffering=stream.line_buffering)  # type: ignore[attr-defined]
+        super().__init__(stream.detach(), encoding="utf-8", newline="\n", errors="backslashreplace", line_buffering=bool(stream.line_buffering))  # type: ignore[attr-defined]
         self.held = ""
 
     def write(self, text: str) -> int:
