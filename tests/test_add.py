@@ -21,7 +21,8 @@ class DayOfAdding(OfAGame):
         for behind in (",", "", "\r\n"):
             suite = self.write("suite.json", '[ ["odd\\u0041" ,["", [ ],"",null, 1] ] ]\n')
             answer = run("add", suite, self.write("console.txt", self.console(0, 1, behind=behind)))
-            self.assertEqual((answer.status, answer.out, answer.errors), (0, "", f"add: 2 recordings added to {suite}, which has 3\n"))
+            self.assertEqual((answer.status, answer.out, answer.errors.splitlines()[0]), (0, "", f"add: 2 recordings added to {suite}, which has 3: both levels solved, the second level alone"))
+            self.assertIn("add: 2 recordings keep their own text, and no edit of a game changes that; with --game GAME.txt they follow it\n", answer.errors)
             text = suite.read_text(encoding="utf-8")
             self.assertEqual(json.loads(text)[1:], self.whole[:2])
             self.assertTrue(text.startswith('[ ["odd\\u0041" ,["", [ ],"",null, 1] ],\n["both'))
@@ -46,9 +47,9 @@ class DayOfAdding(OfAGame):
         self.assertEqual(run("add", self.suite, "--anyway", stdin=self.console(0, 4).encode()).status, 0)
         self.assertEqual(len(json.loads(self.suite.read_text(encoding="utf-8"))), 3)
 
-    def test_what_is_no_entry_is_refused_whole(self):
+    def test_where_nothing_is_found_nothing_is_changed(self):
         before = self.suite.read_bytes()
-        for text, what in ((self.console(0) + "\n[1]", "line 2: no entry"), ("hello", "line 1: no list of entries"), ("", "line 1: no list of entries"), (self.console(0)[:-9], "line 1: ")):
+        for text, what in (("hello", "standard input: it has no recording: "), ("", "standard input: it is empty: ")):
             answer = run("add", self.suite, stdin=text.encode())
             self.assert_refused(answer, what)
             self.assertEqual(self.suite.read_bytes(), before)

@@ -8,9 +8,9 @@ from day import OnSessions
 from saxtegun import budget, hanging
 from saxtegun.culprits import fault_told, repeated_in
 from saxtegun.explaining import told
+from saxtegun.finding import find
 from saxtegun.games import Game
 from saxtegun.hanging import Finder, things_of
-from saxtegun.javascript import entries_of
 from saxtegun.levelsets import drawn_columns
 from saxtegun.lines import Frame, Run
 from saxtegun.playing import Engine
@@ -61,8 +61,8 @@ READINGS = {
     "rules": (2000, lambda size: repeated_in(rules(size))),
     "rules, and what is repeated of them": (1000, lambda size: things_of(rules(size))),
     "objects": (2000, lambda size: objects_of(HEAD + "a\nred\n.....\n" * size)),
-    "quotes": (50_000, lambda size: entries_of("x", "['a',['" + "\\n" * size + "',[],'']]")),
-    "numbers": (50_000, lambda size: entries_of("x", "['a',[''," + "[" + "1," * size + "1],'']]")),
+    "quotes": (50_000, lambda size: find("['a',['" + "\\n" * size + "',[],'']]")),
+    "numbers": (50_000, lambda size: find("['a',[''," + "[" + "1," * size + "1],'']]")),
 }
 
 

@@ -45,10 +45,10 @@ class DayOfCoverage(OfAGame):
         last = self.write_entries([self.entries[1]])
         self.assertEqual(run("coverage", self.game, last).status, 0)
 
-    def test_refused_sessions_have_nothing_to_notice(self):
+    def test_where_no_session_is_played_there_is_no_answer(self):
         sessions = self.write("refused.json", json.dumps([["a", ["", [], ""]]]))
-        answer = run("coverage", sessions)
-        self.assertEqual((answer.status, answer.out), (0, "0 lines left out in turn: 0 that no session notices\n"))
+        self.assert_refused(run("coverage", sessions), "has no session that can be played, so no line was left out: session 0, a: its source is the empty text")
+        self.assert_refused(run("coverage", self.game, self.write("none.json", "[]")), "so no line was left out: it is empty")
         self.assertEqual(run("coverage", self.room / "nothing").status, 2)
 
 

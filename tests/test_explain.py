@@ -27,7 +27,7 @@ session 4, a recording that has gone stale: differs: 17 frames, 16 inputs; 5 of 
 TOLD = {
     "the-word-random-in-a-rule": ("(OutsideProfile:26)", "    line 26: random [ Player ] -> [ Player ]\n"),
     "a-level-row-with-an-unknown-glyph": ("a letter that draws nothing", "    line 28: x\n"),
-    "an-empty-source-is-refused-by-its-sections": ("a section that must be there is missing (Section:0); 0 frames",),
+    "an-empty-source-is-refused-by-its-sections": ("its source is the empty text, which stands for a game's, and no game's text is named", "(Section:0); 0 frames"),
     "two-rules-that-undo-each-other-stop-at-the-loop-limit": ("stopped: a group of rules or a loop still changed something in its 200th pass",),
     "an-index-beyond-the-levels-is-refused": ("no level is left from its index on",),
     "walk-with-a-recorded-level-of-three-cells-differs": ("the recorded level has 3 cells, and the one that was reached 4",),

@@ -12,7 +12,7 @@ from saxtegun.files import Changed, read_text, write_again
 from saxtegun.sessions import MOST_BYTES
 from saxtegun.telling import Failure, markdown
 
-ENTRY = '["n %d", ["OBJECTS", [3], "background:0,"]]'
+ENTRY = '["n %d", ["OBJECTS", [3], "background:0,", %d]]'
 # Answers each session at once, with the recorded level.
 PLAYER = f"""#!{sys.executable}
 import json, sys
@@ -25,9 +25,9 @@ LETTERS = 8_000_000
 # Says how many bytes more there are after a text has been read.
 MEASURE = """
 from resource import RUSAGE_SELF, getrusage
-from saxtegun.javascript import entries_of
+from saxtegun.finding import find
 before = getrusage(RUSAGE_SELF).ru_maxrss
-entries_of("x", f"['a',[{text},[],'']]")
+find(f"['a',[{text},[],'']]")
 print((getrusage(RUSAGE_SELF).ru_maxrss - before) * 1024)
 """
 
@@ -77,7 +77,7 @@ class Changes(OnSessions):
         program = self.write("program", PLAYER)
         program.chmod(0o755)
         words = [sys.executable, TOP / "saxtegun", "add", sessions]
-        consoles = [self.write(f"{it}.txt", ENTRY % it) for it in range(6)]
+        consoles = [self.write(f"{it}.txt", ENTRY % (it, it)) for it in range(6)]
         running = [subprocess.Popen([*words, it, "--program", program], env=environment(), stderr=subprocess.PIPE) for it in consoles]
         for it in running:
             self.assertIn(b"1 recording added", it.communicate()[1])

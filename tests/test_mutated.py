@@ -64,7 +64,7 @@ class Mutated(OnSessions):
 
     def answer(self, *words):
         """The status of a verb, called within this process; a refusal is 2, and anything else that it raises fails the test."""
-        output = io.StringIO()
+        output = io.TextIOWrapper(io.BytesIO(), encoding="utf-8")
         with mock.patch("sys.argv", ["saxtegun", *words]), contextlib.redirect_stdout(output), contextlib.redirect_stderr(io.StringIO()):
             try:
                 return calling.main()

@@ -1,10 +1,13 @@
 """`saxtegun play`: keys on standard input, and what is saved of them; what a terminal is told is looked at by itself."""
 import json
+import signal
+import subprocess
+import sys
 import time
 import unittest
 
 from test_test import OfAGame
-from tool import plays, run
+from tool import TOP, environment, plays, run
 from saxtegun.games import Game
 from saxtegun.terminal import lettered, painted, pixels_of
 
@@ -35,6 +38,43 @@ class DayOfPlaying(OfAGame):
         self.assert_refused(run("play", self.game), "has a name that is not there: `Create` (near: `crate`)")
         self.assert_refused(run("play", self.game, "--level", 3), "has 2 levels, but no level 3")
         self.assert_refused(run("play", self.room / "nothing"), "can't be read")
+
+    def test_a_place_that_can_not_be_written_is_reported_before_the_play(self):
+        for place, what in ((self.room / "no/where.json", "can't be written: No such file"), (self.room, "can't be read: Is a directory")):
+            self.assert_refused(run("play", self.game, "--save", "mine", place, stdin=b"d"), what)
+
+    def test_what_can_not_be_saved_is_written_out(self):
+        folder = self.room / "gone"
+        folder.mkdir()
+        with self.playing("--save", "mine", folder / "mine.json") as ran:
+            ran.stdin.write(b"d")
+            self.wait_for(ran, b"1 input")
+            folder.rmdir()
+            out, errors = ran.communicate(b"q")
+        self.assertEqual((ran.returncode, json.loads(out.splitlines()[-1])[1][:2]), (2, ["", [3]]))
+        self.assertIn(b"what was played stands on standard output", errors)
+
+    def playing(self, *words):
+        command = [sys.executable, TOP / "saxtegun", "play", self.game, *words]
+        return subprocess.Popen(list(map(str, command)), stdin=subprocess.PIPE, stdout=subprocess.PIPE, stderr=subprocess.PIPE, env=environment(), bufsize=0)
+
+    def wait_for(self, ran, words):
+        shown = b""
+        while words not in shown:
+            line = ran.stdout.readline()
+            self.assertTrue(line, shown)
+            shown += line
+
+    def test_what_ends_the_play_saves_it(self):
+        suite = self.room / "mine.json"
+        for number, it in enumerate((signal.SIGINT, signal.SIGTERM, signal.SIGHUP), 1):
+            with self.playing("--save", "mine", suite) as ran:
+                ran.stdin.write(b"da")
+                self.wait_for(ran, b"2 inputs")
+                ran.send_signal(it)
+                out, errors = ran.communicate()
+            self.assertEqual((ran.returncode, errors.decode()), (0, f"play: mine: 2 inputs saved in {suite}\n"))
+            self.assertEqual([entry[1][1] for entry in json.loads(suite.read_text(encoding="utf-8"))], [[3, 1]] * number)
 
     def test_a_key_takes_under_20_ms(self):
         keys = b"da" * 150

@@ -50,11 +50,17 @@ class InAFreshClone(InARoom):
 
 
 class Programs(InAFreshClone):
+    def setUp(self):
+        super().setUp()
+        # of no session, so a program need write no line
+        self.empty = self.room / "empty.json"
+        self.empty.write_text("[]\n")
+
     def test_without_a_program_and_node_it_says_how_to_get_one(self):
         self.release()
-        self.assertEqual(self.called("lines", EXAMPLE), (2, "", f"saxtegun lines: the program is not built here, and there is no Node: {HOW}"))
+        self.assertEqual(self.called("lines", self.empty), (2, "", f"saxtegun lines: the program is not built here, and there is no Node: {HOW}"))
         self.put(self.path / "node", "#!/bin/sh\nexit 1\n")
-        self.assertEqual(self.called("lines", EXAMPLE), (2, "", f"saxtegun lines: the program is not built here, and there is no Node: {HOW}"))
+        self.assertEqual(self.called("lines", self.empty), (2, "", f"saxtegun lines: the program is not built here, and there is no Node: {HOW}"))
 
     def test_a_node_that_is_too_old_is_reported(self):
         self.release()
@@ -63,28 +69,28 @@ class Programs(InAFreshClone):
 
     def test_a_clone_of_which_nothing_is_released_is_reported(self):
         self.node("v22.1.0")
-        self.assertEqual(self.called("lines", EXAMPLE), (2, "", f"saxtegun lines: the program is not built here, and no module is released: {HOW}"))
+        self.assertEqual(self.called("lines", self.empty), (2, "", f"saxtegun lines: the program is not built here, and no module is released: {HOW}"))
 
     def test_the_released_module_plays_in_node(self):
         self.release()
         self.node("v20.0.0")
-        status, out, errors = self.called("lines", EXAMPLE, "--order", "rows", "--workers", "3")
+        status, out, errors = self.called("lines", self.empty, "--order", "rows", "--workers", "3")
         self.assertEqual((status, errors), (0, f"saxtegun: {PLAYED}20.0.0\n"))
-        self.assertEqual(out, f"{self.top}/released/saxtegun.wasm {self.top}/engine/replay.mjs --order rows --workers 3 {EXAMPLE}\n")
+        self.assertEqual(out, f"{self.top}/released/saxtegun.wasm {self.top}/engine/replay.mjs --order rows --workers 3 {self.empty}\n")
 
     def test_a_module_with_another_sum_is_refused(self):
         self.release()
         self.node("v20.0.0")
         with open(self.top / "released/saxtegun.wasm", "ab") as module:
             module.write(b"\0")
-        status, out, errors = self.called("lines", EXAMPLE)
+        status, out, errors = self.called("lines", self.empty)
         self.assertEqual((status, out, errors.count("\n")), (2, "", 1))
         self.assertIn("is not the module that SHA256SUMS beside it names: fetch both again", errors)
         for text in ("", "# Saxtegun 1.2.3, commit none\n", f"# Saxtegun 1.2.3, commit {COMMIT}\nno sum\n", f"# Saxtegun 1.2.3, commit {COMMIT}\n", None):
             sums = self.top / "released/SHA256SUMS"
             sums.unlink() if text is None else sums.write_text(text)
             with self.subTest(text):
-                status, out, errors = self.called("lines", EXAMPLE)
+                status, out, errors = self.called("lines", self.empty)
                 self.assertEqual((status, out, errors.count("\n")), (2, "", 1))
 
     def test_the_program_that_is_built_comes_first_and_is_looked_at_by_replay(self):
@@ -93,14 +99,26 @@ class Programs(InAFreshClone):
         self.put(self.top / "crates/pz_replayer/out/pz_replayer", '#!/bin/sh\necho built "$@"\n')
         self.put(self.top / "replay", '#!/bin/sh\necho replay "$@"\n')
         said = "saxtegun: the program that is built here plays, crates/pz_replayer/out/pz_replayer\n"
-        self.assertEqual(self.called("lines", EXAMPLE), (0, f"replay --order columns {EXAMPLE}\n", said))
+        self.assertEqual(self.called("lines", self.empty), (0, f"replay --order columns {self.empty}\n", said))
+
+    def test_comparing_and_shrinking_begin_no_build(self):
+        self.put(self.top / "replay", f'#!/bin/sh\ntouch {self.room}/began\nexit 2\n')
+        mine = self.room / "mine"
+        self.put(mine, '#!/bin/sh\nexit 0\n')
+        for words in (("compare", "--engines", mine, self.top / "replay", self.empty), ("shrink", self.top / "replay", mine, EXAMPLE, "both*")):
+            status, out, errors = self.called(*words)
+            self.assertEqual((status, out, errors.count("\n"), (self.room / "began").exists()), (2, "", 1, False))
+            self.assertIn("./replay would prove and build the program first, which takes many minutes: call it once by itself", errors)
+        self.put(self.top / "crates/pz_replayer/out/pz_replayer", "#!/bin/sh\nexit 0\n")
+        self.assertEqual(self.called("compare", "--engines", mine, self.top / "replay", self.empty)[0], 0)
+        self.assertFalse((self.room / "began").exists())
 
     def test_a_program_that_is_named_comes_before_all_and_nothing_is_said(self):
         self.put(self.room / "mine", '#!/bin/sh\necho mine "$@"\n')
         self.put(self.top / "crates/pz_replayer/out/pz_replayer", "")
-        self.assertEqual(self.called("lines", EXAMPLE, "--program", self.room / "mine"), (0, f"mine --order columns {EXAMPLE}\n", ""))
+        self.assertEqual(self.called("lines", self.empty, "--program", self.room / "mine"), (0, f"mine --order columns {self.empty}\n", ""))
         self.put(self.top / "bin/pz_replayer", '#!/bin/sh\necho released "$@"\n')
-        self.assertEqual(self.called("lines", EXAMPLE), (0, f"released --order columns {EXAMPLE}\n", ""))
+        self.assertEqual(self.called("lines", self.empty), (0, f"released --order columns {self.empty}\n", ""))
 
     def test_a_c_library_that_is_too_old_is_reported(self):
         """As the loader of Debian bullseye says it, which ends with 1."""

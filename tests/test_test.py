@@ -119,7 +119,9 @@ class DayOfTests(OfAGame):
         bad = self.write("bad.json", '[["the name", ["", [], "x"]]]')
         for words, what in (
             ((self.game,), "no sessions file is named"),
-            ((self.game, EXAMPLE), "no session whose source is the empty text"),
+            ((self.game, self.write("none.json", "[]")), "none.json has no session, so nothing was played"),
+            ((self.write("nothing.txt", " \n"), self.recordings), "nothing.txt is empty: it is to be a game's text"),
+            ((self.game, self.recordings, "--markdown", self.room), "can't be written: it is a folder"),
             ((self.game, self.room / "nothing.json"), "can't be read"),
             ((self.game, bad), "bad.json was not played: the recorded level of session 0 (the name) is no level text (bad-level 0)"),
             ((self.game, self.recordings, "--junit", self.recordings), "is read: write to another file"),

@@ -68,6 +68,14 @@ def cause_told(cause: str) -> str:
     return FAULTS[code].format(line=f"line {number}")
 
 
+NO_TEXT = "its source is the empty text, which stands for a game's, and no game's text is named: as in `saxtegun test GAME.txt SESSIONS.json`, or with --game"
+
+
+def source_told(entry: Optional[Entry], cause: str) -> str:
+    """A cause in words: a text that was forgotten is called that, and no fault of a game."""
+    return NO_TEXT if entry is not None and not entry.source and fault_in(cause) else cause_told(cause)
+
+
 def source_line(source: str, number: int) -> Optional[str]:
     """A line of a source by its number, or None."""
     lines = source.split("\n")
@@ -191,7 +199,7 @@ def told_in_full(run: Run, entry: Optional[Entry] = None, order: str = "columns"
         place = f"{game}:{fault[1]}" if game and fault else f"line {fault[1]}" if fault else ""
         below = [f"{place}: {cut(line)}"] if line is not None else []
         culprit = hung or (culprit_told(entry, run) if entry else "")
-        return f"{cause_told(run.cause)}{culprit} ({run.cause}); {plural(len(run.frames), 'frame')}", below
+        return f"{source_told(entry, run.cause)}{culprit} ({run.cause}); {plural(len(run.frames), 'frame')}", below
     if run.close == "passed":
         return plural(len(run.frames), "frame"), []
     if entry is None:

@@ -1,4 +1,4 @@
-"""Files: what is read, and what is written beside and renamed, so that nothing is written over what is being read."""
+"""Files: what is read, and what is written beside and renamed, so that nothing is written over what is being read or what another has written meanwhile."""
 from __future__ import annotations
 
 import os
@@ -63,6 +63,17 @@ def read_text(path: str, most: int = MOST_BYTES) -> str:
         raise Refused(f"{path}, line {data.count(NEW_LINE, 0, why.start) + 1}: byte {why.start - begin} of it is not UTF-8") from None
 
 
+def read_any_text(path: str) -> str:
+    """The text of a file as another program has saved it: in UTF-8, or in UTF-16, which begins with a mark or has every other byte 0."""
+    data = read_bytes(path, MOST_BYTES)
+    is_wide = data[:2] in (b"\xff\xfe", b"\xfe\xff")
+    coding = "utf-16" if is_wide else "utf-16-le" if data[1:2] == b"\0" else "utf-16-be" if data[:1] == b"\0" else "utf-8"
+    try:
+        return data.decode(coding).lstrip(MARK)
+    except UnicodeDecodeError as why:
+        raise Refused(f"{path}, line {data.count(NEW_LINE, 0, why.start) + 1}: it is not {coding.upper()}: save it as UTF-8") from None
+
+
 def guard_output(*paths: str) -> None:
     """Refuses to write over a file that is read. (A shell's `>` has emptied it before this is called.)"""
     try:
@@ -94,9 +105,12 @@ class Changed(Refused):
 
 
 @contextmanager
-def locked(folder: str) -> Iterator[None]:
-    """Lets nobody else of us write into a folder, where its file system knows of that."""
-    number = os.open(folder, os.O_RDONLY)
+def locked(path: str) -> Iterator[None]:
+    """Lets nobody else of us write into the folder of a file, where its file system knows of that."""
+    try:
+        number = os.open(os.path.dirname(os.path.realpath(path)), os.O_RDONLY)
+    except OSError as why:
+        raise Refused(f"{path} can't be written: {why.strerror}") from None
     try:
         try:
             import fcntl
@@ -112,13 +126,28 @@ def locked(folder: str) -> Iterator[None]:
 def write_again(path: str, was: Optional[str], text: str) -> None:
     """Writes a file again that was read, or that was not there (None). Refused where it has been changed since."""
     try:
-        with locked(os.path.dirname(os.path.realpath(path))):
+        with locked(path):
             now = read_text(path) if os.path.exists(path) else None
             if now != was:
                 raise Changed(f"{path} was changed since it was read: call this again")
             write_whole(path, text)
     except OSError as why:
         raise Refused(f"{path} can't be written: {why.strerror}") from None
+
+
+def guard_places(*paths: Optional[str]) -> None:
+    """Refuses a place that can't be written, before anything is played that would be lost."""
+    for path in (it for it in paths if it):
+        target = os.path.realpath(path)
+        if os.path.isdir(target):
+            raise Refused(f"{path} can't be written: it is a folder")
+        if os.path.exists(target) and not os.path.isfile(target):
+            continue
+        try:
+            with tempfile.NamedTemporaryFile(dir=os.path.dirname(target), prefix=".saxtegun-"):
+                pass
+        except OSError as why:
+            raise Refused(f"{path} can't be written: {why.strerror}") from None
 
 
 def write_whole(path: str, text: str) -> None:

@@ -39,16 +39,17 @@ QUICK = 0.25
 
 class Engine(NamedTuple):
     """How sessions are played: in which order of cells, by how many workers (None: as many as the program takes), with which program (None: ours),
-    how many seconds each has (None: as many as it takes), and what is tested of what the program writes."""
+    how many seconds each has (None: as many as it takes), what is tested of what the program writes, and whether ours may be built first."""
 
     order: str = "columns"
     workers: Optional[int] = None
     program: Optional[str] = None
     seconds: Optional[float] = None
     tests: Tests = ALL_BUT_ORDER
+    may_build: bool = True
 
     def words(self) -> List[str]:
-        return [*program_words(self.program), "--order", self.order, *(["--workers", str(self.workers)] if self.workers else [])]
+        return [*program_words(self.program, self.may_build), "--order", self.order, *(["--workers", str(self.workers)] if self.workers else [])]
 
 
 def engine_of(given: Namespace) -> Engine:

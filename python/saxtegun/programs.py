@@ -91,16 +91,25 @@ def choose() -> List[str]:
     return in_node()
 
 
-def program_words(named: Optional[str] = None) -> List[str]:
+def built() -> List[str]:
+    """How the program is called that is built here, as it is. Refused where there is none."""
+    if not BUILT.is_file():
+        raise Refused("./replay would prove and build the program first, which takes many minutes: call it once by itself, or name another program")
+    return [str(BUILT)]
+
+
+def program_words(named: Optional[str] = None, may_build: bool = True) -> List[str]:
     """How the program is called: the one that is named, that of SAXTEGUN_PROGRAM, that of a release, or one that is chosen, once in a process."""
     path = named or os.environ.get("SAXTEGUN_PROGRAM") or (str(IN_RELEASE) if IN_RELEASE.is_file() else None)
     if path:
         if not os.path.isfile(path) or not os.access(path, os.X_OK):
             raise Refused(f"there is no program at {path!r}")
-        return [os.path.abspath(path)]
-    if not CHOSEN:
-        CHOSEN.append(choose())
-    return CHOSEN[0]
+        words = [os.path.abspath(path)]
+    else:
+        if not CHOSEN:
+            CHOSEN.append(choose())
+        words = CHOSEN[0]
+    return built() if not may_build and os.path.realpath(words[0]) == os.path.realpath(BUILDS) else words
 
 
 def has_played() -> None:

@@ -1,7 +1,9 @@
 """A sessions file, read as docs/sessions.md has it, and refused by a sentence with the place."""
 from __future__ import annotations
 
+import difflib
 import json
+import os
 import re
 from fnmatch import fnmatchcase
 from typing import Any, Dict, List, NamedTuple, NoReturn, Optional, Sequence, Tuple, Union
@@ -15,13 +17,15 @@ WORDS = ("undo", "restart", "tick")
 # What a sessions file holds at most.
 MOST_BYTES = 16_777_216
 MOST_ENTRIES = 65_536
+# A further element of an entry, which demands that it is solved.
+DEMAND = "solved"
 
 Input = Union[int, str]
 Item = Tuple[Any, int, int]
 
 
 class Entry(NamedTuple):
-    """An entry of a sessions file. `spans` says where its source and its level stand in the text of the file, and where it does itself."""
+    """An entry of a sessions file. `spans` says where its name, its source and its level stand in the text of the file, and where it does itself."""
 
     number: int
     name: str
@@ -95,6 +99,9 @@ def fault_of(entry: Any) -> Optional[str]:
         return "its index is no whole number"
     if any(LONE_SURROGATE.search(it) for it in (entry[0], body[0], body[2])):
         return "a text of it holds half a letter (a lone surrogate)"
+    for it in entry[2:]:
+        if isinstance(it, str) and it != DEMAND and difflib.get_close_matches(it.lower(), [DEMAND], cutoff=0.8):
+            return f"its further element {cut(it)!r} is nearly {DEMAND!r}, and would demand nothing"
     return None
 
 
@@ -104,9 +111,9 @@ def entry_of(path: str, text: str, number: int, value: Any, begin: int, end: int
         raise Refused(f"{path}, session {number}, line {text.count(chr(10), 0, begin) + 1}: {fault}")
     name, body = value[0], value[1]
     parts = items_of(text, items_of(text, begin)[0][1][1])[0]
-    spans = {"source": parts[0][1:], "level": parts[2][1:], "entry": (begin, end)}
+    spans = {"name": items_of(text, begin)[0][0][1:], "source": parts[0][1:], "level": parts[2][1:], "entry": (begin, end)}
     index = body[3] if len(body) > 3 and body[3] is not None else 0
-    return Entry(number, name, body[0], body[1], body[2], index, spans, "solved" in value[2:])
+    return Entry(number, name, body[0], body[1], body[2], index, spans, DEMAND in value[2:])
 
 
 def sessions_in(path: str, text: str) -> Sessions:
@@ -133,12 +140,6 @@ def read_sessions(path: str) -> Sessions:
         raise Refused(f"{path} has more than {MOST_BYTES // 2**20} MiB: play it in parts, by saxtegun split") from None
 
 
-def read_over(path: str, game: Optional[str]) -> Sessions:
-    """The sessions of a file; where a game's text is named, that is the source of each whose own is the empty text."""
-    sessions = read_sessions(path)
-    return with_source(sessions, game, read_text(game).lstrip(MARK)) if game else sessions
-
-
 def changed(sessions: Sessions, changes: Dict[int, Tuple[str, str]]) -> str:
     """The text of a sessions file with other sources or levels: `changes` maps a session's number to the part that is changed and its new
     text. All else stays letter by letter."""
@@ -156,21 +157,30 @@ def fits(name: str, pattern: str) -> bool:
     return name == pattern or fnmatchcase(name, pattern)
 
 
+def unfitting(entries: Sequence[Entry], patterns: Sequence[str]) -> List[str]:
+    """The patterns that fit no name of these entries."""
+    return [pattern for pattern in patterns if not any(fits(it.name, pattern) for it in entries)]
+
+
 def chosen(sessions: Sessions, patterns: Optional[Sequence[str]]) -> List[Entry]:
     """The entries whose names fit one of these patterns, of which each must fit something; all entries where none are given."""
     if patterns is None:
         return sessions.entries
-    for pattern in patterns:
-        if not any(fits(entry.name, pattern) for entry in sessions.entries):
-            raise Refused(f"{sessions.path} has no session named {cut(pattern)!r}")
+    for pattern in unfitting(sessions.entries, patterns):
+        raise Refused(f"{sessions.path} has no session named {cut(pattern)!r}")
     return [entry for entry in sessions.entries if any(fits(entry.name, it) for it in patterns)]
 
 
-def with_source(sessions: Sessions, game: str, source: str) -> Sessions:
-    """The sessions with a game's text as the source of each whose source is the empty text. The text of the file stays as it is."""
-    if all(it.source for it in sessions.entries) and sessions.entries:
-        raise Refused(f"{sessions.path} has no session whose source is the empty text, so nothing of it is played over {game}")
-    return sessions._replace(entries=[it if it.source else it._replace(source=source) for it in sessions.entries])
+def with_more(old: Sessions, new: Sequence[str]) -> str:
+    """The text of a sessions file with more entries behind its own."""
+    close = old.text.rstrip().rindex("]")
+    head = old.text[:close].rstrip()
+    return head + (",\n" if old.entries else "\n") + ",\n".join(new) + "\n" + old.text[close:]
+
+
+def read_or_new(path: str) -> Sessions:
+    """The sessions of a file, and none where it isn't there."""
+    return read_sessions(path) if os.path.exists(path) else Sessions(path, "[]\n", [])
 
 
 def value_of(entry: Entry) -> List[Any]:

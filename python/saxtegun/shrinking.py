@@ -26,7 +26,7 @@ class Programs(NamedTuple):
     engine: Engine
 
     def pairs(self, entries: Sequence[Entry]) -> List[Tuple[Run, Run]]:
-        """What both show of entries."""
+        """What both show of entries. Either may close wrongly: that is what is looked for."""
         one, other = (runs_of(entries, self.of, self.engine._replace(program=program, tests=OF_ANY_ENGINE)) for program in (self.one, self.other))
         return list(zip(one, other))
 

@@ -26,12 +26,13 @@ import sys
 from argparse import ArgumentParser, Namespace
 from typing import Dict, List, Optional, Tuple
 
-from saxtegun.commands import Refused, add_playing, plural, printable, say
-from saxtegun.explaining import UNREADABLE, Ending, cause_told, heading, told
-from saxtegun.files import MARK, guard_output, read_text, write_again
+from saxtegun.commands import Refused, add_game, add_playing, plural, printable, say
+from saxtegun.explaining import UNREADABLE, Ending, heading, source_told, told
+from saxtegun.files import guard_output, guard_places, write_again
 from saxtegun.lines import Run
 from saxtegun.playing import engine_of, lines_or_played
-from saxtegun.sessions import Entry, changed, chosen, read_sessions, with_source
+from saxtegun.sessions import Entry, changed, chosen, read_sessions
+from saxtegun.texts import over, read_game, say_others
 
 USAGE = "accept SESSIONS [LINES] [--only PATTERN..] [--review] [--in-place] [--game GAME.txt] [--order rows|columns] [>NEW]"
 ASKED = "accept it? y: yes, n: no, a: it and all that follow, q: none of those that follow "
@@ -41,7 +42,7 @@ def add_words(words: ArgumentParser) -> None:
     words.add_argument("sessions", metavar="SESSIONS")
     words.add_argument("lines", metavar="LINES", nargs="?")
     words.add_argument("--only", metavar="PATTERN", action="append", help="accept sessions whose names fit; may be repeated")
-    words.add_argument("--game", metavar="GAME.txt", help="the text of recordings whose source is the empty text")
+    add_game(words)
     words.add_argument("--review", action="store_true")
     words.add_argument("--in-place", action="store_true")
     add_playing(words)
@@ -50,7 +51,7 @@ def add_words(words: ArgumentParser) -> None:
 def obstacle(entry: Entry, run: Run, order: str) -> Optional[str]:
     """Why what a session reached can't be recorded, or None."""
     if run.cause is not None:
-        return cause_told(run.cause)
+        return source_told(entry, run.cause)
     ending = Ending(entry, run)
     if ending.reached is None:
         return UNREADABLE
@@ -92,9 +93,11 @@ def main(given: Namespace) -> int:
         raise Refused("--in-place needs a file, and standard input is none")
     if not given.in_place:
         guard_output(given.sessions, *([given.lines] if given.lines else []))
-    sessions = read_sessions(given.sessions)
-    if given.game:
-        sessions = with_source(sessions, given.game, read_text(given.game).lstrip(MARK))
+    else:
+        guard_places(given.sessions)
+    game = read_game(given.game)
+    sessions = over(read_sessions(given.sessions), game)
+    say_others("accept", sessions, game)
     wanted = {it.number for it in chosen(sessions, given.only)}
     review = Review(given.order) if given.review else None
     changes: Dict[int, Tuple[str, str]] = {}

@@ -1,97 +1,91 @@
 """Adds recordings to a sessions file, as an editor's console prints them or as
 published test data has them.
 
-CONSOLE.txt (`-` or nothing: standard input) has one entry or several, with or
-without commas, or a list of them. They are read as JavaScript and played before
-they are added. If something is no entry, or if a source is refused or a session
-stops, nothing is added. A recording that differs is refused too, unless you say
---anyway.
+CONSOLE.txt (`-` or nothing: standard input) may be all that the console
+printed, with headings, messages and prose: recordings are looked for in it, and
+standard error says what was skipped, and why. They are played before they are
+added. If a source is refused or a session stops, nothing is added. A recording
+that differs is refused too, unless you say --anyway.
 
-With --game GAME.txt an entry with that source gets the empty text in its place;
-`saxtegun test GAME.txt SESSIONS.json` plays it. Without --game entries keep
-their sources. SESSIONS.json is made if it isn't there. The entries in it stay
-unchanged; the new file is written beside it and renamed.
+With --game GAME.txt a recording over that text gets the empty text in its
+place: `saxtegun test GAME.txt SESSIONS.json` plays it, and it follows each
+edit. Without --game recordings keep their sources.
 
-Exit status: 0 all were added, 1 a recording did not pass and so none was, 2 a
-file is refused."""
+A recording is named by --name, or else as it is in the text; one without a name
+of its own gets its game's title and level. No two names are alike. A recording
+that is there already isn't added again. SESSIONS.json is made if it isn't
+there. The entries in it stay unchanged; the new file is written beside it and
+renamed.
+
+Exit status: 0 all were added or are there, 1 a recording did not pass and so
+none was, or one was cut off or had a fault, 2 a file is refused."""
 from __future__ import annotations
 
-import json
-import os
 from argparse import ArgumentParser, Namespace
-from typing import List, Optional, Tuple
+from typing import List, NamedTuple, Optional, Sequence
 
 from saxtegun.commands import Refused, add_playing, cut, plural, say
 from saxtegun.explaining import told
-from saxtegun.files import MARK, Changed, read_text, write_again
-from saxtegun.javascript import entries_of
+from saxtegun.files import guard_places, locked, write_whole
 from saxtegun.playing import engine_of, runs_of
-from saxtegun.sessions import Entry, Sessions, read_sessions, sessions_in
+from saxtegun.recordings import as_sessions, is_broken, like, named, own_name, read_findings
+from saxtegun.sessions import Entry, Sessions, changed, read_or_new, with_more
+from saxtegun.texts import GameText, of_another_text, over, read_game, remark, same_text
 
-USAGE = "add SESSIONS.json [CONSOLE.txt|-] [--game GAME.txt] [--anyway] [--order rows|columns]"
+USAGE = "add SESSIONS.json [CONSOLE.txt|-] [--game GAME.txt] [--name NAME] [--anyway] [--order rows|columns]"
 
 
 def add_words(words: ArgumentParser) -> None:
     words.add_argument("sessions", metavar="SESSIONS.json")
     words.add_argument("console", metavar="CONSOLE.txt", nargs="?", default="-")
     words.add_argument("--game", metavar="GAME.txt", help="the text that stands for sources that are the same, or empty")
+    words.add_argument("--name", metavar="NAME", help="the name of what is added; of several, with a number")
     words.add_argument("--anyway", action="store_true", help="also what differs from what was recorded")
     add_playing(words)
 
 
-def same_text(one: str, other: str) -> bool:
-    """Whether two sources are the same, but for how lines end and what stands behind the last."""
-    return one.replace("\r\n", "\n").rstrip() == other.replace("\r\n", "\n").rstrip()
+class Added(NamedTuple):
+    """What was added, under its names; how many are in the file; and how many of what was found are there already."""
+
+    names: List[str]
+    count: int
+    known: int
 
 
-def read_new(path: str) -> Sessions:
-    """The entries that are to be added."""
-    text = "[\n" + ",\n".join(entries_of(path, read_text(path))) + "\n]"
-    return sessions_in(path, text)
-
-
-def without_source(entry: Entry, text: str) -> str:
-    """The text of an entry with the empty text as its source."""
+def entry_with(new: Sessions, entry: Entry, name: str, game: Optional[GameText]) -> str:
+    """The text of an entry with this name, and with the empty text as its source where that is the text at hand."""
+    changes = [("name", name), *([("source", "")] if game and same_text(entry.source, game.source) else [])]
+    text = new.text
     begin, end = entry.spans["entry"]
-    first, behind = entry.spans["source"]
-    return f'{text[begin:first]}""{text[behind:end]}'
+    for part, word in sorted(changes, key=lambda it: entry.spans[it[0]], reverse=True):
+        text = changed(new._replace(text=text), {entry.number: (part, word)})
+    return text[begin : end + len(text) - len(new.text)]
 
 
-def with_more(old: Sessions, new: List[str]) -> str:
-    """The text of a sessions file with more entries behind its own."""
-    close = old.text.rstrip().rindex("]")
-    head = old.text[:close].rstrip()
-    return head + (",\n" if old.entries else "\n") + ",\n".join(new) + "\n" + old.text[close:]
+def add_to(path: str, new: Sessions, game: Optional[GameText], name: Optional[str] = None) -> Added:
+    """Adds entries to a sessions file as it is at this moment, whoever else has added some meanwhile."""
+    with locked(path):
+        old = read_or_new(path)
+        known = list(over(old, game).entries)
+        wanted: List[Entry] = []
+        for entry, it in zip(new.entries, over(new, game).entries):
+            same = like(it, known)
+            if same is None:
+                known.append(it)
+                wanted.append(entry)
+            else:
+                say(f"add: {cut(entry.name)}: is there already, as {cut(same.name)}: not added again")
+        names = named(name, wanted, (it.name for it in old.entries))
+        if wanted or not old.entries:
+            write_whole(path, with_more(old, [entry_with(new, it, word, game) for it, word in zip(wanted, names)]))
+    return Added(names, len(old.entries) + len(wanted), len(new.entries) - len(wanted))
 
 
-def read_old(path: str) -> Tuple[Sessions, Optional[str]]:
-    """What a sessions file holds, and its text; nothing, and None, where it isn't there."""
-    if not os.path.exists(path):
-        return Sessions(path, "[]\n", []), None
-    sessions = read_sessions(path)
-    return sessions, sessions.text
-
-
-def write_more(path: str, new: List[str]) -> Sessions:
-    """Adds entries to a sessions file behind those that it has by now; what it had. Others may add to it at the same time."""
-    while True:
-        old, text = read_old(path)
-        try:
-            write_again(path, text, with_more(old, new))
-            return old
-        except Changed:
-            pass
-
-
-def main(given: Namespace) -> int:
-    if given.sessions == "-":
-        raise Refused("name a sessions file: nothing can be added to standard input")
-    old, _ = read_old(given.sessions)
-    new = read_new(given.console)
-    game = read_text(given.game).lstrip(MARK) if given.game else ""
-    entries = [it._replace(source=game) if game and not it.source else it for it in new.entries]
+def failures_in(new: Sessions, game: Optional[GameText], given: Namespace) -> int:
+    """Plays what is to be added, and says what did not pass; how many of these must not be added."""
+    entries = over(new, game).entries
     failed = 0
-    for entry, run in zip(entries, runs_of(entries, new, engine_of(given)) if entries else []):
+    for entry, run in zip(entries, runs_of(entries, new, engine_of(given))):
         if run.close == "passed":
             continue
         sentence, below = told(run, entry, given.order, given.game or "")
@@ -100,11 +94,34 @@ def main(given: Namespace) -> int:
         say(f"add: {cut(entry.name)}: {run.close}{'' if is_let else ', not added'}: {sentence}")
         for line in below:
             say(f"    {line}")
+    return failed
+
+
+def say_own_texts(entries: Sequence[Entry], game: Optional[GameText], path: str) -> None:
+    """Says which entries keep the text that they were recorded over, and so don't follow the game."""
+    others = of_another_text(entries, game)
+    if game and others:
+        say(f"add: {remark(path, others, game)}")
+    own = [] if game else [it for it in entries if it.source]
+    if own:
+        keep = "keeps its" if len(own) == 1 else "keep their"
+        say(f"add: {plural(len(own), 'recording')} {keep} own text, and no edit of a game changes that; with --game GAME.txt they follow it")
+
+
+def main(given: Namespace) -> int:
+    if given.sessions == "-":
+        raise Refused("name a sessions file: nothing can be added to standard input")
+    read_or_new(given.sessions)
+    guard_places(given.sessions)
+    game = read_game(given.game)
+    findings = read_findings("add", given.console)
+    new = as_sessions(given.console, findings.found, lambda name, it: own_name(name, it if it.source or not game else it._replace(source=game.source)))
+    failed = failures_in(new, game, given)
     if failed:
-        say(f"add: {plural(failed, 'recording')} of {len(entries)} did not pass, so nothing was added")
+        say(f"add: {plural(failed, 'recording')} of {len(new.entries)} did not pass, so nothing was added")
         return 1
-    texts = [without_source(it, new.text) if game and same_text(it.source, game) else new.text[slice(*it.spans["entry"])] for it in new.entries]
-    if texts:
-        old = write_more(given.sessions, texts)
-    say(f"add: {plural(len(texts), 'recording')} added to {given.sessions}, which has {len(old.entries) + len(texts)}")
-    return 0
+    added = add_to(given.sessions, new, game, given.name)
+    names = f": {', '.join(map(cut, added.names))}" if added.names else ""
+    say(f"add: {plural(len(added.names), 'recording')} added to {given.sessions}, which has {added.count}{names}")
+    say_own_texts(new.entries, game, given.sessions)
+    return 1 if is_broken(findings) else 0

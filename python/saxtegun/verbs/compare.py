@@ -22,13 +22,14 @@ from typing import Iterator, List, Optional, Sequence, Tuple
 
 from saxtegun.belonging import NAMES_ALONE, OF_ANY_ENGINE, read_runs
 from saxtegun.commands import Refused, add_playing, cut, plural, printable
-from saxtegun.files import MARK, guard_files, guard_output, read_text, write_whole
+from saxtegun.files import guard_files, guard_output, guard_places, write_whole
 from saxtegun.lines import Run
 from saxtegun.origins import add_date, origin_of
 from saxtegun.pages import Report, comparison
 from saxtegun.parting import below_of, parting_of, sentence_of
 from saxtegun.playing import engine_of, runs_played
 from saxtegun.sessions import Entry, Sessions, read_sessions
+from saxtegun.texts import read_named, say_others
 
 USAGE = "compare (ONE.lines OTHER.lines [SESSIONS] | --engines P Q SESSIONS | --sources OLD.txt NEW.txt SESSIONS) [options]"
 
@@ -44,7 +45,7 @@ def add_words(words: ArgumentParser) -> None:
 
 def over(sessions: Sessions, path: str) -> List[Entry]:
     """The sessions over a game's text."""
-    source = read_text(path).lstrip(MARK)
+    source = read_named(path).source
     return [it._replace(source=source) for it in sessions.entries]
 
 
@@ -71,9 +72,11 @@ def runs_to_compare(given: Namespace) -> Tuple[Optional[Sessions], Iterator[Tupl
     if len(files) != 1:
         raise Refused("name one sessions file")
     sessions = read_sessions(files[0])
+    if given.sources:
+        say_others("compare", sessions, read_named(given.sources[1]))
     entries = [over(sessions, it) for it in given.sources] if given.sources else [sessions.entries, sessions.entries]
     programs = given.engines or [given.program, given.program]
-    one, other = (runs_played(it, sessions, engine_of(given)._replace(program=program, tests=OF_ANY_ENGINE)) for it, program in zip(entries, programs))
+    one, other = (runs_played(it, sessions, engine_of(given)._replace(program=program, tests=OF_ANY_ENGINE, may_build=False)) for it, program in zip(entries, programs))
     return sessions._replace(entries=entries[1]), pairs_of(one, other, given.engines or given.sources)
 
 
@@ -87,6 +90,7 @@ def names_of(given: Namespace) -> List[str]:
 def main(given: Namespace) -> int:
     guard_output(*given.files, *(given.sources or []))
     guard_files([given.report], [*given.files, *(given.sources or [])])
+    guard_places(given.report)
     count, parted = 0, 0
     report: Optional[Report] = None
     sessions, pairs = runs_to_compare(given)

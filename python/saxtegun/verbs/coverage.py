@@ -18,14 +18,16 @@ from argparse import ArgumentParser, Namespace
 from typing import Dict, Iterator, List, NamedTuple, Set, Tuple
 
 from saxtegun.commands import Refused, add_playing, cut, plural, printable
-from saxtegun.files import MARK, guard_output, read_text
+from saxtegun.explaining import source_told
+from saxtegun.files import guard_output
 from saxtegun.games import game_of
 from saxtegun.leaving import Part, parts_of
 from saxtegun.lines import UNANSWERED, Run
 from saxtegun.levelsets import wins_of
 from saxtegun.playing import engine_of, runs_of
-from saxtegun.sessions import Entry, Sessions, read_sessions, with_source
+from saxtegun.sessions import Entry, Sessions, read_sessions
 from saxtegun.solving import MOST_INPUTS, ONE_MORE
+from saxtegun.texts import over, read_game, say_others
 
 USAGE = "coverage [GAME.txt] SESSIONS.json [--order rows|columns] [--workers N]"
 # So much is played at once.
@@ -37,6 +39,14 @@ Signature = Tuple[object, ...]
 def add_words(words: ArgumentParser) -> None:
     words.add_argument("files", metavar="[GAME.txt] SESSIONS.json", nargs="+")
     add_playing(words)
+
+
+def unplayed(sessions: Sessions, found: Dict[int, Tuple[Signature, Signature]]) -> str:
+    """Why no session is played, by the first."""
+    if not sessions.entries:
+        return "it is empty"
+    first = sessions.entries[0]
+    return f"session 0, {cut(first.name)}: {source_told(first, str(found[0][0][1]))}"
 
 
 class Trial(NamedTuple):
@@ -92,12 +102,14 @@ class Coverage:
         return [((one.close, one.cause), (wins_of(more), any(it.kind == "over" for it in more.frames))) for one, more in zip(runs[::2], runs[1::2])]
 
     def trials(self) -> List[Trial]:
-        """All lines to be left out, with the sessions of their source that are played."""
+        """All lines to be left out, with the sessions of their source that are played. Refused where none is."""
         of: Dict[str, List[Entry]] = {}
         for entry, found in zip(self.sessions.entries, self.signatures(self.sessions.entries)):
             self.before[entry.number] = found
             if found[0][0] != "refused":
                 of.setdefault(entry.source, []).append(entry)
+        if not of:
+            raise Refused(f"{self.sessions.path} has no session that can be played, so no line was left out: {unplayed(self.sessions, self.before)}")
         return [Trial(source, part, [it._replace(source=part.source) for it in entries]) for source, entries in of.items() for part in parts_of(source)]
 
     def judge(self, trial: Trial, found: List[Tuple[Signature, Signature]]) -> None:
@@ -125,16 +137,17 @@ def main(given: Namespace) -> int:
     if len(given.files) > 2:
         raise Refused("name a sessions file, and before it at most a game's text")
     guard_output(*given.files)
-    game, sessions = given.files[0] if len(given.files) == 2 else "", read_sessions(given.files[-1])
-    if game:
-        sessions = with_source(sessions, game, read_text(game).lstrip(MARK))
+    text = read_game(given.files[0] if len(given.files) == 2 else None)
+    sessions = over(read_sessions(given.files[-1]), text)
+    say_others("coverage", sessions, text)
+    game = text.path if text else ""
     coverage = Coverage(sessions, given)
     coverage.run()
     sources: Set[str] = {it.source for it in coverage.unnoticed}
     for trial in coverage.unnoticed:
-        place = game or f"{game_of(trial.source).title}, line "
-        number = f":{trial.part.number}" if game else str(trial.part.number)
-        print(printable(f"{place}{number}: no session notices it: {cut(trial.part.text)}"))
+        is_at_hand = text is not None and trial.source == text.source
+        place = f"{game}:" if is_at_hand else f"{game_of(trial.source).title}, line "
+        print(printable(f"{place}{trial.part.number}: no session notices it: {cut(trial.part.text)}"))
     alone = f", {plural(coverage.alone, 'line')} can't be left out alone" if coverage.alone else ""
     games = f" in {plural(len(sources), 'source')}" if len(sources) > 1 else ""
     print(f"{plural(coverage.tried, 'line')} left out in turn: {len(coverage.unnoticed)} that no session notices{games}{alone}")

@@ -22,7 +22,8 @@ from saxtegun.explaining import heading, summary, told
 from saxtegun.files import guard_output
 from saxtegun.lines import UNANSWERED
 from saxtegun.playing import engine_of, lines_or_played
-from saxtegun.sessions import read_over
+from saxtegun.sessions import read_sessions
+from saxtegun.texts import over, read_game, say_others
 
 USAGE = "explain SESSIONS [LINES] [--game GAME.txt] [--order rows|columns]"
 
@@ -36,14 +37,16 @@ def add_words(words: ArgumentParser) -> None:
 
 def main(given: Namespace) -> int:
     guard_output(given.sessions, *([given.lines] if given.lines else []))
-    sessions = read_over(given.sessions, given.game)
+    game = read_game(given.game)
+    sessions = over(read_sessions(given.sessions), game)
+    say_others("explain", sessions, game)
     closes: List[str] = []
     lines: List[str] = []
     with lines_or_played(sessions, given.lines, engine_of(given)) as runs:
         for run in runs:
             closes.append(run.close)
             if run.close != "passed":
-                sentence, below = told(run, sessions.entries[run.number], given.order)
+                sentence, below = told(run, sessions.entries[run.number], given.order, given.game or "")
                 lines += [f"{heading(run)}: {printable(sentence)}", *(f"    {printable(it)}" for it in below)]
     sys.stdout.write("\n".join([*lines, summary(closes)]) + "\n")
     return 2 if UNANSWERED in closes else 0

@@ -15,7 +15,8 @@ from saxtegun.belonging import Tests, read_runs
 from saxtegun.commands import Refused, add_game, add_order
 from saxtegun.files import guard_output
 from saxtegun.junit import junit_of
-from saxtegun.sessions import read_over
+from saxtegun.sessions import read_sessions
+from saxtegun.texts import over, read_game, say_others
 
 USAGE = "junit [SESSIONS] LINES [--game GAME.txt] [--order rows|columns] [--refused error|skipped] >junit.xml"
 
@@ -31,6 +32,9 @@ def main(given: Namespace) -> int:
     if len(given.files) > 2:
         raise Refused("name one or two files: the lines, or the sessions and then the lines")
     guard_output(*given.files)
-    sessions = read_over(given.files[0], given.game) if len(given.files) == 2 else None
+    game = read_game(given.game)
+    sessions = over(read_sessions(given.files[0]), game) if len(given.files) == 2 else None
+    if sessions:
+        say_others("junit", sessions, game)
     sys.stdout.write(junit_of(read_runs(given.files[-1], sessions, Tests(order=given.order)), Path(given.files[0]).name, sessions, given.order, given.refused))
     return 0

@@ -5,7 +5,8 @@ Arrows or w a s d move, x or space acts, z or u undoes, r restarts, t is a tick,
 q ends. The level is drawn in the game's colours, or with --letters by
 its letters. --level N starts at the N-th level; messages don't count.
 
-With --save NAME SESSIONS.json what you played is added there at the end. Its
+With --save NAME SESSIONS.json what you played is added there at the end, also
+where you end it by Ctrl-C or close the window. Its
 last level is the recorded one, and the empty text stands in place of the
 game's: `saxtegun test GAME.txt SESSIONS.json` plays it. If standard input is no
 terminal, its letters are the keys.
@@ -16,22 +17,22 @@ from __future__ import annotations
 import json
 import os
 import select
+import signal
 import sys
 from argparse import ArgumentParser, Namespace
 from contextlib import contextmanager
-from typing import Iterator, List, Optional
+from typing import Any, Iterator, List, NoReturn, Optional
 
 from saxtegun.commands import Refused, plural, printable, say
 from saxtegun.explaining import cause_told, told
-from saxtegun.files import MARK, read_text
+from saxtegun.files import MARK, guard_places, locked, read_text, write_whole
 from saxtegun.games import game_of
 from saxtegun.levels import Labels, in_rows, read_cells, width_of
 from saxtegun.levelsets import count_of_levels, entries_of_levels
 from saxtegun.lines import Frame
 from saxtegun.playing import Engine, runs_of, shown_beyond
-from saxtegun.sessions import Entry, Input, Sessions, read_sessions
+from saxtegun.sessions import Entry, Input, Sessions, read_or_new, with_more
 from saxtegun.terminal import CLEAR, KEYS, lettered, painted
-from saxtegun.verbs.add import write_more
 
 USAGE = "play GAME.txt [--level N] [--save NAME SESSIONS.json] [--letters]"
 HELP = "arrows move, x acts, z undoes, r restarts, t ticks, q ends"
@@ -70,6 +71,12 @@ def next_key(is_terminal: bool) -> str:
     return letter
 
 
+def append(path: str, entry: str) -> None:
+    """Adds an entry to a sessions file as it is at this moment."""
+    with locked(path):
+        write_whole(path, with_more(read_or_new(path), [entry]))
+
+
 class Play:
     """A game while it is played: the inputs so far, and what they show."""
 
@@ -92,12 +99,12 @@ class Play:
         return Entry(0, self.given.game, self.source, self.inputs, level, self.index, {}, False)
 
     def press(self, key: Input) -> str:
-        """Plays one more input; what there is to say of it."""
-        self.inputs.append(key)
-        run = shown_beyond(self.entry(), len(self.frames), Engine(workers=1, program=self.given.program))
+        """Plays one more input; what there is to say of it. It counts once it is played, so an interrupt leaves whole what was played before."""
+        longer = self.entry()._replace(inputs=[*self.inputs, key])
+        run = shown_beyond(longer, len(self.frames), Engine(workers=1, program=self.given.program))
         if run.cause:
-            self.inputs.pop()
             return f"{cause_told(run.cause)}: the key is left out"
+        self.inputs.append(key)
         self.frames += run.frames
         kinds = [it.kind for it in run.frames]
         return "solved: all levels" if "over" in kinds else "the next level" if "load" in kinds else ""
@@ -116,27 +123,56 @@ class Play:
         sys.stdout.flush()
 
     def save(self, name: str, path: str) -> None:
-        value = [name, ["", self.inputs, self.frames[-1].level, self.index]]
-        write_more(path, [json.dumps(value, ensure_ascii=False, separators=(",", ":"))])
+        """Adds what was played to a file, or where that fails writes it to standard output: it is lost in no case."""
+        entry = json.dumps([name, ["", self.inputs, self.frames[-1].level, self.index]], ensure_ascii=False, separators=(",", ":"))
+        try:
+            append(path, entry)
+        except Refused as why:
+            print(entry, flush=True)
+            raise Refused(f"{why}; what was played stands on standard output: keep it, and call saxtegun add") from None
         say(f"play: {name}: {plural(len(self.inputs), 'input')} saved in {path}")
 
 
-def main(given: Namespace) -> int:
-    if sys.stdin is None:
-        raise Refused("standard input is closed, so there are no keys")
-    if given.save and os.path.exists(given.save[1]):
-        read_sessions(given.save[1])  # refused before anything is played, and not behind it
-    play = Play(given)
+def press_keys(play: Play) -> None:
+    """Plays the keys up to the one that ends."""
     with raw_terminal() as is_terminal:
         play.draw("", is_terminal)
         while True:
             key = next_key(is_terminal)
             if key in ("", "q", "\x03", "\x04"):
-                break
+                return
             it: Optional[Input] = KEYS.get(key)
             if it is not None:
-                word = play.press(it)
-                play.draw(word, is_terminal)
+                play.draw(play.press(it), is_terminal)
+
+
+def interrupt(number: int, frame: Any) -> NoReturn:
+    raise KeyboardInterrupt
+
+
+def on_signals(handler: Any) -> None:
+    """What Ctrl-C and a window that is closed do."""
+    for name in ("SIGINT", "SIGTERM", "SIGHUP"):
+        if hasattr(signal, name):
+            signal.signal(getattr(signal, name), handler)
+
+
+def main(given: Namespace) -> int:
+    if sys.stdin is None:
+        raise Refused("standard input is closed, so there are no keys")
     if given.save:
-        play.save(*given.save)
+        # refused before anything is played, and not behind it
+        read_or_new(given.save[1])
+        guard_places(given.save[1])
+    play = Play(given)
+    on_signals(interrupt)
+    try:
+        press_keys(play)
+    except KeyboardInterrupt:
+        # what was played is saved as behind q
+        pass
+    finally:
+        on_signals(signal.SIG_IGN)
+        if given.save:
+            play.save(*given.save)
     return 0

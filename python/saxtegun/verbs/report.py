@@ -20,7 +20,8 @@ from saxtegun.hanging import Finder
 from saxtegun.origins import add_date, origin_of, program_told
 from saxtegun.pages import Report
 from saxtegun.playing import engine_of, lines_or_played
-from saxtegun.sessions import read_over
+from saxtegun.sessions import read_sessions
+from saxtegun.texts import over, read_game, say_others
 
 USAGE = "report SESSIONS [LINES] [--game GAME.txt] [--order rows|columns] >report.html"
 
@@ -28,14 +29,16 @@ USAGE = "report SESSIONS [LINES] [--game GAME.txt] [--order rows|columns] >repor
 def add_words(words: ArgumentParser) -> None:
     words.add_argument("sessions", metavar="SESSIONS")
     words.add_argument("lines", metavar="LINES", nargs="?")
-    add_date(words)
     add_game(words)
+    add_date(words)
     add_playing(words)
 
 
 def main(given: Namespace) -> int:
     guard_output(given.sessions, *([given.lines] if given.lines else []))
-    sessions = read_over(given.sessions, given.game)
+    game = read_game(given.game)
+    sessions = over(read_sessions(given.sessions), game)
+    say_others("report", sessions, game)
     engine = engine_of(given)
     with lines_or_played(sessions, given.lines, engine) as runs:
         played = f"Lines: {Path(given.lines).name}" if given.lines else program_told(engine.words())

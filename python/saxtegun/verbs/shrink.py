@@ -22,14 +22,15 @@ import tempfile
 from argparse import ArgumentParser, Namespace
 from typing import Dict, Optional, Tuple
 
-from saxtegun.commands import Refused, add_order, cut, fold, plural, printable, say, workers_in
-from saxtegun.files import MARK, read_text
+from saxtegun.commands import Refused, add_game, add_order, cut, fold, plural, printable, say, workers_in
+from saxtegun.files import guard_places
 from saxtegun.levels import Labels, read_cells
 from saxtegun.lines import Run
 from saxtegun.parting import Parting, below_of, parting_of, sentence_of
 from saxtegun.playing import Engine, play_file
-from saxtegun.sessions import Entry, Sessions, chosen, read_sessions, with_source, written
+from saxtegun.sessions import Entry, Sessions, chosen, read_sessions, written
 from saxtegun.shrinking import Programs, Shrinking, Way, cut_behind, way_of, ways_of
+from saxtegun.texts import over, read_game, say_others
 
 USAGE = "shrink P Q SESSIONS NAME [FOLDER] [--game GAME.txt] [--order rows|columns]"
 LETTERS_OF_A_FOLDER = 60
@@ -41,7 +42,7 @@ def add_words(words: ArgumentParser) -> None:
     words.add_argument("sessions", metavar="SESSIONS")
     words.add_argument("name", metavar="NAME")
     words.add_argument("folder", metavar="FOLDER", nargs="?", help="where the case is written (a folder named after the session)")
-    words.add_argument("--game", metavar="GAME.txt", help="the text of recordings whose source is the empty text")
+    add_game(words)
     words.add_argument("--workers", metavar="N", type=workers_in)
     add_order(words)
 
@@ -79,7 +80,7 @@ def files_of_case(entry: Entry, given: Namespace, of: Sessions) -> Dict[str, byt
         path, lines = os.path.join(room, "input.json"), os.path.join(room, "lines")
         with open(path, "w", encoding="utf-8", newline="") as file:
             file.write(text)
-        status = play_file(path, lines, Engine(given.order, None, given.one), of._replace(entries=[entry]))
+        status = play_file(path, lines, Engine(given.order, None, given.one, may_build=False), of._replace(entries=[entry]))
         with open(lines, "rb") as shown:
             stdout = shown.read()
     args = "--order\nrows\n" if given.order == "rows" else ""
@@ -105,13 +106,14 @@ def write_case(folder: str, files: Dict[str, bytes]) -> None:
 
 
 def main(given: Namespace) -> int:
-    sessions = read_sessions(given.sessions)
-    if given.game:
-        sessions = with_source(sessions, given.game, read_text(given.game).lstrip(MARK))
+    game = read_game(given.game)
+    sessions = over(read_sessions(given.sessions), game)
+    say_others("shrink", sessions, game)
     folder = given.folder or folder_of(given.name)
     if os.path.exists(folder):
         raise Refused(f"{folder} is there already")
-    programs = Programs(given.one, given.other, sessions, Engine(given.order, given.workers))
+    guard_places(folder)
+    programs = Programs(given.one, given.other, sessions, Engine(given.order, given.workers, may_build=False))
     found = first_that_parts(programs, tuple(chosen(sessions, [given.name])))
     if found is None:
         print(f"{given.one} and {given.other} show the same")

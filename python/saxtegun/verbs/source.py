@@ -2,8 +2,10 @@
 
 Writes SESSIONS with the text of GAME.txt as the source of each session; --only
 takes those whose names fit. All else stays unchanged. Standard error says how
-many sessions got the source. For recordings whose source is the empty text,
-`saxtegun test GAME.txt SESSIONS` does the same and plays them at once.
+many sessions got the source. With --follow they get the empty text, in whose
+place `saxtegun test GAME.txt SESSIONS` plays GAME.txt, as it is then: they
+follow each edit. With --in-place the new file replaces SESSIONS once it is
+whole.
 
 Exit status: 0, or 2 if a file is refused or --only fits no session. It is also
 2 if sessions of different games would get this source: name those of the game
@@ -15,28 +17,40 @@ from argparse import ArgumentParser, Namespace
 
 from saxtegun.commands import Refused, plural, say
 from saxtegun.games import game_of
-from saxtegun.files import MARK, guard_output, read_text
+from saxtegun.files import guard_output, guard_places, write_again
 from saxtegun.sessions import changed, chosen, read_sessions
+from saxtegun.texts import read_named
 
-USAGE = "source GAME.txt SESSIONS [--only PATTERN..] [--all] >NEW"
+USAGE = "source GAME.txt SESSIONS [--follow] [--only PATTERN..] [--all] [--in-place] [>NEW]"
 
 
 def add_words(words: ArgumentParser) -> None:
     words.add_argument("game", metavar="GAME.txt")
     words.add_argument("sessions", metavar="SESSIONS")
     words.add_argument("--only", metavar="PATTERN", action="append", help="change sessions whose names fit; may be repeated")
+    words.add_argument("--follow", action="store_true", help="the empty text, in whose place the game's text is played")
+    words.add_argument("--in-place", action="store_true")
     words.add_argument("--all", action="store_true", help="also where they are of different games, by their titles")
 
 
 def main(given: Namespace) -> int:
-    guard_output(given.game, given.sessions)
-    source, sessions = read_text(given.game).lstrip(MARK), read_sessions(given.sessions)
+    if given.in_place and given.sessions == "-":
+        raise Refused("--in-place needs a file, and standard input is none")
+    if given.in_place:
+        guard_places(given.sessions)
+    guard_output(given.game, *([] if given.in_place else [given.sessions]))
+    text, sessions = read_named(given.game).source, read_sessions(given.sessions)
+    source = "" if given.follow else text
     entries = [it for it in chosen(sessions, given.only) if it.source != source]
     titles = {game_of(it.source).title for it in entries if it.source}
     if len(titles) > 1 and not given.all and not given.only:
         raise Refused(f"the sessions are of {len(titles)} games, by their titles: name those of {given.game} with --only, or say --all")
-    sys.stdout.write(changed(sessions, {it.number: ("source", source) for it in entries}))
-    sys.stdout.flush()
+    new = changed(sessions, {it.number: ("source", source) for it in entries})
+    if given.in_place:
+        write_again(given.sessions, sessions.text, new)
+    else:
+        sys.stdout.write(new)
+        sys.stdout.flush()
     games = len({it.source for it in entries})
     say(f"source: {plural(len(entries), 'session')} got another source, of {len(sessions.entries)}")
     if games > 1:

@@ -5,6 +5,10 @@
     saxtegun test suite.json other.json
         recordings that have their own sources
 
+A recording that has another text than game.txt is played over its own, and over
+game.txt too: it fails unless it passes over both. A line says which have one,
+and what makes them follow game.txt.
+
 `passed` says that the last level is as recorded, not that it was won. So each
 session also says whether it is solved (all levels), solved up to a level, or
 not. A session that --solved names must be solved, and so must an entry with a
@@ -28,7 +32,7 @@ from typing import Dict, List, NamedTuple, Optional, Tuple
 from saxtegun.budget import EXPLAINING, SECONDS
 from saxtegun.commands import Refused, add_playing, cut, fail, plural, printable, say
 from saxtegun.explaining import fault_in, summary, told
-from saxtegun.files import MARK, guard_files, guard_output, read_text, write_whole
+from saxtegun.files import guard_files, guard_output, guard_places, write_whole
 from saxtegun.guarding import write_command
 from saxtegun.hanging import Finder
 from saxtegun.junit import junit_of
@@ -36,9 +40,10 @@ from saxtegun.lines import UNANSWERED, Run
 from saxtegun.origins import add_date, origin_of, program_told
 from saxtegun.pages import Report
 from saxtegun.playing import engine_of, runs_of
-from saxtegun.sessions import Entry, Sessions, fits, read_sessions, with_source
+from saxtegun.sessions import Entry, Sessions, fits, read_sessions, unfitting
 from saxtegun.solving import SOLVED, solved_of
 from saxtegun.telling import Failure, annotation, markdown
+from saxtegun.texts import GameText, of_another_text, over, read_game, remark
 
 USAGE = "test [GAME.txt] SESSIONS.json.. [options]"
 PAUSE = 0.2
@@ -60,12 +65,22 @@ def add_words(words: ArgumentParser) -> None:
 
 
 class Suite(NamedTuple):
-    """What was played: the sessions of all files, numbered through, what they showed, how they ended, and the file of each."""
+    """What was played: the sessions of all files, numbered through, what they showed, how they ended, and the file of each. `elsewhere` is why sessions fail
+    that passed over a text of their own, and `remarks` tells which have one."""
 
     sessions: Sessions
     runs: List[Run]
     solved: Dict[int, str]
     files: List[Tuple[str, int]]
+    elsewhere: Dict[int, str]
+    remarks: List[str]
+
+
+class Picked(NamedTuple):
+    """A sessions file, and the entries of it that are played."""
+
+    sessions: Sessions
+    entries: List[Entry]
 
 
 def split_files(files: List[str]) -> Tuple[str, List[str]]:
@@ -82,27 +97,49 @@ def picked(sessions: Sessions, patterns: Optional[List[str]]) -> List[Entry]:
     return [it for it in sessions.entries if any(fits(it.name, pattern) for pattern in patterns)]
 
 
+def read_files(given: Namespace, game: Optional[GameText]) -> List[Picked]:
+    """What is to be played of each file. Refused where there is nothing, or where a pattern fits nothing: it would demand nothing."""
+    files = [over(read_sessions(it), game) for it in split_files(given.files)[1]]
+    entries = [it for file in files for it in file.entries]
+    if not entries:
+        raise Refused(f"{', '.join(it.path for it in files)} has no session, so nothing was played")
+    for word, patterns in (("--filter", given.filter or []), ("--solved", given.solved)):
+        alone = unfitting(entries, patterns)
+        if alone:
+            raise Refused(f"{word} fits no session ({', '.join(alone)})")
+    return [Picked(it, picked(it, given.filter)) for it in files]
+
+
+def elsewhere_in(file: Picked, runs: List[Run], game: GameText, given: Namespace) -> Dict[int, str]:
+    """Why sessions fail that passed over a text of their own, by their places: over the text at hand they don't pass."""
+    others = {it.number for it in of_another_text(file.entries, game)}
+    places = [place for place, it in enumerate(file.entries) if it.number in others and runs[place].close == "passed"]
+    entries = [file.entries[it]._replace(source=game.source) for it in places]
+    shown = runs_of(entries, file.sessions, engine_of(given)) if entries else []
+    found: Dict[int, str] = {}
+    for place, entry, run in zip(places, entries, shown):
+        if run.close != "passed":
+            found[place] = f"over its own text, but not over {game.path}: {run.close}: {told(run, entry, given.order, game.path)[0]}"
+    return found
+
+
 def played(given: Namespace) -> Suite:
-    game, paths = split_files(given.files)
+    game = read_game(split_files(given.files)[0])
     engine = engine_of(given)
-    entries: List[Entry] = []
-    runs: List[Run] = []
-    solved: Dict[int, str] = {}
-    files: List[Tuple[str, int]] = []
-    source = read_text(game).lstrip(MARK) if game else ""
-    for path in paths:
-        sessions = read_sessions(path)
-        sessions = with_source(sessions, game, source) if game else sessions
-        chosen, first = picked(sessions, given.filter), len(entries)
-        shown = runs_of(chosen, sessions, engine) if chosen else []
-        ended = solved_of(chosen, shown, sessions, engine)
-        files += [(path, it.number) for it in chosen]
-        entries += [it._replace(number=first + place) for place, it in enumerate(chosen)]
-        runs += [it._replace(number=first + it.number) for it in shown]
-        solved.update({first + place: it for place, it in ended.items()})
-    if given.filter and not entries:
-        raise Refused(f"--filter fits no session ({', '.join(given.filter)})")
-    return Suite(Sessions(", ".join(Path(it).name for it in paths), "", entries), runs, solved, files)
+    suite = Suite(Sessions(", ".join(Path(it).name for it in split_files(given.files)[1]), "", []), [], {}, [], {}, [])
+    for file in read_files(given, game):
+        first = len(suite.runs)
+        shown = runs_of(file.entries, file.sessions, engine) if file.entries else []
+        ended = solved_of(file.entries, shown, file.sessions, engine)
+        others = of_another_text(file.entries, game)
+        if game and others:
+            suite.remarks.append(remark(file.sessions.path, others, game))
+            suite.elsewhere.update({first + place: why for place, why in elsewhere_in(file, shown, game, given).items()})
+        suite.files.extend((file.sessions.path, it.number) for it in file.entries)
+        suite.sessions.entries.extend(it._replace(number=first + place) for place, it in enumerate(file.entries))
+        suite.runs.extend(it._replace(number=first + it.number) for it in shown)
+        suite.solved.update({first + place: it for place, it in ended.items()})
+    return suite
 
 
 def unsolved_in(suite: Suite, patterns: List[str]) -> Dict[int, str]:
@@ -112,18 +149,18 @@ def unsolved_in(suite: Suite, patterns: List[str]) -> Dict[int, str]:
     return {number: f"no longer solved: {end}" for number, end in ends.items() if end != SOLVED and suite.runs[number].close == "passed"}
 
 
-def failures_of(suite: Suite, unsolved: Dict[int, str], given: Namespace, hung: Finder) -> List[Failure]:
+def failures_of(suite: Suite, though_passed: Dict[int, str], given: Namespace, hung: Finder) -> List[Failure]:
     game, paths = split_files(given.files)
     found: List[Failure] = []
     for entry, run in zip(suite.sessions.entries, suite.runs):
         path, number = suite.files[entry.number]
         place = f"{path}: session {number}" if len(paths) > 1 else f"session {number}"
-        if run.close == "passed" and entry.number not in unsolved:
+        if run.close == "passed" and entry.number not in though_passed:
             continue
         sentence, below = told(run, entry, given.order, game, hung.told(entry, run))
         fault = fault_in(run.cause or "")
         if run.close == "passed":
-            sentence, below = unsolved[entry.number], []
+            sentence, below = though_passed[entry.number], []
         is_of_game = bool(game and fault)
         found.append(Failure(f"{place}, {cut(entry.name)}", run.close, sentence, below, game if is_of_game else path, fault[1] if is_of_game and fault else 1))
     return found
@@ -133,11 +170,11 @@ def show(line: str) -> None:
     print(printable(line))
 
 
-def tell(suite: Suite, failures: List[Failure], given: Namespace) -> str:
+def tell(suite: Suite, failures: List[Failure], unsolved: Dict[int, str], given: Namespace) -> str:
     """Says how the sessions ended; the counts are handed on."""
     if not given.quiet:
         for run in suite.runs:
-            if run.close == "passed":
+            if run.close == "passed" and run.number not in suite.elsewhere:
                 show(f"passed, {suite.solved.get(run.number, 'not played')}: {cut(run.name)}")
     most = given.max_fail if given.max_fail is not None else len(failures)
     for failure in failures[:most]:
@@ -147,9 +184,11 @@ def tell(suite: Suite, failures: List[Failure], given: Namespace) -> str:
     if len(failures) > most:
         show(f"and {plural(len(failures) - most, 'more failure')}")
     ends = Counter("solved" if it == SOLVED else "not solved" if it == "not solved" else "solved in part" for it in suite.solved.values())
-    unsolved = sum(it.close == "passed" for it in failures)
-    counts = summary(it.close for it in suite.runs) + (f", {unsolved} no longer solved" if unsolved else "")
+    counts = summary(it.close for it in suite.runs) + (f", {len(unsolved)} no longer solved" if unsolved else "")
+    counts += f", {len(suite.elsewhere)} only over its own text" if suite.elsewhere else ""
     counts += f"; {', '.join(f'{ends[it]} {it}' for it in ('solved', 'solved in part', 'not solved'))}"
+    for line in suite.remarks:
+        show(line)
     show(counts)
     if given.github:
         for failure in failures[:most]:
@@ -158,9 +197,9 @@ def tell(suite: Suite, failures: List[Failure], given: Namespace) -> str:
     return counts
 
 
-def write_files(suite: Suite, failures: List[Failure], unsolved: Dict[int, str], counts: str, given: Namespace, hung: Finder) -> None:
+def write_files(suite: Suite, failures: List[Failure], though_passed: Dict[int, str], counts: str, given: Namespace, hung: Finder) -> None:
     if given.junit:
-        write_whole(given.junit, junit_of(suite.runs, suite.sessions.path, suite.sessions, given.order, "error", unsolved))
+        write_whole(given.junit, junit_of(suite.runs, suite.sessions.path, suite.sessions, given.order, "error", though_passed))
     if given.report:
         report = Report(suite.sessions, given.order, origin_of(suite.sessions, given, program_told(engine_of(given).words())), hung)
         for run in suite.runs:
@@ -174,8 +213,9 @@ def test(given: Namespace) -> int:
     suite = played(given)
     unsolved = unsolved_in(suite, given.solved)
     hung = Finder(suite.sessions, engine_of(given))
-    failures = failures_of(suite, unsolved, given, hung)
-    write_files(suite, failures, unsolved, tell(suite, failures, given), given, hung)
+    though_passed = {**unsolved, **suite.elsewhere}
+    failures = failures_of(suite, though_passed, given, hung)
+    write_files(suite, failures, though_passed, tell(suite, failures, unsolved, given), given, hung)
     return 2 if any(it.close == UNANSWERED for it in suite.runs) else 1 if failures else 0
 
 
@@ -188,6 +228,15 @@ def times_of(files: List[str]) -> List[Optional[Tuple[int, int]]]:
         except OSError:
             found.append(None)
     return found
+
+
+def wait_for_save(files: List[str], times: List[Optional[Tuple[int, int]]]) -> None:
+    """Waits until a file changes, and until none changes any more: an editor may write in pieces."""
+    while times_of(files) == times:
+        time.sleep(PAUSE)
+    while times_of(files) != times:
+        times = times_of(files)
+        time.sleep(PAUSE / 2)
 
 
 def watch(given: Namespace) -> int:
@@ -205,8 +254,7 @@ def watch(given: Namespace) -> int:
                 fail("test", str(why))
                 status = 2
             say(f"test: waiting for a save of {', '.join(given.files)}")
-            while times_of(given.files) == times:
-                time.sleep(PAUSE)
+            wait_for_save(given.files, times)
             print(flush=True)
     except KeyboardInterrupt:
         return status
@@ -219,4 +267,5 @@ def main(given: Namespace) -> int:
         raise Refused("standard input can be read only once: name it once, and without --watch")
     guard_files((given.junit, given.report, given.markdown), given.files)
     guard_output(*given.files)
+    guard_places(given.junit, given.report, given.markdown)
     return watch(given) if given.watch else test(given)

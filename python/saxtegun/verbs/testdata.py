@@ -1,24 +1,24 @@
-"""Turns the published test data of the reference engine, or what an editor's
-console prints, into a sessions file.
+"""Turns the published test data of the reference engine, or any text with
+recordings in it, into a sessions file.
 
 Test data is JavaScript: `var testdata = [ .. ];`, a list of entries [name,
-[source, inputs, level, index, seed]]. An editor's console prints such entries
-bare, with a comma after each. Entries are written again as JSON, one a line;
-nothing in them is changed or left out.
+[source, inputs, level, index, seed]]. An editor's console prints such entries,
+or only what stands within. Entries are written again as JSON, one a line;
+nothing in them is changed or left out. One without a name gets its game's title
+and level.
 
-It reads lists, texts in any of the three quotes, numbers, true, false, null,
-undefined (as null), commas before a closing bracket, and comments. It refuses
-anything else with its line, and also what is no entry.
+What a compiler printed is skipped, and so is a recording that is cut off or has
+a fault; standard error says where.
 
-Exit status: 0, or 2 if the data is refused."""
+Exit status: 0; 1 if a recording was cut off or had a fault, 2 if there is none."""
 from __future__ import annotations
 
 import sys
 from argparse import ArgumentParser, Namespace
 
 from saxtegun.commands import say
-from saxtegun.files import guard_output, read_text
-from saxtegun.javascript import entries_of
+from saxtegun.files import guard_output
+from saxtegun.recordings import as_sessions, is_broken, own_name, read_findings
 
 USAGE = "testdata testdata.js|- >sessions.json"
 
@@ -29,8 +29,10 @@ def add_words(words: ArgumentParser) -> None:
 
 def main(given: Namespace) -> int:
     guard_output(given.file)
-    entries = entries_of(given.file, read_text(given.file))
-    sys.stdout.write("[\n" + ",\n".join(entries) + "\n]\n")
+    findings = read_findings("testdata", given.file)
+    sessions = as_sessions(given.file, findings.found, lambda name, entry: name or own_name(name, entry))
+    sys.stdout.write(sessions.text)
     sys.stdout.flush()
-    say(f"testdata: {len(entries)} {'entry' if len(entries) == 1 else 'entries'}")
-    return 0
+    count = len(sessions.entries)
+    say(f"testdata: {count} {'entry' if count == 1 else 'entries'}")
+    return 1 if is_broken(findings) else 0

@@ -1,0 +1,203 @@
+"""Recordings in any text: what an editor's console prints, with whatever stands around it, or published test data.
+
+A recording is a list [source, inputs, level, index, seed], mostly in an entry [name, [..]]. It is looked for wherever a list begins with a text, so headings,
+prose, timestamps and code fences are passed over. What was quoted or escaped once is read as it was before: as a text of JavaScript, or in HTML. What a compiler
+printed, and what is cut off or no recording, is skipped and told. Each letter is read a few times at most, whatever the text is."""
+from __future__ import annotations
+
+import html
+import json
+import re
+from typing import Any, List, NamedTuple, Optional, Tuple
+
+from saxtegun.javascript import LITERALS, Token, skip_space, token_at, unescaped
+from saxtegun.sessions import fault_of
+
+# What may stand between a bracket and a text; what is looked for first is what stands there most often.
+BREAK = r"[\s>]*(?:(?:<br\s*/?>|&nbsp;)[\s>]*)*"
+ESCAPED = r"\s*(?:\\[nrt]\s*)*"
+QUOTES = "\"'`\u201c\u201d\u201e"
+# Where a recording may begin: a list whose first item is a text; such a list as a text, or escaped; and such a list in HTML.
+BEGIN = re.compile(
+    rf"(?P<list>\[(?={BREAK}[{QUOTES}]))|(?P<quoted>[\"'`](?={ESCAPED}\[{ESCAPED}\\?[\"'`]))"
+    rf"|(?P<escaped>\[(?={ESCAPED}\\[\"']))|(?P<html>\[(?={BREAK}&(?:quot|#34|apos|#39);))"
+)
+# The rest of a text that was escaped and has lost its quotes.
+REST = re.compile(r"[^\"\\\n]*(?:\\.[^\"\\\n]*)*")
+# An entry holds a body, which holds its inputs; behind one that is cut off another may begin.
+MOST_DEPTH = 8
+# In so many letters of a source its first heading is looked for, where it is cut off.
+MOST_OF_A_HEAD = 4000
+# A recording without a name of its own.
+NAMELESS = ("", "untitled test")
+
+
+class Found(NamedTuple):
+    """A recording: the line on which it begins, its name, its body as JSON, and what stands behind in its entry as JSON."""
+
+    line: int
+    name: str
+    body: str
+    rest: Tuple[str, ...] = ()
+
+
+class Skipped(NamedTuple):
+    """What is no recording, or none that is whole: the line on which it begins, and what it is: `compiler`, `cut-off`, or a sentence on its fault."""
+
+    line: int
+    what: str
+
+
+class Findings(NamedTuple):
+    """What a text holds, in its order."""
+
+    found: List[Found]
+    skipped: List[Skipped]
+
+
+class Open(NamedTuple):
+    """A list that is being read: where it begins, and its items as JSON."""
+
+    at: int
+    items: List[str]
+
+
+def is_body(value: Any) -> bool:
+    """Whether a value is made as the body of a recording is."""
+    return isinstance(value, list) and len(value) > 2 and isinstance(value[0], str) and isinstance(value[1], list) and isinstance(value[2], str)
+
+
+def is_of_a_compiler(value: Any) -> bool:
+    """Whether a value is [source, messages, their number], as a compiler's test has it."""
+    return isinstance(value, list) and len(value) == 3 and isinstance(value[0], str) and isinstance(value[1], list) and type(value[2]) is int
+
+
+def value_of(items: List[str]) -> Any:
+    return json.loads(f"[{','.join(items)}]")
+
+
+class Search:
+    """A search through a text. `inner` says whether the text was quoted or escaped, and is not unquoted again."""
+
+    def __init__(self, text: str, first_line: int = 1, is_inner: bool = False) -> None:
+        self.text, self.first_line, self.is_inner = text, first_line, is_inner
+        self.findings = Findings([], [])
+        self.counted, self.line = 0, first_line
+        self.last_comment = text.rfind("*/")
+
+    def line_of(self, at: int) -> int:
+        """The line of a place; places are asked for in their order, or nearly so."""
+        if at < self.counted:
+            return self.line - self.text.count("\n", at, self.counted)
+        self.line += self.text.count("\n", self.counted, at)
+        self.counted = at
+        return self.line
+
+    def run(self) -> Findings:
+        at = 0
+        while True:
+            begin = BEGIN.search(self.text, at)
+            if begin is None:
+                return self.findings
+            if begin.lastgroup == "list":
+                at = self.read_list(begin.start())
+            elif self.is_inner:
+                at = begin.end()
+            elif begin.lastgroup == "html":
+                self.read_inner(begin.start(), html.unescape(self.text[begin.start() :]))
+                return self.findings
+            else:
+                at = self.read_quoted(begin)
+
+    def read_inner(self, at: int, text: str) -> bool:
+        """Searches a text that was quoted; answers whether something was in it."""
+        inner = Search(text, self.line_of(at), True).run()
+        self.findings.found.extend(inner.found)
+        self.findings.skipped.extend(inner.skipped)
+        return bool(inner.found or inner.skipped)
+
+    def read_quoted(self, begin: "re.Match[str]") -> int:
+        """Reads what was quoted or escaped once; where the search goes on."""
+        at = begin.start()
+        is_escaped = begin.lastgroup == "escaped"
+        literal = (REST if is_escaped else LITERALS[self.text[at]]).match(self.text, at)
+        if literal is None:
+            return at + 1
+        text = unescaped(literal[0] if is_escaped else literal[0][1:-1])
+        return literal.end() if text is not None and self.read_inner(at, text) else at + 1
+
+    def read_list(self, begin: int) -> int:
+        """Reads the list that begins here, as far as it goes; where the search goes on."""
+        lists: List[Open] = []
+        at = begin
+        while True:
+            token = token_at(self.text, at)
+            if token is None or (token.kind == "[" and len(lists) == MOST_DEPTH):
+                self.tell_cut(lists, at)
+                return max(at, begin + 1)
+            at = token.end
+            if token.kind == "[":
+                lists.append(Open(token.at, []))
+            elif token.kind == "]":
+                if self.close(lists):
+                    return at
+            elif token.kind != ",":
+                lists[-1].items.append(token.json)
+            at = skip_space(self.text, at, self.last_comment)
+
+    def close(self, lists: List[Open]) -> bool:
+        """Ends the innermost list; answers whether the outermost has ended, or a recording in one that is cut off."""
+        it = lists.pop()
+        if not lists:
+            self.tell(it)
+            return True
+        if len(lists) > 1 and len(it.items) > 1 and is_entry(value_of(it.items)):
+            self.tell_cut(lists, it.at)
+            self.tell(it)
+            return True
+        lists[-1].items.append(f"[{','.join(it.items)}]")
+        return False
+
+    def tell(self, it: Open) -> None:
+        """Takes a list that is a recording, and says which isn't a whole one; any other list is passed over."""
+        value = value_of(it.items)
+        if is_entry(value):
+            self.take(it.at, value, it.items[1], tuple(it.items[2:]))
+        elif is_body(value):
+            self.take(it.at, ["", value], f"[{','.join(it.items)}]")
+        elif is_of_a_compiler(value) or (len(value) == 2 and is_of_a_compiler(value[1])):
+            self.findings.skipped.append(Skipped(self.line_of(it.at), "compiler"))
+
+    def take(self, at: int, entry: Any, body: str, rest: Tuple[str, ...] = ()) -> None:
+        """Takes an entry, whose body and further elements stand there as JSON, unless it has a fault."""
+        fault = fault_of(entry)
+        if fault:
+            self.findings.skipped.append(Skipped(self.line_of(at), fault))
+        else:
+            self.findings.found.append(Found(self.line_of(at), entry[0], body, rest))
+
+    def tell_cut(self, lists: List[Open], at: int) -> None:
+        """Takes a recording of which only the last brackets are missing, and says which is cut off."""
+        if not lists:
+            return
+        # an entry of which the last bracket is missing, or the last two behind its index
+        items = [part.items for part in lists]
+        if len(items) == 2 and len(items[1]) > 3:
+            items = [[*items[0], f"[{','.join(items[1])}]"]]
+        if len(items) == 1 and is_entry(value_of(items[0])):
+            self.take(lists[0].at, value_of(items[0]), items[0][1])
+            return
+        texts = [it for it in (json.loads(item) for part in lists for item in part.items) if isinstance(it, str)]
+        rest = self.text[at : at + MOST_OF_A_HEAD].partition("\n")[0]
+        if any("objects" in it.lower() for it in (*texts, rest)):
+            self.findings.skipped.append(Skipped(self.line_of(lists[0].at), "cut-off"))
+
+
+def is_entry(value: Any) -> bool:
+    """Whether a value is made as an entry is: a name, and the body of a recording."""
+    return isinstance(value, list) and len(value) > 1 and isinstance(value[0], str) and is_body(value[1])
+
+
+def find(text: str) -> Findings:
+    """The recordings of a text, and what was skipped in it."""
+    return Search(text).run()

@@ -1,0 +1,95 @@
+"""Recordings that were found in a text as entries of a sessions file: their names, those that are there already, and what is said of the rest."""
+from __future__ import annotations
+
+import json
+from typing import Callable, Iterable, List, Optional, Sequence, Set
+
+from saxtegun.commands import Refused, fold, say
+from saxtegun.files import read_any_text
+from saxtegun.finding import NAMELESS, Findings, Found, find
+from saxtegun.games import game_of
+from saxtegun.levelsets import first_level
+from saxtegun.sessions import Entry, Sessions, sessions_in
+from saxtegun.sources import lines_of
+from saxtegun.texts import same_text
+
+HOW = "in PuzzleScript's editor play, press Ctrl+J, and copy all that the console prints then"
+COMPILER = "what the compiler printed, which is no recording: one is printed below it, by Ctrl+J after you played"
+CUT_OFF = "a recording that is cut off: copy it again, up to its last bracket"
+OBJECTS = 'it has objects in braces, and a recording is a list, ["name", ["source", [inputs], "level", index]]'
+
+
+def skipped_told(what: str) -> str:
+    return {"compiler": COMPILER, "cut-off": CUT_OFF}.get(what, f"a recording with a fault: {what}")
+
+
+def nothing_told(text: str) -> str:
+    """Why a text has no recording, and what to do."""
+    sections = {it.section for it in lines_of(text)}
+    if not text.strip():
+        return f"it is empty: {HOW}"
+    if '"source"' in text and "{" in text:
+        return f"{OBJECTS}: {HOW}"
+    if {"objects", "levels"} <= sections:
+        return f"it is a game's text: {HOW}; or record by `saxtegun play GAME.txt --save NAME SESSIONS.json`"
+    return f"it has no recording: {HOW}"
+
+
+def is_broken(findings: Findings) -> bool:
+    """Whether a recording was skipped that isn't whole."""
+    return any(it.what != "compiler" for it in findings.skipped)
+
+
+def read_findings(verb: str, path: str) -> Findings:
+    """What a file holds; what is skipped is said. Refused where it holds no recording."""
+    text = read_any_text(path)
+    findings = find(text)
+    place = "standard input" if path == "-" else path
+    for it in findings.skipped:
+        say(f"{verb}: {place}, line {it.line}: skipped {skipped_told(it.what)}")
+    if not findings.found:
+        raise Refused(f"{place}: {'no recording is left: ' + HOW if findings.skipped else nothing_told(text)}")
+    return findings
+
+
+def free_name(name: str, taken: Set[str]) -> str:
+    """A name that no other has: itself, or with a number."""
+    number, free = 1, name
+    while free in taken:
+        number += 1
+        free = f"{name} ({number})"
+    return free
+
+
+def own_name(name: str, entry: Entry) -> str:
+    """The name of a recording: its own; or the title with the level, where it has none or the title, as the editor writes it."""
+    title = game_of(entry.source).title
+    return f"{title}, level {first_level(entry)}" if name in NAMELESS or fold(name) == fold(title) else name
+
+
+def entry_text(name: str, it: Found) -> str:
+    return f"[{', '.join([json.dumps(name, ensure_ascii=False), it.body, *it.rest])}]"
+
+
+def as_sessions(path: str, found: Sequence[Found], name_of: Callable[[str, Entry], str]) -> Sessions:
+    """Recordings as a sessions file has them, under their names."""
+    unnamed = sessions_in(path, "[" + ",".join(entry_text("", it) for it in found) + "]").entries
+    names = [name_of(it.name, entry) for it, entry in zip(found, unnamed)]
+    return sessions_in(path, "[\n" + ",\n".join(entry_text(name, it) for name, it in zip(names, found)) + "\n]\n")
+
+
+def like(entry: Entry, others: Iterable[Entry]) -> Optional[Entry]:
+    """The one of some entries that is the same recording, whatever its name."""
+    for it in others:
+        if (it.inputs, it.level, it.index) == (entry.inputs, entry.level, entry.index) and same_text(it.source, entry.source):
+            return it
+    return None
+
+
+def named(given: Optional[str], entries: Sequence[Entry], taken: Iterable[str]) -> List[str]:
+    """A name for each entry that no other has: the one that is given, or its own."""
+    known, names = set(taken), []
+    for it in entries:
+        names.append(free_name(given or it.name, known))
+        known.add(names[-1])
+    return names

@@ -1,0 +1,70 @@
+"""Over which text a session is played: its own, or that of a game at hand where its own is the empty text. Where these are two texts, each answer says so."""
+from __future__ import annotations
+
+from shlex import quote
+from typing import List, NamedTuple, Optional, Sequence
+
+from saxtegun.commands import Refused, cut, plural, say
+from saxtegun.files import MARK, read_text
+from saxtegun.sessions import Entry, Sessions
+
+# So many names are told.
+NAMES_TOLD = 3
+
+
+class GameText(NamedTuple):
+    """The text of a game at hand, and its file."""
+
+    path: str
+    source: str
+
+
+def read_named(path: str) -> GameText:
+    """The text of a game. Refused where it is empty, which no game is."""
+    source = read_text(path).lstrip(MARK)
+    if not source.strip():
+        raise Refused(f"{path} is empty: it is to be a game's text")
+    return GameText(path, source)
+
+
+def read_game(path: Optional[str]) -> Optional[GameText]:
+    """The text at hand, or None where none is named."""
+    return read_named(path) if path else None
+
+
+def same_text(one: str, other: str) -> bool:
+    """Whether two sources are the same, but for how lines end and what stands behind the last."""
+    return one.replace("\r\n", "\n").rstrip() == other.replace("\r\n", "\n").rstrip()
+
+
+def over(sessions: Sessions, game: Optional[GameText]) -> Sessions:
+    """The sessions with the text at hand as the source of each whose source is the empty text. The text of the file stays as it is."""
+    if game is None:
+        return sessions
+    return sessions._replace(entries=[it if it.source else it._replace(source=game.source) for it in sessions.entries])
+
+
+def of_another_text(entries: Sequence[Entry], game: Optional[GameText]) -> List[Entry]:
+    """The entries that bring a source of their own that isn't the text at hand."""
+    return [it for it in entries if game and it.source and not same_text(it.source, game.source)]
+
+
+def names_told(entries: Sequence[Entry]) -> str:
+    names = ", ".join(cut(it.name) for it in entries[:NAMES_TOLD])
+    return f"{names}, .." if len(entries) > NAMES_TOLD else names
+
+
+def remark(path: str, others: Sequence[Entry], game: GameText) -> str:
+    """That sessions have a text of their own which isn't the one at hand, and what makes them follow it."""
+    has = "has" if len(others) == 1 else "have"
+    it = "it" if len(others) == 1 else "them"
+    what = f"{path}: {plural(len(others), 'session')} {has} another text than {game.path} ({names_told(others)})"
+    return f"{what}; `saxtegun source {quote(game.path)} {quote(path)} --follow --in-place` makes {it} follow {game.path}"
+
+
+def say_others(verb: str, sessions: Sessions, game: Optional[GameText]) -> List[Entry]:
+    """Says which sessions have another text than the one at hand; these."""
+    others = of_another_text(sessions.entries, game)
+    if game and others:
+        say(f"{verb}: {remark(sessions.path, others, game)}")
+    return others

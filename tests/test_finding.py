@@ -1,0 +1,115 @@
+"""Recordings in any text: each form of tests/forms gives the recordings that tests/forms/expected.json names, which were written down as the forms were made, and
+skips what it names. The same files hold for whatever else looks for recordings, such as the page."""
+import json
+import time
+import unittest
+
+from test_test import OfAGame
+from tool import TOP, InARoom, plays, run
+from saxtegun.files import read_any_text
+from saxtegun.finding import find
+
+FORMS = TOP / "tests/forms"
+EXPECTED = json.loads((FORMS / "expected.json").read_text(encoding="utf-8"))
+CODES = ("compiler", "cut-off")
+# What is said of a form that has no recording.
+SAID = {
+    "empty": "it is empty: in PuzzleScript's editor play, press Ctrl+J, and copy all that the console prints then",
+    "blank": "it is empty: ",
+    "prose-alone": "it has no recording: in PuzzleScript's editor play, press Ctrl+J",
+    "game": "it is a game's text: in PuzzleScript's editor play, press Ctrl+J",
+    "objects": "it has objects in braces, and a recording is a list",
+    "compiler-alone": "line 1: skipped what the compiler printed, which is no recording: one is printed below it, by Ctrl+J after you played",
+    "cut-off-in-its-level": "line 1: skipped a recording that is cut off: copy it again, up to its last bracket",
+    "cut-off-in-its-source": "line 1: skipped a recording that is cut off",
+    "input-that-is-none": "line 1: skipped a recording with a fault: its input 2 is neither 0 to 4 nor undo, restart or tick",
+}
+
+
+class Forms(unittest.TestCase):
+    def test_each_form_gives_its_recordings(self):
+        self.assertEqual(sorted(it.stem for it in FORMS.glob("*.txt")), sorted(EXPECTED["forms"]))
+        for form, expected in EXPECTED["forms"].items():
+            with self.subTest(form):
+                findings = find(read_any_text(str(FORMS / f"{form}.txt")))
+                took = [[it.name, dict(zip(("source", "inputs", "level", "index"), json.loads(it.body)))] for it in findings.found]
+                self.assertEqual(took, [[name, EXPECTED["recordings"][key]] for name, key in expected["took"]])
+                self.assertEqual([it.what if it.what in CODES else "fault" for it in findings.skipped], expected["skipped"])
+
+    def test_a_form_without_a_recording_says_what_to_do(self):
+        self.assertEqual(sorted(SAID), sorted(form for form, it in EXPECTED["forms"].items() if not it["took"]))
+        for form, said in SAID.items():
+            for verb in ("add", "testdata"):
+                with self.subTest(form, verb=verb):
+                    answer = run(verb, *([TOP / "tests/none.json"] if verb == "add" else []), FORMS / f"{form}.txt")
+                    self.assertEqual((answer.status, answer.out), (2, ""))
+                    self.assertIn(said, answer.errors)
+
+    def test_a_long_text_is_searched_fast(self):
+        text = (FORMS / "console-with-headings.txt").read_text(encoding="utf-8")
+        for long, count in ((text * (26_000_000 // len(text)), 26_000_000 // len(text)), ("[ > Player | Crate ] -> [ > Player ]\n" * 700_000, 0)):
+            began = time.process_time()
+            self.assertEqual(len(find(long).found), count)
+            # the machine may be busy: twice the time that it may take
+            self.assertLess(time.process_time() - began, 6)
+
+
+class TestData(InARoom):
+    def test_entries_are_written_as_they_are(self):
+        answer = run("testdata", FORMS / "test-data.txt")
+        entries = [["Two Steps", [*EXPECTED["recordings"]["walk"].values(), "1716.5"]], ["standing still", [*EXPECTED["recordings"]["stay"].values()]]]
+        self.assertEqual((answer.status, json.loads(answer.out), answer.errors), (0, entries, "testdata: 2 entries\n"))
+
+    def test_one_without_a_name_gets_its_title_and_level(self):
+        self.assertEqual(json.loads(run("testdata", FORMS / "body-alone.txt").out)[0][0], "Two Steps, level 1")
+
+    def test_what_is_cut_off_gives_status_1(self):
+        answer = run("testdata", FORMS / "cut-off-and-then-whole.txt")
+        self.assertEqual((answer.status, len(json.loads(answer.out))), (1, 1))
+        self.assertIn("line 1: skipped a recording that is cut off", answer.errors)
+
+    def test_what_can_not_be_read_is_reported_in_a_line(self):
+        (self.room / "latin").write_bytes(b"['\xe4']")
+        for words in ((self.room / "nothing",), (self.room,), (self.room / "latin",), ("-",), ()):
+            answer = run("testdata", *words)
+            self.assertEqual((answer.status, answer.out, answer.errors.count("\n")), (2, "", 1))
+        self.assertEqual(run("testdata", "--help").status, 0)
+
+
+@plays
+class DayOfForms(OfAGame):
+    def added(self, form, *words):
+        """The names in a file to which a form was added."""
+        suite = self.room / "new.json"
+        answer = run("add", suite, FORMS / f"{form}.txt", *words)
+        return answer, [it[0] for it in json.loads(suite.read_text(encoding="utf-8"))] if suite.exists() else []
+
+    def test_each_form_with_a_recording_is_added(self):
+        for form, expected in EXPECTED["forms"].items():
+            if not expected["took"]:
+                continue
+            with self.subTest(form):
+                answer, names = self.added(form)
+                self.assertEqual(answer.status, 1 if {"cut-off", "fault"} & set(expected["skipped"]) else 0, answer.errors)
+                self.assertEqual(len(names), len({key for _, key in expected["took"]}))
+                (self.room / "new.json").unlink()
+
+    def test_no_two_names_are_alike(self):
+        self.assertEqual(self.added("entries-in-a-row")[1], ["Two Steps, level 1", "standing still"])
+        self.assertEqual(self.added("single-quotes-and-undefined")[1], ["Two Steps, level 1", "standing still"])
+        suite = self.room / "new.json"
+        entries = json.loads(suite.read_text(encoding="utf-8"))
+        suite.write_text(json.dumps([["Two Steps, level 1", [*entries[1][1][:1], [3], *entries[1][1][2:]]]]), encoding="utf-8")
+        self.assertEqual(self.added("entry")[1], ["Two Steps, level 1", "Two Steps, level 1 (2)"])
+        suite.unlink()
+        self.assertEqual(self.added("list-of-entries", "--name", "mine")[1], ["mine", "mine (2)"])
+
+    def test_the_same_recording_is_not_added_again(self):
+        self.added("entry")
+        answer, names = self.added("html", "--name", "another")
+        self.assertEqual((answer.status, names), (0, ["Two Steps, level 1"]))
+        self.assertIn("add: Two Steps, level 1: is there already, as Two Steps, level 1: not added again\n", answer.errors)
+
+
+if __name__ == "__main__":
+    unittest.main()

@@ -1,0 +1,197 @@
+"""Over which text a session is played: where it brings one of its own that isn't the one at hand, each answer says so, and no answer is green by it."""
+import json
+import subprocess
+import sys
+import unittest
+
+from day import OnSessions
+from test_test import RULE, OfAGame
+from tool import TOP, environment, plays, run
+
+STUCK = "[ > Player | Crate ] -> [ Player | Crate ]"
+
+
+class OfTwoTexts(OfAGame):
+    """Tests where a recording of the game has its own text, and another follows the game."""
+
+    def setUp(self):
+        super().setUp()
+        name, body = self.entries[0]
+        self.own = [f"own {name}", [self.source, *body[1:]]]
+        self.mixed = self.write_entries([self.entries[0], self.own], "mixed.json")
+
+    def remark(self, path, word="1 session has"):
+        return f"{path}: {word} another text than {self.game} ("
+
+    def remedy(self, path, it="it"):
+        return f"`saxtegun source {self.game} {path} --follow --in-place` makes {it} follow {self.game}\n"
+
+
+@plays
+class DayOfTexts(OfTwoTexts):
+    def test_the_same_text_is_no_other(self):
+        self.game.write_bytes(self.source.replace("\n", "\r\n").encode() + b"\r\n\r\n")
+        answer = run("test", self.game, self.mixed)
+        self.assertEqual((answer.status, "another text" in answer.out), (0, False))
+
+    def test_what_passes_over_both_texts_is_green_with_a_remark(self):
+        self.write("game.txt", self.source + "\nmessage the end\n")
+        answer = run("test", self.game, self.mixed)
+        self.assertEqual(answer.status, 0)
+        self.assertIn(self.remark(self.mixed), answer.out)
+        self.assertIn(self.remedy(self.mixed), answer.out)
+
+    def test_what_passes_over_its_own_text_alone_is_red(self):
+        self.with_rule(STUCK)
+        alone = self.write_entries([self.own, self.own], "alone.json")
+        answer = run("test", self.game, alone)
+        self.assertEqual(answer.status, 1)
+        self.assertIn(f"session 0, own both levels solved: passed: over its own text, but not over {self.game}: differs: ", answer.out)
+        self.assertNotIn("passed, solved", answer.out)
+        self.assertIn("2 sessions: 2 passed, 0 differ, 0 stopped, 0 refused, 2 only over its own text", answer.out)
+        self.assertIn(self.remark(alone, "2 sessions have"), answer.out)
+        self.assertIn(self.remedy(alone, "them"), answer.out)
+
+    def test_the_remedy_makes_them_follow(self):
+        self.with_rule(STUCK)
+        self.assertEqual(run("source", self.game, self.mixed, "--follow", "--in-place").status, 0)
+        self.assertEqual([it[1][0] for it in json.loads(self.mixed.read_text(encoding="utf-8"))], ["", ""])
+        answer = run("test", self.game, self.mixed)
+        self.assertEqual((answer.status, "another text" in answer.out), (1, False))
+        self.assertIn("2 sessions: 0 passed, 2 differ", answer.out)
+
+    def test_every_verb_with_a_game_says_it(self):
+        self.with_rule(STUCK)
+        console = self.write("console.txt", json.dumps(self.own))
+        calls = [
+            ("accept", self.mixed, "--game", self.game), ("explain", self.mixed, "--game", self.game), ("report", self.mixed, "--game", self.game),
+            ("lines", self.mixed, "--game", self.game), ("coverage", self.game, self.mixed), ("compare", "--sources", self.game, self.game, self.mixed),
+            ("add", self.mixed, console, "--game", self.game),
+        ]
+        for words in calls:
+            with self.subTest(words[0]):
+                self.assertIn(self.remark(self.mixed), run(*words).errors)
+
+    def test_an_added_recording_follows_the_text_at_hand(self):
+        new = self.room / "new.json"
+        answer = run("add", new, "--game", self.game, stdin=json.dumps(self.own).encode())
+        self.assertEqual((answer.status, json.loads(new.read_text(encoding="utf-8"))[0][1][0]), (0, ""))
+        self.with_rule(STUCK)
+        self.assertEqual(run("test", self.game, new).status, 1)
+
+    def test_a_forgotten_text_is_called_that(self):
+        for verb in ("test", "explain", "accept"):
+            answer = run(verb, self.recordings)
+            self.assertIn("which stands for a game's, and no game's text is named", answer.out + answer.errors)
+            self.assertNotIn("a section that must be there", answer.out + answer.errors)
+
+    def test_explaining_and_lines_take_the_text(self):
+        self.assertEqual(run("explain", self.recordings, "--game", self.game).out, run("explain", TOP / "examples/block-pushing.json").out)
+        self.assertEqual(run("lines", self.recordings, "--game", self.game).out, run("lines", TOP / "examples/block-pushing.json").out)
+
+
+@plays
+class DayOfDemands(OfAGame):
+    def test_a_pattern_that_fits_nothing_is_no_demand(self):
+        for words in (("--solved", "lvel*"), ("--solved", "half*", "--solved", "lvel*"), ("--filter", "half*", "--filter", "lvel*")):
+            self.assert_refused(run("test", self.game, self.recordings, *words), f"{words[-2]} fits no session (lvel*)")
+
+    def test_a_demand_with_a_slip_is_refused(self):
+        for word in ("slved", "Solved", "solve"):
+            suite = self.write_entries([[*self.entries[0], word]])
+            self.assert_refused(run("test", self.game, suite), f"session 0, line 1: its further element {word!r} is nearly 'solved', and would demand nothing")
+        self.assertEqual(run("test", self.game, self.write_entries([[*self.entries[0], "by hand"]])).status, 0)
+
+
+class Believed(OnSessions):
+    """A program that lies, or says nothing."""
+
+    def program(self, lines, status=0):
+        file = self.write("program", f"#!/bin/sh\ncat <<'END'\n{lines}END\nexit {status}\n")
+        file.chmod(0o755)
+        return file
+
+    def test_a_close_that_its_level_denies_is_not_believed(self):
+        lying = self.lines.read_text(encoding="utf-8").replace('"close":"differs"', '"close":"passed"')
+        for verb in ("test", "explain", "accept"):
+            answer = run(verb, TOP / "examples/block-pushing.json", "--program", self.program(lying))
+            self.assert_refused(answer, "what the program wrote, line ")
+            self.assertIn("session 4 is closed as passed, and its last level says otherwise", answer.errors)
+
+    def test_a_program_that_says_nothing_has_not_played(self):
+        for verb in ("test", "explain", "accept", "lines"):
+            answer = run(verb, TOP / "examples/block-pushing.json", "--program", self.program(""))
+            self.assertEqual((answer.status, answer.out), (2, ""))
+
+    def test_lines_that_end_early_are_no_success(self):
+        lines = self.lines.read_text(encoding="utf-8").splitlines(keepends=True)
+        answer = run("lines", TOP / "examples/block-pushing.json", "--program", self.program("".join(lines[:-18])))
+        self.assertEqual(answer.status, 2)
+        self.assertIn("the program wrote nothing of 1 session of 5", answer.errors)
+
+
+# An engine that waits for a file, and so plays as long as a test wants.
+WAITS = """#!/bin/sh
+touch {room}/plays
+while ! test -e {room}/go; do sleep 0.05; done
+cat {lines}
+exit 1
+"""
+
+
+class Meanwhile(OnSessions):
+    """Where another command changes the file while one plays."""
+
+    def setUp(self):
+        super().setUp()
+        self.suite = self.write("suite.json", (TOP / "examples/block-pushing.json").read_text(encoding="utf-8"))
+        self.program = self.write("program", WAITS.format(room=self.room, lines=self.lines))
+        self.program.chmod(0o755)
+
+    def beside(self, *words, change):
+        """The answer of a call while whose play something is changed."""
+        command = [sys.executable, TOP / "saxtegun", *words, "--program", self.program]
+        with subprocess.Popen(list(map(str, command)), stdin=subprocess.DEVNULL, stdout=subprocess.PIPE, stderr=subprocess.PIPE, env=environment()) as ran:
+            while not (self.room / "plays").exists() and ran.poll() is None:
+                pass
+            change()
+            self.write("go", "")
+            errors = ran.communicate()[1].decode()
+        return ran.returncode, errors
+
+    def test_accepting_refuses_to_overwrite(self):
+        more = '[["other", ["", [], ""]]]'
+        status, errors = self.beside("accept", self.suite, "--in-place", change=lambda: self.suite.write_text(more, encoding="utf-8"))
+        self.assertEqual((status, self.suite.read_text(encoding="utf-8")), (2, more))
+        self.assertIn("suite.json was changed since it was read: call this again", errors)
+
+    def test_adding_keeps_what_another_has_added(self):
+        entries = json.loads(self.suite.read_text(encoding="utf-8"))
+        console = self.write("console.txt", json.dumps(entries))
+        new = self.write("new.json", "[]")
+        status, errors = self.beside("add", new, console, "--anyway", change=lambda: new.write_text('[["other", ["", [], ""]]]', encoding="utf-8"))
+        self.assertEqual((status, [it[0] for it in json.loads(new.read_text(encoding="utf-8"))]), (0, ["other", *(it[0] for it in entries)]), errors)
+
+    def test_a_place_that_can_not_be_written_is_told_before_the_play(self):
+        for words in (("test", self.suite, "--report", self.room / "no/where"), ("add", self.room / "no/where.json", self.suite)):
+            answer = run(*words, "--program", self.program)
+            self.assertEqual((answer.status, (self.room / "plays").exists()), (2, False))
+            self.assertIn("can't be written", answer.errors)
+
+
+@plays
+class DayOfManyHands(OfAGame):
+    def test_six_who_add_at_once_add_six(self):
+        new = self.room / "new.json"
+        whole = json.loads((TOP / "examples/block-pushing.json").read_text(encoding="utf-8"))[0]
+        ran = []
+        for number in range(6):
+            console = self.write(f"console{number}.txt", json.dumps([f"walk {number}", whole[1][:1] + [whole[1][1][:number]] + whole[1][2:]]))
+            words = [sys.executable, TOP / "saxtegun", "add", new, console, "--anyway"]
+            ran.append(subprocess.Popen(list(map(str, words)), stderr=subprocess.DEVNULL, env=environment()))
+        self.assertEqual([it.wait() for it in ran], [0] * 6)
+        self.assertEqual(sorted(it[0] for it in json.loads(new.read_text(encoding="utf-8"))), [f"walk {it}" for it in range(6)])
+
+
+if __name__ == "__main__":
+    unittest.main()
