@@ -1,0 +1,113 @@
+"""docs/differences.md: each of its minimal games ends here as it says."""
+import json
+import re
+import unittest
+
+from tool import TOP, InARoom, plays, run
+from saxtegun.games import game_of
+from saxtegun.levels import Labels, in_rows, read_cells, width_of
+
+HEAD = """title Small
+%s
+OBJECTS
+
+Background
+black
+
+Wall
+grey
+
+Player
+white
+
+Crate
+orange
+
+Box
+red
+
+Mark
+blue
+
+Dot
+green
+
+LEGEND
+
+. = Background
+# = Wall
+p = Player
+c = Crate
+b = Box
+m = Mark
+d = Dot
+Thing = Crate or Box
+q = Player and Mark
+x = Box and Mark
+
+SOUNDS
+
+COLLISIONLAYERS
+
+Background
+Mark
+Dot
+Player, Wall, Crate, Box
+
+RULES
+
+%s
+
+WINCONDITIONS
+
+%s
+
+LEVELS
+
+%s
+"""
+INPUTS = {"up": 0, "left": 1, "down": 2, "right": 3, "action": 4, "undo": "undo", "restart": "restart"}
+WORDS = ("level", "inputs", "here", "there", "win")
+
+
+def games():
+    """Each minimal game of the page: its source, its inputs, and how it ends here and there."""
+    for block in re.findall(r"(?:^    .+\n)+", (TOP / "docs/differences.md").read_text(encoding="utf-8"), re.M):
+        lines = [it.strip() for it in block.splitlines()]
+        of = {word: [it.partition(": ")[2] for it in lines if it.startswith(f"{word}: ")] for word in WORDS}
+        rest = [it for it in lines if it.partition(":")[0] not in WORDS]
+        prelude = [it for it in rest if "[" not in it]
+        levels = "\n\n".join(it.replace("/", "\n") for it in of["level"])
+        source = HEAD % ("\n".join(prelude), "\n".join(it for it in rest if it not in prelude), "\n".join(of["win"]), levels)
+        yield source, [INPUTS[it] for it in of["inputs"][0].split() if it != "none"], of["here"][0], of["there"][0]
+
+
+def drawn(source, text):
+    """A level by the letters of the game, a slash between its rows."""
+    labels = Labels()
+    cells = read_cells(text, labels)
+    rows = in_rows("columns", width_of(text, len(cells)), cells)
+    return "/".join(game_of(source).drawing([[labels.names[it] for it in row] for row in rows]))
+
+
+@plays
+class DayOfDifferences(InARoom):
+    def test_each_game_ends_as_the_page_says(self):
+        count = 0
+        for source, inputs, here, there in games():
+            with self.subTest(source.partition("RULES\n\n")[2]):
+                count += 1
+                self.assertNotEqual(here, there)
+                (self.room / "one.json").write_text(json.dumps([["a", [source, inputs, ""]]]), encoding="utf-8")
+                lines = [json.loads(it) for it in run("lines", self.room / "one.json").out.splitlines()]
+                if here == "loop-limit":
+                    self.assertEqual(lines[-1]["cause"], here)
+                elif here == "the next level":
+                    self.assertIn(("load", 0), [(it["kind"], it["at"]) for it in lines[:-1]])
+                else:
+                    self.assertEqual((lines[-1]["close"], drawn(source, lines[-2]["level"])), ("differs", here))
+        self.assertEqual(count, 11)
+
+
+if __name__ == "__main__":
+    unittest.main()
