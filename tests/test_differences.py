@@ -108,6 +108,24 @@ class DayOfDifferences(InARoom):
                     self.assertEqual((lines[-1]["close"], drawn(source, lines[-2]["level"])), ("differs", here))
         self.assertEqual(count, 11)
 
+    def test_explaining_names_the_likely_one(self):
+        wanted = {
+            "[ action Player ] [ Thing ]": "`thing` in the rule on line {first} stands for objects of one layer: on the site the first place counts",
+            "noundo": "the game has `noundo`: on the site the undo of this session does nothing",
+            "norestart": "the game has `norestart`: on the site the restart of this session does nothing",
+            "late [ Player Dot ]": "the rule on line {second} has `+` below a late rule: on the site it isn't late",
+            "(push) again": "a comment stands before a command on line {first}: on the site it ends the rule",
+        }
+        for form, told in wanted.items():
+            [(source, inputs)] = [it[:2] for it in games() if form in it[0]]
+            (self.room / "one.json").write_text(json.dumps([["a", [source, inputs, "background:0,"]]]), encoding="utf-8")
+            first = 3 + source.partition("\nRULES\n")[0].count("\n") + 1
+            with self.subTest(form):
+                self.assertIn(f"    the site may decide otherwise: {told.format(first=first, second=first + 1)}", run("explain", self.room / "one.json").out)
+
+    def test_a_game_without_such_a_form_is_told_nothing(self):
+        self.assertNotIn("the site", run("explain", TOP / "examples/block-pushing.json").out)
+
 
 if __name__ == "__main__":
     unittest.main()

@@ -4,7 +4,7 @@ from __future__ import annotations
 from collections import Counter
 from typing import Iterable, List, Optional, Tuple, Union
 
-from saxtegun import culprits, levelsets
+from saxtegun import culprits, differences, levelsets
 from saxtegun.budget import EXPLAINING, NOT_LOOKED_AT
 from saxtegun.commands import cut, plural, printable
 from saxtegun.games import Game, game_of
@@ -209,6 +209,8 @@ def told_in_full(run: Run, entry: Optional[Entry] = None, order: str = "columns"
     below = [] if elsewhere else cells_told(ending, order)
     if ending.is_comparable:
         below += drawings(ending, game_of(entry.source), order)
+    elsewhere_decided = differences.likely(entry, run)
+    below += [elsewhere_decided] if elsewhere_decided else []
     return f"{plural(len(run.frames), 'frame')}, {plural(len(entry.inputs), 'input')}; {elsewhere or ending_told(ending, order)}", below
 
 
