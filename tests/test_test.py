@@ -89,6 +89,17 @@ class DayOfTests(OfAGame):
         self.assertIn("has a name that is not there: `Create` (near: `crate`) (Unknown:", answer.out)
         self.assertIn(f"    {self.game}:{1 + self.source[: self.source.index(RULE)].count(chr(10))}: [ > Player | Create ]", answer.out)
 
+    def test_one_fault_of_a_game_is_reported_once(self):
+        self.with_rule("[ > Player | Create ] -> [ > Player | > Crate ]")
+        answer = run("test", self.game, self.recordings)
+        self.assertEqual((answer.status, answer.out.count("has a name that is not there")), (1, 1))
+        self.assertIn("session 0, both levels solved and 4 more sessions: refused: ", answer.out)
+        self.assertIn("5 sessions: 0 passed, 0 differ, 0 stopped, 5 refused", answer.out)
+
+    def test_a_section_that_is_missing_is_named(self):
+        self.write("game.txt", self.source.replace("LEGEND\n", "").replace("LEVELS\n", ""))
+        self.assertIn("a section that must be there is missing: `LEGEND`, `LEVELS` (Section:0)", run("test", self.game, self.recordings).out)
+
     def test_a_keyword_outside_the_profile_is_reported(self):
         self.with_rule("random [ > Player | Crate ] -> [ > Player | > Crate ]")
         self.assertIn("; here it is `random` (OutsideProfile:", run("test", self.game, self.recordings).out)

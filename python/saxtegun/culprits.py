@@ -8,7 +8,7 @@ from typing import Callable, Iterable, List, NamedTuple, Optional, Set
 from saxtegun.commands import cut, fold
 from saxtegun.games import Game
 from saxtegun.smaller import things_of
-from saxtegun.sources import Line, lines_of, words_of
+from saxtegun.sources import Line, lines_of, read_source, words_of
 
 OUTSIDE = ("random", "randomdir", "rigid", "realtime_interval")
 SYNTAX = re.compile(r"[\[\]|,=]|->|\.\.\.")
@@ -17,6 +17,8 @@ RULE_WORDS = set(
     "> < ^ v + startloop endloop cancel checkpoint restart win again message all any some on and or".split()
 )
 MOST_LINES = 8
+# The sections that must be there.
+NEEDED = ("objects", "legend", "collisionlayers", "levels")
 # So many words of a line are told, and for each the nearest name is looked for by so many letters of it, among so many names.
 MOST_WORDS = 20
 MOST_LETTERS = 40
@@ -126,6 +128,9 @@ def fault_told(code: str, source: str, game: Game, number: int) -> str:
         return again_told(source, number)
     if code == "NoLayer":
         return layerless_told(source, number)
+    if code == "Section" and number == 0:
+        headings = read_source(source)[1]
+        return listed(it.upper() for it in NEEDED if it not in headings)
     return missing_told(game) if code == "Missing" else ""
 
 

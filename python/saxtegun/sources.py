@@ -78,10 +78,10 @@ def heading_in(section: str, text: str) -> Optional[str]:
     return fold(text) if fold(text) in HEADINGS else None
 
 
-@lru_cache(maxsize=2)
-def lines_of(source: str) -> Tuple[Line, ...]:
-    """The lines of a source that are not left out, without headings. A source is asked for several times in a row."""
+def read_source(source: str) -> Tuple[List[Line], List[str]]:
+    """The lines of a source that are not left out, and its headings."""
     lines: List[Line] = []
+    headings: List[str] = []
     section, depth = "prelude", 0
     for number, raw in enumerate(source.split("\n"), 1):
         line, before = trimmed(raw), depth
@@ -91,6 +91,13 @@ def lines_of(source: str) -> Tuple[Line, ...]:
         is_left_out = (before > 0 or len(left) < len(line)) if not text else not text.strip("=")
         if heading:
             section = heading
+            headings.append(heading)
         elif not is_left_out:
             lines.append(Line(number, section, text))
-    return tuple(lines)
+    return lines, headings
+
+
+@lru_cache(maxsize=2)
+def lines_of(source: str) -> Tuple[Line, ...]:
+    """The lines of a source that are not left out, without headings. A source is asked for several times in a row."""
+    return tuple(read_source(source)[0])

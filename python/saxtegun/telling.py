@@ -2,7 +2,7 @@
 from __future__ import annotations
 
 import re
-from typing import Iterable, List, NamedTuple
+from typing import Dict, Iterable, List, NamedTuple, Tuple
 
 from saxtegun.commands import cut, plural, printable
 
@@ -18,6 +18,14 @@ class Failure(NamedTuple):
     below: List[str]
     file: str
     line: int
+
+
+def once(failures: Iterable[Failure]) -> List[Failure]:
+    """Failures, of which those that one fault of a game causes are one."""
+    of: Dict[Tuple[object, ...], List[Failure]] = {}
+    for place, it in enumerate(failures):
+        of.setdefault((it.sentence, *it.below, it.file) if it.close == "refused" else (place,), []).append(it)
+    return [them[0]._replace(name=them[0].name + (f" and {plural(len(them) - 1, 'more session')}" if len(them) > 1 else "")) for them in of.values()]
 
 
 def in_table(text: str) -> str:

@@ -42,7 +42,7 @@ from saxtegun.pages import Report
 from saxtegun.playing import engine_of, runs_of
 from saxtegun.sessions import Entry, Sessions, fits, read_sessions, unfitting
 from saxtegun.solving import SOLVED, solved_of
-from saxtegun.telling import Failure, annotation, markdown
+from saxtegun.telling import Failure, annotation, markdown, once
 from saxtegun.texts import GameText, of_another_text, over, read_game, remark
 
 USAGE = "test [GAME.txt] SESSIONS.json.. [options]"
@@ -214,7 +214,7 @@ def test(given: Namespace) -> int:
     unsolved = unsolved_in(suite, given.solved)
     hung = Finder(suite.sessions, engine_of(given))
     though_passed = {**unsolved, **suite.elsewhere}
-    failures = failures_of(suite, though_passed, given, hung)
+    failures = once(failures_of(suite, though_passed, given, hung))
     write_files(suite, failures, though_passed, tell(suite, failures, unsolved, given), given, hung)
     return 2 if any(it.close == UNANSWERED for it in suite.runs) else 1 if failures else 0
 
