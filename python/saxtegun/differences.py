@@ -3,17 +3,23 @@ from __future__ import annotations
 
 import re
 from functools import lru_cache
-from typing import FrozenSet, List, NamedTuple, Optional, Set, Tuple
+from itertools import islice
+from typing import Dict, FrozenSet, List, NamedTuple, Optional, Tuple
 
 from saxtegun.commands import cut, fold
-from saxtegun.games import Game, game_of
+from saxtegun.games import game_of
 from saxtegun.lines import Run
 from saxtegun.sessions import Entry
 from saxtegun.sources import lines_of, words_of
 
 PAGE = "docs/differences.md"
+BRACKETS = re.compile(r"[\[\]|]")
+# So many letters of a rule are looked at.
+MOST_LETTERS = 1000
+# So many properties of a source are looked at.
+MOST_PROPERTIES = 50
 # A command of a rule behind a comment.
-BEHIND_A_COMMENT = re.compile(r"->[^(]*\([^)]*\)\s*(?:again|win|restart|cancel|checkpoint|message|sfx\d+)\b", re.I)
+BEHIND_A_COMMENT = re.compile(r"\([^()]*\)\s*(?:again|win|restart|cancel|checkpoint|message|sfx\d+)\b", re.I)
 
 
 class Property(NamedTuple):
@@ -28,21 +34,25 @@ def rules_of(source: str) -> List[Tuple[int, str]]:
     return [(it.number, fold(it.text)) for it in lines_of(source) if it.section == "rules"]
 
 
-def layers_of(game: Game, names: List[str]) -> Set[Optional[int]]:
-    return {it.layer for it in game.objects if it.name in names}
+def names_on_the_left(source: str) -> Dict[str, int]:
+    """The words on the left of rules, each with the first line that has it."""
+    found: Dict[str, int] = {}
+    for number, text in rules_of(source):
+        for word in words_of(BRACKETS.sub(" ", text.partition("->")[0])):
+            found.setdefault(word, number)
+    return found
 
 
 @lru_cache(maxsize=64)
 def properties_of(source: str) -> Tuple[Property, ...]:
-    """The properties of one layer that stand on the left of a rule."""
+    """The properties of one layer that stand on the left of a rule: the first of them, since a source may have many."""
     game = game_of(source)
+    layers = {it.name: it.layer for it in game.objects}
     found: List[Property] = []
-    for name, (joint, _) in game.definitions.items():
+    named = ((name, line) for name, line in names_on_the_left(source).items() if game.definitions.get(name, ("",))[0] == "or")
+    for name, line in islice(named, MOST_PROPERTIES):
         members = game.members(name)
-        if joint != "or" or len(members) < 2 or len(layers_of(game, members)) != 1:
-            continue
-        line = next((number for number, text in rules_of(source) if name in words_of(re.sub(r"[\[\]|]", " ", text.partition("->")[0]))), 0)
-        if line:
+        if len(members) > 1 and len({layers[it] for it in members}) == 1:
             found.append(Property(name, frozenset(members), line))
     return tuple(found)
 
@@ -61,7 +71,7 @@ def rule_told(source: str) -> str:
         is_late = "late" in words_of(text.partition("[")[0]) or (text.startswith("+") and is_late)
     rules = {number for number, _ in rules_of(source)}
     for number, line in enumerate(source.split("\n"), 1):
-        if number in rules and BEHIND_A_COMMENT.search(line):
+        if number in rules and BEHIND_A_COMMENT.search(line[:MOST_LETTERS].partition("->")[2]):
             return f"a comment stands before a command on line {number}: on the site it ends the rule"
     return ""
 
