@@ -45,11 +45,10 @@ def add_words(words: ArgumentParser) -> None:
 
 
 class Added(NamedTuple):
-    """What was added, under its names; how many are in the file; and how many of what was found are there already."""
+    """What was added, under its names, and how many are in the file then."""
 
     names: List[str]
-    count: int
-    known: int
+    total: int
 
 
 def entry_with(new: Sessions, entry: Entry, name: str, game: Optional[GameText]) -> str:
@@ -78,7 +77,7 @@ def add_to(path: str, new: Sessions, game: Optional[GameText], name: Optional[st
         names = named(name, wanted, (it.name for it in old.entries))
         if wanted or not old.entries:
             write_whole(path, with_more(old, [entry_with(new, it, word, game) for it, word in zip(wanted, names)]))
-    return Added(names, len(old.entries) + len(wanted), len(new.entries) - len(wanted))
+    return Added(names, len(old.entries) + len(wanted))
 
 
 def failures_in(new: Sessions, game: Optional[GameText], given: Namespace) -> int:
@@ -122,6 +121,6 @@ def main(given: Namespace) -> int:
         return 1
     added = add_to(given.sessions, new, game, given.name)
     names = f": {', '.join(map(cut, added.names))}" if added.names else ""
-    say(f"add: {plural(len(added.names), 'recording')} added to {given.sessions}, which has {added.count}{names}")
+    say(f"add: {plural(len(added.names), 'recording')} added to {given.sessions}, which has {added.total}{names}")
     say_own_texts(new.entries, game, given.sessions)
     return 1 if is_broken(findings) else 0
