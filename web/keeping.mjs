@@ -2,7 +2,8 @@
 const DATABASE = "saxtegun", STORE = "kept";
 const TAB = "saxtegun-tab"; // where a tab finds its own name again after a reload
 const FIRST = "work"; // where earlier pages kept theirs
-const PATIENCE = 1500; // milliseconds that a tab that was reloaded may take to be gone
+const LEFT = "saxtegun-page-left"; // what a tab notes as it leaves the page, which a copy of a tab that stays doesn't have
+const PATIENCE = 20_000; // milliseconds that a page that was left may take to be gone
 
 function settled(request) {
   return new Promise((settle, refuse) => {
@@ -42,12 +43,22 @@ function isFree(name, patience = 0) {
 
 const newName = () => `${FIRST} ${Date.now().toString(36)} ${Math.random().toString(36).slice(2)}`;
 
-// The name that this tab had before a reload, or null.
-function formerName() {
+// The name that this tab had before a reload, and whether it left the page since; no name where there is none.
+function formerVisit() {
   try {
-    return sessionStorage.getItem(TAB);
+    const visit = { name: sessionStorage.getItem(TAB), isLeft: sessionStorage.getItem(LEFT) !== null };
+    sessionStorage.removeItem(LEFT);
+    return visit;
   } catch {
-    return null;
+    return { name: null, isLeft: false };
+  }
+}
+
+function noteLeaving() {
+  try {
+    sessionStorage.setItem(LEFT, "left");
+  } catch {
+    // the next visit waits for nothing
   }
 }
 
@@ -93,9 +104,9 @@ export class Store {
   // The store of this tab. `entries` are what was kept, [{ name, value }]: first what this tab goes on with, and then what closed tabs left, the newest first.
   static async open() {
     const store = new Store();
-    const names = await asked("readonly", (it) => it.getAllKeys()).catch(() => []), former = formerName();
+    const names = await asked("readonly", (it) => it.getAllKeys()).catch(() => []), { name: former, isLeft } = formerVisit();
     if (former !== null && !names.includes(former)) names.push(former);
-    if (former !== null && names.includes(former) && (await isFree(former, PATIENCE))) store.name = former;
+    if (former !== null && names.includes(former) && (await isFree(former, isLeft ? PATIENCE : 0))) store.name = former;
     for (const name of names.filter((it) => String(it).startsWith(FIRST) && it !== store.name)) {
       if (await isFree(name)) store.left.push(name);
     }
@@ -106,7 +117,10 @@ export class Store {
   constructor() {
     Object.assign(this, { name: null, left: [], entries: [], isWriting: false, now: null, next: null });
     // the database takes its time, which a page that is left doesn't have
-    window.addEventListener("pagehide", () => { if (this.now !== null) note(this.name, this.next ?? this.now); });
+    window.addEventListener("pagehide", () => {
+      noteLeaving();
+      if (this.now !== null) note(this.name, this.next ?? this.now);
+    });
   }
 
   async read() {
