@@ -2,7 +2,7 @@
 // twin of what python/saxtegun/explaining.py and culprits.py say.
 import { nameLinesOf, shortened } from "./game.mjs";
 import { nearest } from "./nearest.mjs";
-import { fold, lineOf, linesOf, wordsOf } from "./source.mjs";
+import { fold, lineOf, linesOf, readSource, wordsOf } from "./source.mjs";
 
 const STOPS = {
   "loop-limit": "a group of rules or a loop still changed something in its 200th pass",
@@ -34,6 +34,7 @@ const FAULTS = {
   RightClash: "the right of the rule on {line} places in one cell what can't stand there together",
 };
 const OF_THE_WHOLE = { Section: "a section that must be there is missing" };
+const NEEDED = ["objects", "legend", "collisionlayers", "levels"]; // the sections that must be there
 const OUTSIDE = ["random", "randomdir", "rigid", "realtime_interval"];
 const SYNTAX = /[[\]|,=]|->|\.\.\./g;
 const RULE_WORDS = new Set((
@@ -113,6 +114,12 @@ function missingTold(game) {
   return quoted(["background", "player"].filter((name) => !isThere(name)));
 }
 
+// Which sections are missing.
+function missingSectionsTold(source) {
+  const { headings } = readSource(source);
+  return quoted(NEEDED.filter((name) => !headings.includes(name)).map((name) => name.toUpperCase()));
+}
+
 // The keyword of a line that isn't played here, or the row with two `...`.
 function outsideTold(source, number, line) {
   const text = line?.text ?? lineOf(source, number) ?? "";
@@ -125,6 +132,7 @@ function outsideTold(source, number, line) {
 function culpritOfFault({ code, line: number }, source, game) {
   const line = linesOf(source).find((it) => it.number === number) ?? null;
   switch (code) {
+    case "Section": return number === 0 ? missingSectionsTold(source) : "";
     case "Unknown": return unknownTold(line, game);
     case "OutsideProfile": return outsideTold(source, number, line);
     case "BadGlyph": return glyphsTold(source, game, number);

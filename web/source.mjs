@@ -73,9 +73,9 @@ function headingIn(section, text) {
   return HEADINGS.includes(fold(text)) ? fold(text) : null;
 }
 
-// The lines of a source that are not left out, without headings: [{ number, section, text }].
-export function linesOf(source) {
-  const lines = [];
+// The lines of a source that are not left out, [{ number, section, text }], and its headings.
+export function readSource(source) {
+  const lines = [], headings = [];
   let section = "prelude", depth = 0;
   source.split("\n").forEach((raw, place) => {
     const line = trimmed(raw), before = depth;
@@ -83,11 +83,14 @@ export function linesOf(source) {
     depth = behind;
     const text = trimmed(left), heading = headingIn(section, text);
     const isLeftOut = text === "" ? before > 0 || left.length < line.length : /^=+$/.test(text);
-    if (heading !== null) section = heading;
+    section = heading ?? section;
+    if (heading !== null) headings.push(heading);
     else if (!isLeftOut) lines.push({ number: place + 1, section, text });
   });
-  return lines;
+  return { lines, headings };
 }
+
+export const linesOf = (source) => readSource(source).lines;
 
 // A line of a source by its number, or null.
 export function lineOf(source, number) {
