@@ -86,7 +86,7 @@ class Costs(unittest.TestCase):
     def test_twice_the_input_takes_about_twice_the_time(self):
         for what, (size, act) in READINGS.items():
             with self.subTest(what):
-                growth = next((it for it in (growth_of(act, size) for _ in range(3)) if it <= MOST), None)
+                growth = next((it for it in (growth_of(act, size) for _ in range(8)) if it <= MOST), None)
                 self.assertIsNotNone(growth, f"more than {MOST} times the time")
 
 

@@ -31,10 +31,11 @@ const READINGS = {
   'brackets': [20_000, size => linesOf(`${'('.repeat(size)}${')'.repeat(size)}\n${HEAD}`)],
 };
 
+/** Milliseconds of the processor, which others that use it take least from. */
 function timeOf(act, size) {
-  const begin = performance.now();
+  const begin = process.cpuUsage();
   act(size);
-  return performance.now() - begin;
+  return process.cpuUsage(begin).user / 1000;
 }
 
 const leastOf = (act, size) => Math.min(...[1, 2, 3].map(() => timeOf(act, size)));
@@ -49,7 +50,7 @@ function growthOf(act, first) {
 for (const [what, [size, act]] of Object.entries(READINGS)) {
   test(`twice the input takes about twice the time: ${what}`, () => {
     const growths = [];
-    while (growths.length < 4 && !growths.some(it => it <= MOST)) growths.push(growthOf(act, size));
+    while (growths.length < 8 && !growths.some(it => it <= MOST)) growths.push(growthOf(act, size));
     assert.ok(growths.some(it => it <= MOST), `${growths}`);
   });
 }

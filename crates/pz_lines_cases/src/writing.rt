@@ -82,6 +82,7 @@ impl Write for Cut {
 }
 
 /// A writer that takes so many bytes at most, and notes how many it was lent.
+#[derive(Drop)]
 struct Noting {
     lent: Vec<usize>,
     most: usize,
