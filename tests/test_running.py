@@ -102,6 +102,12 @@ class Time(Programs):
             self.assert_refused(run("test", EXAMPLE, "--timeout", word), "must be a number of seconds")
 
 
+def hear_signals():
+    """What is started hears each signal, whatever the tests were started by ignores, as nohup does."""
+    for number in (signal.SIGTERM, signal.SIGHUP, signal.SIGINT):
+        signal.signal(number, signal.SIG_DFL)
+
+
 class Bounds(Programs):
     def watched(self, script, **bounds):
         with open(self.room / "lines", "wb") as lines:
@@ -140,7 +146,7 @@ class Bounds(Programs):
             folder.mkdir()
             (self.room / "number").unlink(missing_ok=True)
             words = [sys.executable, TOP / "saxtegun", "test", EXAMPLE, "--program", self.program(script)]
-            with subprocess.Popen(words, env={**environment(), "TMPDIR": str(folder)}, stdout=subprocess.DEVNULL, stderr=subprocess.PIPE, preexec_fn=lambda: signal.signal(signal.SIGINT, signal.default_int_handler)) as ran, self.subTest(number):
+            with subprocess.Popen(words, env={**environment(), "TMPDIR": str(folder)}, stdout=subprocess.DEVNULL, stderr=subprocess.PIPE, preexec_fn=hear_signals) as ran, self.subTest(number):
                 while not (self.room / "number").exists() or not (self.room / "number").read_text():
                     time.sleep(0.02)
                 self.assertNotEqual(list(folder.iterdir()), [])
