@@ -62,6 +62,12 @@ READINGS = {
     "rules, and what is repeated of them": (1000, lambda size: things_of(rules(size))),
     "objects": (2000, lambda size: objects_of(HEAD + "a\nred\n.....\n" * size)),
     "quotes": (50_000, lambda size: find("['a',['" + "\\n" * size + "',[],'']]")),
+    "lists that begin": (20_000, lambda size: find('["' * size)),
+    "lists that begin and are escaped": (20_000, lambda size: find('[\\"' * size)),
+    "quotes that are escaped": (20_000, lambda size: find("`[" + "\\`[" * size)),
+    "quotes that are escaped up to one that is not": (20_000, lambda size: find("`[" + "\\`[" * size + "`")),
+    "quotes of a word processor": (20_000, lambda size: find("[\u201e" * size)),
+    "lists that are cut off": (20_000, lambda size: find('["a"x' * size)),
     "numbers": (50_000, lambda size: find("['a',[''," + "[" + "1," * size + "1],'']]")),
 }
 

@@ -45,6 +45,12 @@ class Forms(unittest.TestCase):
                     self.assertEqual((answer.status, answer.out), (2, ""))
                     self.assertIn(said, answer.errors)
 
+    def test_behind_what_is_escaped_in_vain_the_search_goes_on(self):
+        body = '["title x",[1],"",0]'
+        for before in ('[\\"a\\", ', '"[\\"a\\"]" ', "`['a\\`['` ", "[\\'a", "\u201e[\u201e "):
+            with self.subTest(before):
+                self.assertEqual([(it.name, it.body) for it in find(f'{before}["a", {body}]').found], [("a", body)])
+
     def test_a_long_text_is_searched_fast(self):
         text = (FORMS / "console-with-headings.txt").read_text(encoding="utf-8")
         for long, count in ((text * (26_000_000 // len(text)), 26_000_000 // len(text)), ("[ > Player | Crate ] -> [ > Player ]\n" * 700_000, 0)):

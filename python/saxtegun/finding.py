@@ -8,9 +8,9 @@ from __future__ import annotations
 import html
 import json
 import re
-from typing import Any, List, NamedTuple, Optional, Tuple
+from typing import Any, Dict, List, NamedTuple, Optional, Tuple
 
-from saxtegun.javascript import LITERALS, Token, skip_space, token_at, unescaped
+from saxtegun.javascript import BODIES, Token, skip_space, token_at, unescaped
 from saxtegun.sessions import fault_of
 
 # What may stand between a bracket and a text; what is looked for first is what stands there most often.
@@ -24,10 +24,12 @@ BEGIN = re.compile(
 )
 # The rest of a text that was escaped and has lost its quotes.
 REST = re.compile(r"[^\"\\\n]*(?:\\.[^\"\\\n]*)*")
+BODIES_OF = {quote: re.compile(body) for quote, body in BODIES.items()}
 # An entry holds a body, which holds its inputs; behind one that is cut off another may begin.
 MOST_DEPTH = 8
 # In so many letters of a source its first heading is looked for, where it is cut off.
 MOST_OF_A_HEAD = 4000
+HEADING = re.compile("objects", re.I)
 # A recording without a name of its own.
 NAMELESS = ("", "untitled test")
 
@@ -84,6 +86,9 @@ class Search:
         self.findings = Findings([], [])
         self.counted, self.line = 0, first_line
         self.last_comment = text.rfind("*/")
+        self.heading = -1
+        # up to where each quote was read in vain
+        self.in_vain: Dict[str, int] = {}
 
     def line_of(self, at: int) -> int:
         """The line of a place; places are asked for in their order, or nearly so."""
@@ -107,7 +112,7 @@ class Search:
                 self.read_inner(begin.start(), html.unescape(self.text[begin.start() :]))
                 return self.findings
             else:
-                at = self.read_quoted(begin)
+                at = self.read_escaped(begin.start()) if begin.lastgroup == "escaped" else self.read_quoted(begin.start())
 
     def read_inner(self, at: int, text: str) -> bool:
         """Searches a text that was quoted; answers whether something was in it."""
@@ -116,15 +121,29 @@ class Search:
         self.findings.skipped.extend(inner.skipped)
         return bool(inner.found or inner.skipped)
 
-    def read_quoted(self, begin: "re.Match[str]") -> int:
-        """Reads what was quoted or escaped once; where the search goes on."""
-        at = begin.start()
-        is_escaped = begin.lastgroup == "escaped"
-        literal = (REST if is_escaped else LITERALS[self.text[at]]).match(self.text, at)
-        if literal is None:
+    def has_read(self, at: int, begin: int, end: int) -> bool:
+        """Searches what was escaped; answers whether something was in it."""
+        text = unescaped(self.text[begin:end])
+        return text is not None and self.read_inner(at, text)
+
+    def read_escaped(self, at: int) -> int:
+        """Reads what was escaped once and has lost its quotes; where the search goes on."""
+        rest = REST.match(self.text, at)
+        end = rest.end() if rest else at + 1
+        # the last bracket may begin a list without escapes
+        return end if self.has_read(at, at, end) else max(self.text.rfind("[", at + 1, end), at + 1)
+
+    def read_quoted(self, at: int) -> int:
+        """Reads what was quoted once; where the search goes on. What stands behind an escaped quote was read with the quote before it, and so isn't read again."""
+        quote = self.text[at]
+        if at < self.in_vain.get(quote, 0):
             return at + 1
-        text = unescaped(literal[0] if is_escaped else literal[0][1:-1])
-        return literal.end() if text is not None and self.read_inner(at, text) else at + 1
+        body = BODIES_OF[quote].match(self.text, at + 1)
+        end = body.end() if body else at + 1
+        if self.text[end : end + 1] == quote and self.has_read(at, at + 1, end):
+            return end + 1
+        self.in_vain[quote] = end
+        return at + 1
 
     def read_list(self, begin: int) -> int:
         """Reads the list that begins here, as far as it goes; where the search goes on."""
@@ -187,10 +206,15 @@ class Search:
         if len(items) == 1 and is_entry(value_of(items[0])):
             self.take(lists[0].at, value_of(items[0]), items[0][1])
             return
-        texts = [it for it in (json.loads(item) for part in lists for item in part.items) if isinstance(it, str)]
-        rest = self.text[at : at + MOST_OF_A_HEAD].partition("\n")[0]
-        if any("objects" in it.lower() for it in (*texts, rest)):
+        if self.has_heading(lists[0].at, at):
             self.findings.skipped.append(Skipped(self.line_of(lists[0].at), "cut-off"))
+
+    def has_heading(self, begin: int, at: int) -> bool:
+        """Whether a heading of a source stands in what was read, or soon behind it in its line."""
+        if self.heading < begin:
+            found = HEADING.search(self.text, begin)
+            self.heading = found.start() if found else len(self.text)
+        return self.heading < min(at + MOST_OF_A_HEAD, len(self.text)) and self.text.find("\n", at, self.heading) < 0
 
 
 def is_entry(value: Any) -> bool:

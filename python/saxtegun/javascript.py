@@ -10,17 +10,20 @@ from typing import NamedTuple, Optional
 
 # White space, line breaks of HTML, and the sign before a line that is quoted.
 SPACE = re.compile(r"(?:\s+|\ufeff|<br\s*/?>|&nbsp;|(?<=\n)[ \t]*>+)*")
+# What mostly stands where no white space does: the end of a text is among them.
+NO_SPACE = '",[]0123456789'
 # A list of inputs as JSON has it, which is what most of a recording is.
 INPUTS = re.compile(r'\[[0-9,\s]*(?:"(?:undo|restart|tick)"[0-9,\s]*)*\]')
 WORD = re.compile(r"-?(?:0|[1-9]\d*)(?:\.\d+)?(?:[eE][-+]?\d+)?(?![\w.])|[A-Za-z_]\w*")
 WORDS = {"null": "null", "undefined": "null", "true": "true", "false": "false"}
-SMART = re.compile("[\u201c\u201d\u201e][^\u201c\u201d\\\\\n]*(?:\\\\.[^\u201c\u201d\\\\\n]*)*[\u201c\u201d]")
-LITERALS = {
-    '"': re.compile(r'"[^"\\\n]*(?:\\(?:\r\n|[\s\S])[^"\\\n]*)*"'),
-    "'": re.compile(r"'[^'\\\n]*(?:\\(?:\r\n|[\s\S])[^'\\\n]*)*'"),
-    "`": re.compile(r"`[^`\\$]*(?:(?:\\(?:\r\n|[\s\S])|\$(?!\{))[^`\\$]*)*`"),
-    "\u201c": SMART, "\u201d": SMART, "\u201e": SMART,
+# What stands between a quote and the one that ends it.
+BODIES = {
+    '"': r'[^"\\\n]*(?:\\(?:\r\n|[\s\S])[^"\\\n]*)*',
+    "'": r"[^'\\\n]*(?:\\(?:\r\n|[\s\S])[^'\\\n]*)*",
+    "`": r"[^`\\$]*(?:(?:\\(?:\r\n|[\s\S])|\$(?!\{))[^`\\$]*)*",
 }
+SMART = re.compile("[\u201c\u201d\u201e][^\u201c\u201d\u201e\\\\\n]*(?:\\\\.[^\u201c\u201d\u201e\\\\\n]*)*[\u201c\u201d]")
+LITERALS = {**{quote: re.compile(quote + body + quote) for quote, body in BODIES.items()}, **dict.fromkeys("\u201c\u201d\u201e", SMART)}
 # A text that is JSON as it stands. Runs of letters are one step each: a step for each letter would take a hundred times its memory.
 PLAIN = re.compile(r'"[^"\\\x00-\x1f]*(?:\\["\\/bfnrt][^"\\\x00-\x1f]*)*"')
 ESCAPE = re.compile(r"\\(?:u\{([0-9a-fA-F]+)\}|u([0-9a-fA-F]{4})|x([0-9a-fA-F]{2})|(\r\n|[\s\S]))")
@@ -57,7 +60,7 @@ def unescaped(text: str) -> Optional[str]:
 
 def skip_space(text: str, at: int, last_comment: int) -> int:
     """Where the text goes on behind white space and comments. `last_comment` is where the last sign stands that ends one, so that none is looked for in vain."""
-    while True:
+    while text[at : at + 1] not in NO_SPACE:
         match = SPACE.match(text, at)
         at = match.end() if match else at
         if text.startswith("//", at):
@@ -65,7 +68,8 @@ def skip_space(text: str, at: int, last_comment: int) -> int:
         elif text.startswith("/*", at) and at + 1 < last_comment:
             at = text.index("*/", at + 2) + 2
         else:
-            return at
+            break
+    return at
 
 
 def text_at(text: str, at: int) -> Optional[Token]:
