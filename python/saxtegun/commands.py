@@ -83,6 +83,10 @@ def add_game(words: argparse.ArgumentParser) -> None:
     words.add_argument("--game", metavar="GAME.txt", help="the text of recordings whose source is the empty text")
 
 
+def add_ticks(words: argparse.ArgumentParser) -> None:
+    words.add_argument("--ticks-as-recorded", action="store_true", help="play games without their realtime_interval: recordings hold their ticks")
+
+
 def workers_in(word: str) -> int:
     """A number of workers, as the program takes it."""
     if not (word.isascii() and word.isdigit() and 1 <= int(word[-9:]) <= MOST_WORKERS and len(word) < 9):

@@ -4,7 +4,7 @@ from __future__ import annotations
 from collections import Counter
 from typing import Iterable, List, Optional, Tuple, Union
 
-from saxtegun import culprits, differences, levelsets
+from saxtegun import culprits, differences, levelsets, reasons
 from saxtegun.budget import EXPLAINING, NOT_LOOKED_AT
 from saxtegun.commands import cut, plural, printable
 from saxtegun.games import Game, game_of
@@ -199,7 +199,8 @@ def told_in_full(run: Run, entry: Optional[Entry] = None, order: str = "columns"
         place = f"{game}:{fault[1]}" if game and fault else f"line {fault[1]}" if fault else ""
         below = [f"{place}: {cut(line)}"] if line is not None else []
         culprit = hung or (culprit_told(entry, run) if entry else "")
-        return f"{source_told(entry, run.cause)}{culprit} ({run.cause}); {plural(len(run.frames), 'frame')}", below
+        reason = reasons.reason_told(run.cause, entry.source) if entry else ""
+        return f"{source_told(entry, run.cause)}{culprit}{reason} ({run.cause}); {plural(len(run.frames), 'frame')}", below
     if run.close == "passed":
         return plural(len(run.frames), "frame"), []
     if entry is None:

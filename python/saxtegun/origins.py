@@ -26,7 +26,8 @@ def origin_of(sessions: Sessions, given: Namespace, played: str) -> List[str]:
     content = f"; SHA-256 {digest_of(sessions.text.encode())}" if sessions.text else ""
     version = VERSION.read_text(encoding="utf-8").strip() if VERSION.is_file() else "of no version"
     date = [f"Date: {cut(given.date)}."] if given.date else []
-    return [*date, f"Sessions: {cut(Path(sessions.path).name)} ({plural(len(sessions.entries), 'session')}{content}).", f"{cut(played)}, order {given.order}.", f"Written by saxtegun {version}."]
+    ticks = ["Played without realtime_interval: ticks as recorded."] if getattr(given, "ticks_as_recorded", False) else []
+    return [*date, *ticks, f"Sessions: {cut(Path(sessions.path).name)} ({plural(len(sessions.entries), 'session')}{content}).", f"{cut(played)}, order {given.order}.", f"Written by saxtegun {version}."]
 
 
 def program_told(words: List[str]) -> str:

@@ -11,11 +11,13 @@ from time import monotonic
 from typing import Iterator, List, NamedTuple, Optional, Sequence
 
 from saxtegun.belonging import ALL_BUT_ORDER, Tests, read_runs
-from saxtegun.commands import Refused, cut, plural
+from saxtegun.commands import Refused, cut, plural, say
 from saxtegun.files import read_lines
 from saxtegun.lines import SESSION, UNANSWERED, Run, frame_of, line_of
+from saxtegun.reasons import break_of
 from saxtegun.programs import has_played, program_words
 from saxtegun.running import Unanswered, watched
+from saxtegun.sources import without_clock
 from saxtegun.sessions import MOST_BYTES, MOST_ENTRIES, Entry, Sessions, written_entry
 
 # What the program's lines at status 2 mean; the number is that of a session or of bytes.
@@ -35,11 +37,15 @@ REFUSALS = {
 # So many sessions are played first where each has a limit of time, which all of them together keep too; then twice as many as long as that is quick.
 FIRST_BATCH = 64
 QUICK = 0.25
+# What is said where games are played without their clock, and whether it was.
+WITHOUT_CLOCK = "played without realtime_interval: ticks as recorded"
+TOLD_OF_TICKS: List[str] = []
 
 
 class Engine(NamedTuple):
     """How sessions are played: in which order of cells, by how many workers (None: as many as the program takes), with which program (None: ours),
-    how many seconds each has (None: as many as it takes), what is tested of what the program writes, and whether ours may be built first."""
+    how many seconds each has (None: as many as it takes), what is tested of what the program writes, whether ours may be built first, and whether games are
+    played without their clock, by the ticks that were recorded."""
 
     order: str = "columns"
     workers: Optional[int] = None
@@ -47,6 +53,7 @@ class Engine(NamedTuple):
     seconds: Optional[float] = None
     tests: Tests = ALL_BUT_ORDER
     may_build: bool = True
+    has_ticks: bool = False
 
     def words(self) -> List[str]:
         return [*program_words(self.program, self.may_build), "--order", self.order, *(["--workers", str(self.workers)] if self.workers else [])]
@@ -54,7 +61,13 @@ class Engine(NamedTuple):
 
 def engine_of(given: Namespace) -> Engine:
     """The engine that the words of a verb name."""
-    return Engine(given.order, given.workers, given.program, getattr(given, "timeout", None))
+    return Engine(given.order, given.workers, given.program, getattr(given, "timeout", None), has_ticks=getattr(given, "ticks_as_recorded", False))
+
+
+def broken_told(level: str) -> str:
+    """Where a text stops to be a level text, behind the words of a fault."""
+    at = break_of(level)
+    return f": on line {at[0]}, letter {at[1]} of it `{cut(at[2])}` is no piece of one" if at else ""
 
 
 def refusal(said: str, path: str, entries: Sequence[Entry] = ()) -> str:
@@ -66,7 +79,8 @@ def refusal(said: str, path: str, entries: Sequence[Entry] = ()) -> str:
     number = int(match[2]) if match[2] and len(match[2]) < 20 else None
     is_known = number is not None and match[1].startswith("bad-") and number < len(entries)
     named = f"{entries[number].number} ({cut(entries[number].name)})" if is_known and number is not None else match[2]
-    return f"{path} was not played: {REFUSALS[match[1]].format(number=named)} ({line})"
+    where = broken_told(entries[number].level) if is_known and match[1] == "bad-level" and number is not None else ""
+    return f"{path} was not played: {REFUSALS[match[1]].format(number=named)}{where} ({line})"
 
 
 def play_file(path: str, lines: str, engine: Engine, of: Optional[Sessions] = None, seconds: Optional[float] = None) -> int:
@@ -83,12 +97,26 @@ def play_file(path: str, lines: str, engine: Engine, of: Optional[Sessions] = No
     return ran.status
 
 
-def batches(entries: Sequence[Entry]) -> Iterator[List[bytes]]:
+def ticks_told() -> str:
+    """That games were played without their clock, behind the words of an answer, or nothing."""
+    return f"; {WITHOUT_CLOCK}" if TOLD_OF_TICKS else ""
+
+
+def as_played(entry: Entry, engine: Engine) -> Entry:
+    """An entry as it is played: without its game's clock where its ticks are those that were recorded, which is then said once."""
+    source = without_clock(entry.source) if engine.has_ticks else entry.source
+    if source != entry.source and not TOLD_OF_TICKS:
+        TOLD_OF_TICKS.append(WITHOUT_CLOCK)
+        say(f"saxtegun: {WITHOUT_CLOCK}")
+    return entry._replace(source=source)
+
+
+def batches(entries: Sequence[Entry], engine: Engine) -> Iterator[List[bytes]]:
     """The entries as JSON, in batches of which each is as large as a file may be: the copies of a game that is the source of many don't count."""
     batch: List[bytes] = []
     size = 0
     for entry in entries:
-        text = written_entry(entry).encode()
+        text = written_entry(as_played(entry, engine)).encode()
         if batch and (size + len(text) + len("[]") > MOST_BYTES or len(batch) == MOST_ENTRIES):
             yield batch
             batch, size = [], 0
@@ -121,7 +149,7 @@ def written_runs(lines: str, of: Sessions, engine: Engine) -> Iterator[Run]:
 def runs_within(entries: Sequence[Entry], of: Sessions, engine: Engine, seconds: Optional[float] = None) -> Iterator[Run]:
     """What playing entries shows, numbered from 0 as they stand here, batch by batch; each has so many seconds."""
     first = 0
-    for batch in batches(entries):
+    for batch in batches(entries, engine):
         behind = first + len(batch)
         of_batch = of._replace(entries=list(entries[first:behind]))
         with playing(batch, of_batch, engine, seconds) as lines:
@@ -133,7 +161,7 @@ def runs_within(entries: Sequence[Entry], of: Sessions, engine: Engine, seconds:
 def lines_within(entries: Sequence[Entry], of: Sessions, engine: Engine) -> Iterator[str]:
     """The lines of entries as the program writes them, batch by batch, their sessions numbered from 0 as they stand here."""
     first = 0
-    for batch in batches(entries):
+    for batch in batches(entries, engine):
         of_batch = of._replace(entries=list(entries[first : first + len(batch)]))
         with playing(batch, of_batch, engine, engine.seconds) as lines:
             for number, line in read_lines(lines):
@@ -179,7 +207,7 @@ def runs_of(entries: Sequence[Entry], of: Sessions, engine: Engine) -> List[Run]
 def shown_beyond(entry: Entry, known: int, engine: Engine) -> Run:
     """What a session shows behind its first frames, which are known, and how it is closed."""
     with tempfile.TemporaryFile() as given, tempfile.TemporaryFile() as shown:
-        given.write(b"[" + written_entry(entry).encode() + b"]")
+        given.write(b"[" + written_entry(as_played(entry, engine)).encode() + b"]")
         given.seek(0)
         ran = watched(engine.words(), shown, given, engine.seconds)
         if ran.status not in (0, 1):

@@ -58,6 +58,14 @@ def after_space(text: str, at: int) -> int:
     return match.end() if match else at
 
 
+def before_space(text: str, at: int) -> int:
+    """The place of the last letter before white space that ends here, or -1."""
+    at -= 1
+    while at >= 0 and text[at] in " \t\n\r":
+        at -= 1
+    return at
+
+
 def next_mark(text: str, at: int, marks: str) -> Tuple[str, int]:
     """The mark that stands next, which must be one of these, and where the text goes on behind it."""
     at = after_space(text, at)
@@ -127,6 +135,10 @@ def sessions_in(path: str, text: str) -> Sessions:
             raise json.JSONDecodeError("something stands after the list", text, end)
         return Sessions(path, text, [entry_of(path, text, number, *item) for number, item in enumerate(items)])
     except json.JSONDecodeError as why:
+        comma = before_space(text, why.pos)
+        if why.msg == "Expecting value" and text[comma : comma + 1] == "," and text[why.pos : why.pos + 1] in ("]", "}", ""):
+            before, line = text.rfind("\n", 0, comma), text.count("\n", 0, comma) + 1
+            raise Refused(f"{path}, line {line}, letter {comma - before}: no JSON list of sessions (nothing follows the comma there, which JSON doesn't allow)") from None
         raise Refused(f"{path}, line {why.lineno}, letter {why.colno}: no JSON list of sessions ({why.msg})") from None
     except (ValueError, RecursionError) as why:
         raise Refused(f"{path}: no JSON list of sessions ({why})") from None

@@ -14,6 +14,7 @@ WORD = re.compile(f"[^{WHITE}]+")
 HEADINGS = ("objects", "legend", "sounds", "collisionlayers", "rules", "winconditions", "levels")
 # So many letters tell a word from all keywords that end the reading of comments, and are kept of it.
 WORD_KEPT = 10
+CLOCK = "realtime_interval"
 
 
 class Line(NamedTuple):
@@ -69,6 +70,16 @@ def without_comments(section: str, depth: int, line: str) -> Tuple[str, int]:
             is_first = is_first and (not ends or (not word and bool(SPACE.match(letter))))
             word = "" if ends else (word + letter)[-WORD_KEPT:]
     return "".join(left), depth
+
+
+@lru_cache(maxsize=8)
+def without_clock(source: str) -> str:
+    """A source without the lines of its prelude that say how often a tick is; each stays as an empty line."""
+    raw = source.split("\n")
+    for line in (it for it in lines_of(source) if it.section == "prelude" and fold(it.text[: len(CLOCK) + 1]).split() == [CLOCK]):
+        # behind a keyword no comment begins
+        raw[line.number - 1] = raw[line.number - 1].rpartition(line.text)[0]
+    return "\n".join(raw)
 
 
 def heading_in(section: str, text: str) -> Optional[str]:

@@ -26,7 +26,7 @@ import sys
 from argparse import ArgumentParser, Namespace
 from typing import Dict, List, Optional, Tuple
 
-from saxtegun.commands import Refused, add_game, add_playing, plural, printable, say
+from saxtegun.commands import Refused, add_game, add_playing, add_ticks, plural, printable, say
 from saxtegun.explaining import UNREADABLE, Ending, heading, source_told, told
 from saxtegun.files import guard_output, guard_places, write_again
 from saxtegun.lines import Run
@@ -46,6 +46,7 @@ def add_words(words: ArgumentParser) -> None:
     words.add_argument("--review", action="store_true")
     words.add_argument("--in-place", action="store_true")
     add_playing(words)
+    add_ticks(words)
 
 
 def obstacle(entry: Entry, run: Run, order: str) -> Optional[str]:

@@ -24,7 +24,7 @@ from __future__ import annotations
 from argparse import ArgumentParser, Namespace
 from typing import List, NamedTuple, Optional, Sequence
 
-from saxtegun.commands import Refused, add_playing, cut, plural, say
+from saxtegun.commands import Refused, add_playing, add_ticks, cut, plural, say
 from saxtegun.explaining import told
 from saxtegun.files import guard_places, locked, write_whole
 from saxtegun.playing import engine_of, runs_of
@@ -42,6 +42,7 @@ def add_words(words: ArgumentParser) -> None:
     words.add_argument("--name", metavar="NAME", help="the name of what is added; of several, with a number")
     words.add_argument("--anyway", action="store_true", help="also what differs from what was recorded")
     add_playing(words)
+    add_ticks(words)
 
 
 class Added(NamedTuple):

@@ -17,7 +17,7 @@ import sys
 from argparse import ArgumentParser, Namespace
 from typing import Dict, Iterator, List, NamedTuple, Set, Tuple
 
-from saxtegun.commands import Refused, add_playing, cut, plural, printable
+from saxtegun.commands import Refused, add_playing, add_ticks, cut, plural, printable
 from saxtegun.explaining import source_told
 from saxtegun.files import guard_output
 from saxtegun.games import game_of
@@ -39,6 +39,7 @@ Signature = Tuple[object, ...]
 def add_words(words: ArgumentParser) -> None:
     words.add_argument("files", metavar="[GAME.txt] SESSIONS.json", nargs="+")
     add_playing(words)
+    add_ticks(words)
 
 
 def unplayed(sessions: Sessions, found: Dict[int, Tuple[Signature, Signature]]) -> str:

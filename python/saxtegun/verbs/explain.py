@@ -17,11 +17,11 @@ import sys
 from argparse import ArgumentParser, Namespace
 from typing import List
 
-from saxtegun.commands import add_game, add_playing, printable
+from saxtegun.commands import add_game, add_playing, add_ticks, printable
 from saxtegun.explaining import heading, summary, told
 from saxtegun.files import guard_output
 from saxtegun.lines import UNANSWERED
-from saxtegun.playing import engine_of, lines_or_played
+from saxtegun.playing import engine_of, lines_or_played, ticks_told
 from saxtegun.sessions import read_sessions
 from saxtegun.texts import over, read_game, say_others
 
@@ -33,6 +33,7 @@ def add_words(words: ArgumentParser) -> None:
     words.add_argument("lines", metavar="LINES", nargs="?")
     add_game(words)
     add_playing(words)
+    add_ticks(words)
 
 
 def main(given: Namespace) -> int:
@@ -48,5 +49,5 @@ def main(given: Namespace) -> int:
             if run.close != "passed":
                 sentence, below = told(run, sessions.entries[run.number], given.order, given.game or "")
                 lines += [f"{heading(run)}: {printable(sentence)}", *(f"    {printable(it)}" for it in below)]
-    sys.stdout.write("\n".join([*lines, summary(closes)]) + "\n")
+    sys.stdout.write("\n".join([*lines, summary(closes) + ticks_told()]) + "\n")
     return 2 if UNANSWERED in closes else 0

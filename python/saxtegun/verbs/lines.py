@@ -20,7 +20,7 @@ from argparse import ArgumentParser, Namespace
 from concurrent.futures import ThreadPoolExecutor
 from typing import List, Optional, Sequence, Tuple
 
-from saxtegun.commands import Refused, add_game, add_playing, plural
+from saxtegun.commands import Refused, add_game, add_playing, add_ticks, plural
 from saxtegun.files import guard_output, read_bytes
 from saxtegun.playing import engine_of, lines_within, refusal
 from saxtegun.running import Ran, watched
@@ -40,6 +40,7 @@ def add_words(words: ArgumentParser) -> None:
     words.add_argument("sessions", metavar="SESSIONS", nargs="?", default="-")
     add_game(words)
     add_playing(words)
+    add_ticks(words)
 
 
 def told_of(path: str) -> str:
@@ -128,7 +129,7 @@ def play_over(given: Namespace) -> int:
 
 def main(given: Namespace) -> int:
     guard_output(given.sessions, *([given.game] if given.game else []))
-    if given.game:
+    if given.game or given.ticks_as_recorded:
         return play_over(given)
     path = given.sessions
     data = data_of(path)

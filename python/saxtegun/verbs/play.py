@@ -23,7 +23,7 @@ from argparse import ArgumentParser, Namespace
 from contextlib import contextmanager
 from typing import Any, Iterator, List, NoReturn, Optional
 
-from saxtegun.commands import Refused, plural, printable, say
+from saxtegun.commands import Refused, add_ticks, plural, printable, say
 from saxtegun.explaining import cause_told, told
 from saxtegun.files import MARK, guard_places, locked, read_text, write_whole
 from saxtegun.games import game_of
@@ -44,6 +44,7 @@ def add_words(words: ArgumentParser) -> None:
     words.add_argument("--save", metavar=("NAME", "SESSIONS.json"), nargs=2)
     words.add_argument("--letters", action="store_true", help="draw by the game's letters, without colours")
     words.add_argument("--program", metavar="PROGRAM", help="play with this program")
+    add_ticks(words)
 
 
 @contextmanager
@@ -87,9 +88,10 @@ class Play:
         if given.level < 1 or (places and given.level > len(places)):
             raise Refused(f"{given.game} has {plural(count_of_levels(self.source), 'level')}, but no level {given.level}")
         self.index = places[given.level - 1] if places else 0
+        self.engine = Engine(program=given.program, has_ticks=given.ticks_as_recorded)
         self.inputs: List[Input] = []
         self.frames: List[Frame] = []
-        run = runs_of([self.entry()], Sessions(given.game, "", []), Engine(program=given.program))[0]
+        run = runs_of([self.entry()], Sessions(given.game, "", []), self.engine)[0]
         if run.cause is not None:
             sentence, below = told(run, self.entry(), game=given.game)
             raise Refused(f"{given.game} is not played: {sentence}" + (f": {below[0]}" if below else ""))
@@ -101,7 +103,7 @@ class Play:
     def press(self, key: Input) -> str:
         """Plays one more input; what there is to say of it. It counts once it is played, so an interrupt leaves whole what was played before."""
         longer = self.entry()._replace(inputs=[*self.inputs, key])
-        run = shown_beyond(longer, len(self.frames), Engine(workers=1, program=self.given.program))
+        run = shown_beyond(longer, len(self.frames), self.engine._replace(workers=1))
         if run.cause:
             return f"{cause_told(run.cause)}: the key is left out"
         self.inputs.append(key)

@@ -14,7 +14,7 @@ import sys
 from argparse import ArgumentParser, Namespace
 from pathlib import Path
 
-from saxtegun.commands import add_game, add_playing
+from saxtegun.commands import add_game, add_playing, add_ticks
 from saxtegun.files import guard_output
 from saxtegun.hanging import Finder
 from saxtegun.origins import add_date, origin_of, program_told
@@ -32,6 +32,7 @@ def add_words(words: ArgumentParser) -> None:
     add_game(words)
     add_date(words)
     add_playing(words)
+    add_ticks(words)
 
 
 def main(given: Namespace) -> int:

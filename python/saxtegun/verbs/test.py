@@ -30,7 +30,7 @@ from pathlib import Path
 from typing import Dict, List, NamedTuple, Optional, Tuple
 
 from saxtegun.budget import EXPLAINING, SECONDS
-from saxtegun.commands import Refused, add_playing, cut, fail, plural, printable, say
+from saxtegun.commands import Refused, add_playing, add_ticks, cut, fail, plural, printable, say
 from saxtegun.explaining import fault_in, summary, told
 from saxtegun.files import guard_files, guard_output, guard_places, write_whole
 from saxtegun.guarding import write_command
@@ -39,7 +39,7 @@ from saxtegun.junit import junit_of
 from saxtegun.lines import UNANSWERED, Run
 from saxtegun.origins import add_date, origin_of, program_told
 from saxtegun.pages import Report
-from saxtegun.playing import engine_of, runs_of
+from saxtegun.playing import TOLD_OF_TICKS, engine_of, runs_of, ticks_told
 from saxtegun.sessions import Entry, Sessions, fits, read_sessions, unfitting
 from saxtegun.solving import SOLVED, solved_of
 from saxtegun.telling import Failure, annotation, markdown, once
@@ -62,6 +62,7 @@ def add_words(words: ArgumentParser) -> None:
     words.add_argument("--markdown", metavar="F", help="write a summary in Markdown")
     words.add_argument("--github", action="store_true", help="write annotations for GitHub")
     add_playing(words)
+    add_ticks(words)
 
 
 class Suite(NamedTuple):
@@ -187,6 +188,7 @@ def tell(suite: Suite, failures: List[Failure], unsolved: Dict[int, str], given:
     counts = summary(it.close for it in suite.runs) + (f", {len(unsolved)} no longer solved" if unsolved else "")
     counts += f", {len(suite.elsewhere)} only over its own text" if suite.elsewhere else ""
     counts += f"; {', '.join(f'{ends[it]} {it}' for it in ('solved', 'solved in part', 'not solved'))}"
+    counts += ticks_told()
     for line in suite.remarks:
         show(line)
     show(counts)
@@ -248,6 +250,7 @@ def watch(given: Namespace) -> int:
         while True:
             times = times_of(given.files)
             EXPLAINING.left = SECONDS
+            TOLD_OF_TICKS.clear()
             try:
                 status = test(given)
             except Refused as why:
