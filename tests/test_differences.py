@@ -4,6 +4,7 @@ import re
 import unittest
 
 from tool import TOP, InARoom, plays, run
+from saxtegun.differences import placed_told, scan_told
 from saxtegun.games import game_of
 from saxtegun.levels import Labels, in_rows, read_cells, width_of
 
@@ -114,6 +115,9 @@ class DayOfDifferences(InARoom):
             "noundo": "the game has `noundo`: on the site the undo of this session does nothing",
             "norestart": "the game has `norestart`: on the site the restart of this session does nothing",
             "late [ Player Dot ]": "the rule on line {second} has `+` below a late rule: on the site it isn't late",
+            "[ > Player ] [ Crate ]": "the rows of the rule on line {first} have one cell: on the site it takes places in its own direction",
+            "run_rules_on_level_start": "a level was won by its first tick: on the site that tick wins nothing",
+            "right [ Mark ] -> [ Crate ]": "the rule on line {second} places `crate`, which takes over what moves in its layer: on the site it is still",
             "(push) again": "a comment stands before a command on line {first}: on the site it ends the rule",
         }
         for form, told in wanted.items():
@@ -122,6 +126,13 @@ class DayOfDifferences(InARoom):
             first = 3 + source.partition("\nRULES\n")[0].count("\n") + 1
             with self.subTest(form):
                 self.assertIn(f"    the site may decide otherwise: {told.format(first=first, second=first + 1)}", run("explain", self.room / "one.json").out)
+
+    def test_what_only_looks_so_is_not_named(self):
+        for rule in ("[ > Player ] -> [ Player ]", "[ Player ] [ Crate ] -> [ Player ] [ ]", "[ > Player | Crate ] [ Box ] -> [ | Player ] [ ]", "late right [ Player ] -> [ Player Mark ]"):
+            self.assertEqual((scan_told(HEAD % ("", rule, "", "p.")), rule), ("", rule))
+        for rule in ("late [ Mark ] -> [ Crate ]", "[ > Player | Mark ] -> [ > Player | Dot ]", "[ > Player | Crate ] -> [ > Player | Box ]", "[ > Player | Mark ] -> [ > Player | stationary Crate ]"):
+            self.assertEqual((placed_told(HEAD % ("", rule, "", "p.")), rule), ("", rule))
+        self.assertIn("places `crate`", placed_told(HEAD % ("", "[ > Player | Mark ] -> [ > Player | Crate ]", "", "p.")))
 
     def test_a_game_without_such_a_form_is_told_nothing(self):
         self.assertNotIn("the site", run("explain", TOP / "examples/block-pushing.json").out)

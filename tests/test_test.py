@@ -134,7 +134,7 @@ class DayOfTests(OfAGame):
             ((self.write("nothing.txt", " \n"), self.recordings), "nothing.txt is empty: it is to be a game's text"),
             ((self.game, self.recordings, "--markdown", self.room), "can't be written: it is a folder"),
             ((self.game, self.room / "nothing.json"), "can't be read"),
-            ((self.game, bad), "bad.json was not played: the recorded level of session 0 (the name) is no level text (bad-level 0)"),
+            ((self.game, bad), "bad.json was not played: the recorded level of session 0 (the name) is no level text: on line 1, letter 1 of it `x` is no piece of one (bad-level 0)"),
             ((self.game, self.recordings, "--junit", self.recordings), "is read: write to another file"),
             ((self.game, self.recordings, "--program", self.game), "there is no program at"),
             ((self.game, self.recordings, "--markdown", self.room / "no/where"), "can't be written"),

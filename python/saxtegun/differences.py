@@ -4,15 +4,16 @@ from __future__ import annotations
 import re
 from functools import lru_cache
 from itertools import islice
-from typing import Dict, FrozenSet, List, NamedTuple, Optional, Tuple
+from typing import Dict, FrozenSet, Iterator, List, NamedTuple, Optional, Set, Tuple
 
 from saxtegun.commands import cut, fold
-from saxtegun.games import game_of
+from saxtegun.games import Game, game_of
 from saxtegun.lines import Run
 from saxtegun.sessions import Entry
 from saxtegun.sources import lines_of, words_of
 
 PAGE = "docs/differences.md"
+START = "run_rules_on_level_start"
 BRACKETS = re.compile(r"[\[\]|]")
 # So many letters of a rule are looked at.
 MOST_LETTERS = 1000
@@ -20,6 +21,13 @@ MOST_LETTERS = 1000
 MOST_PROPERTIES = 50
 # A command of a rule behind a comment.
 BEHIND_A_COMMENT = re.compile(r"\([^()]*\)\s*(?:again|win|restart|cancel|checkpoint|message|sfx\d+)\b", re.I)
+
+
+ROW = re.compile(r"\[([^\[\]]*)\]")
+TURNING = {*"^v<>", "parallel", "perpendicular"}
+DIRECTIONS = {"up", "down", "left", "right", "horizontal", "vertical", "orthogonal"}
+# The words that may stand before a name in a cell.
+BEFORE_A_NAME = {"no", "action", "stationary", "moving", *TURNING, *DIRECTIONS}
 
 
 class Property(NamedTuple):
@@ -76,6 +84,70 @@ def rule_told(source: str) -> str:
     return ""
 
 
+@lru_cache(maxsize=64)
+def scan_told(source: str) -> str:
+    """A rule of several rows of one cell, which the site scans in its own direction, or nothing."""
+    for number, text in rules_of(source):
+        left, arrow, right = text[:MOST_LETTERS].partition("->")
+        words = words_of(BRACKETS.sub(" ", left))
+        is_turned = bool(TURNING & {*words, *words_of(BRACKETS.sub(" ", right))}) or bool(DIRECTIONS & set(words_of(left.partition("[")[0])))
+        if arrow and "|" not in left and left.count("[") > 1 and "[" in right and is_turned:
+            return f"the rows of the rule on line {number} have one cell: on the site it takes places in its own direction, not column by column"
+    return ""
+
+
+def layers_in(cell: str, game: Game, layers: Dict[str, Optional[int]]) -> Dict[str, Set[Optional[int]]]:
+    """The names of a cell that have no word before them, each with the layers of its objects; and under the empty name the layers of all."""
+    found: Dict[str, Set[Optional[int]]] = {"": set()}
+    before = ""
+    for word in words_of(cell):
+        if word not in BEFORE_A_NAME:
+            of = {layers[it] for it in game.members(word)}
+            found[""] |= of
+            if not before:
+                found[word] = of
+        before = word if word in BEFORE_A_NAME else ""
+    return found
+
+
+def cells_of(text: str) -> Iterator[Tuple[str, str]]:
+    """The cells of a rule, left and right of it side by side."""
+    sides = [[cell for row in ROW.findall(side) for cell in row.split("|")] for side in text[:MOST_LETTERS].partition("->")[::2]]
+    return zip(*sides)
+
+
+def moved_layers(source: str, game: Game, layers: Dict[str, Optional[int]]) -> Set[Optional[int]]:
+    """The layers in which rules move something, and that of the player."""
+    names = ["player"]
+    for _, text in rules_of(source):
+        words = words_of(BRACKETS.sub(" ", text[:MOST_LETTERS].partition("->")[2]))
+        names += [name for word, name in zip(words, words[1:]) if word in BEFORE_A_NAME and word not in ("no", "stationary")]
+    return {layers[it] for name in dict.fromkeys(names[:MOST_LETTERS]) for it in game.members(name)}
+
+
+@lru_cache(maxsize=64)
+def placed_told(source: str) -> str:
+    """A rule that places an object without a word where its left cell has nothing of its layer, and something may move; or nothing."""
+    game = game_of(source)
+    layers = {it.name: it.layer for it in game.objects}
+    moved = moved_layers(source, game, layers)
+    for number, text in rules_of(source):
+        if "late" in words_of(text.partition("[")[0]):
+            continue
+        for left, right in cells_of(text):
+            there = layers_in(left, game, layers)[""]
+            for name, of in layers_in(right, game, layers).items():
+                if name and of & moved and not of & there:
+                    return f"the rule on line {number} places `{cut(name)}`, which takes over what moves in its layer: on the site it is still"
+    return ""
+
+
+def start_told(entry: Entry, run: Run) -> str:
+    """That a level was won by its first tick, or nothing."""
+    is_won = any(it.kind == "load" and (it.at == 0 or before.kind == "load") for before, it in zip(run.frames, run.frames[1:]))
+    return "a level was won by its first tick: on the site that tick wins nothing" if is_won and keyword_in(entry.source, START) else ""
+
+
 def property_told(entry: Entry, run: Run) -> str:
     """A property of which two different members were met, or nothing."""
     names = set(re.findall(r"[^ ,:\n]+", fold(run.frames[0].level))) if run.frames else set()
@@ -95,5 +167,5 @@ def input_told(entry: Entry) -> str:
 
 def likely(entry: Entry, run: Run) -> Optional[str]:
     """The difference that a session has most likely met, in a sentence, or None."""
-    told = input_told(entry) or property_told(entry, run) or rule_told(entry.source)
+    told = input_told(entry) or start_told(entry, run) or property_told(entry, run) or rule_told(entry.source) or scan_told(entry.source) or placed_told(entry.source)
     return f"the site may decide otherwise: {told} ({PAGE})" if told else None

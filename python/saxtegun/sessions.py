@@ -6,7 +6,7 @@ import json
 import os
 import re
 from fnmatch import fnmatchcase
-from typing import Any, Dict, List, NamedTuple, NoReturn, Optional, Sequence, Tuple, Union
+from typing import Any, Dict, List, Mapping, NamedTuple, NoReturn, Optional, Sequence, Tuple, Union
 
 from saxtegun.commands import Refused, cut
 from saxtegun.files import MARK, TooLong, read_text
@@ -120,6 +120,7 @@ def entry_of(path: str, text: str, number: int, value: Any, begin: int, end: int
     name, body = value[0], value[1]
     parts = items_of(text, items_of(text, begin)[0][1][1])[0]
     spans = {"name": items_of(text, begin)[0][0][1:], "source": parts[0][1:], "level": parts[2][1:], "entry": (begin, end)}
+    spans["index"] = parts[3][1:] if len(parts) > 3 else (parts[2][2], parts[2][2])
     index = body[3] if len(body) > 3 and body[3] is not None else 0
     return Entry(number, name, body[0], body[1], body[2], index, spans, DEMAND in value[2:])
 
@@ -152,14 +153,15 @@ def read_sessions(path: str) -> Sessions:
         raise Refused(f"{path} has more than {MOST_BYTES // 2**20} MiB: play it in parts, by saxtegun split") from None
 
 
-def changed(sessions: Sessions, changes: Dict[int, Tuple[str, str]]) -> str:
-    """The text of a sessions file with other sources or levels: `changes` maps a session's number to the part that is changed and its new
-    text. All else stays letter by letter."""
+def changed(sessions: Sessions, changes: Mapping[int, Tuple[str, Union[str, int]]]) -> str:
+    """The text of a sessions file with other sources, levels or indices: `changes` maps a session's number to the part that is changed and what it is then.
+    All else stays letter by letter."""
     pieces, at = [], 0
     for number in sorted(changes):
         part, new = changes[number]
         begin, end = sessions.entries[number].spans[part]
-        pieces += [sessions.text[at:begin], json.dumps(new, ensure_ascii=False)]
+        # an index that isn't there follows the level
+        pieces += [sessions.text[at:begin], ", " if begin == end else "", json.dumps(new, ensure_ascii=False)]
         at = end
     return "".join([*pieces, sessions.text[at:]])
 

@@ -12,6 +12,10 @@ refused was not played to its end.
 Look first at what you accept, by `saxtegun report` or `saxtegun explain`. Or
 let --review show one after the other, with both levels, and ask.
 
+With --reindex no level is accepted: a recording that doesn't pass is tried in
+every other level, as when levels were inserted or moved. If it passes in one
+alone, its index is set; standard error says which. No other is touched.
+
 Nothing is changed if a session was played in another order than it was recorded
 in. That shows if LINES don't begin with the level that the source draws in this
 order (they may be over another source too), or if the recorded level is the
@@ -24,17 +28,18 @@ from __future__ import annotations
 
 import sys
 from argparse import ArgumentParser, Namespace
-from typing import Dict, List, Optional, Tuple
+from typing import Dict, List, Mapping, Optional, Sequence, Tuple, Union
 
 from saxtegun.commands import Refused, add_game, add_playing, add_ticks, plural, printable, say
 from saxtegun.explaining import UNREADABLE, Ending, heading, source_told, told
 from saxtegun.files import guard_output, guard_places, write_again
 from saxtegun.lines import Run
 from saxtegun.playing import engine_of, lines_or_played
-from saxtegun.sessions import Entry, changed, chosen, read_sessions
+from saxtegun.reindexing import reindexed
+from saxtegun.sessions import Entry, Sessions, changed, chosen, read_sessions
 from saxtegun.texts import over, read_game, say_others
 
-USAGE = "accept SESSIONS [LINES] [--only PATTERN..] [--review] [--in-place] [--game GAME.txt] [--order rows|columns] [>NEW]"
+USAGE = "accept SESSIONS [LINES] [--only PATTERN..] [--review|--reindex] [--in-place] [--game GAME.txt] [--order rows|columns] [>NEW]"
 ASKED = "accept it? y: yes, n: no, a: it and all that follow, q: none of those that follow "
 
 
@@ -44,6 +49,7 @@ def add_words(words: ArgumentParser) -> None:
     words.add_argument("--only", metavar="PATTERN", action="append", help="accept sessions whose names fit; may be repeated")
     add_game(words)
     words.add_argument("--review", action="store_true")
+    words.add_argument("--reindex", action="store_true", help="set the index of recordings whose level has another place now")
     words.add_argument("--in-place", action="store_true")
     add_playing(words)
     add_ticks(words)
@@ -85,7 +91,29 @@ class Review:
                 return False
 
 
+def write(sessions: Sessions, changes: Mapping[int, Tuple[str, Union[str, int]]], given: Namespace) -> None:
+    """Writes the file as it is to be: to standard output, or in its place where something has changed."""
+    if not given.in_place:
+        sys.stdout.write(changed(sessions, changes))
+        sys.stdout.flush()
+    elif changes:
+        write_again(given.sessions, sessions.text, changed(sessions, changes))
+
+
+def reindex(sessions: Sessions, wanted: Sequence[Entry], given: Namespace) -> int:
+    """Sets the indices with which recordings pass again."""
+    found = reindexed(wanted, sessions, engine_of(given))
+    changes = {it.entry.number: ("index", it.indices[0]) for it in found if len(it.indices) == 1}
+    write(sessions, changes, given)
+    for it in found:
+        say(f"accept: {printable(it.told())}")
+    say(f"accept: {len(changes)} of {plural(len(sessions.entries), 'index', 'indices')} changed")
+    return 1 if len(changes) < len(found) and given.only else 0
+
+
 def main(given: Namespace) -> int:
+    if given.reindex and (given.review or given.lines):
+        raise Refused("--reindex plays by itself, so it goes with neither --review nor LINES")
     if given.review and (given.lines == "-" or given.sessions == "-"):
         raise Refused("--review asks on standard input, so no file can be read from it")
     if given.review and sys.stdin is None:
@@ -99,6 +127,8 @@ def main(given: Namespace) -> int:
     game = read_game(given.game)
     sessions = over(read_sessions(given.sessions), game)
     say_others("accept", sessions, game)
+    if given.reindex:
+        return reindex(sessions, chosen(sessions, given.only), given)
     wanted = {it.number for it in chosen(sessions, given.only)}
     review = Review(given.order) if given.review else None
     changes: Dict[int, Tuple[str, str]] = {}
@@ -115,11 +145,7 @@ def main(given: Namespace) -> int:
                 said.append(f"{heading(run)}, accepted")
             else:
                 said.append(f"{heading(run)}, not accepted" + (f": {why}" if why else ""))
-    if not given.in_place:
-        sys.stdout.write(changed(sessions, changes))
-        sys.stdout.flush()
-    elif changes:
-        write_again(given.sessions, sessions.text, changed(sessions, changes))
+    write(sessions, changes, given)
     for line in said:
         say(f"accept: {printable(line)}")
     say(f"accept: {len(changes)} of {plural(len(sessions.entries), 'recorded level')} changed")

@@ -1,0 +1,73 @@
+"""`saxtegun accept --reindex`: recordings of levels that have moved pass again, and nothing else is changed."""
+import json
+import unittest
+
+from test_test import OfAGame
+from tool import plays, run
+
+# A level of another kind than the two of the example, which can not be won: a target, and no crate.
+NEW = "#####\n#P.O#\n#####\n"
+
+
+def starts(source):
+    return source.partition("LEVELS\n=======\n")[2].strip("\n").split("\n\n")
+
+
+@plays
+class DayOfReindexing(OfAGame):
+    def setUp(self):
+        super().setUp()
+        head, heading, levels = self.source.partition("LEVELS\n=======\n")
+        self.moved = f"{head}{heading}\n{NEW}\nmessage hello\n{levels}"
+        self.write("game.txt", self.moved)
+
+    def entries_after(self, *words, file=None):
+        path = file or self.recordings
+        answer = run("accept", path, "--game", self.game, "--reindex", *words)
+        return answer, json.loads(answer.out or path.read_text(encoding="utf-8"))
+
+    def test_what_passes_in_one_other_level_gets_its_index(self):
+        """A level and a message stand before the two of the example, so that indices grow by two; the stale recording passes in no level."""
+        before = self.recordings.read_bytes()
+        answer, entries = self.entries_after()
+        self.assertEqual((answer.status, self.recordings.read_bytes()), (0, before))
+        old = [it[1][3] for it in self.entries]
+        self.assertEqual([it[1][3] for it in entries], [*(it + 2 for it in old[:4]), old[4]])
+        self.assertEqual([[*it[1][:3], *it[1][4:]] for it in entries], [[*it[1][:3], *it[1][4:]] for it in self.entries])
+        said = answer.errors.splitlines()
+        self.assertEqual(said[0], f"accept: session 0, {self.entries[0][0]}: its index {old[0]} becomes {old[0] + 2}, with which it passes")
+        self.assertEqual(said[4:], ["accept: session 4, a recording that has gone stale: passes in no level, so its index 0 stays", "accept: 4 of 5 indices changed"])
+
+    def test_in_place_they_pass_again(self):
+        self.entries_after("--in-place")
+        self.assertIn("5 sessions: 4 passed, 1 differs", run("test", self.game, self.recordings).out)
+        answer, entries = self.entries_after("--only", "half*")
+        self.assertEqual((answer.status, answer.errors), (0, "accept: 0 of 5 indices changed\n"))
+
+    def test_others_are_never_touched(self):
+        answer, entries = self.entries_after("--only", "half*")
+        self.assertEqual([it[1][3] for it in entries], [it[1][3] + 2 * it[0].startswith("half") for it in self.entries])
+        answer, _ = self.entries_after("--only", "a recording*")
+        self.assertEqual(answer.status, 1)
+
+    def test_where_two_levels_are_alike_nothing_is_guessed(self):
+        self.write("game.txt", self.moved + "\n\n" + starts(self.source)[0] + "\n")
+        answer, entries = self.entries_after("--only", "half*")
+        self.assertEqual((answer.status, [it[1][3] for it in entries]), (1, [it[1][3] for it in self.entries]))
+        self.assertIn("half way through the first: passes in 2 levels (index 2, 4), so its index 0 stays", answer.errors)
+
+    def test_an_index_that_is_not_there_follows_the_level(self):
+        name, body = self.entries[2]
+        for end, left in (("", ""), (", null", ""), (', null, "seed"', ', "seed"')):
+            text = f"[ [{json.dumps(name)}, {json.dumps(body[:3])[:-1]}{end} ]]\n]"
+            self.write("r.json", text)
+            answer, _ = self.entries_after(file=self.room / "r.json")
+            self.assertEqual(answer.out, f"[ [{json.dumps(name)}, {json.dumps(body[:3])[:-1]}, 2{left} ]]\n]")
+
+    def test_it_plays_by_itself(self):
+        for words in (("--review",), (self.lines,)):
+            self.assert_refused(run("accept", self.recordings, *words, "--reindex", "--game", self.game), "--reindex plays by itself")
+
+
+if __name__ == "__main__":
+    unittest.main()
