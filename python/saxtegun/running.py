@@ -9,7 +9,7 @@ import subprocess
 from contextlib import contextmanager
 from threading import Thread
 from time import monotonic
-from typing import IO, Any, Callable, Iterator, NamedTuple, Optional, Sequence
+from typing import IO, Any, Callable, Iterator, Mapping, NamedTuple, Optional, Sequence
 
 from saxtegun.commands import Refused, say
 
@@ -48,10 +48,10 @@ def end(ran: "subprocess.Popen[bytes]") -> None:
 
 
 @contextmanager
-def started(words: Sequence[str], stdin: Any, output: Any) -> "Iterator[subprocess.Popen[bytes]]":
+def started(words: Sequence[str], stdin: Any, output: Any, environment: Optional[Mapping[str, str]] = None) -> "Iterator[subprocess.Popen[bytes]]":
     """A program in a group of its own, as long as this lasts."""
     try:
-        ran = subprocess.Popen(words, stdin=stdin, stdout=output, stderr=subprocess.PIPE, start_new_session=True)
+        ran = subprocess.Popen(words, stdin=stdin, stdout=output, stderr=subprocess.PIPE, env=environment, start_new_session=True)
     except OSError as why:
         raise Refused(f"{words[0]} can't be run: {why.strerror}") from None
     try:

@@ -137,7 +137,7 @@ def sessions_in(path: str, text: str) -> Sessions:
         return Sessions(path, text, [entry_of(path, text, number, *item) for number, item in enumerate(items)])
     except json.JSONDecodeError as why:
         comma = before_space(text, why.pos)
-        if why.msg == "Expecting value" and text[comma : comma + 1] == "," and text[why.pos : why.pos + 1] in ("]", "}", ""):
+        if why.msg == "Expecting value" and text[comma : comma + 1] == "," and text[why.pos : why.pos + 1] in ("]", "}"):
             before, line = text.rfind("\n", 0, comma), text.count("\n", 0, comma) + 1
             raise Refused(f"{path}, line {line}, letter {comma - before}: no JSON list of sessions (nothing follows the comma there, which JSON doesn't allow)") from None
         raise Refused(f"{path}, line {why.lineno}, letter {why.colno}: no JSON list of sessions ({why.msg})") from None

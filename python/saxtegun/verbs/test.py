@@ -12,10 +12,12 @@ and what makes them follow game.txt.
 `passed` says that the last level is as recorded, not that it was won. So each
 session also says whether it is solved (all levels), solved up to a level, or
 not. A session that --solved names must be solved, and so must an entry with a
-further element, [name, [..], "solved"]; otherwise it fails. With
---watch all is played again at each save of a file that was read, until you stop
-it. With --timeout N a session that isn't answered in N seconds is stopped and
-named, and the others are told as ever.
+further element, [name, [..], "solved"]; otherwise it fails. If game.txt lies in
+a git folder, a session that broke since the last commit says at which input its
+frames first part from those of the committed text. With --watch all is played
+again at each save of a file that was read, until you stop it. With --timeout N
+a session that isn't answered in N seconds is stopped and named, and the others
+are told as ever.
 
 Exit status: 0 all passed, 1 some session did not, 2 there is no whole answer."""
 from __future__ import annotations
@@ -31,6 +33,7 @@ from typing import Dict, List, NamedTuple, Optional, Tuple
 
 from saxtegun.budget import EXPLAINING, SECONDS
 from saxtegun.commands import Refused, add_playing, add_ticks, cut, fail, plural, printable, say
+from saxtegun.committed import partings
 from saxtegun.explaining import fault_in, summary, told
 from saxtegun.files import guard_files, guard_output, guard_places, write_whole
 from saxtegun.guarding import write_command
@@ -67,7 +70,7 @@ def add_words(words: ArgumentParser) -> None:
 
 class Suite(NamedTuple):
     """What was played: the sessions of all files, numbered through, what they showed, how they ended, and the file of each. `elsewhere` is why sessions fail
-    that passed over a text of their own, and `remarks` tells which have one."""
+    that passed over a text of their own, and `remarks` tells which have one; `game` is the text at hand."""
 
     sessions: Sessions
     runs: List[Run]
@@ -75,6 +78,7 @@ class Suite(NamedTuple):
     files: List[Tuple[str, int]]
     elsewhere: Dict[int, str]
     remarks: List[str]
+    game: Optional[GameText]
 
 
 class Picked(NamedTuple):
@@ -127,7 +131,7 @@ def elsewhere_in(file: Picked, runs: List[Run], game: GameText, given: Namespace
 def played(given: Namespace) -> Suite:
     game = read_game(split_files(given.files)[0])
     engine = engine_of(given)
-    suite = Suite(Sessions(", ".join(Path(it).name for it in split_files(given.files)[1]), "", []), [], {}, [], {}, [])
+    suite = Suite(Sessions(", ".join(Path(it).name for it in split_files(given.files)[1]), "", []), [], {}, [], {}, [], game)
     for file in read_files(given, game):
         first = len(suite.runs)
         shown = runs_of(file.entries, file.sessions, engine) if file.entries else []
@@ -152,6 +156,7 @@ def unsolved_in(suite: Suite, patterns: List[str]) -> Dict[int, str]:
 
 def failures_of(suite: Suite, though_passed: Dict[int, str], given: Namespace, hung: Finder) -> List[Failure]:
     game, paths = split_files(given.files)
+    since = partings(suite.game, suite.sessions.entries, suite.runs, suite.sessions, engine_of(given))
     found: List[Failure] = []
     for entry, run in zip(suite.sessions.entries, suite.runs):
         path, number = suite.files[entry.number]
@@ -162,6 +167,7 @@ def failures_of(suite: Suite, though_passed: Dict[int, str], given: Namespace, h
         fault = fault_in(run.cause or "")
         if run.close == "passed":
             sentence, below = though_passed[entry.number], []
+        below = [*below, since[entry.number]] if entry.number in since else below
         is_of_game = bool(game and fault)
         found.append(Failure(f"{place}, {cut(entry.name)}", run.close, sentence, below, game if is_of_game else path, fault[1] if is_of_game and fault else 1))
     return found

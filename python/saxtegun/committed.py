@@ -1,0 +1,88 @@
+"""The last committed text of a game, and where sessions that broke since then part from what they showed over it.
+
+A folder of a stranger's may hold a repository with any configuration, so git is asked for one object alone: without hooks, filters, helpers, replaced objects
+or any transport, with nothing of what the environment says of git, and not for long."""
+from __future__ import annotations
+
+import os
+import shutil
+import subprocess
+import tempfile
+from typing import Dict, List, Optional, Sequence
+
+from saxtegun.budget import EXPLAINING
+from saxtegun.commands import Refused, printable
+from saxtegun.lines import Run
+from saxtegun.parting import parting_of, sentence_of
+from saxtegun.playing import Engine, runs_within
+from saxtegun.running import started
+from saxtegun.sessions import Entry, Sessions
+from saxtegun.texts import GameText, same_text
+
+# So long git may take for an answer, and so many bytes a text has at most: no longer one is played.
+SECONDS = 5.0
+MOST_BYTES = 2**20
+SAFELY = ("--no-pager", "--no-optional-locks", "--no-replace-objects", "-c", "core.fsmonitor=", "-c", "core.hooksPath=/dev/null", "-c", "safe.bareRepository=explicit")
+# What is missing isn't fetched: a repository says itself how, by any command.
+OFFLINE = {"GIT_ALLOW_PROTOCOL": "none", "GIT_NO_LAZY_FETCH": "1", "GIT_TERMINAL_PROMPT": "0"}
+
+
+def asked(folder: str, words: Sequence[str]) -> Optional[bytes]:
+    """What git answers in a folder; None where it has no answer in its time, or isn't there."""
+    git = shutil.which("git")
+    if git is None or not os.path.isabs(git):
+        # a name like ./git would be looked for in the folder
+        return None
+    scrubbed = {name: value for name, value in os.environ.items() if not name.startswith("GIT_")}
+    with tempfile.TemporaryFile() as output:
+        try:
+            with started([git, "-C", folder, *SAFELY, *words], subprocess.DEVNULL, output, {**scrubbed, **OFFLINE}) as ran:
+                assert ran.stderr is not None
+                with ran.stderr:
+                    ran.wait(min(SECONDS, EXPLAINING.left))
+        except (Refused, subprocess.TimeoutExpired):
+            return None
+        output.seek(0)
+        return output.read(MOST_BYTES + 1) if ran.returncode == 0 else None
+
+
+def committed_text(path: str) -> Optional[str]:
+    """The text of a file as the last commit has it; None where there is none."""
+    folder, name = os.path.split(os.path.realpath(path))
+    blob = f"HEAD:./{name}"
+    size = asked(folder, ["cat-file", "-s", blob])
+    if size is None or not size.strip().isdigit() or int(size) > MOST_BYTES:
+        return None
+    data = asked(folder, ["cat-file", "blob", blob])
+    try:
+        return None if data is None else data.decode("utf-8-sig")
+    except UnicodeDecodeError:
+        return None
+
+
+def partings(game: Optional[GameText], entries: Sequence[Entry], runs: Sequence[Run], of: Sessions, engine: Engine) -> Dict[int, str]:
+    """For sessions that pass over the committed text, and not over the one at hand, where they part; by their numbers. Nothing where there is no such text,
+    or no time left to explain."""
+    broken = [(it, run) for it, run in zip(entries, runs) if game and it.source == game.source and run.close in ("differs", "stopped")]
+    if game is None or not broken or not EXPLAINING.is_left():
+        return {}
+    with EXPLAINING.spent():
+        text = committed_text(game.path)
+        if text is None or not text.strip() or same_text(text, game.source):
+            return {}
+        return parted([it._replace(source=text) for it, _ in broken], [run for _, run in broken], of, engine, printable(os.path.basename(game.path)))
+
+
+def parted(before: List[Entry], runs: Sequence[Run], of: Sessions, engine: Engine, name: str) -> Dict[int, str]:
+    """Where runs part from what sessions show over the text before, which they passed."""
+    found: Dict[int, str] = {}
+    try:
+        for entry, old, new in zip(before, runs_within(before, of, engine, max(EXPLAINING.left, 0.1)), runs):
+            parting = parting_of(old, new) if old.close == "passed" else None
+            if parting is not None:
+                one = "" if parting.kind == "level" else " (one)"
+                found[entry.number] = f"over the committed {name}{one} it passed, and its frames first part at {sentence_of(parting, old, new, entry)}"
+    except Refused:
+        # what is known is told
+        pass
+    return found

@@ -1,0 +1,144 @@
+"""`saxtegun test` in a git folder: where a session that broke parts from the committed text, and that a hostile repository runs nothing."""
+import shutil
+import subprocess
+import unittest
+
+from test_test import RULE, OfAGame
+from tool import plays, run
+from saxtegun import committed
+from saxtegun.committed import committed_text
+
+STUCK = "[ > Player | Crate ] -> [ Player | Crate ]"
+SAYS = "over the committed game.txt it passed, and its frames first part at "
+
+
+def git(folder, *words):
+    words = ["git", "-C", folder, "-c", "user.name=a", "-c", "user.email=a@example", "-c", "protocol.file.allow=always", *words]
+    return subprocess.run(list(map(str, words)), check=False, stdin=subprocess.DEVNULL, stdout=subprocess.PIPE, stderr=subprocess.PIPE)
+
+
+class InAGitFolder(OfAGame):
+    def setUp(self):
+        super().setUp()
+        if shutil.which("git") is None:
+            self.skipTest("there is no git")
+        git(self.room, "init", "--quiet")
+        self.commit()
+
+    def commit(self):
+        git(self.room, "add", "--all")
+        git(self.room, "commit", "--quiet", "--message", "a text")
+
+
+@plays
+class DayOfCommits(InAGitFolder):
+    def test_a_session_that_broke_says_where_it_parts(self):
+        """The first crate that is pushed: by the third input, up, in the first level; by the fourth, left, in the second."""
+        self.with_rule(STUCK)
+        answer = run("test", self.game, self.recordings)
+        self.assertEqual(answer.status, 1)
+        told = [it.strip() for it in answer.out.splitlines() if SAYS in it]
+        self.assertEqual(told[:2], [f"{SAYS}frame 3, after input 2 (up)", f"{SAYS}frame 4, after input 3 (left)"])
+        # the stale one had not passed over the committed text either
+        self.assertNotIn(SAYS, answer.out.partition("a recording that has gone stale")[2])
+
+    def test_the_report_and_the_summary_are_of_the_same_run(self):
+        self.with_rule(STUCK)
+        run("test", self.game, self.recordings, "--markdown", self.room / "m.md")
+        self.assertIn(f"{SAYS}frame 3", (self.room / "m.md").read_text(encoding="utf-8"))
+
+    def test_where_nothing_is_committed_nothing_is_said(self):
+        self.assertNotIn(SAYS, run("test", self.game, self.recordings).out)
+        self.with_rule(STUCK)
+        new = self.write("new.txt", self.game.read_text(encoding="utf-8"))
+        self.assertNotIn("committed", run("test", new, self.recordings).out)
+        shutil.rmtree(self.room / ".git")
+        answer = run("test", self.game, self.recordings)
+        self.assertEqual((answer.status, "committed" in answer.out + answer.errors, "git" in answer.errors), (1, False, False))
+        git(self.room, "init", "--quiet")
+        self.assertNotIn("committed", run("test", self.game, self.recordings).out)
+
+    def test_where_no_time_is_left_nothing_is_said(self):
+        left = committed.EXPLAINING.left
+        self.addCleanup(lambda: setattr(committed.EXPLAINING, "left", left))
+        committed.EXPLAINING.left = 0
+        self.assertEqual(committed.partings(None, [], [], None, None), {})
+
+
+class Hostile(InAGitFolder):
+    def hacks(self, name):
+        """A program that leaves a trace, and the trace."""
+        trace = self.room / f"trace-{name}"
+        program = self.write(f"hack-{name}", f"#!/bin/sh\ntouch '{trace}'\nexit 0\n")
+        program.chmod(0o755)
+        return program, trace
+
+    def test_a_configuration_runs_nothing(self):
+        program, trace = self.hacks("all")
+        self.write(".gitattributes", "*.txt filter=evil diff=evil\n")
+        self.commit()
+        for name in (
+            "core.fsmonitor", "core.pager", "pager.cat-file", "core.sshCommand", "core.editor", "core.askPass", "diff.external", "diff.evil.textconv",
+            "diff.evil.command", "filter.evil.smudge", "filter.evil.clean", "filter.evil.process", "gpg.program", "credential.helper", "core.alternateRefsCommand", "core.gitProxy",
+        ):  # fmt: skip
+            git(self.room, "config", name, program)
+        for name in ("alias.cat-file", "alias.rev-parse"):
+            git(self.room, "config", name, f"!{program}")
+        hooks = self.room / ".git/hooks"
+        hooks.mkdir(exist_ok=True)
+        for name in ("post-index-change", "reference-transaction", "post-checkout", "fsmonitor-watchman"):
+            shutil.copy(program, hooks / name)
+        self.game.write_text("another", encoding="utf-8")
+        self.assertEqual(committed_text(str(self.game)), self.source)
+        self.assertFalse(trace.exists())
+        # that the traps are set: what looks at the folder as git does by itself runs one
+        git(self.room, "status")
+        self.assertTrue(trace.exists())
+
+    def test_what_is_missing_is_not_fetched(self):
+        """A partial clone says itself how its missing objects are fetched: by a command of its own."""
+        program, trace = self.hacks("fetch")
+        blob = git(self.room, "rev-parse", "HEAD:game.txt").stdout.decode().strip()
+        self.assertTrue(blob)
+        (self.room / ".git/objects" / blob[:2] / blob[2:]).unlink()
+        git(self.room, "config", "core.repositoryFormatVersion", "1")
+        git(self.room, "config", "extensions.partialClone", "origin")
+        git(self.room, "config", "remote.origin.promisor", "true")
+        git(self.room, "config", "remote.origin.uploadPack", program)
+        git(self.room, "config", "protocol.ext.allow", "always")
+        for address in (f"ext::{program}", str(self.room), f"file://{self.room}", f"ssh://host/{self.room}"):
+            with self.subTest(address):
+                git(self.room, "config", "remote.origin.url", address)
+                git(self.room, "config", "core.sshCommand", program)
+                self.assertIsNone(committed_text(str(self.game)))
+                self.assertFalse(trace.exists())
+                git(self.room, "cat-file", "blob", "HEAD:./game.txt")
+                self.assertTrue(trace.exists(), "the trap isn't set")
+                trace.unlink()
+
+    def test_the_environment_names_no_other_repository(self):
+        words = {"GIT_DIR": "/nowhere", "GIT_OBJECT_DIRECTORY": "/nowhere", "GIT_ALLOW_PROTOCOL": "ext"}
+        before = dict(committed.os.environ)
+        self.addCleanup(lambda: (committed.os.environ.clear(), committed.os.environ.update(before)))
+        committed.os.environ.update(words)
+        self.assertEqual(committed_text(str(self.game)), self.source)
+
+    def test_what_takes_long_or_is_too_long_is_left(self):
+        self.write("long.txt", "x" * (committed.MOST_BYTES + 1))
+        self.write("latin.txt", "x")
+        (self.room / "latin.txt").write_bytes(b"\xe4")
+        self.commit()
+        for name in ("long.txt", "latin.txt", "none.txt", "..", "a\nb", "-x", ":(glob)*"):
+            self.assertIsNone(committed_text(str(self.room / name)), name)
+        slow = self.write("git", "#!/bin/sh\nsleep 100\n")
+        slow.chmod(0o755)
+        before, seconds = committed.os.environ["PATH"], committed.SECONDS
+        self.addCleanup(lambda: committed.os.environ.update(PATH=before) or setattr(committed, "SECONDS", seconds))
+        committed.os.environ["PATH"], committed.SECONDS = f"{self.room}:{before}", 0.2
+        self.assertIsNone(committed_text(str(self.game)))
+        committed.os.environ["PATH"] = f".:{self.room}"
+        self.assertIsNone(committed_text(str(self.game)))
+
+
+if __name__ == "__main__":
+    unittest.main()
