@@ -16,6 +16,7 @@ from functools import lru_cache
 from pathlib import Path
 from typing import Dict, List, NamedTuple, Optional, Sequence
 
+from freshness import SOURCES, digests, written
 from symbols import c_library_of
 
 PROGRAM = "crates/pz_replayer/out/pz_replayer"
@@ -370,10 +371,10 @@ def make(top: Path, version: str, into: Path, built: Built) -> List[str]:
 
 
 def make_released(top: Path, version: str, module: bytes) -> List[str]:
-    """Writes the page and the module that a clone has, with their sums and the commit that they are of."""
+    """Writes the page and the module that a clone has, with their sums, the commit and the sources that they are of."""
     made = {"saxtegun.html": page_of(top, module), "saxtegun.wasm": module}
     size = sum(map(len, made.values()))
     if size > MOST_RELEASED:
         raise Broken(f"the page and the module have {size} bytes, more than {MOST_RELEASED}")
     head = f"# Saxtegun {version}, commit {told(top, 'git', 'rev-parse', 'HEAD')}\n"
-    return write_all({**made, SUMS: (head + sums_of(made)).encode()}, top / RELEASED)
+    return write_all({**made, SUMS: (head + sums_of(made)).encode(), SOURCES: written(digests(top)).encode()}, top / RELEASED)

@@ -140,7 +140,7 @@ class Released(InAFreshClone):
         shutil.copytree(TOP / "released", self.top / "released")
 
     def test_the_files_are_those_of_the_sums_and_under_a_megabyte(self):
-        files = sorted(it.name for it in (TOP / "released").iterdir())
+        files = sorted(it.name for it in (TOP / "released").iterdir() if it.name != "SOURCES")
         self.assertEqual(files, ["SHA256SUMS", "saxtegun.html", "saxtegun.wasm"])
         checked = subprocess.run(["sha256sum", "--check", "--quiet", "--strict", "SHA256SUMS"], cwd=TOP / "released", stdout=subprocess.PIPE, stderr=subprocess.PIPE)
         self.assertEqual((checked.returncode, checked.stdout, checked.stderr), (0, b"", b""))

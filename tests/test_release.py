@@ -15,6 +15,7 @@ from pathlib import Path
 TOP = Path(__file__).resolve().parent.parent
 sys.path.insert(0, str(TOP / "dev"))
 from releasing import MODULE, PROGRAM, Broken, Built, check_version, ends_in, gate_of, headline, make, make_released, package_files, release_of, sum_of, told  # noqa: E402
+from freshness import newer  # noqa: E402
 from forging import EVIL, forged, forged_packages  # noqa: E402
 from symbols import c_library_of  # noqa: E402
 from tool import PROGRAM as PROVED, plays  # noqa: E402
@@ -339,7 +340,8 @@ class Release(unittest.TestCase):
     def assert_released(self, top):
         head, *sums = (top / "released/SHA256SUMS").read_text().splitlines()
         self.assertEqual(head, f"# Saxtegun {self.version}, commit {self.commit}")
-        self.assertEqual(sorted(it.name for it in (top / "released").iterdir()), ["SHA256SUMS", "saxtegun.html", "saxtegun.wasm"])
+        self.assertEqual(sorted(it.name for it in (top / "released").iterdir()), ["SHA256SUMS", "SOURCES", "saxtegun.html", "saxtegun.wasm"])
+        self.assertEqual(newer(top, top / "released"), [])
         subprocess.run(["sha256sum", "--check", "--quiet", "--strict", "SHA256SUMS"], cwd=top / "released", check=True)
         self.assertEqual(len(sums), 2)
         self.assertEqual((top / "released/saxtegun.wasm").read_bytes(), STAND_IN.module)
