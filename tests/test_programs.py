@@ -2,12 +2,14 @@
 import hashlib
 import json
 import os
+import pty
 import shutil
 import subprocess
 import sys
 import unittest
 
 from tool import TOP, InARoom
+from saxtegun.guarding import CIS
 
 EXAMPLE = TOP / "examples/block-pushing.json"
 NODE = shutil.which("node")
@@ -55,6 +57,31 @@ class Programs(InAFreshClone):
         # of no session, so a program need write no line
         self.empty = self.room / "empty.json"
         self.empty.write_text("[]\n")
+
+    def test_the_version_says_what_plays_and_its_sum(self):
+        self.assertEqual(self.called("--version"), (0, f"saxtegun of no version\nnothing plays: the program is not built here, and there is no Node: {HOW}", ""))
+        (self.top / "VERSION").write_text("1.2.3\n")
+        self.release()
+        self.node("v20.1.0")
+        digest = hashlib.sha256(b"\0asm\1\0\0\0").hexdigest()
+        told = f"saxtegun 1.2.3\n{PLAYED}20.1.0\n{digest}  {self.top}/released/saxtegun.wasm\n"
+        self.assertEqual(self.called("--version"), (0, told, ""))
+        for path, word in (("crates/pz_replayer/out/pz_replayer", "the program that is built here plays, crates/pz_replayer/out/pz_replayer"), ("bin/pz_replayer", "the program plays that came with it")):
+            self.put(self.top / path, "a program")
+            told = f"saxtegun 1.2.3\n{word}\n{hashlib.sha256(b'a program').hexdigest()}  {self.top}/{path}\n"
+            self.assertEqual(self.called("--version"), (0, told, ""))
+
+    def test_a_terminal_is_not_told_at_each_call_what_plays(self):
+        self.release()
+        self.node("v20.1.0")
+        for ci, said in ({}, False), ({"CI": "1"}, True):
+            env = {name: value for name, value in os.environ.items() if not name.startswith("SAXTEGUN_") and name not in CIS}
+            master, slave = pty.openpty()
+            with open(master, "rb", buffering=0) as told:
+                subprocess.run([sys.executable, str(self.top / "saxtegun"), "lines", str(self.empty)], env={**env, "PATH": str(self.path), **ci}, stdout=subprocess.DEVNULL, stderr=slave)
+                os.write(slave, b"end\n")
+                self.assertEqual(PLAYED in told.read(10_000).decode(), said)
+                os.close(slave)
 
     def test_without_a_program_and_node_it_says_how_to_get_one(self):
         self.release()

@@ -5,6 +5,7 @@ import importlib
 import sys
 
 from saxtegun.commands import fail, parser, serve
+from saxtegun.programs import version_told
 
 VERBS = {
     "test": "plays recordings, with a game's text or without, and says what did not pass and what is solved",
@@ -32,7 +33,7 @@ def overview() -> str:
     room = max(map(len, VERBS)) + 2
     rows = "".join(f"  {verb.ljust(room)}{told}\n" for verb, told in VERBS.items())
     return (
-        f"usage: saxtegun VERB ..\n\n{rows}\n`saxtegun VERB --help` describes a verb. "
+        f"usage: saxtegun VERB ..\n\n{rows}\n`saxtegun VERB --help` describes a verb, and `saxtegun --version` says what plays. "
         "Exit status: 0 all is well, 1 something differs, 2 there is no answer.\n"
     )
 
@@ -41,6 +42,9 @@ def main() -> int:
     words = sys.argv[1:]
     if words[:1] in (["--help"], ["-h"], ["help"]):
         sys.stdout.write(overview())
+        return 0
+    if words == ["--version"]:
+        sys.stdout.write(version_told())
         return 0
     if not words:
         fail("saxtegun", f"a verb is missing: one of {', '.join(VERBS)}")

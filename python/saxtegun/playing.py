@@ -111,7 +111,7 @@ def as_played(entry: Entry, engine: Engine) -> Entry:
     return entry._replace(source=source)
 
 
-def batches(entries: Sequence[Entry], engine: Engine) -> Iterator[List[bytes]]:
+def batches(entries: Sequence[Entry], engine: Engine = Engine()) -> Iterator[List[bytes]]:
     """The entries as JSON, in batches of which each is as large as a file may be: the copies of a game that is the source of many don't count."""
     batch: List[bytes] = []
     size = 0

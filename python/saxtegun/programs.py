@@ -6,10 +6,12 @@ import os
 import re
 import shutil
 import subprocess
+import sys
 from pathlib import Path
 from typing import Dict, List, NamedTuple, Optional
 
-from saxtegun.commands import Refused, say
+from saxtegun.commands import Refused, printable, say
+from saxtegun.guarding import is_log
 
 TOP = Path(__file__).resolve().parents[2]
 BUILT = TOP / "crates/pz_replayer/out/pz_replayer"
@@ -17,6 +19,7 @@ BUILDS = TOP / "replay"  # looks whether the program is that of the sources, and
 IN_RELEASE = TOP / "bin/pz_replayer"
 RELEASED = TOP / "released"
 MODULE, SUMS = "saxtegun.wasm", "SHA256SUMS"
+VERSION = TOP / "VERSION"
 OLDEST_NODE = 20
 HOW_TO_GET_ONE = (
     "install Node 20 or later (nodejs.org), name the program of a release by SAXTEGUN_PROGRAM, or prove and build it with the Rattle kit by ./replay"
@@ -68,8 +71,15 @@ def no_program(why: str) -> Refused:
     return Refused(f"the program is not built here, and {why}: {HOW_TO_GET_ONE}")
 
 
-def in_node() -> List[str]:
-    """How the released module is called in Node, and says so. Refused where there is none to call."""
+class Player(NamedTuple):
+    """What plays where no program is named: how it is called, and what it is, in words."""
+
+    words: List[str]
+    told: str
+
+
+def in_node() -> Player:
+    """How the released module is called in Node. Refused where there is none to call."""
     node = shutil.which("node")
     version = version_of_node(node) if node else ""
     if node is None or not version:
@@ -78,17 +88,35 @@ def in_node() -> List[str]:
         raise no_program(f"Node {version} is too old to play")
     if not (RELEASED / MODULE).is_file():
         raise no_program("no module is released")
-    say(f"saxtegun: no program is built here; {module_told(RELEASED)}, plays in Node {version}")
-    os.environ["SAXTEGUN_MODULE"] = str(RELEASED / MODULE)
-    return [node, str(TOP / "engine/replay.mjs")]
+    return Player([node, str(TOP / "engine/replay.mjs")], f"no program is built here; {module_told(RELEASED)}, plays in Node {version}")
+
+
+def player() -> Player:
+    """What plays where no program is named."""
+    return Player([str(BUILDS)], f"the program that is built here plays, {BUILT.relative_to(TOP)}") if BUILT.is_file() else in_node()
 
 
 def choose() -> List[str]:
-    """How a program is called where none is named, and says which."""
-    if BUILT.is_file():
-        say(f"saxtegun: the program that is built here plays, {BUILT.relative_to(TOP)}")
-        return [str(BUILDS)]
-    return in_node()
+    """How a program is called where none is named. A log says which it is; at a terminal `saxtegun --version` does."""
+    it = player()
+    if it.words[0] != str(BUILDS):
+        os.environ["SAXTEGUN_MODULE"] = str(RELEASED / MODULE)
+    if is_log(sys.stderr):
+        say(f"saxtegun: {it.told}")
+    return it.words
+
+
+def version_told() -> str:
+    """The version of this command, and what plays: its file and the sum of that."""
+    lines = [f"saxtegun {VERSION.read_text(encoding='utf-8').strip() if VERSION.is_file() else 'of no version'}"]
+    try:
+        path = named_program(None)
+        it = Player([path], f"the program plays that {'SAXTEGUN_PROGRAM names' if os.environ.get('SAXTEGUN_PROGRAM') else 'came with it'}") if path else player()
+        file = path or (BUILT if it.words[0] == str(BUILDS) else RELEASED / MODULE)
+        lines += [it.told, f"{hashlib.sha256(Path(file).read_bytes()).hexdigest()}  {file}"]
+    except Refused as why:
+        lines.append(f"nothing plays: {why}")
+    return "".join(f"{printable(it)}\n" for it in lines)
 
 
 def built() -> List[str]:
@@ -98,13 +126,19 @@ def built() -> List[str]:
     return [str(BUILT)]
 
 
+def named_program(named: Optional[str]) -> str:
+    """The program that is named, that of SAXTEGUN_PROGRAM or that of a release; nothing where none is. Refused where it isn't there."""
+    path = named or os.environ.get("SAXTEGUN_PROGRAM") or (str(IN_RELEASE) if IN_RELEASE.is_file() else "")
+    if path and not (os.path.isfile(path) and os.access(path, os.X_OK)):
+        raise Refused(f"there is no program at {path!r}")
+    return os.path.abspath(path) if path else ""
+
+
 def program_words(named: Optional[str] = None, may_build: bool = True) -> List[str]:
     """How the program is called: the one that is named, that of SAXTEGUN_PROGRAM, that of a release, or one that is chosen, once in a process."""
-    path = named or os.environ.get("SAXTEGUN_PROGRAM") or (str(IN_RELEASE) if IN_RELEASE.is_file() else None)
+    path = named_program(named)
     if path:
-        if not os.path.isfile(path) or not os.access(path, os.X_OK):
-            raise Refused(f"there is no program at {path!r}")
-        words = [os.path.abspath(path)]
+        words = [path]
     else:
         if not CHOSEN:
             CHOSEN.append(choose())
