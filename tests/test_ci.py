@@ -186,6 +186,18 @@ class InACi(unittest.TestCase):
         self.assertEqual(self.uploaded(runner), ["junit.xml", "report.html"])
         self.assertIn("a recording that has gone stale", (runner.room / "GITHUB_STEP_SUMMARY").read_text(encoding="utf-8"))
 
+    @unittest.skipUnless(shutil.which("node", path="/usr/bin:/bin"), "there is no Node on the path of a runner")
+    def test_the_action_without_a_version_plays_by_its_own_module(self):
+        runner = self.runner(env={"GITHUB_ACTION_PATH": str(self.clone)})
+        (taken, _, _), (played, out, errors), (gathered, _, _) = self.act(runner, version="")
+        self.assertEqual((taken, played, gathered), (0, 1, 0), errors)
+        self.assertIn("5 sessions: 4 passed, 1 differs", out)
+        self.assertRegex(errors, "^saxtegun: no program is built here; the module of Saxtegun .*, plays in Node .*\n$")
+        self.assertEqual(self.uploaded(runner), ["junit.xml", "report.html"])
+        # a sum can't be held against anything then
+        self.assertEqual(self.act(self.runner(env={"GITHUB_ACTION_PATH": str(self.clone)}), version="", sha256=self.sum)[0][0], 2)
+        self.assertEqual(self.act(self.runner(env={"GITHUB_ACTION_PATH": str(self.kept)}), version="")[0][0], 2)
+
     def test_the_action_plays_a_game_with_its_recordings_and_uploads_what_is_wanted(self):
         runner = self.runner()
         for name in ("game.txt", "recordings.json"):
@@ -234,7 +246,7 @@ class InACi(unittest.TestCase):
 
     @unittest.skipUnless(shutil.which("jq"), "jq reads the closes")
     def test_the_commands_that_compare_closes_are_red_where_one_changes(self):
-        commands = commands_of_page()[0]
+        commands = next(it for it in commands_of_page() if "closes.expected" in it)
         runner = self.runner()
         self.act(runner, sessions="", sha256=self.sum)
         (runner.work / "closes.expected").touch()
@@ -247,8 +259,9 @@ class InACi(unittest.TestCase):
     def test_the_commands_that_play_parts_give_the_bytes_of_one_run(self):
         runner = self.runner()
         self.act(runner, sessions="", sha256=self.sum)
+        commands = next(it for it in commands_of_page() if "xargs" in it)
         # typed by hand, where no shell ends at a status
-        self.assertEqual(runner.run({"run": f"set +e +o pipefail\n{commands_of_page()[1]}"}), (0, "1\n", ""))
+        self.assertEqual(runner.run({"run": f"set +e +o pipefail\n{commands}"}), (0, "1\n", ""))
         self.assertEqual((runner.work / "lines").read_text(encoding="utf-8"), lines_of_example(EXAMPLE.read_text(encoding="utf-8")))
 
     def test_the_commands_for_a_suite_over_one_game_give_its_lines_and_report(self):

@@ -1,5 +1,6 @@
 """Logs: what a stranger has named is no command of a CI's, in no verb and on neither stream."""
 import json
+import os
 import random
 import re
 import unittest
@@ -8,7 +9,8 @@ from day import EXAMPLE, OnSessions
 from tool import run
 from saxtegun.guarding import guarded
 
-SEED = 75
+# By hand ten times as many, and with other seeds.
+SEED, COUNT = (int(os.environ.get(name, count)) for name, count in (("SEED", "75"), ("TEXTS", "2000")))
 # Commands of GitHub, Azure and TeamCity, with what may stand before them.
 COMMANDS = ("::error::x", "::set-output name=x::y", "::add-mask::passed", "::stop-commands::x", "##[error]x", "##[set-output name=x;]y", "##[add-mask]passed", "##vso[task.setvariable variable=x]y", "##teamcity[buildProblem description='x']")
 BEFORE = ("", " ", "\t", "\r", "\u00a0", "\u2028", "\u2029", "\x85", "\x0b", "\x0c", "\x1c", "\u200b", "\ufeff", "\u3000", "a\r", "a\n", "#", "##", "%0A", "::")
@@ -30,7 +32,7 @@ def texts(count):
 
 class Guarding(unittest.TestCase):
     def test_no_text_is_a_command(self):
-        for text in texts(2000):
+        for text in texts(COUNT):
             for line in text.split("\n"):
                 with self.subTest(line):
                     self.assertFalse(is_command(guarded(line)), guarded(line))
