@@ -109,6 +109,7 @@ class Explain(OnSessions):
             ('[["\\ud800", ["", [0], ""]]]', "session 0, line 1: a text of it holds half a letter"),
             ("[" * 100_000, "no JSON list of sessions"),
             ("[NaN]", "NaN is no JSON"),
+            (f"[{'1' * 5000}]", "no JSON list of sessions (a number of it has too many digits)"),
         ):
             with self.subTest(what):
                 self.assert_refused(run("explain", self.write("sessions.json", text), self.lines), what)

@@ -51,6 +51,13 @@ class Forms(unittest.TestCase):
             with self.subTest(before):
                 self.assertEqual([(it.name, it.body) for it in find(f'{before}["a", {body}]').found], [("a", body)])
 
+    def test_a_number_that_is_too_long_to_be_one_is_passed_over(self):
+        number, body = "1" * 5000, '["title x",[1],"",0]'
+        for long in (f'["b",["title x",[1],"",{number}]]', f'["b",["title x",[1,{number}],"",0]]', f'["b",{number},["title x"]]', f'[{number}]'):
+            with self.subTest(long[:20]):
+                found = find(f'{long} ["a", {body}]')
+                self.assertEqual([(it.name, it.body) for it in found.found], [("a", body)])
+
     def test_a_long_text_is_searched_fast(self):
         text = (FORMS / "console-with-headings.txt").read_text(encoding="utf-8")
         for long, count in ((text * (26_000_000 // len(text)), 26_000_000 // len(text)), ("[ > Player | Crate ] -> [ > Player ]\n" * 700_000, 0)):

@@ -44,7 +44,7 @@ class DayOfKills(OfAGame):
 
     def started(self, verb, path):
         words = [sys.executable, "-B", TOP / "saxtegun", *self.words(verb, path)]
-        return subprocess.Popen(list(map(str, words)), stdin=subprocess.PIPE, stdout=subprocess.DEVNULL, stderr=subprocess.DEVNULL, env=environment(), start_new_session=True)
+        return subprocess.Popen(list(map(str, words)), stdin=subprocess.PIPE, stdout=subprocess.DEVNULL, stderr=subprocess.DEVNULL, env={**environment(), "TMPDIR": str(self.room)}, start_new_session=True)
 
     def ended(self, verb, path, after=None):
         """Runs a verb, killed after so many seconds; how long it took."""

@@ -66,7 +66,8 @@ class Reasons(unittest.TestCase):
     def test_where_a_level_text_breaks(self):
         for text, place in BREAKS.items():
             self.assertEqual(break_of(text), place, text)
-        for text in ("", "a:0,\n0,\n", "a b:0,:1,\r\n01,0,", "a:b:0,"):
+        self.assertEqual(break_of(f"a:0,{'1' * 5000},"), (1, 5, "1" * 5000))
+        for text in ("", "a:0,\n0,\n", "a b:0,:1,\r\n01,0,", "a:b:0,", f"a:0,{'0' * 5000},", "junk" * 1_000_000):
             self.assertIsNone(break_of(text), text)
 
     def test_a_comma_before_a_bracket_is_named_by_its_line(self):

@@ -15,6 +15,8 @@ NO_SPACE = '",[]0123456789'
 # A list of inputs as JSON has it, which is what most of a recording is.
 INPUTS = re.compile(r'\[[0-9,\s]*(?:"(?:undo|restart|tick)"[0-9,\s]*)*\]')
 WORD = re.compile(r"-?(?:0|[1-9]\d*)(?:\.\d+)?(?:[eE][-+]?\d+)?(?![\w.])|[A-Za-z_]\w*")
+# No number of a recording is longer, and Python reads none of thousands of digits.
+MOST_OF_A_NUMBER = 400
 WORDS = {"null": "null", "undefined": "null", "true": "true", "false": "false"}
 # What stands between a quote and the one that ends it.
 BODIES = {
@@ -104,6 +106,6 @@ def token_at(text: str, at: int) -> Optional[Token]:
     if letter in LITERALS:
         return text_at(text, at)
     word = WORD.match(text, at)
-    if word is None or not (word[0] in WORDS or word[0][0] in "-0123456789"):
+    if word is None or not (word[0] in WORDS or word[0][0] in "-0123456789") or len(word[0]) > MOST_OF_A_NUMBER:
         return None
     return Token("value", WORDS.get(word[0], word[0]), at, word.end())

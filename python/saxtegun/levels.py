@@ -42,9 +42,11 @@ class Labels:
 
 def number_in(digits: str) -> Optional[int]:
     """The number that digits write, or None where they are none or too many."""
-    if not DIGITS.fullmatch(digits) or len(digits.lstrip("0")) > MOST_DIGITS:
+    if not DIGITS.fullmatch(digits):
         return None
-    return int(digits)
+    # Python reads no number of thousands of digits, even if they are zeros
+    written = digits.lstrip("0")
+    return int(written or "0") if len(written) <= MOST_DIGITS else None
 
 
 def read_piece(piece: str, numbered: List[int], labels: Labels) -> Optional[int]:

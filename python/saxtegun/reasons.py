@@ -6,6 +6,7 @@ from typing import List, NamedTuple, Optional, Tuple
 
 from saxtegun.commands import cut, fold
 from saxtegun.culprits import nearest, outside_told
+from saxtegun.levels import number_in
 from saxtegun.sources import CLOCK, Line, lines_of
 
 TOKEN = re.compile(r"->|[\[\]|]|(?:(?!->)[^\s\[\]|])+")
@@ -20,6 +21,7 @@ OUTSIDE = ("random", "randomdir", "rigid")
 # So many letters of a row are shown, and so many of a line are looked at.
 SHOWN = 40
 MOST_LETTERS = 4000
+MOST_OF_A_LEVEL = 1_000_000
 REMEDY = "; with --ticks-as-recorded it is played without that line, by the ticks that were recorded"
 
 
@@ -162,14 +164,16 @@ def reason_told(cause: str, source: str) -> str:
 
 
 def break_of(text: str) -> Optional[Tuple[int, int, str]]:
-    """Where a text stops to be a level text: its line and letter, from 1, and what stands there; None where it is one."""
+    """Where a text stops to be a level text: its line and letter, from 1, and what stands there; None where it is one,
+    or too long to be looked at."""
+    if len(text) > MOST_OF_A_LEVEL:
+        return None
     count, at = 0, 0
     for it in re.finditer("[^,]*(,|$)", text):
         names, colon, digits = it[0].rstrip(",").replace("\r", "").replace("\n", "").rpartition(":")
-        is_number = digits.isascii() and digits.isdecimal() and len(digits.lstrip("0")) < 10
-        is_new = bool(colon) and is_number and int(digits) == count
-        is_known = not colon and is_number and int(digits) < count
-        if it[1] and (is_new or is_known):
+        number = number_in(digits)
+        is_new = bool(colon) and number == count
+        if it[1] and (is_new or (not colon and number is not None and number < count)):
             count, at = count + is_new, it.end()
         elif it[0].strip("\r\n"):
             at += len(it[0]) - len(it[0].lstrip("\r\n"))

@@ -1,6 +1,7 @@
 """Recordings whose level has another place now, since levels were inserted, moved or taken away: the index with which each passes again, found by playing."""
 from __future__ import annotations
 
+from itertools import islice
 from typing import Dict, List, NamedTuple, Sequence
 
 from saxtegun.commands import cut, plural
@@ -43,10 +44,9 @@ def reindexed(entries: Sequence[Entry], of: Sessions, engine: Engine) -> List[Fo
         return []
     closes = [it.close for it in runs_of(entries, of, engine)]
     failed = [it for it, close in zip(entries, closes) if close in ("differs", "stopped", "refused")]
-    tried = [it._replace(index=index) for it in failed for index in indices_of(it)]
+    tried = (it._replace(index=index) for it in failed for index in indices_of(it))
     passed: Dict[int, List[int]] = {it.number: [] for it in failed}
-    for first in range(0, len(tried), MOST_AT_ONCE):
-        batch = tried[first : first + MOST_AT_ONCE]
+    for batch in iter(lambda: list(islice(tried, MOST_AT_ONCE)), []):
         for it, run in zip(batch, runs_of(batch, of, engine)):
             if run.close == "passed":
                 passed[it.number].append(it.index)

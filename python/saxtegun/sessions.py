@@ -142,7 +142,7 @@ def sessions_in(path: str, text: str) -> Sessions:
             raise Refused(f"{path}, line {line}, letter {comma - before}: no JSON list of sessions (nothing follows the comma there, which JSON doesn't allow)") from None
         raise Refused(f"{path}, line {why.lineno}, letter {why.colno}: no JSON list of sessions ({why.msg})") from None
     except (ValueError, RecursionError) as why:
-        raise Refused(f"{path}: no JSON list of sessions ({why})") from None
+        raise Refused(f"{path}: no JSON list of sessions ({'a number of it has too many digits' if 'digits' in str(why) else why})") from None
 
 
 def read_sessions(path: str) -> Sessions:
