@@ -58,6 +58,11 @@ class Forms(unittest.TestCase):
                 found = find(f'{long} ["a", {body}]')
                 self.assertEqual([(it.name, it.body) for it in found.found], [("a", body)])
 
+    def test_a_number_of_a_letter_in_html_may_be_too_long_to_be_one(self):
+        for number in ("1" * 5000, "0" * 5000 + "65"):
+            found = find(f'[&quot;a&quot;, [&quot;title x&#{number};&quot;,[1],&quot;&quot;,0]]').found
+            self.assertEqual([(it.name, json.loads(it.body)) for it in found], [("a", ["title x\ufffd", [1], "", 0])])
+
     def test_a_long_text_is_searched_fast(self):
         text = (FORMS / "console-with-headings.txt").read_text(encoding="utf-8")
         for long, count in ((text * (26_000_000 // len(text)), 26_000_000 // len(text)), ("[ > Player | Crate ] -> [ > Player ]\n" * 700_000, 0)):

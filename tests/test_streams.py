@@ -83,6 +83,14 @@ class OnStreams(OnSessions):
             answer = run("test", EXAMPLE, "--program", self.program, f"--workers={number}")
             self.assert_refused(answer, "argument --workers: must be a number from 1 to 64")
 
+    def test_a_fault_of_its_own_is_no_answer_and_moves_no_cursor(self):
+        script = "from saxtegun.commands import serve\ndef main():\n    raise ValueError('\\x1b[31m::error::x\\n##[error]y')\nserve('saxtegun test', main)"
+        ran = subprocess.run([sys.executable, "-c", script], cwd=TOP / "python", stdout=subprocess.PIPE, stderr=subprocess.PIPE)
+        lines = ran.stderr.decode().splitlines()
+        self.assertEqual((ran.returncode, ran.stdout, lines[-1]), (2, b"", "saxtegun test: this is a fault of saxtegun's own, and no answer: please report it with the lines above"))
+        self.assertIn("ValueError: \\u{1b}[31m::error::x", lines)
+        self.assertFalse(any(it.startswith(("::", "##[")) or "\x1b" in it for it in lines))
+
     def test_a_pipe_that_nobody_reads_ends_quietly(self):
         for words in self.calls:
             with self.subTest(words[0]):

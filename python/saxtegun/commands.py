@@ -6,6 +6,7 @@ import gc
 import os
 import signal
 import sys
+import traceback
 from typing import Any, Callable, NoReturn, Optional, TextIO
 
 from saxtegun.guarding import Log, is_log
@@ -207,6 +208,11 @@ def status_of(name: str, main: Callable[[], int]) -> int:
         status = 2
     except KeyboardInterrupt:
         status = 2
+    except Exception:
+        # a fault of this command's own is no answer, and may hold a text of a stranger
+        for line in traceback.format_exc().splitlines():
+            say(line)
+        fail(name, "this is a fault of saxtegun's own, and no answer: please report it with the lines above")
     except SystemExit as end:
         # --help, whose text may meet a closed pipe or a full device as any other
         status = end.code if isinstance(end.code, int) else 0

@@ -27,6 +27,8 @@ REST = re.compile(r"[^\"\\\n]*(?:\\.[^\"\\\n]*)*")
 BODIES_OF = {quote: re.compile(body) for quote, body in BODIES.items()}
 # An entry holds a body, which holds its inputs; behind one that is cut off another may begin.
 MOST_DEPTH = 8
+# A number of a letter in HTML that Python can't read, since it has thousands of digits, and one that is no letter's either.
+NO_LETTER, BEYOND = re.compile("&#[0-9]{20,}"), "&#1114112"
 # In so many letters of a source its first heading is looked for, where it is cut off.
 MOST_OF_A_HEAD = 4000
 HEADING = re.compile("objects", re.I)
@@ -109,7 +111,7 @@ class Search:
             elif self.is_inner:
                 at = begin.end()
             elif begin.lastgroup == "html":
-                self.read_inner(begin.start(), html.unescape(self.text[begin.start() :]))
+                self.read_inner(begin.start(), html.unescape(NO_LETTER.sub(BEYOND, self.text[begin.start() :])))
                 return self.findings
             else:
                 at = self.read_escaped(begin.start()) if begin.lastgroup == "escaped" else self.read_quoted(begin.start())
@@ -160,7 +162,7 @@ class Search:
             elif token.kind == "]":
                 if self.close(lists):
                     return at
-            elif token.kind != ",":
+            else:
                 lists[-1].items.append(token.json)
             at = skip_space(self.text, at, self.last_comment)
 

@@ -8,10 +8,10 @@ import json
 import re
 from typing import NamedTuple, Optional
 
-# White space, line breaks of HTML, and the sign before a line that is quoted.
-SPACE = re.compile(r"(?:\s+|\ufeff|<br\s*/?>|&nbsp;|(?<=\n)[ \t]*>+)*")
+# What stands between the items of a list: white space, commas, line breaks of HTML, and the sign before a line that is quoted.
+SPACE = re.compile(r"(?:[\s,]+|\ufeff|<br\s*/?>|&nbsp;|(?<=\n)[ \t]*>+)*")
 # What mostly stands where no white space does: the end of a text is among them.
-NO_SPACE = '",[]0123456789'
+NO_SPACE = '"[]0123456789'
 # A list of inputs as JSON has it, which is what most of a recording is.
 INPUTS = re.compile(r'\[[0-9,\s]*(?:"(?:undo|restart|tick)"[0-9,\s]*)*\]')
 WORD = re.compile(r"-?(?:0|[1-9]\d*)(?:\.\d+)?(?:[eE][-+]?\d+)?(?![\w.])|[A-Za-z_]\w*")
@@ -34,7 +34,7 @@ LAST = 0x10FFFF
 
 
 class Token(NamedTuple):
-    """A bracket, a comma, or a value as JSON, and where it stands."""
+    """A bracket, or a value as JSON, and where it stands."""
 
     kind: str
     json: str
@@ -61,7 +61,7 @@ def unescaped(text: str) -> Optional[str]:
 
 
 def skip_space(text: str, at: int, last_comment: int) -> int:
-    """Where the text goes on behind white space and comments. `last_comment` is where the last sign stands that ends one, so that none is looked for in vain."""
+    """Where the text goes on behind white space, commas and comments. `last_comment` is where the last sign stands that ends one, so that none is looked for in vain."""
     while text[at : at + 1] not in NO_SPACE:
         match = SPACE.match(text, at)
         at = match.end() if match else at
@@ -101,7 +101,7 @@ def token_at(text: str, at: int) -> Optional[Token]:
     letter = text[at : at + 1]
     if letter == "[":
         return inputs_at(text, at) or Token(letter, letter, at, at + 1)
-    if letter in ("]", ","):
+    if letter == "]":
         return Token(letter, letter, at, at + 1)
     if letter in LITERALS:
         return text_at(text, at)
