@@ -75,7 +75,7 @@ def without_comments(section, depth, text):
             left += letter
             ends = letter in WHITE or (section == "rules" and (letter in "[]|" or (letter == ">" and word.endswith("-")) or (letter == "+" and is_first and not word)))
             if ends and (word or letter not in WHITE):
-                is_first = False if section != "rules" or letter != "+" else is_first
+                is_first = False
             word = "" if ends else word + letter
     return left, depth
 

@@ -14,7 +14,8 @@ ENGINE = ADAPTER / "example.js"
 OTHERWISE = {
     "brackets-nested-one-deeper", "brackets-nested-too-deep", "file-with-a-fraction", "file-with-a-lone-surrogate", "file-with-a-seed-that-no-float-holds",
     "file-with-an-exponent", "file-with-an-index-beyond-the-largest", "file-with-an-index-of-four-hundred-digits", "file-with-an-index-that-no-float-holds",
-    "file-with-an-input-that-no-float-holds", "file-with-minus-nought",
+    "file-with-an-input-that-no-float-holds", "file-with-minus-nought", "file-with-a-number-that-rounds-beyond-the-largest-float",
+    "file-with-a-whole-number-at-the-border-of-floats",
 }
 # A script writes lines by the module; what it prints was worked out by hand.
 SCRIPT = r"""

@@ -1,34 +1,44 @@
 """The smallest session on which two programs still part in the same way: what can be left out is, half of it at once, then less and less."""
 from __future__ import annotations
 
-from typing import Callable, List, NamedTuple, Optional, Sequence, Set, Tuple
+import re
+from concurrent.futures import ThreadPoolExecutor
+from itertools import combinations
+from typing import Callable, Iterator, List, NamedTuple, Optional, Sequence, Set, Tuple
 
-from saxtegun.commands import Refused
+from saxtegun.engines import FAILED, STRAY, UNANSWERED, answers
 from saxtegun.lines import Run
 from saxtegun.parting import Parting, parting_of
-from saxtegun.belonging import OF_ANY_ENGINE
-from saxtegun.playing import Engine, runs_of
-from saxtegun.sessions import Entry, Sessions
-from saxtegun.smaller import STAGES, Stage
+from saxtegun.playing import Engine
+from saxtegun.sessions import Entry
+from saxtegun.smaller import STAGES, Stage, of_inputs
 
 Way = Tuple[object, ...]
 # So many sessions are played at once.
 MOST_AT_ONCE = 64
-MOST_ROUNDS = 5
+MOST_ROUNDS = 20
+# So many of the last inputs are left out in pairs.
+MOST_PAIRED = 40
+# So long an engine that hangs is waited for while a session shrinks.
+HASTE = 0.5
+DIGITS = re.compile(r"[0-9]+")
 
 
 class Programs(NamedTuple):
     """Two programs, and how they are called."""
 
-    one: str
-    other: str
-    of: Sessions
-    engine: Engine
+    one: Engine
+    other: Engine
 
-    def pairs(self, entries: Sequence[Entry]) -> List[Tuple[Run, Run]]:
-        """What both show of entries. Either may close wrongly: that is what is looked for."""
-        one, other = (runs_of(entries, self.of, self.engine._replace(program=program, tests=OF_ANY_ENGINE)) for program in (self.one, self.other))
-        return list(zip(one, other))
+    def pairs(self, entries: Sequence[Entry]) -> Iterator[Tuple[Run, Run]]:
+        """What both show of entries, in their order. Either may close wrongly, or fail: that is what is looked for."""
+        with ThreadPoolExecutor(1) as crew:
+            one = crew.submit(lambda: list(answers(entries, self.one)))
+            for number, other in enumerate(answers(entries, self.other)):
+                yield one.result()[number], other
+
+    def in_haste(self) -> "Programs":
+        return Programs(*(it._replace(seconds=min(it.seconds or HASTE, HASTE)) for it in (self.one, self.other)))
 
 
 def close_of(run: Run) -> Tuple[str, str]:
@@ -36,8 +46,20 @@ def close_of(run: Run) -> Tuple[str, str]:
     return run.close, (run.cause or "").partition(":")[0]
 
 
-def way_of(parting: Optional[Parting], one: Run, other: Run) -> Optional[Way]:
+def failure_of(run: Run) -> Optional[Tuple[str, str]]:
+    """In which way an engine failed, without numbers; None where it did not. Of a line that is none its first word counts."""
+    if run.close not in FAILED:
+        return None
+    cause = DIGITS.sub("#", run.cause or "")
+    return run.close, cause.split(" ")[0] if run.close == STRAY else cause
+
+
+def way_of(one: Run, other: Run) -> Optional[Way]:
     """In which way two runs part, or None where they don't: what must stay the same while a session shrinks."""
+    failures = failure_of(one), failure_of(other)
+    if any(failures):
+        return "failure", *failures
+    parting = parting_of(one, other)
     if parting is None:
         return None
     if parting.kind == "close":
@@ -47,13 +69,30 @@ def way_of(parting: Optional[Parting], one: Run, other: Run) -> Optional[Way]:
     return parting.kind, parting.one.kind, parting.other.kind
 
 
-def ways_of(programs: Programs, entries: Sequence[Entry]) -> List[Optional[Way]]:
-    """In which way the programs part on each entry. Where a program has no answer to all of them at once each is played by itself, and one
-    to which it has none is one on which they don't part."""
-    try:
-        return [way_of(parting_of(one, other), one, other) for one, other in programs.pairs(entries)]
-    except Refused:
-        return [None] if len(entries) == 1 else [way for it in entries for way in ways_of(programs, [it])]
+def fails(way: Way) -> bool:
+    return way[0] == "failure"
+
+
+def hangs(way: Way) -> bool:
+    return fails(way) and any(isinstance(it, tuple) and it[0] == UNANSWERED for it in way)
+
+
+def size_of(entry: Entry) -> Tuple[int, int]:
+    return len(entry.inputs), len(entry.source)
+
+
+def chunks(count: int) -> List[Set[int]]:
+    """So many things, all at once, in halves, in quarters, and so on down to each by itself."""
+    found: List[Set[int]] = []
+    size = count
+    while size:
+        found += [set(range(at, min(at + size, count))) for at in range(0, count, size)]
+        size = (size + 1) // 2 if size > 1 else 0
+    return found
+
+
+def pieces(items: List[Set[int]], size: int) -> List[List[Set[int]]]:
+    return [items[at : at + size] for at in range(0, len(items), size)]
 
 
 class Shrinking:
@@ -62,50 +101,95 @@ class Shrinking:
     def __init__(self, programs: Programs, entry: Entry, way: Way, progress: Callable[[int, Entry], None]) -> None:
         self.programs, self.entry, self.way, self.progress = programs, entry, way, progress
         self.tried = 0
+        # what was tried for nothing isn't tried again
+        self.trials: Set[Tuple[object, ...]] = set()
 
-    def first_that_parts(self, entries: Sequence[Entry]) -> Optional[int]:
-        """The first of these entries on which the programs part in this way."""
+    def places_that_part(self, entries: Sequence[Entry]) -> Iterator[int]:
+        """Which of these entries the programs part on in this way."""
         for first in range(0, len(entries), MOST_AT_ONCE):
             some = entries[first : first + MOST_AT_ONCE]
-            self.tried += len(some)
-            for place, way in enumerate(ways_of(self.programs, some), first):
-                if way == self.way:
-                    return place
-        return None
+            for place, (one, other) in enumerate(self.programs.pairs(some), first):
+                self.tried += 1
+                if way_of(one, other) == self.way:
+                    yield place
 
     def leave_out(self, stage: Stage) -> bool:
-        """Leaves out what a stage can; answers whether something was."""
-        count, without = stage(self.entry)
+        """Leaves out what a stage can; answers whether that made the session smaller."""
+        before, (count, without) = self.entry, stage(self.entry)
+        trial = stage, before.source, tuple(before.inputs)
+        if trial in self.trials:
+            return False
+        self.trials.add(trial)
         gone: Set[int] = set()
-        size = count
-        while size:
-            begin = 0
-            while begin < count:
-                parts = [set(range(at, min(at + size, count))) for at in range(begin, count, size)]
-                parts = [it for it in parts if not it <= gone]
-                found = self.first_that_parts([without(gone | it) for it in parts])
-                if found is None:
-                    break
-                gone |= parts[found]
-                begin = max(parts[found]) + 1
-            size //= 2
-        if gone:
+        is_less = True
+        while is_less:
+            # where something went, more of the rest may
+            known = len(gone)
+            for some in pieces(chunks(count), MOST_AT_ONCE):
+                gone = self.gone_with([it for it in some if not it <= gone], gone, without)
+            is_less = len(gone) > known
+        if size_of(without(gone)) < size_of(before):
             self.entry = without(gone)
             self.progress(self.tried, self.entry)
-        return bool(gone)
+        return self.entry is not before
+
+    def gone_with(self, parts: Sequence[Set[int]], gone: Set[int], without: Callable[[Set[int]], Entry]) -> Set[int]:
+        """What is gone with some of these parts: with as many together as can be, of those that can each by itself. Where an engine fails each
+        takes a call, so the first is taken."""
+        able = self.places_that_part([without(gone | it) for it in parts])
+        if fails(self.way):
+            return gone | next((parts[it] for it in able), set())
+        joined: List[Set[int]] = []
+        for place in able:
+            joined.append(parts[place] | (joined[-1] if joined else gone))
+        if len(joined) < 2:
+            return joined[0] if joined else gone
+        together = list(self.places_that_part([without(it) for it in joined]))
+        return joined[together[-1]]
+
+    def leave_out_a_pair(self) -> bool:
+        """Leaves out two inputs, of which neither can go alone, the last first; answers whether there were two."""
+        count, without = of_inputs(self.entry)
+        trial = "pairs", self.entry.source, tuple(self.entry.inputs)
+        if trial in self.trials:
+            return False
+        self.trials.add(trial)
+        last = range(count - 1, max(-1, count - 1 - MOST_PAIRED), -1)
+        pairs = sorted(combinations(last, 2), key=lambda it: it[0] - it[1])
+        found = next(self.places_that_part([without(set(it)) for it in pairs]), None)
+        if found is not None:
+            self.entry = without(set(pairs[found]))
+            self.progress(self.tried, self.entry)
+        return found is not None
 
     def run(self) -> Entry:
-        """Leaves out what can be, again and again, since less of one kind lets more of another go."""
+        """Leaves out what can be, again and again, since less of one kind lets more of another go: inputs first, then rules, then cells and the rest."""
         for _ in range(MOST_ROUNDS):
-            before = self.entry
-            for stage in STAGES:
-                self.leave_out(stage)
-            if (self.entry.source, self.entry.inputs, self.entry.index) == (before.source, before.inputs, before.index):
+            while self.leave_out(of_inputs) or self.leave_out_a_pair():
+                pass
+            if not any([self.leave_out(stage) for stage in STAGES]):
                 break
         return self.entry
 
 
-def cut_behind(entry: Entry, parting: Parting) -> Entry:
-    """An entry without the inputs behind the one at which two runs part."""
-    taken = [it.at for it in (parting.one, parting.other) if it is not None]
+def shrunk(programs: Programs, entry: Entry, way: Way, progress: Callable[[int, Entry], None]) -> Tuple[Entry, int]:
+    """The smallest entry, and how many sessions were played. One on which an engine hangs shrinks in haste, if it then hangs as long as it may."""
+    if hangs(way):
+        quick = programs.in_haste()
+        # the way names the time that the engine had
+        ways = [way_of(*it) for it in quick.pairs([entry])]
+        shrinking = Shrinking(quick, entry, ways[0] or way, progress)
+        small = shrinking.run()
+        if [way_of(*it) for it in programs.pairs([small])] == [way]:
+            return small, shrinking.tried
+    shrinking = Shrinking(programs, entry, way, progress)
+    return shrinking.run(), shrinking.tried
+
+
+def cut_behind(entry: Entry, parting: Optional[Parting], one: Run, other: Run) -> Entry:
+    """An entry without the inputs behind the one at which two runs part, or at which an engine fails."""
+    if one.close in FAILED or other.close in FAILED:
+        shown = [it.frames[-1].at if it.frames else 0 for it in (one, other) if it.close in FAILED]
+        return entry._replace(inputs=entry.inputs[: min(shown) + 1])
+    taken = [it.at for it in (parting.one, parting.other) if it is not None] if parting else []
     return entry._replace(inputs=entry.inputs[: max(taken)]) if taken else entry

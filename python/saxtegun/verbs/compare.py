@@ -4,9 +4,12 @@ input, which cells, and both levels.
     saxtegun compare ONE.lines OTHER.lines [SESSIONS]
         compares two files of lines; SESSIONS lets it name inputs and draw levels
     saxtegun compare --engines P Q SESSIONS
-        plays two programs that have our command line
+        plays two programs that have our command line; `saxtegun` is our own
     saxtegun compare --sources OLD.txt NEW.txt SESSIONS
         plays one program over two texts of a game
+
+An engine that crashes, that writes a line of its own or that has no answer in
+10 s a session (or what --timeout says) is named with the session and the input.
 
 With --report F it also writes a page that shows both runs side by side, from
 the frame at which they diverge. Frames and inputs are counted from 0.
@@ -18,20 +21,23 @@ import sys
 from argparse import ArgumentParser, Namespace
 from itertools import zip_longest
 from pathlib import Path
-from typing import Iterator, List, Optional, Sequence, Tuple
+from typing import Iterator, List, NamedTuple, Optional, Sequence, Tuple
 
 from saxtegun.belonging import NAMES_ALONE, OF_ANY_ENGINE, read_runs
 from saxtegun.commands import Refused, add_playing, cut, plural, printable
+from saxtegun.engines import FAILED, SECONDS, answers, engine_at, failure_told, with_frames
 from saxtegun.files import guard_files, guard_output, guard_places, write_whole
 from saxtegun.lines import Run
 from saxtegun.origins import add_date, origin_of
 from saxtegun.pages import Report, comparison
-from saxtegun.parting import below_of, parting_of, sentence_of
-from saxtegun.playing import engine_of, runs_played
+from saxtegun.parting import Parting, below_of, parting_of, sentence_of
+from saxtegun.playing import Engine, engine_of, runs_played
 from saxtegun.sessions import Entry, Sessions, read_sessions
 from saxtegun.texts import read_named, say_others
 
 USAGE = "compare (ONE.lines OTHER.lines [SESSIONS] | --engines P Q SESSIONS | --sources OLD.txt NEW.txt SESSIONS) [options]"
+# Where an engine failed so often, the sessions behind aren't played.
+MOST_FAILED = 10
 
 
 def add_words(words: ArgumentParser) -> None:
@@ -59,7 +65,15 @@ def pairs_of(one: Iterator[Run], other: Iterator[Run], paths: Sequence[str]) -> 
         yield left, right
 
 
-def runs_to_compare(given: Namespace) -> Tuple[Optional[Sessions], Iterator[Tuple[Run, Run]]]:
+class Sides(NamedTuple):
+    """The runs to compare, in pairs; the sessions that they are of, where these are known; and the engines that play them, where two are named."""
+
+    sessions: Optional[Sessions]
+    pairs: Iterator[Tuple[Run, Run]]
+    engines: List[Engine]
+
+
+def sides_of(given: Namespace) -> Sides:
     files = given.files
     if given.engines and given.sources:
         raise Refused("--engines and --sources exclude each other")
@@ -68,16 +82,19 @@ def runs_to_compare(given: Namespace) -> Tuple[Optional[Sessions], Iterator[Tupl
             raise Refused("name two files of lines, and after them at most the sessions file")
         sessions = read_sessions(files[2]) if len(files) == 3 else None
         # the close of either may be that of another recording, so names and inputs alone are held against the sessions
-        return sessions, pairs_of(read_runs(files[0], sessions, NAMES_ALONE), read_runs(files[1], sessions, NAMES_ALONE), files)
+        return Sides(sessions, pairs_of(read_runs(files[0], sessions, NAMES_ALONE), read_runs(files[1], sessions, NAMES_ALONE), files), [])
     if len(files) != 1:
         raise Refused("name one sessions file")
     sessions = read_sessions(files[0])
-    if given.sources:
-        say_others("compare", sessions, read_named(given.sources[1]))
-    entries = [over(sessions, it) for it in given.sources] if given.sources else [sessions.entries, sessions.entries]
-    programs = given.engines or [given.program, given.program]
-    one, other = (runs_played(it, sessions, engine_of(given)._replace(program=program, tests=OF_ANY_ENGINE, may_build=False)) for it, program in zip(entries, programs))
-    return sessions._replace(entries=entries[1]), pairs_of(one, other, given.engines or given.sources)
+    engine = engine_of(given)._replace(tests=OF_ANY_ENGINE, may_build=False)
+    if given.engines:
+        engines = [engine_at(it, engine._replace(seconds=given.timeout or SECONDS)) for it in given.engines]
+        one, other = (answers(sessions.entries, it) for it in engines)
+        return Sides(sessions, pairs_of(one, other, given.engines), engines)
+    say_others("compare", sessions, read_named(given.sources[1]))
+    entries = [over(sessions, it) for it in given.sources]
+    one, other = (runs_played(it, sessions, engine) for it in entries)
+    return Sides(sessions._replace(entries=entries[1]), pairs_of(one, other, given.sources), [])
 
 
 def names_of(given: Namespace) -> List[str]:
@@ -87,34 +104,72 @@ def names_of(given: Namespace) -> List[str]:
     return names if names[0] != names[1] else list(paths) if paths[0] != paths[1] else ["one", "the other"]
 
 
+class Comparing:
+    """Two runs of each session, compared and told."""
+
+    def __init__(self, given: Namespace, sides: Sides) -> None:
+        self.order, self.sides, self.names = given.order, sides, names_of(given)
+        self.count, self.parted, self.failed = 0, 0, 0
+        self.report: Optional[Report] = None
+        if given.report and sides.sessions is None:
+            raise Refused("--report needs the sessions file after the lines")
+        if given.report and sides.sessions:
+            self.report = comparison(sides.sessions, given.order, origin_of(sides.sessions, given, f"Compared: {self.names[0]} with {self.names[1]}"))
+
+    def run(self) -> None:
+        for one, other in self.sides.pairs:
+            self.count += 1
+            has_failed = self.sides.engines and (one.close in FAILED or other.close in FAILED)
+            parting = parting_of(one, other)
+            if has_failed:
+                self.failed += 1
+                self.tell_failure(one, other)
+            elif parting is not None:
+                self.tell(parting, one, other)
+            if self.failed == MOST_FAILED:
+                break
+
+    def entry(self, run: Run) -> Optional[Entry]:
+        return self.sides.sessions.entries[run.number] if self.sides.sessions else None
+
+    def tell(self, parting: Parting, one: Run, other: Run, failures: Sequence[str] = ()) -> None:
+        """Tells where two runs part, and below it what failed behind that."""
+        entry = self.entry(one)
+        is_behind = bool(failures) and (parting.one is None or parting.other is None)
+        told = [] if is_behind else [sentence_of(parting, one, other, entry), *below_of(parting, entry, self.order)]
+        first, *below = [*told, *failures]
+        print(printable(f"session {one.number}, {cut(one.name)}: {first}"))
+        for line in below:
+            print(printable(f"    {line}"))
+        self.parted += 1
+        if self.report:
+            self.report.add_pair(parting, one, other, self.names)
+
+    def tell_failure(self, *runs: Run) -> None:
+        """Tells at what an engine failed, or both."""
+        entry = self.entry(runs[0])
+        assert entry is not None
+        one, other = (with_frames(entry, it, engine) if it.close in FAILED else it for it, engine in zip(runs, self.sides.engines))
+        failures = [failure_told(entry, it, name) for it, name in zip((one, other), self.names) if it.close in FAILED]
+        self.tell(parting_of(one, other) or Parting(len(one.frames), None, None), one, other, failures)
+
+    @property
+    def result(self) -> str:
+        told = f"{plural(self.count, 'session')}: {self.count - self.parted} the same, {self.parted} {'diverges' if self.parted == 1 else 'diverge'}"
+        sessions = self.sides.sessions
+        left = len(sessions.entries) - self.count if sessions else 0
+        return f"{told}; {left} more not played, since an engine failed {MOST_FAILED} times" if left and self.failed == MOST_FAILED else told
+
+
 def main(given: Namespace) -> int:
     guard_output(*given.files, *(given.sources or []))
     guard_files([given.report], [*given.files, *(given.sources or [])])
     guard_places(given.report)
-    count, parted = 0, 0
-    report: Optional[Report] = None
-    sessions, pairs = runs_to_compare(given)
-    if given.report and sessions is None:
-        raise Refused("--report needs the sessions file after the lines")
-    names = names_of(given)
-    if given.report and sessions:
-        report = comparison(sessions, given.order, origin_of(sessions, given, f"Compared: {names[0]} with {names[1]}"))
-    for one, other in pairs:
-        count += 1
-        parting = parting_of(one, other)
-        if parting is None:
-            continue
-        entry = sessions.entries[one.number] if sessions else None
-        print(printable(f"session {one.number}, {cut(one.name)}: {sentence_of(parting, one, other, entry)}"))
-        for line in below_of(parting, entry, given.order):
-            print(printable(f"    {line}"))
-        parted += 1
-        if report:
-            report.add_pair(parting, one, other, names)
-    result = f"{plural(count, 'session')}: {count - parted} the same, {parted} {'diverges' if parted == 1 else 'diverge'}"
-    print(result)
+    comparing = Comparing(given, sides_of(given))
+    comparing.run()
+    print(comparing.result)
     sys.stdout.flush()
-    if report:
-        report.result = result
-        write_whole(given.report, report.page())
-    return 1 if parted else 0
+    if comparing.report:
+        comparing.report.result = comparing.result
+        write_whole(given.report, comparing.report.page())
+    return 1 if comparing.parted else 0

@@ -1,10 +1,11 @@
 """Makes the smallest session on which two programs still diverge in the same way,
 as a case of conformance/.
 
-P and Q are programs with our command line. NAME is a session of SESSIONS, or a
-pattern (`level 2*`): then the first on which they diverge is taken. It leaves
-out inputs, then rules, levels and objects, then other lines, while the programs
-diverge in the same way: with the same kinds of frames, or with the same closes.
+P and Q are programs with our command line; `saxtegun` is our own. NAME is a
+session of SESSIONS, or a pattern (`level 2*`): then the first on which they
+diverge is taken. It leaves out inputs, then rules, levels and objects, then
+other lines, while the programs diverge in the same way: with the same kinds of
+frames, with the same closes, or with the same crash, hang or stray line of one.
 
 FOLDER, which must not be there yet, gets the five files of a case. Its stdout
 is what P wrote, and P may be wrong: read it against the rule before you keep
@@ -20,19 +21,20 @@ import shutil
 import sys
 import tempfile
 from argparse import ArgumentParser, Namespace
-from typing import Dict, Optional, Tuple
+from typing import Dict, List, NamedTuple, Optional
 
-from saxtegun.commands import Refused, add_game, add_order, cut, fold, plural, printable, say, workers_in
+from saxtegun.commands import Refused, add_game, add_order, cut, fold, plural, printable, say, seconds_in, workers_in
+from saxtegun.engines import FAILED, SECONDS, answers, engine_at, failure_told, with_frames
 from saxtegun.files import guard_places
 from saxtegun.levels import Labels, read_cells
 from saxtegun.lines import Run
-from saxtegun.parting import Parting, below_of, parting_of, sentence_of
+from saxtegun.parting import below_of, parting_of, sentence_of
 from saxtegun.playing import Engine, play_file
 from saxtegun.sessions import Entry, Sessions, chosen, read_sessions, written
-from saxtegun.shrinking import Programs, Shrinking, Way, cut_behind, way_of, ways_of
+from saxtegun.shrinking import Programs, Way, cut_behind, shrunk, way_of
 from saxtegun.texts import over, read_game, say_others
 
-USAGE = "shrink P Q SESSIONS NAME [FOLDER] [--game GAME.txt] [--order rows|columns]"
+USAGE = "shrink P Q SESSIONS NAME [FOLDER] [options]"
 LETTERS_OF_A_FOLDER = 60
 
 
@@ -44,6 +46,7 @@ def add_words(words: ArgumentParser) -> None:
     words.add_argument("folder", metavar="FOLDER", nargs="?", help="where the case is written (a folder named after the session)")
     add_game(words)
     words.add_argument("--workers", metavar="N", type=workers_in)
+    words.add_argument("--timeout", metavar="SECONDS", type=seconds_in, default=SECONDS, help="how long a session may take, or else it hangs (10)")
     add_order(words)
 
 
@@ -52,13 +55,21 @@ def folder_of(name: str) -> str:
     return re.sub("[^a-z0-9]+", "-", fold(name)).strip("-")[:LETTERS_OF_A_FOLDER].strip("-") or "case"
 
 
-def first_that_parts(programs: Programs, entries: Tuple[Entry, ...]) -> Optional[Tuple[Entry, Parting, Way]]:
-    """The first entry on which the programs part, with where and in which way."""
+class Found(NamedTuple):
+    """A session on which the programs part: what both show, and in which way."""
+
+    entry: Entry
+    one: Run
+    other: Run
+    way: Way
+
+
+def first_that_parts(programs: Programs, entries: List[Entry]) -> Optional[Found]:
+    """The first entry on which the programs part."""
     for entry, (one, other) in zip(entries, programs.pairs(entries)):
-        parting = parting_of(one, other)
-        way = way_of(parting, one, other)
-        if parting is not None and way is not None:
-            return entry, parting, way
+        way = way_of(one, other)
+        if way is not None:
+            return Found(entry, with_frames(entry, one, programs.one), with_frames(entry, other, programs.other), way)
     return None
 
 
@@ -73,17 +84,17 @@ def with_reached(entry: Entry, run: Run) -> Entry:
     return entry._replace(level=level if read_cells(level, Labels()) is not None else "")
 
 
-def files_of_case(entry: Entry, given: Namespace, of: Sessions) -> Dict[str, bytes]:
-    """The five files of a case."""
+def files_of_case(entry: Entry, engine: Engine, of: Sessions) -> Dict[str, bytes]:
+    """The five files of a case, as an engine answers it."""
     text = written([entry])
     with tempfile.TemporaryDirectory(prefix="saxtegun-") as room:
         path, lines = os.path.join(room, "input.json"), os.path.join(room, "lines")
         with open(path, "w", encoding="utf-8", newline="") as file:
             file.write(text)
-        status = play_file(path, lines, Engine(given.order, None, given.one, may_build=False), of._replace(entries=[entry]))
+        status = play_file(path, lines, engine, of._replace(entries=[entry]))
         with open(lines, "rb") as shown:
             stdout = shown.read()
-    args = "--order\nrows\n" if given.order == "rows" else ""
+    args = "--order\nrows\n" if engine.order == "rows" else ""
     return {"input.json": text.encode(), "args": args.encode(), "stdout": stdout, "stderr": b"", "status": f"{status}\n".encode()}
 
 
@@ -105,6 +116,26 @@ def write_case(folder: str, files: Dict[str, bytes]) -> None:
             shutil.rmtree(room, ignore_errors=True)
 
 
+def started_with(programs: Programs, found: Found) -> Entry:
+    """Where shrinking begins: without the inputs behind the parting, if that is one still."""
+    shorter = cut_behind(found.entry, parting_of(found.one, found.other), found.one, found.other)
+    return shorter if [way_of(*it) for it in programs.pairs([shorter])] == [found.way] else found.entry
+
+
+def tell(entry: Entry, programs: Programs, given: Namespace) -> Run:
+    """Tells where the programs part on what is left; what the first shows."""
+    one, other = next(programs.pairs([entry]))
+    for run, engine, name in ((one, programs.one, given.one), (other, programs.other, given.other)):
+        if run.close in FAILED:
+            print(printable(f"{cut(entry.name)}: {failure_told(entry, with_frames(entry, run, engine), name)}"))
+    parting = parting_of(one, other)
+    if parting is not None and one.close not in FAILED and other.close not in FAILED:
+        print(printable(f"{cut(entry.name)}: {sentence_of(parting, one, other, entry)}"))
+        for line in below_of(parting, entry, given.order):
+            print(printable(f"    {line}"))
+    return one
+
+
 def main(given: Namespace) -> int:
     game = read_game(given.game)
     sessions = over(read_sessions(given.sessions), game)
@@ -113,26 +144,19 @@ def main(given: Namespace) -> int:
     if os.path.exists(folder):
         raise Refused(f"{folder} is there already")
     guard_places(folder)
-    programs = Programs(given.one, given.other, sessions, Engine(given.order, given.workers, may_build=False))
-    found = first_that_parts(programs, tuple(chosen(sessions, [given.name])))
+    engine = Engine(given.order, given.workers, seconds=given.timeout, may_build=False)
+    programs = Programs(engine_at(given.one, engine), engine_at(given.other, engine))
+    found = first_that_parts(programs, chosen(sessions, [given.name]))
     if found is None:
         print(f"{given.one} and {given.other} show the same")
         return 1
-    whole, parting, way = found
-    shorter = cut_behind(whole, parting)
-    start = shorter if ways_of(programs, [shorter]) == [way] else whole
-    shrinking = Shrinking(programs, start, way, told_progress)
-    entry = shrinking.run()
-    one, other = programs.pairs([entry])[0]
-    if way[0] != "close":
-        # the recorded level decides nothing here, and P's own makes the case one that P passes
-        entry = with_reached(entry, one)
-    write_case(folder, files_of_case(entry, given, sessions))
-    last = parting_of(one, other)
-    if last is not None:
-        print(printable(f"{cut(entry.name)}: {sentence_of(last, one, other, entry)}"))
-        for line in below_of(last, entry, given.order):
-            print(printable(f"    {line}"))
-    sizes = [f"{plural(len(it.inputs), 'input')} and {plural(len(it.source), 'letter')} of source" for it in (whole, entry)]
-    print(f"from {sizes[0]} to {sizes[1]}, {plural(shrinking.tried, 'session')} played; the case is {folder}")
+    entry, tried = shrunk(programs, started_with(programs, found), found.way, told_progress)
+    one = tell(entry, programs, given)
+    keeper = programs.one if one.close not in FAILED else programs.other
+    if found.way[0] != "close":
+        # the recorded level decides nothing here, and the one that P reached makes the case one that P passes
+        entry = with_reached(entry, next(answers([entry], keeper)))
+    write_case(folder, files_of_case(entry, keeper, sessions))
+    sizes = [f"{plural(len(it.inputs), 'input')} and {plural(len(it.source), 'letter')} of source" for it in (found.entry, entry)]
+    print(f"from {sizes[0]} to {sizes[1]}, {plural(tried, 'session')} played; the case is {folder}")
     return 0

@@ -1,0 +1,164 @@
+"""`saxtegun compare --engines` and `saxtegun shrink` with an engine that crashes, hangs, or writes a line of its own: each is told, with the session and the input."""
+import json
+import unittest
+from pathlib import Path
+from time import monotonic
+
+from day import OnSessions
+from tool import run
+from saxtegun.engines import Ended, Reader
+from saxtegun.sessions import Entry
+
+SOURCE = """OBJECTS
+Background .
+green
+Player p
+white
+Wall #
+brown
+Crate c
+red
+LEGEND
+COLLISIONLAYERS
+Background
+Player, Wall, Crate
+RULES
+[ > Player | Crate ] -> [ > Player | > Crate ]
+LEVELS
+#####
+#p..#
+#####
+"""
+# What is left of the source where the player's steps alone matter: of its level two cells, between which the player walks.
+STEPS_ALONE = ["OBJECTS", "Background .", "green", "Player p", "white", "LEGEND", "COLLISIONLAYERS", "Background", "Player", "LEVELS"]
+START = {"at": 0, "frame": 0, "kind": "start", "level": "a:0,\n", "session": 0}
+CLOSE = {"close": "differs", "frames": 1, "name": "a", "session": 0}
+
+
+class OnEngines(OnSessions):
+    def engine(self, kind, holds_back=False):
+        tests = Path(__file__).resolve().parent
+        path = self.write(f"{kind}-{holds_back}".lower(), f"#!/usr/bin/env python3\nimport sys\nsys.dont_write_bytecode = True\nsys.path.insert(0, {str(tests)!r})\nfrom wrong_engines import main\nmain({kind!r}, {holds_back})\n")
+        path.chmod(0o755)
+        return path
+
+    def sessions(self, *inputs, source=SOURCE):
+        return self.write("sessions.json", json.dumps([[f"session of {len(it)}", [source, it, "", 0]] for it in inputs]))
+
+
+class Compare(OnEngines):
+    def compare(self, other, *words):
+        return run("compare", "--engines", self.engine("none"), other, self.room / "sessions.json", *words)
+
+    def test_a_crash_is_told_and_the_other_sessions_are_played(self):
+        self.sessions([3], [3, "undo", 3, 1, "undo", "undo", "undo", 4], [1], ["undo"])
+        for holds_back in (False, True):
+            answer = self.compare(self.engine("crash", holds_back))
+            # three steps are taken back by three, so the fourth undo, which is input 6, meets nothing; of the last session no input is taken
+            name = f"crash-{holds_back}".lower()
+            self.assertEqual(answer.out.splitlines(), [
+                f"session 1, session of 8: {name} crashed after input 5 (undo): ended with status 1 before the session was closed: ValueError: no level at 6",
+                f"session 3, session of 1: {name} crashed after the start: ended with status 1 before the session was closed: ValueError: no level at 0",
+                "4 sessions: 2 the same, 2 diverge",
+            ])
+            self.assertEqual((answer.status, answer.errors), (1, ""))
+
+    def test_a_hang_is_told_and_the_other_sessions_are_played(self):
+        self.sessions([3], [3, 1, "undo", "undo", "undo"], [1])
+        answer = self.compare(self.engine("hang"), "--timeout", "2")
+        self.assertEqual((answer.status, answer.out), (1, "session 1, session of 5: hang-false has no answer after input 3 (undo): not answered in 2 s\n3 sessions: 2 the same, 1 diverges\n"))
+
+    def test_a_line_that_is_none_is_told_with_its_text(self):
+        self.sessions([3], [3, "undo", "undo"], [1])
+        answer = self.compare(self.engine("say"))
+        self.assertEqual(answer.out.splitlines()[0], "session 1, session of 3: say-false wrote a line before its first frame that is none of its session: debug: nothing to take back, \\u{1b}[2J 2")
+        self.assertEqual((answer.status, answer.out.splitlines()[1:]), (1, ["3 sessions: 2 the same, 1 diverges"]))
+
+    def test_what_parts_before_a_crash_is_told_first(self):
+        self.sessions([3, 1, "undo", "restart", "undo", "undo", "undo"])
+        answer = run("compare", "--engines", self.engine("crash"), self.engine("restart"), self.room / "sessions.json")
+        self.assertIn("session 0, session of 7: frame 4, after input 3 (restart)\n", answer.out)
+        self.assertIn("    crash-false crashed after input 5 (undo): ended with status 1", answer.out)
+
+    def test_an_engine_that_always_fails_is_left_at_last(self):
+        self.sessions(*([["undo"]] * 30))
+        answer = self.compare(self.engine("crash"))
+        self.assertEqual(answer.out.splitlines()[-1], "10 sessions: 0 the same, 10 diverge; 20 more not played, since an engine failed 10 times")
+
+    def test_a_page_shows_what_was_shown_before(self):
+        self.sessions([3, "undo", "undo"])
+        self.assertEqual(self.compare(self.engine("crash"), "--report", self.room / "page.html").status, 1)
+        self.assertIn("no more frames, and is crashed", (self.room / "page.html").read_text(encoding="utf-8"))
+
+    def test_an_engine_that_can_not_be_run_is_refused(self):
+        self.sessions([3])
+        path = self.engine("crash")
+        path.chmod(0o644)
+        self.assert_refused(self.compare(path), f"{path} can't be run: it isn't executable (chmod +x)")
+        self.assert_refused(self.compare(self.room / "none"), "there is no program at")
+
+
+class Shrink(OnEngines):
+    def shrink(self, other, *inputs, source=SOURCE, seconds="10"):
+        self.sessions(*inputs, source=source)
+        begin = monotonic()
+        answer = run("shrink", self.engine("none"), other, self.room / "sessions.json", "*", self.room / "case", "--timeout", seconds)
+        self.assertEqual((answer.status, answer.errors), (0, ""))
+        [[_, [source, left, _, _]]] = json.loads((self.room / "case/input.json").read_text(encoding="utf-8"))
+        return answer.out, [it for it in source.split("\n") if it], left, monotonic() - begin
+
+    def test_pairs_of_inputs_are_left_out(self):
+        out, source, left, seconds = self.shrink(self.engine("restart"), [3], [3, 3, 1, 1, 3, "undo", "undo", "undo", "undo", "restart", 3, 1])
+        # a press and its undo go together only; two presses that change the level, an undo and the restart are wanted
+        self.assertEqual((left[2:], len(left), set(left[:2]) <= {1, 3}), (["undo", "restart"], 4, True))
+        self.assertEqual((source[:-1], sorted(source[-1])[-2:]), (STEPS_ALONE, [".", "p"]))
+        self.assertLessEqual(len(source[-1]), 3)
+        self.assertIn("frame 4, after input 3 (restart)\n", out)
+        self.assertLess(seconds, 20)
+
+    def test_a_crash_shrinks(self):
+        out, source, left, _ = self.shrink(self.engine("crash", True), [3], [3, 1, "undo", 3, "undo", "undo", "undo", 3])
+        self.assertEqual((left, source[:-1], len(source[-1])), (["undo"], STEPS_ALONE, 1))
+        self.assertIn("crashed after the start: ended with status 1 before the session was closed: ValueError: no level at 0\n", out)
+        # the case is what the other answers
+        shown = [json.loads(it) for it in (self.room / "case/stdout").read_text(encoding="utf-8").splitlines()]
+        self.assertEqual([it.get("kind") or it["close"] for it in shown], ["start", "undo", "passed"])
+
+    def test_a_line_that_is_none_shrinks(self):
+        out, _, left, _ = self.shrink(self.engine("say"), [3], [3, 1, "undo", 3, "undo", "undo", "undo", 3])
+        self.assertEqual(left, ["undo"])
+        self.assertIn("is none of its session: debug: nothing to take back, \\u{1b}[2J 0\n", out)
+
+    def test_a_hang_shrinks(self):
+        out, _, left, _ = self.shrink(self.engine("hang"), [3], [3, "undo", "undo"], source="\n".join([*STEPS_ALONE, "p."]), seconds="2")
+        self.assertEqual(left, ["undo"])
+        self.assertIn("has no answer after the start: not answered in 2 s\n", out)
+
+
+class Lines(unittest.TestCase):
+    """What is read of lines, of one session or of two."""
+
+    def read(self, *lines, status=0, count=1):
+        reader = Reader([Entry(it, "ab"[it], "", [1], "", 0, {}, False) for it in range(count)])
+        for it in lines:
+            reader.take(it if isinstance(it, str) else json.dumps(it) + "\n")
+        return reader.runs, reader.end(Ended(status, ""), 10)
+
+    def test_lines_that_are_none_are_faults_of_their_session(self):
+        for line in ("debug\n", "[]\n", "\n", {**START, "session": 1}, {**START, "frame": 4}, {**START, "at": 2, "frame": 1}, {**CLOSE, "name": "b"}, {**CLOSE, "frames": 7}):
+            [run], failed = self.read(START, line, CLOSE)
+            self.assertEqual((run.close, run.cause, len(run.frames), failed), ("stray", line.strip() if isinstance(line, str) else json.dumps(line), 1, None))
+
+    def test_a_line_behind_the_last_close_is_a_fault_of_the_last_session(self):
+        [run], failed = self.read(START, CLOSE, "bye\n")
+        self.assertEqual((run.close, run.cause, failed), ("stray", "bye", None))
+
+    def test_a_session_that_is_not_closed_is_a_crash(self):
+        _, failed = self.read(START)
+        self.assertEqual((failed.close, failed.cause, len(failed.frames)), ("crashed", "ended with status 0 before the session was closed", 1))
+        runs, failed = self.read(START, CLOSE, status=-11, count=2)
+        self.assertEqual((len(runs), failed.number, failed.cause), (1, 1, "ended by signal 11"))
+
+
+if __name__ == "__main__":
+    unittest.main()
