@@ -32,9 +32,14 @@ pub(crate) fn prepared(alloc: Global, text: &str) -> Result<String, AllocError> 
 /// Tells an item, with its number if it is a frame.
 fn tell_item(told: &mut String, alloc: Global, item: &Item) -> Result<(), AllocError> {
     match item {
-        Item::Frame { number, at, frame } => {
-            let length = frame.level_text.as_json().len();
-            told.push_str(format!(in alloc; "{number} {at} {:?} {length};", frame.kind)?.as_str())
+        Item::Frame {
+            number,
+            kind,
+            at,
+            level_text,
+        } => {
+            let length = level_text.plain(alloc)?.len();
+            told.push_str(format!(in alloc; "{number} {kind:?} {at} {length};")?.as_str())
         }
         Item::Close(verdict) => told.push_str(format!(in alloc; "{verdict:?}\n")?.as_str()),
     }

@@ -2,7 +2,7 @@
 
 use crate::gate::ClosedTo;
 use crate::playing::job_of;
-use pz_replay::{Always, Gate, Recording, ReplayFault, replay_with};
+use pz_replay::{Always, Gate, Output, Recording, ReplayFault, replay_with, write_recording};
 use std::alloc::{AllocError, Global};
 use std::sync::Wait;
 use std::thread::Threads;
@@ -15,14 +15,11 @@ pub(crate) fn workers(words: &[String]) -> usize {
     }
 }
 
-/// Tells how many items each session of a recording has.
-fn recording_told(alloc: Global, recording: &Recording) -> Result<String, AllocError> {
-    let mut told = String::new(alloc);
-    for shown in recording.records() {
-        let (name, count) = (shown.name.as_str(), shown.items.items().len());
-        told.push_str(format!(in alloc; "{name}: {count} items\n")?.as_str())?;
-    }
-    Ok(told)
+/// The lines of a recording.
+fn lines_of(alloc: Global, recording: &Recording) -> Result<String, AllocError> {
+    let mut lines = Output::new(Vec::new(alloc));
+    write_recording(alloc, recording, &mut lines).map_err(|_| AllocError)?;
+    String::from_utf8(lines.into_writer()).map_err(|_| AllocError)
 }
 
 /// What `replay_with` answers by so many workers, each of whose lanes holds one message.
@@ -35,7 +32,7 @@ fn answered<R: Threads + Wait + Sync, G: Gate + Sync>(
 ) -> Result<String, AllocError> {
     let job = job_of(alloc, text)?;
     match replay_with(rt, alloc, &job, workers, 1, gate) {
-        Ok(recording) => recording_told(alloc, &recording),
+        Ok(recording) => lines_of(alloc, &recording),
         Err(ReplayFault::Memory) => Err(AllocError),
         Err(fault) => format!(in alloc; "{fault:?}\n"),
     }

@@ -22,13 +22,6 @@ pub enum FrameKind {
     Over,
 }
 
-/// A level that is shown, in the order of the job. Its text is kept as it will be written.
-#[derive(Drop)]
-pub struct Frame {
-    pub kind: FrameKind,
-    pub level_text: QuotedText,
-}
-
 /// Why a session stopped before all of its inputs were played.
 #[derive(Clone, Copy, Debug, PartialEq, Eq)]
 pub enum Stop {
@@ -60,10 +53,16 @@ pub enum Verdict {
     Refused(Refusal),
 }
 
-/// An item of a session. Its frames are numbered from 0, and `at` is the number of inputs taken when a frame is shown. One close
-/// follows the frames.
+/// An item of a session: a level that is shown, or its close, which follows all frames.
 #[derive(Drop)]
 pub enum Item {
-    Frame { number: u64, at: u64, frame: Frame },
+    /// The frames are numbered from 0, and `at` is how many inputs were taken. The text of the level has its cells in the order of the job,
+    /// and is kept as it will be written: `plain` gives the text itself.
+    Frame {
+        number: u64,
+        kind: FrameKind,
+        at: u64,
+        level_text: QuotedText,
+    },
     Close(Verdict),
 }

@@ -1,6 +1,6 @@
 //! The instances of a program, drawn on a line: for each its scan, the rows of its left and its right, and the letters of its commands.
 
-use pz_rules::{Block, Flags, Group, Groups, Instance, Item, Pattern, Row, Segment, Word};
+use pz_rules::{Block, Flags, Group, Groups, Instance, Item, Pattern, Row, Word};
 use pz_source::Dir;
 use std::alloc::{AllocError, Global};
 
@@ -84,17 +84,10 @@ fn add_instance(text: &mut String, instance: &Instance) -> Result<(), AllocError
     text.push(';')
 }
 
-fn add_segment(text: &mut String, segment: &Segment) -> Result<(), AllocError> {
-    for instance in segment.instances() {
-        add_instance(text, instance)?;
-    }
-    Ok(())
-}
-
 fn add_group(text: &mut String, group: &Group) -> Result<(), AllocError> {
     text.push('(')?;
-    for segment in group.segments() {
-        add_segment(text, segment)?;
+    for instance in group.instances() {
+        add_instance(text, instance)?;
     }
     text.push(')')
 }

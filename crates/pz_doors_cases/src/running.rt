@@ -2,8 +2,7 @@
 
 use pz_sample_game::expect;
 use pz_session::{
-    Case, Frame, FrameKind, Item, Job, Order, Refusal, Run, Stop, Verdict, frames, prepare,
-    read_sessions,
+    Case, FrameKind, Item, Job, Order, Refusal, Run, Stop, Verdict, frames, prepare, read_sessions,
 };
 use std::alloc::{AllocError, Global};
 use std::test::Fail;
@@ -41,17 +40,18 @@ fn close_name(verdict: Verdict) -> &'static str {
     }
 }
 
-/// The level text of a frame, as it is written in a line.
-fn frame_text(frame: &Frame) -> &str {
-    std::str::from_utf8(frame.level_text.as_json()).unwrap_or("")
-}
-
 fn add_item(text: &mut String, alloc: Global, item: &Item) -> Result<(), AllocError> {
     match item {
-        Item::Frame { number, at, frame } => {
-            let kind = kind_name(frame.kind);
-            let level = frame_text(frame);
-            text.push_str(format!(in alloc; "{number} {at} {kind} {level};")?.as_str())
+        Item::Frame {
+            number,
+            kind,
+            at,
+            level_text,
+        } => {
+            let kind = kind_name(*kind);
+            let level = level_text.plain(alloc)?;
+            let level = level.as_str();
+            text.push_str(format!(in alloc; "{number} {kind} {at} {level};")?.as_str())
         }
         Item::Close(verdict) => text.push_str(close_name(*verdict)),
     }
@@ -95,7 +95,7 @@ fn shown(alloc: Global, number: usize, times: usize) -> Result<(String, String),
 }
 
 const WALKED: &str =
-    r#"0 0 start "background wall:0,background player:1,background:2,0,\n";1 1 move "background wall:0,background:1,background player:2,0,\n";2 2 move "background wall:0,background:1,background player:2,0,\n";passed"#;
+    "0 start 0 background wall:0,background player:1,background:2,0,\n;1 move 1 background wall:0,background:1,background player:2,0,\n;2 move 2 background wall:0,background:1,background player:2,0,\n;passed";
 
 #[test]
 fn shows_a_walk_item_by_item(rt: HostRuntime) -> Result<(), Fail> {

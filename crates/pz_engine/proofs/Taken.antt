@@ -7,7 +7,7 @@ use Rattle.std.proofs.lemmas.List.Concat.{flat_map-append}
 use Rattle.std.proofs.lemmas.List.Elements.{filter-append}
 use Rattle.std.proofs.lemmas.List.Folds.{list_any-append}
 use Rattle.pz_case.specs.declared.case.Case.{Case}
-use Rattle.pz_case.specs.declared.item.Frame.{Frame}
+use Rattle.pz_session.specs.declared.chain.Frame.{Frame}
 use Rattle.pz_case.specs.declared.item.Item.{Item}
 use Rattle.pz_case.specs.declared.item.Item.TheVariants as item
 use Rattle.pz_case.specs.declared.item.Verdict.{Verdict}
@@ -35,7 +35,7 @@ or_false false = refl
 ends : (n : ℕ) (frames : List (ℕ × Frame)) (end verdict : Verdict) (taken rest : List Item) → taken ++ item.Close verdict ∷ rest ≡ numbered n frames ++ item.Close end ∷ [] → rest ≡ []
 unfolding numbered
 ends n [] end verdict [] rest e = ap (drop 1) e
-ends n (f ∷ frames) end verdict [] rest e = absurd (let is : item.Close verdict ∷ rest ≡ item.Frame n f.0 f.1 ∷ (numbered (n + 1) frames ++ item.Close end ∷ []) = e in cc)
+ends n (f ∷ frames) end verdict [] rest e = absurd (let is : item.Close verdict ∷ rest ≡ item.Frame n f.1.kind f.0 f.1.level_text ∷ (numbered (n + 1) frames ++ item.Close end ∷ []) = e in cc)
 ends n [] end verdict (x ∷ taken) rest e = absurd (omega (arith, ap length e, length-append taken (item.Close verdict ∷ rest)))
 ends n (f ∷ frames) end verdict (x ∷ taken) rest e = ends (n + 1) frames end verdict taken rest (ap (drop 1) e)
 
@@ -53,7 +53,7 @@ all_frames law case taken rest verdict e =
 
 -- only the line of a close tells how many frames there were
 same_line : (session : ℕ) (name : List ℕ) (frames all : ℕ) (x : Item) → ((verdict : Verdict) → x ≡ item.Close verdict → frames ≡ all) → item_line session name frames x ≡ item_line session name all x
-same_line session name frames all (item.Frame number at frame) h = refl
+same_line session name frames all (item.Frame number kind at level_text) h = refl
 same_line session name frames all (item.Close verdict) h = ap (λ k. close_line session name k verdict) (h verdict refl)
 
 one_line : (f : Item → List ℕ) (p : Item → Bool) (x : Item) → flat_map f (filter p (x ∷ [])) ≡ (if p x then f x else [])

@@ -6,13 +6,14 @@ ghost use Rattle.pz_game.specs.Pattern.{RuleRow, IsRowOf, AsksAmong};
 ghost use Rattle.pz_grid.specs.Places.{places};
 
 use crate::Level;
+use pz_program::headings::Headings;
 
 impl Level {
-    /// Whether the level's headings allow a heading of the set `asked`. If false, no row that asks for one of these headings has a place,
-    /// in any direction.
-    pub fn may_head_in(&self, asked: &[u128]) -> bool
+    /// Whether the level's headings allow one of those in `asked`. If false, no row that asks for one of these has a place, in any
+    /// direction.
+    pub fn may_head_in(&self, asked: &Headings) -> bool
         ensures { result ≡ false → (row : RuleRow) (dir : Dir) → IsRowOf self.now.grid.layers row → AsksAmong asked.now row.cells → places self.now.grid row dir ≡ [] }
     {
-        self.bare().may_head_in(asked)
+        self.bare().may_head_in(asked.words())
     }
 }

@@ -1,3 +1,4 @@
+pub mod FaultLines
 pub mod Kept
 pub mod Plans
 pub mod SameRules

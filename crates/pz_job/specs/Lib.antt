@@ -2,3 +2,4 @@ pub mod Rulebooks
 pub mod SameRules
 pub mod Sources
 pub mod Job
+pub mod FaultLines

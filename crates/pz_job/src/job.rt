@@ -2,6 +2,7 @@
 
 ghost use Rattle.std.specs.Prelude.{◌≡◌, ◌≤◌, length, IfOk};
 ghost use Rattle.pz_job.specs.Job.{plan_from, case_of, job_of};
+ghost use Rattle.pz_job.specs.FaultLines.{NameLines};
 ghost use Rattle.pz_job.specs.Rulebooks.{shared_in};
 
 use crate::programs::Programs;
@@ -90,12 +91,13 @@ fn read_all<R: Threads + Sync>(
     rulebooks.take_over(programs, alloc, sources)
 }
 
-/// The job that the entries make, each level's cells in this order: a case for each entry. An entry whose source or rules
-/// can't be read, or whose index leaves no level, makes a case that is refused. Each source is read once, when its first entry comes,
-/// in the calling thread.
+/// The job that the entries make, each level's cells in this order: a case for each entry. An entry whose source or rules can't be read, or
+/// whose index leaves no level, makes a case that is refused. The fault of a source names one of its lines, or 0. Each source is read once,
+/// when its first entry comes, in the calling thread.
 pub fn prepare(alloc: Global, entries: Vec<Entry>, order: Order) -> Result<Job, AllocError>
     requires { length entries.items ≤ MOST_ENTRIES }
-    ensures { IfOk result (λ job. job ≡ job_of order entries.items) }
+    ensures job { IfOk result (λ job. job ≡ job_of order entries.items) }
+    ensures lined { IfOk result (λ job. NameLines entries.items job) }
 {
     let mut rulebooks = Rulebooks::new(alloc);
     let mut programs = Programs::new(alloc);
@@ -113,7 +115,8 @@ pub fn prepare_with<R: Threads + Sync>(
     workers: usize,
 ) -> Result<Job, AllocError>
     requires { length entries.items ≤ MOST_ENTRIES }
-    ensures { IfOk result (λ job. job ≡ job_of order entries.items) }
+    ensures job { IfOk result (λ job. job ≡ job_of order entries.items) }
+    ensures lined { IfOk result (λ job. NameLines entries.items job) }
 {
     let mut rulebooks = Rulebooks::new(alloc);
     let mut programs = Programs::new(alloc);

@@ -1,7 +1,7 @@
 //! Writes the texts of the levels of a game.
 #![tactic(auto, unfolding(crate::specs::LevelText::text_of_level))]
 
-ghost use Rattle.std.specs.Prelude.{◌≡◌, ◌<◌, [], IfOk, IfSome, OnOk};
+ghost use Rattle.std.specs.Prelude.{◌≡◌, ◌<◌, [], IfOk, IfSome, OnOk, string_bytes};
 ghost use Rattle.pz_sheet.specs.Grid.{SameSize};
 ghost use Rattle.pz_level_text.specs.Labels.{texts_in};
 ghost use Rattle.pz_record.specs.CellTexts.{text_of_cells};
@@ -11,7 +11,6 @@ ghost use Rattle.pz_level_text.specs.LevelText.{text_of_level};
 use crate::cell_labels::CellLabels;
 use crate::last_text::LastText;
 use pz_bare::BareLevel;
-use pz_base::text::Text;
 use pz_game::game::Game;
 use pz_record::changed::Changed;
 use pz_record::order::Order;
@@ -84,9 +83,9 @@ fn fill(
 }
 
 /// The text of cells, not quoted. No copy of it is kept.
-fn plain(alloc: Global, cells: &CellLabels<'_>, width: u32) -> Result<Text, AllocError>
+fn plain(alloc: Global, cells: &CellLabels<'_>, width: u32) -> Result<String, AllocError>
     requires { 0 < width }
-    ensures { IfOk result (λ text. text ≡ text_of_cells width cells.now.cells) }
+    ensures { IfOk result (λ text. string_bytes text ≡ text_of_cells width cells.now.cells) }
 {
     let text = plain_text(alloc, cells.texts(), cells.labels(), width as usize)?;
     Ok(text)
@@ -189,8 +188,8 @@ impl<'a> TextWriter<'a> {
     }
 
     /// The same text, not quoted, for callers that read it back.
-    pub fn write_plain(&mut self, level: &BareLevel) -> Result<Text, AllocError>
-        ensures text { IfOk result (λ text. text ≡ text_of_level self.old.table.game self.old.order level.now.grid) }
+    pub fn write_plain(&mut self, level: &BareLevel) -> Result<String, AllocError>
+        ensures text { IfOk result (λ text. string_bytes text ≡ text_of_level self.old.table.game self.old.order level.now.grid) }
         ensures game { self.new.table.game ≡ self.old.table.game }
         ensures order { self.new.order ≡ self.old.order }
     {

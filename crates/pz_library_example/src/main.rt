@@ -7,7 +7,7 @@ ghost use Rattle.pz_rules.specs.Instance.{IsProgramOf};
 
 use pz_grid::Level;
 use pz_rules::{Program, expand};
-use pz_session::{Order, Text, level_text};
+use pz_session::{Order, level_text};
 use pz_source::{Dir, Game, read_game};
 use pz_turn::{step, won};
 use std::alloc::Global;
@@ -55,7 +55,7 @@ fn pressed(
 }
 
 /// The text of the level after three presses, and whether it is won then.
-fn played(alloc: Global) -> Result<(Text, bool), &'static str> {
+fn played(alloc: Global) -> Result<(String, bool), &'static str> {
     let game = read_game(alloc, SOURCE).map_err(|_| "a refused source")?;
     let program = program_of(alloc, &game)?;
     let level = first_level(alloc, &game)?;

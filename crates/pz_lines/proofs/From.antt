@@ -8,7 +8,7 @@ use Rattle.pz_lines.specs.Lines.{frame_count, is_from, item_line, lines_from, li
 
 each_from_0 : (items : List Item) → filter (is_from 0) items ≡ items
 each_from_0 [] = refl
-each_from_0 (item.Frame number at frame ∷ items) = rw (leb-zero at) (ap (λ xs. item.Frame number at frame ∷ xs) (each_from_0 items))
+each_from_0 (item.Frame number kind at level_text ∷ items) = rw (leb-zero at) (ap (λ xs. item.Frame number kind at level_text ∷ xs) (each_from_0 items))
 each_from_0 (item.Close verdict ∷ items) = ap (λ xs. item.Close verdict ∷ xs) (each_from_0 items)
 
 numbered_from_0 : (n : ℕ) (recording : List Record) → numbered (lines_from 0) n recording ≡ numbered lines_of n recording

@@ -4,8 +4,6 @@ use Rattle.std.specs.Prelude.{codes}
 use Rattle.std.specs.Fmt.{digits}
 use Rattle.json.specs.Print.{escape_byte}
 use Rattle.pz_base.specs.declared.fault.Code.TheVariants as code
-use Rattle.pz_case.specs.declared.item.Frame.{Frame}
-use Rattle.pz_case.specs.declared.item.FrameKind.{FrameKind}
 use Rattle.pz_case.specs.declared.item.FrameKind.TheVariants as kind
 use Rattle.pz_case.specs.declared.item.Item.TheVariants as item
 use Rattle.pz_case.specs.declared.item.Refusal.TheVariants.{Source, NoLevel}
@@ -14,11 +12,8 @@ use Rattle.pz_case.specs.declared.item.Verdict.TheVariants.{Passed, Stopped, Ref
 use Rattle.pz_lines.specs.Lines.{frame_line, verdict_line, close_line, text_from, text_of}
 use Rattle.pz_lines.specs.Naming.{kind_name, code_name, stop_name, refusal_name, close_name, cause_name}
 
-abbrev frame : FrameKind → List ℕ → Frame
-frame kind text = record { kind = kind; level_text = text }
-
 -- the keys stand in the order of their bytes, and a line feed of the level text is escaped
-frame_of_a_move : frame_line 2 0 1 (frame kind.Move (codes "wall:0,\n0,\n"))
+frame_of_a_move : frame_line 2 0 kind.Move 1 ((codes "wall:0,\n0,\n"))
     ≡ codes "{\"at\":1,\"frame\":0,\"kind\":\"move\",\"level\":\"wall:0,\\n0,\\n\",\"session\":2}\n"
 unfolding frame_line kind_name digits escape_byte
 frame_of_a_move = refl
@@ -36,7 +31,7 @@ unfolding close_line verdict_line cause_name close_name refusal_name code_name d
 refused_source = refl
 
 -- sessions are numbered from 0; the frames are counted without the close, and a session that was played has no cause
-two_sessions : text_of (record { name = codes "a"; items = item.Frame 0 0 (frame kind.Start []) ∷ item.Close Passed ∷ [] }
+two_sessions : text_of (record { name = codes "a"; items = item.Frame 0 kind.Start 0 [] ∷ item.Close Passed ∷ [] }
     ∷ record { name = codes "b"; items = item.Close (Refused NoLevel) ∷ [] } ∷ [])
     ≡ codes "{\"at\":0,\"frame\":0,\"kind\":\"start\",\"level\":\"\",\"session\":0}\n"
     ++ codes "{\"close\":\"passed\",\"frames\":1,\"name\":\"a\",\"session\":0}\n"
@@ -50,7 +45,7 @@ unfolding text_of
 no_session = refl
 
 -- from input 1 on the start is left out, and of a session that was refused nothing; numbers, and how many frames a close tells, stay those of the whole text
-from_1 : text_from 1 (record { name = codes "a"; items = item.Frame 0 0 (frame kind.Start []) ∷ item.Frame 1 1 (frame kind.Move []) ∷ item.Frame 2 2 (frame kind.Tick []) ∷ item.Close Passed ∷ [] }
+from_1 : text_from 1 (record { name = codes "a"; items = item.Frame 0 kind.Start 0 [] ∷ item.Frame 1 kind.Move 1 [] ∷ item.Frame 2 kind.Tick 2 [] ∷ item.Close Passed ∷ [] }
     ∷ record { name = codes "b"; items = item.Close (Refused NoLevel) ∷ [] } ∷ [])
     ≡ codes "{\"at\":1,\"frame\":1,\"kind\":\"move\",\"level\":\"\",\"session\":0}\n"
     ++ codes "{\"at\":2,\"frame\":2,\"kind\":\"tick\",\"level\":\"\",\"session\":0}\n"
@@ -60,7 +55,7 @@ unfolding text_from frame_line close_line verdict_line kind_name cause_name clos
 from_1 = refl
 
 -- behind the last input there is the close alone
-from_2 : text_from 2 (record { name = codes "a"; items = item.Frame 0 0 (frame kind.Start []) ∷ item.Frame 1 1 (frame kind.Move []) ∷ item.Close Passed ∷ [] } ∷ [])
+from_2 : text_from 2 (record { name = codes "a"; items = item.Frame 0 kind.Start 0 [] ∷ item.Frame 1 kind.Move 1 [] ∷ item.Close Passed ∷ [] } ∷ [])
     ≡ codes "{\"close\":\"passed\",\"frames\":2,\"name\":\"a\",\"session\":0}\n"
 unfolding text_from close_line verdict_line cause_name close_name digits escape_byte
 from_2 = refl

@@ -1,7 +1,7 @@
 -- The text of a recording: a line for each item, compact JSON with its keys in the order of their bytes.
 use Rattle.std.specs.Prelude.{ℕ, Bool, true, false, suc, nat_le, List, [], ◌∷◌, ◌++◌, filter, flat_map, length, Option, Some, None, codes, decimal}
 use Rattle.json.specs.Print.{quoted}
-use Rattle.pz_case.specs.declared.item.Frame.{Frame}
+use Rattle.pz_case.specs.declared.item.FrameKind.{FrameKind}
 use Rattle.pz_case.specs.declared.item.Item.{Item}
 use Rattle.pz_case.specs.declared.item.Item.TheVariants as item
 use Rattle.pz_case.specs.declared.item.Verdict.{Verdict}
@@ -14,8 +14,8 @@ frame_parts session number at kind level =
     ++ codes ",\"level\":" ++ quoted level ++ codes ",\"session\":" ++ decimal session ++ codes "}\n"
 
 -- a frame: how many inputs were taken when it was shown, its number, why it was shown, the level
-unfoldable pub frame_line : ℕ → ℕ → ℕ → Frame → List ℕ
-frame_line session number at frame = frame_parts session number at (kind_name frame.kind) frame.level_text
+unfoldable pub frame_line : ℕ → ℕ → FrameKind → ℕ → List ℕ → List ℕ
+frame_line session number kind at level_text = frame_parts session number at (kind_name kind) level_text
 
 abbrev pub with_cause : Option (List ℕ) → List ℕ
 with_cause None = []
@@ -31,14 +31,14 @@ unfoldable pub close_line : ℕ → List ℕ → ℕ → Verdict → List ℕ
 close_line session name frames verdict = verdict_line session name frames (cause_name verdict) (close_name verdict)
 
 abbrev pub is_frame : Item → Bool
-is_frame (item.Frame number at frame) = true
+is_frame (item.Frame number kind at level_text) = true
 is_frame (item.Close verdict) = false
 
 abbrev pub frame_count : List Item → ℕ
 frame_count items = length (filter is_frame items)
 
 abbrev pub item_line : ℕ → List ℕ → ℕ → Item → List ℕ
-item_line session name frames (item.Frame number at frame) = frame_line session number at frame
+item_line session name frames (item.Frame number kind at level_text) = frame_line session number kind at level_text
 item_line session name frames (item.Close verdict) = close_line session name frames verdict
 
 -- the lines of what a session showed
@@ -47,7 +47,7 @@ lines_of session shown = flat_map (item_line session shown.name (frame_count sho
 
 -- whether an item is shown from an input on: the close is, and so is a frame that is shown after so many inputs or more
 abbrev pub is_from : ℕ → Item → Bool
-is_from from (item.Frame number at frame) = nat_le from at
+is_from from (item.Frame number kind at level_text) = nat_le from at
 is_from from (item.Close verdict) = true
 
 -- the lines of what a session showed, only those of the items from an input on

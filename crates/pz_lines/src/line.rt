@@ -8,7 +8,7 @@ ghost use Rattle.pz_lines.specs.Naming.{cause_name};
 
 use crate::naming::{cause_name, close_name, quoted_kind};
 use itoa::Buffer;
-use pz_case::item::{Frame, Item, Verdict};
+use pz_case::item::{FrameKind, Item, Verdict};
 use pz_record::quoted::QuotedText;
 use std::alloc::{AllocError, Global};
 
@@ -54,17 +54,18 @@ fn write_frame(
     lines: Vec<u8>,
     session: u64,
     number: u64,
+    kind: FrameKind,
     at: u64,
-    frame: &Frame,
+    level_text: &QuotedText,
 ) -> Result<Vec<u8>, AllocError>
-    ensures { IfOk result (λ written. written.items ≡ lines.items ++ frame_line session number at frame.now) }
+    ensures { IfOk result (λ written. written.items ≡ lines.items ++ frame_line session number kind at level_text.now) }
 {
     let mut lines = lines;
-    lines.reserve(ROOM + frame.level_text.as_json().len())?;
+    lines.reserve(ROOM + level_text.as_json().len())?;
     put_number(&mut lines, b"{\"at\":", at)?;
     put_number(&mut lines, b",\"frame\":", number)?;
-    put_json(&mut lines, b",\"kind\":", quoted_kind(frame.kind))?;
-    put_quoted(&mut lines, b",\"level\":", &frame.level_text)?;
+    put_json(&mut lines, b",\"kind\":", quoted_kind(kind))?;
+    put_quoted(&mut lines, b",\"level\":", level_text)?;
     put_number(&mut lines, b",\"session\":", session)?;
     lines.extend_from_slice(b"}\n")?;
     Ok(lines)
@@ -127,7 +128,12 @@ pub fn write_item(
     ensures { IfOk result (λ written. written.items ≡ lines.items ++ item_line session name.now frames item.now) }
 {
     match item {
-        Item::Frame { number, at, frame } => write_frame(lines, session, *number, *at, frame),
+        Item::Frame {
+            number,
+            kind,
+            at,
+            level_text,
+        } => write_frame(lines, session, *number, *kind, *at, level_text),
         Item::Close(verdict) => write_close(alloc, lines, session, name, frames, *verdict),
     }
 }

@@ -2,7 +2,7 @@
 
 use pz_base::listed::Listed;
 use pz_base::text::Text;
-use pz_case::item::{Frame, FrameKind, Item, Verdict};
+use pz_case::item::{FrameKind, Item, Verdict};
 use pz_case::recording::{Record, Recording};
 use pz_lines::fault::{Cause, WriteFault};
 use pz_lines::output::Output;
@@ -103,8 +103,9 @@ fn frame(alloc: Global, number: u64, kind: FrameKind, level: &str) -> Result<Ite
     let level_text = QuotedText::of_str(alloc, level)?;
     Ok(Item::Frame {
         number,
+        kind,
         at: number,
-        frame: Frame { kind, level_text },
+        level_text,
     })
 }
 

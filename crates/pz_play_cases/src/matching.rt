@@ -1,82 +1,33 @@
 //! The places of rows, and instances rewritten at them.
 
-ghost use Rattle.std.specs.Prelude.{◌≡◌, true, IfOk, OnOk};
-ghost use Rattle.pz_rules.specs.Pattern.{IsOf, AreOf, IsRowOf, AreRowsOf};
-ghost use Rattle.pz_rules.specs.Instance.{IsInstanceOf};
+ghost use Rattle.std.specs.Prelude.{IfOk};
+ghost use Rattle.pz_rules.specs.Instance.{IsInstanceOf, IsGroupOf, IsProgramOf};
 ghost use Rattle.pz_grid.specs.Grid.{IsOfGame};
 
 use pz_grid::{Level, Place, places, rewrite, still_matches};
-use pz_rules::{Block, Group, Instance, Item, Pattern, Program, Row, Rows};
+use pz_rules::{Block, Group, Instance, Program};
 use pz_sample_game::{expect, expect_level, game_of, loaded, program_of};
 use pz_source::{Dir, Game};
 use std::alloc::{AllocError, Global};
 use std::test::Fail;
 
-/// Whether an item is of an object of the game, whose objects have these layers.
-fn is_item_of(layers: &[usize], item: Item) -> bool
-    ensures { result ≡ true → IsOf layers.now item }
+fn first_of<'a>(game: &Game, group: &'a Group) -> Result<&'a Instance, Fail>
+    requires { IsGroupOf game.now.layers group.now }
+    ensures { IfOk result (λ instance. IsInstanceOf game.now.layers instance.now) }
 {
-    item.object < layers.len() && layers[item.object] == item.layer
-}
-
-fn is_cell_of(layers: &[usize], cell: &Pattern) -> bool
-    ensures { result ≡ true → AreOf layers.now cell.now }
-{
-    for item in cell.items() {
-        if !is_item_of(layers, *item) {
-            return false;
-        }
-    }
-    true
-}
-
-fn is_row_of(layers: &[usize], row: &Row) -> bool
-    ensures { result ≡ true → IsRowOf layers.now row.now }
-{
-    for cell in row.cells() {
-        if !is_cell_of(layers, cell) {
-            return false;
-        }
-    }
-    true
-}
-
-fn are_rows_of(layers: &[usize], rows: &Rows) -> bool
-    ensures { result ≡ true → AreRowsOf layers.now rows.now }
-{
-    for row in rows.items() {
-        if !is_row_of(layers, row) {
-            return false;
-        }
-    }
-    true
-}
-
-/// Fails for an instance of another game.
-pub(crate) fn test_instance(game: &Game, instance: &Instance) -> Result<(), Fail>
-    ensures { OnOk result (IsInstanceOf game.now.layers instance.now) }
-{
-    if are_rows_of(game.layers(), &instance.left) && are_rows_of(game.layers(), &instance.right) {
-        Ok(())
-    } else {
-        Err(Fail::new("an instance of another game"))
-    }
-}
-
-fn first_of(group: &Group) -> Result<&Instance, Fail> {
-    match group.segments() {
-        [segment, ..] => match segment.instances() {
-            [instance, ..] => Ok(instance),
-            _ => Err(Fail::new("no instance")),
-        },
+    match group.instances() {
+        [instance, ..] => Ok(instance),
         _ => Err(Fail::new("no instance")),
     }
 }
 
 /// The first instance of the first group.
-pub(crate) fn first_instance(program: &Program) -> Result<&Instance, Fail> {
+pub(crate) fn first_instance<'a>(game: &Game, program: &'a Program) -> Result<&'a Instance, Fail>
+    requires { IsProgramOf game.now.layers program.now }
+    ensures { IfOk result (λ instance. IsInstanceOf game.now.layers instance.now) }
+{
     match program.early() {
-        [Block::One(group), ..] => first_of(group),
+        [Block::One(group), ..] => first_of(game, group),
         _ => Err(Fail::new("no group")),
     }
 }
@@ -117,8 +68,7 @@ fn expect_found(
     requires level_of { IsOfGame game.now level.now.grid }
 {
     let program = program_of(alloc, game)?;
-    let instance = first_instance(&program)?;
-    test_instance(game, instance)?;
+    let instance = first_instance(game, &program)?;
     let found = found_for(alloc, game, level, instance, dir)?;
     let text = written(alloc, found.as_slice())?;
     expect(text.as_str(), wanted)
@@ -207,8 +157,7 @@ fn is_told(alloc: Global, game: &Game, level: &mut Level) -> Result<bool, Fail>
     requires level_of { IsOfGame game.now level.old.grid }
 {
     let program = program_of(alloc, game)?;
-    let instance = first_instance(&program)?;
-    test_instance(game, instance)?;
+    let instance = first_instance(game, &program)?;
     let found = told(game, level, instance);
     Ok(
         found

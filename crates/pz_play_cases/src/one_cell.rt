@@ -5,7 +5,7 @@ ghost use Rattle.pz_rules.specs.Pattern.{AreOf, AreRowsOf};
 ghost use Rattle.pz_rules.specs.Instance.{IsInstanceOf};
 ghost use Rattle.pz_grid.specs.Grid.{IsOfGame};
 
-use crate::matching::{first_instance, test_instance};
+use crate::matching::first_instance;
 use pz_grid::{Level, Place};
 use pz_rules::{Instance, Pattern, Rows};
 use pz_sample_game::{expect_level, game_of, loaded, program_of};
@@ -57,8 +57,7 @@ fn told_in(alloc: Global, game: &Game, level: &mut Level) -> Result<[bool; 6], F
     requires { IsOfGame game.now level.old.grid }
 {
     let program = program_of(alloc, game)?;
-    let instance = first_instance(&program)?;
-    test_instance(game, instance)?;
+    let instance = first_instance(game, &program)?;
     told_of(game, level, instance)
 }
 

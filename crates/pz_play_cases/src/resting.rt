@@ -22,17 +22,6 @@ fn in_bits(given: Result<(Commands, bool), StepFault>) -> Rested {
     }
 }
 
-/// The first block before the movement.
-fn first_block<'a>(game: &Game, program: &'a Program) -> Result<&'a Block, Fail>
-    requires { IsProgramOf game.now.layers program.now }
-    ensures { IfOk result (λ block. IsBlockOf game.now.layers block.now) }
-{
-    match program.early() {
-        [block, ..] => Ok(block),
-        _ => Err(Fail::new("no block")),
-    }
-}
-
 /// Runs a block to rest.
 fn rest_block(alloc: Global, game: &Game, block: &Block, level: &mut Level) -> Rested
     requires level_of { IsOfGame game.now level.old.grid }
@@ -45,14 +34,29 @@ fn rest_block(alloc: Global, game: &Game, block: &Block, level: &mut Level) -> R
     }
 }
 
-/// Pushes the players, runs the first block to rest, and moves all.
+/// Runs each block before the movement to rest, and gives what they gave together.
+fn rest_early(alloc: Global, game: &Game, program: &Program, level: &mut Level) -> Rested
+    requires level_of { IsOfGame game.now level.old.grid }
+    requires program_of { IsProgramOf game.now.layers program.now }
+    ensures { IsOfGame game.now level.new.grid }
+{
+    let mut commands = 0;
+    let mut changed = false;
+    for block in program.early() {
+        let (given, is_changed) = rest_block(alloc, game, block, level)?;
+        commands |= given;
+        changed |= is_changed;
+    }
+    Ok((commands, changed))
+}
+
+/// Pushes the players, runs each early block to rest, and moves all.
 fn play(alloc: Global, game: &Game, level: &mut Level, dir: Dir) -> Result<Rested, Fail>
     requires level_of { IsOfGame game.now level.old.grid }
 {
     let program = program_of(alloc, game)?;
-    let block = first_block(game, &program)?;
     push_players(game, level, dir);
-    let rested = rest_block(alloc, game, block, level);
+    let rested = rest_early(alloc, game, &program, level);
     resolve(game, level);
     Ok(rested)
 }
@@ -66,7 +70,7 @@ fn played_in(alloc: Global, game: &Game, dir: Dir, text: &str) -> Result<Rested,
     Ok(rested)
 }
 
-/// What the first block gives after a push, if the level is then so.
+/// What the early blocks give after a push, if the level is then so.
 fn played(alloc: Global, rules: &str, level: &str, dir: Dir, text: &str) -> Result<Rested, Fail> {
     let game = game_of(alloc, rules, "", level)?;
     played_in(alloc, &game, dir, text)
@@ -133,6 +137,74 @@ fn stops_two_rules_that_undo_each_other(rt: HostRuntime) -> Result<(), Fail> {
         Dir::Action,
         "",
         Err(StepFault::LoopLimit),
+    )
+}
+
+/// A level that is changed, without a command.
+fn expect_changed(
+    alloc: Global,
+    rules: &str,
+    level: &str,
+    dir: Dir,
+    text: &str,
+) -> Result<(), Fail> {
+    expect_rest(alloc, rules, level, dir, text, Ok((0, true)))
+}
+
+#[test]
+fn moves_one_of_two_that_head_for_a_cell(rt: HostRuntime) -> Result<(), Fail> {
+    let alloc = rt.alloc();
+    expect_changed(
+        alloc,
+        "[ stationary Crate ] -> [ right Crate ]\n[ stationary Spike ] -> [ left Spike ]\n",
+        "c.sp\n",
+        Dir::Action,
+        "background:0,background crate:1,background spike:2,background player:3,\n",
+    )?;
+    expect_changed(
+        alloc,
+        "[ stationary Crate ] -> [ right Crate ]\n[ stationary Spike ] -> [ up Spike ]\n",
+        "cc.\n.sp\n",
+        Dir::Action,
+        "background crate:0,background spike:1,0,\nbackground:2,2,background player:3,\n",
+    )
+}
+
+#[test]
+fn rewrites_a_later_place_only_if_it_still_holds(rt: HostRuntime) -> Result<(), Fail> {
+    let alloc = rt.alloc();
+    expect_changed(
+        alloc,
+        "right [ Player | ... | Wall ] -> [ Player | ... | Wall Mark ]\n",
+        "p#\n",
+        Dir::Action,
+        "background player:0,background mark wall:1,\n",
+    )?;
+    expect_changed(
+        alloc,
+        "right [ Player no Mark | ... | Wall ] -> [ Player Mark | ... | Crate ]\n",
+        "p#.#\n",
+        Dir::Action,
+        "background mark player:0,background crate:1,background:2,background wall:3,\n",
+    )
+}
+
+#[test]
+fn keeps_a_heading_only_where_a_piece_takes_the_place(rt: HostRuntime) -> Result<(), Fail> {
+    let alloc = rt.alloc();
+    expect_changed(
+        alloc,
+        "right [ down Player | Spike ] -> [ | Spike ]\nright [ no Crate | Spike ] -> [ Crate | Spike ]\n",
+        "ps\n..\n",
+        Dir::Down,
+        "background crate:0,background spike:1,\nbackground:2,2,\n",
+    )?;
+    expect_changed(
+        alloc,
+        "[ Player ] -> [ Crate ]\n",
+        "p.\n",
+        Dir::Right,
+        "background:0,background crate:1,\n",
     )
 }
 

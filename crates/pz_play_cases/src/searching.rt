@@ -5,7 +5,7 @@ ghost use Rattle.std.specs.Prelude.{IfOk};
 ghost use Rattle.pz_rules.specs.Instance.{IsInstanceOf};
 ghost use Rattle.pz_grid.specs.Grid.{IsOfGame};
 
-use crate::matching::{first_instance, test_instance};
+use crate::matching::first_instance;
 use pz_grid::{Level, Place, admitted, places_counted, push_players, resolve};
 use pz_rules::Instance;
 use pz_sample_game::{game_of, loaded, program_of};
@@ -96,8 +96,7 @@ fn expect_told(
     requires level_of { IsOfGame game.now level.now.grid }
 {
     let program = program_of(alloc, game)?;
-    let instance = first_instance(&program)?;
-    test_instance(game, instance)?;
+    let instance = first_instance(game, &program)?;
     let told = search_for(alloc, game, level, instance, dir)?;
     if wanted.admits(told) {
         Ok(())

@@ -1,7 +1,10 @@
 -- What a run of instances asks for.
-use Rattle.std.proofs.Common.{◌≡◌, ◌/◌, ◌%◌, ◌<◌, ◌≤◌, inl, inr, ℕ, List, ◌∷◌, ◌||◌, Option, Some, None, true, false, length, arith, ap, sym, ◌∙◌, nat_eq}
-use Rattle.std.specs.Prelude.{IfSome, MatchOption}
-use Rattle.std.specs.List.{All}
+use Rattle.std.proofs.Common.{◌≡◌, ◌/◌, ◌%◌, ◌<◌, ◌≤◌, ◌+◌, ◌-◌, ◌++◌, inl, inr, ℕ, List, [], ◌∷◌, ◌||◌, Option, Some, None, true, false, length, arith, ap, ap₂, sym, subst, ◌∙◌, nat_eq, get_or}
+use Rattle.std.specs.Prelude.{IfSome, MatchOption, take, drop}
+use Rattle.std.specs.List.{All, flat_map}
+use Rattle.std.proofs.lemmas.Grind.{flat_map-append}
+use Rattle.std.proofs.lemmas.List.{drop-take, take-take, take-append-drop, append-nil, take_more, length-drop, get_or-drop}
+use Rattle.std.proofs.lemmas.List.Elements.{All-push, All-weaker}
 use Rattle.std.proofs.lemmas.Bool.{cases_lt, or_right}
 use Rattle.pz_sets.specs.Sets.{member, IsWithin}
 use Rattle.pz_sets.specs.declared.set.TheConstants.{CAPACITY}
@@ -9,7 +12,8 @@ use Rattle.pz_program.specs.declared.instance.Instance.{Instance}
 use Rattle.pz_game.specs.declared.pattern.Item.{Item}
 use Rattle.pz_game.specs.Masks.{IsLow}
 use Rattle.pz_game.specs.Pattern.{RuleRow, AreRequired, AsksAmong}
-use Rattle.pz_program.specs.Segments.{AsksFor, IsLeftOut}
+use Rattle.pz_program.specs.Segments.{AsksFor, IsLeftOut, instances_in}
+use Rattle.pz_program.specs.declared.group.Segment.{Segment}
 use Rattle.pz_game.proofs.FlagLemmas.{flag_of}
 
 -- a number of what cells ask for is one of their directions
@@ -54,3 +58,34 @@ asked_of N B instance row rows required words (Some number) left asks same four 
     asks = λ low. asks_for row.cells required number (asks low) (ap (λ ws. member ws number) (sym same) ∙ m.2) set there;
   },
 )
+
+-- what stands before a part, and the part, is what stands before its end
+pub before_end : {X : Type 0} (xs : List X) (i j : ℕ) → i ≤ j → take i xs ++ take (j - i) (drop i xs) ≡ take j xs
+before_end xs i j ordered =
+    let whole : i + (j - i) ≡ j = omega (arith, ordered) in
+    ap₂ (λ (a b : List _). a ++ b) (sym (take-take i j xs ordered)) (sym (drop-take i (j - i) xs) ∙ ap (λ (n : ℕ). drop i (take n xs)) whole) ∙ take-append-drop i (take j xs)
+
+-- a part that ends one later has one element more
+pub one_more : {X : Type 0} (xs : List X) (i j : ℕ) (d : X) → i ≤ j → j < length xs → take (j + 1 - i) (drop i xs) ≡ take (j - i) (drop i xs) ++ get_or xs j d ∷ []
+one_more xs i j d ordered within =
+    let n : j + 1 - i ≡ j - i + 1 = omega (arith, ordered) in
+    let m : i + (j - i) ≡ j = omega (arith, ordered) in
+    ap (λ (k : ℕ). take k (drop i xs)) n ∙ take_more (drop i xs) (j - i) d (omega (arith, length-drop i xs, ordered, within))
+    ∙ ap (λ (y : _). take (j - i) (drop i xs) ++ y ∷ []) (get_or-drop i xs (j - i) d ∙ ap (λ (k : ℕ). get_or xs k d) m)
+
+-- a run with an instance more
+pub more_left_out : (set more : List ℕ) (instances : List Instance) (start end : ℕ) (instance : Instance) → IsWithin set more → start ≤ end → end < length instances → instance ≡ get_or instances end instance
+    → All (IsLeftOut set) (take (end - start) (drop start instances)) → IsLeftOut more instance → All (IsLeftOut more) (take (end + 1 - start) (drop start instances))
+more_left_out set more instances start end instance wider ordered within is before this =
+    subst (All (IsLeftOut more)) (sym (one_more instances start end instance ordered within))
+    (All-push (IsLeftOut more) (take (end - start) (drop start instances)) (get_or instances end instance)
+    (All-weaker (IsLeftOut set) (IsLeftOut more) (left_out_wider set more wider) (take (end - start) (drop start instances)) before)
+    (subst (IsLeftOut more) is this))
+
+-- a segment more
+pub segment_more : (instances : List Instance) (segments : List Segment) (segment : Segment) → segment.start ≤ segment.end → flat_map (instances_in instances) segments ≡ take segment.start instances
+    → flat_map (instances_in instances) (segments ++ segment ∷ []) ≡ take segment.end instances
+segment_more instances segments segment ordered before =
+    flat_map-append (instances_in instances) segments (segment ∷ [])
+    ∙ ap₂ (λ (a b : List Instance). a ++ b) before (append-nil (instances_in instances segment))
+    ∙ before_end instances segment.start segment.end ordered

@@ -1,99 +1,45 @@
-//! Groups of instances, in segments: runs of instances that may be left out together.
+//! Groups of instances, with their segments: runs of instances that may be left out together.
 
-ghost use Rattle.std.specs.Prelude.{◌≡◌, ◌<◌, ◌++◌, ◌∷◌, [], true, All, IfSome, IfOk, OnOk};
+ghost use Rattle.std.specs.Prelude.{◌≡◌, ◌<◌, length, true, IfSome, IfOk};
+ghost use Rattle.pz_sets.specs.Sets.{IsWithin};
 ghost use Rattle.pz_sets.specs.declared.set.TheConstants.{CAPACITY};
-ghost use Rattle.pz_program.specs.Segments.{IsIdle, AsksFor, IsLeftOut, instances_of};
+ghost use Rattle.pz_program.specs.Segments.{IsIdle, AsksFor, IsLeftOut, IsSegmentOf, AreSegmentsOf, instances_in};
 
+use crate::headings::Headings;
 use crate::instance::Instance;
 use bitflags::Flags;
 use pz_base::listed::Listed;
-use pz_game::direction::Dir;
-use pz_sets::set::NumberSet;
 use pz_sets::words::next;
 use std::alloc::{AllocError, Global};
 use std::marker::Model;
-use std::mem::replace;
-use std::slice::from_ref;
 
-/// The instances of a segment: either one about which nothing is known, or some that do nothing if nothing heads in a direction
-/// of a set.
-#[derive(Drop)]
-enum Parts {
-    Single(Instance),
-    Run(Vec<u128>, Listed<Instance>),
-}
-
-/// Instances of a group that stand together, and may be left out together.
-#[derive(Drop)]
+/// Instances of a group that stand together: from the number `start` to before `end`. If it needs headings, none of its instances does
+/// anything while nothing has one of those in `asked`.
+#[derive(Clone, Copy)]
 pub struct Segment {
-    parts: Parts,
-}
-
-impl Model for Segment {
-    ghost use Rattle.std.specs.Prelude.{List};
-    ghost use Rattle.pz_program.specs.declared.instance.Instance.{Instance};
-    ghost use Rattle.pz_program.specs.Segments.{instances_in, AreAsTold};
-
-    ghost Value = { List Instance };
-
-    ghost view = { λ s. instances_in s.parts };
-
-    ghost invariant = { λ s. AreAsTold s.parts };
-}
-
-impl Segment {
-    fn single(instance: Instance) -> Segment
-        ensures { result ≡ instance ∷ [] }
-    {
-        Segment {
-            parts: Parts::Single(instance),
-        }
-    }
-
-    fn run_of(asked: &NumberSet, instances: Vec<Instance>) -> Result<Segment, AllocError>
-        requires { All (IsLeftOut asked.now) instances.items }
-        ensures { IfOk result (λ segment. segment ≡ instances.items) }
-    {
-        let asked = Vec::from_slice(*instances.allocator(), asked.words())?;
-        Ok(Segment {
-            parts: Parts::Run(asked, Listed::new(instances)),
-        })
-    }
-
-    /// A set of directions of layers. If nothing heads in any of them, no instance of the segment does anything.
-    pub fn asked(&self) -> Option<&[u128]>
-        ensures { IfSome result (λ asked. All (IsLeftOut asked.now) self.now) }
-    {
-        match &self.parts {
-            Parts::Single(_) => None,
-            Parts::Run(asked, _) => Some(asked.as_slice()),
-        }
-    }
-
-    pub fn instances(&self) -> &[Instance]
-        ensures { result.now ≡ self.now }
-    {
-        match &self.parts {
-            Parts::Single(instance) => from_ref(instance),
-            Parts::Run(_, instances) => instances.items(),
-        }
-    }
+    pub start: usize,
+    pub end: usize,
+    pub needs_headings: bool,
+    pub asked: Headings,
 }
 
 /// Instances that are run together to rest. Contracts see them as one list.
 #[derive(Drop)]
 pub struct Group {
+    instances: Vec<Instance>,
     segments: Vec<Segment>,
 }
 
 impl Model for Group {
     ghost use Rattle.std.specs.Prelude.{List};
     ghost use Rattle.pz_program.specs.declared.instance.Instance.{Instance};
-    ghost use Rattle.pz_program.specs.Segments.{instances_of};
+    ghost use Rattle.pz_program.specs.Segments.{AreSegmentsOf};
 
     ghost Value = { List Instance };
 
-    ghost view = { λ g. instances_of g.segments.items };
+    ghost view = { λ g. g.instances.items };
+
+    ghost invariant = { λ g. AreSegmentsOf g.instances.items g.segments.items };
 }
 
 impl Group {
@@ -102,145 +48,93 @@ impl Group {
         ensures { IfOk result (λ group. group ≡ instances) }
     {
         let instances = instances.into_items();
-        let mut cut = Cut::new(*instances.allocator());
-        for instance in instances {
-            cut.add(instance)?;
-        }
-        cut.into_group()
+        let segments = cut(*instances.allocator(), instances.as_slice())?;
+        Ok(Group {
+            instances,
+            segments,
+        })
     }
 
-    /// The segments, in the order of their instances.
+    /// The instances, in the order in which they are applied.
+    pub fn instances(&self) -> &[Instance]
+        ensures { result.now ≡ self.now }
+    {
+        self.instances.as_slice()
+    }
+
+    /// The segments, in the order of their instances. Every instance is in one.
     pub fn segments(&self) -> &[Segment]
-        ensures { instances_of result.now ≡ self.now }
+        ensures { AreSegmentsOf self.now result.now }
     {
         self.segments.as_slice()
     }
-}
 
-/// Instances while they are cut: the finished segments, and the run after them. The instances of the run are all idle, or are all
-/// scanned in one direction.
-#[derive(Drop)]
-struct Cut {
-    done: Vec<Segment>,
-    scan: Option<Dir>,
-    asked: NumberSet,
-    run: Vec<Instance>,
-}
-
-impl Model for Cut {
-    ghost use Rattle.std.specs.Prelude.{List, ◌++◌, All};
-    ghost use Rattle.pz_program.specs.declared.instance.Instance.{Instance};
-    ghost use Rattle.pz_program.specs.Segments.{IsLeftOut, instances_of};
-
-    ghost Value = { List Instance };
-
-    ghost view = { λ c. instances_of c.done.items ++ c.run.items };
-
-    ghost invariant = { λ c. All (IsLeftOut c.asked) c.run.items };
-}
-
-impl Cut {
-    fn new(alloc: Global) -> Cut
-        ensures { result ≡ [] }
+    /// The instances of one of its segments.
+    pub fn instances_in(&self, segment: &Segment) -> &[Instance]
+        requires { IsSegmentOf self.now segment.now }
+        ensures { result.now ≡ instances_in self.now segment.now }
     {
-        Cut {
-            done: Vec::new(alloc),
-            scan: None,
-            asked: NumberSet::empty(),
-            run: Vec::new(alloc),
-        }
-    }
-
-    /// Adds an instance after the others.
-    fn add(&mut self, instance: Instance) -> Result<(), AllocError>
-        ensures { OnOk result (self.new ≡ self.old ++ instance ∷ []) }
-    {
-        if is_idle(&instance) {
-            return self.add_idle(instance);
-        }
-        match asked_by(&instance) {
-            None => self.add_single(instance),
-            Some(number) => self.add_moving(number, instance),
-        }
-    }
-
-    /// Ends the run, and begins another.
-    fn begin(&mut self, scan: Option<Dir>) -> Result<(), AllocError>
-        ensures { OnOk result (self.new ≡ self.old) }
-    {
-        let none = Vec::new(*self.run.allocator());
-        let run = replace(&mut self.run, none);
-        close(&mut self.done, &self.asked, run)?;
-        self.asked = NumberSet::empty();
-        self.scan = scan;
-        Ok(())
-    }
-
-    /// Ends the run if it has another direction.
-    fn begin_unless(&mut self, scan: Option<Dir>) -> Result<(), AllocError>
-        ensures { OnOk result (self.new ≡ self.old) }
-    {
-        if self.scan == scan {
-            return Ok(());
-        }
-        self.begin(scan)
-    }
-
-    fn add_single(&mut self, instance: Instance) -> Result<(), AllocError>
-        ensures { OnOk result (self.new ≡ self.old ++ instance ∷ []) }
-    {
-        let none = Vec::new(*self.run.allocator());
-        let run = replace(&mut self.run, none);
-        close(&mut self.done, &self.asked, run)?;
-        self.asked = NumberSet::empty();
-        self.done.push(Segment::single(instance))?;
-        Ok(())
-    }
-
-    fn add_idle(&mut self, instance: Instance) -> Result<(), AllocError>
-        requires idle { IsIdle instance }
-        ensures { OnOk result (self.new ≡ self.old ++ instance ∷ []) }
-    {
-        self.begin_unless(None)?;
-        self.run.push(instance)?;
-        Ok(())
-    }
-
-    fn add_moving(&mut self, number: usize, instance: Instance) -> Result<(), AllocError>
-        requires low { number < CAPACITY }
-        requires asks { AsksFor number instance }
-        ensures { OnOk result (self.new ≡ self.old ++ instance ∷ []) }
-    {
-        self.begin_unless(Some(instance.scan))?;
-        self.asked.insert(number);
-        self.run.push(instance)?;
-        Ok(())
-    }
-
-    fn into_group(self) -> Result<Group, AllocError>
-        ensures { IfOk result (λ group. group ≡ self) }
-    {
-        let Cut {
-            mut done,
-            scan: _,
-            asked,
-            run,
-        } = self;
-        close(&mut done, &asked, run)?;
-        Ok(Group { segments: done })
+        &self.instances[segment.start..segment.end]
     }
 }
 
-/// Adds a run as a segment of its own, if there is any instance in it.
-fn close(done: &mut Vec<Segment>, asked: &NumberSet, run: Vec<Instance>) -> Result<(), AllocError>
-    requires { All (IsLeftOut asked.now) run.items }
-    ensures { OnOk result (instances_of done.new.items ≡ instances_of done.old.items ++ run.items) }
+/// Cuts the instances of a group into segments.
+fn cut(alloc: Global, instances: &[Instance]) -> Result<Vec<Segment>, AllocError>
+    ensures { IfOk result (λ segments. AreSegmentsOf instances.now segments.items) }
 {
-    if run.is_empty() {
-        return Ok(());
+    let mut segments = Vec::new(alloc);
+    let mut end = 0;
+    'segments: while end < instances.len() {
+        let segment = segment_at(instances, end);
+        end = segment.end;
+        segments.push(segment)?;
     }
-    done.push(Segment::run_of(asked, run)?)?;
-    Ok(())
+    Ok(segments)
+}
+
+/// The segment that begins with the instance of this number. Its instances are all idle, or are all scanned in one direction.
+fn segment_at(instances: &[Instance], start: usize) -> Segment
+    requires { start < length instances.now }
+    ensures segment { IsSegmentOf instances.now result }
+    ensures start { result.start ≡ start }
+    ensures onward { start < result.end }
+{
+    let first = &instances[start];
+    let mut asked = Headings::none();
+    let mut end = start;
+    'instances: while end < instances.len() {
+        if !joins(&mut asked, first, &instances[end]) {
+            break;
+        }
+        end += 1;
+    }
+    let needs_headings = start < end;
+    Segment {
+        start,
+        end: if needs_headings { end } else { start + 1 },
+        needs_headings,
+        asked,
+    }
+}
+
+/// Whether an instance joins the segment that begins with `first`, which asks for `asked` so far. If it does, what it asks for is added.
+fn joins(asked: &mut Headings, first: &Instance, instance: &Instance) -> bool
+    ensures joins { result ≡ true → IsLeftOut asked.new instance.now }
+    ensures wider { IsWithin asked.old asked.new }
+{
+    if is_idle(instance) {
+        return is_idle(first);
+    }
+    if is_idle(first) || instance.scan != first.scan {
+        return false;
+    }
+    match asked_by(instance) {
+        None => false,
+        Some(number) => {
+            asked.insert(number);
+            true
+        }
+    }
 }
 
 /// Whether an instance does nothing on any level, like a rule that only plays a sound.

@@ -3,4 +3,5 @@
 
 pub mod commands;
 pub mod group;
+pub mod headings;
 pub mod instance;

@@ -5,7 +5,7 @@ use Rattle.json.specs.Lex.{tokens}
 use Rattle.json.specs.Token.{Token, string}
 use Rattle.json.specs.Print.{print, print_from, escape, quoted, ArePrintable}
 use Rattle.json.proofs.Printed.Tokens.{tokens-print}
-use Rattle.pz_record.specs.Quoted.{text_of_first, text_said, escaped_says}
+use Rattle.pz_record.specs.Quoted.{text_of_token, text_of_first, text_said, escaped_says}
 
 pub written_quoted : (text : List ℕ) (ts : List Token) → ts ≡ string text ∷ [] → print ts ≡ quoted text
 unfolding print_from
@@ -32,3 +32,8 @@ pub room_says : (bytes text : List ℕ) → bytes ≡ escape text → (bytes ≡
 room_says bytes text e =
     let says : escaped_says bytes ≡ text = ap escaped_says e ∙ escaped_back text in
     (e ∙ ap escape (sym says), says)
+
+-- the first token that a reader of a JSON text gives says what text the JSON stands for
+pub first_says : (json text : List ℕ) (ts rest : List Token) (token : Token) → text_said json ≡ text → ts ≡ tokens json → ts ≡ token ∷ rest → text_of_token token ≡ text
+unfolding text_said
+first_says json text ts rest token says is first = ap text_of_first (sym first ∙ is) ∙ says

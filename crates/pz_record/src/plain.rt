@@ -6,7 +6,6 @@ ghost use Rattle.pz_record.specs.CellTexts.{line_end, text_of_cells};
 
 use crate::labels::KnownTexts;
 use itoa::Buffer;
-use pz_base::text::Text;
 use std::alloc::{AllocError, Global};
 
 /// Writes a number and a comma.
@@ -52,8 +51,8 @@ fn no_numbers(alloc: Global, count: usize) -> Result<Vec<Option<usize>>, AllocEr
     Ok(numbers)
 }
 
-/// Writes the text of cells with these labels.
-fn write_labels(
+/// The text of cells with these labels, not quoted, for a level of this width. Err: memory was refused.
+pub fn plain_text(
     alloc: Global,
     texts: &KnownTexts,
     labels: &[usize],
@@ -80,19 +79,4 @@ fn write_labels(
         column = end_line(&mut text, width, column)?;
     }
     Ok(text)
-}
-
-/// The text of cells with these labels, not quoted, for a level of this width. Err: memory was refused.
-pub fn plain_text(
-    alloc: Global,
-    texts: &KnownTexts,
-    labels: &[usize],
-    width: usize,
-) -> Result<Text, AllocError>
-    requires wide { 0 < width }
-    requires within { All (λ label. label < length texts.now) labels.now }
-    ensures { IfOk result (λ text. text ≡ text_of_cells width (map (text_at texts.now) labels.now)) }
-{
-    let text = write_labels(alloc, texts, labels, width)?;
-    Ok(Text::new(text))
 }

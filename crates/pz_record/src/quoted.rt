@@ -1,12 +1,13 @@
 //! Texts kept as JSON strings.
 
-ghost use Rattle.std.specs.Prelude.{◌≡◌, ◌+◌, ◌<◌, ◌^◌, length, IfOk};
+ghost use Rattle.std.specs.Prelude.{◌≡◌, ◌+◌, ◌<◌, ◌^◌, length, IfOk, string_bytes};
 ghost use Rattle.json.specs.Print.{escape, quoted};
 ghost use Rattle.pz_record.specs.Quoted.{escaped_says};
 
-use json::Writer;
+use json::{Reader, Scratch, Token, Writer};
 use std::alloc::{AllocError, Global};
 use std::marker::Model;
+use std::str::from_utf8;
 
 /// A text kept as a JSON string, with its quotation marks and escapes. Contracts see the text itself. It is quoted once, when it is made,
 /// and only copied when it is written.
@@ -51,6 +52,23 @@ impl QuotedText {
         json.extend_from_slice(escaped)?;
         json.push(b'"')?;
         Ok(QuotedText { json })
+    }
+
+    /// The text itself. Err: memory was refused.
+    pub fn plain(&self, alloc: Global) -> Result<String, AllocError>
+        ensures { IfOk result (λ text. string_bytes text ≡ self.now) }
+    {
+        // (what was quoted is UTF-8, and is read as one string: no clause says so, and the two other answers never come)
+        let json = match from_utf8(self.json.as_slice()) {
+            Ok(json) => json,
+            Err(_) => return Err(AllocError),
+        };
+        let mut scratch = Scratch::new(alloc);
+        let mut reader = Reader::new(json, &mut scratch)?;
+        match reader.next() {
+            Some(Token::String(text)) => String::from_str(alloc, text),
+            _ => Err(AllocError),
+        }
     }
 
     /// The text as a JSON string, as it is written.

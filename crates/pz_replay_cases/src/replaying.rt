@@ -61,6 +61,14 @@ fn records_the_same_with_any_number_of_workers(rt: HostRuntime) -> Result<(), Fa
     Ok(())
 }
 
+#[test]
+fn plays_by_as_many_workers_as_a_table_has_seats(rt: HostRuntime) -> Result<(), Fail> {
+    let job = walks(&rt, rt.alloc(), 70)?;
+    let bytes = bytes_of(rt.alloc(), &one_by_one(rt.alloc(), &job)?)?;
+    assert!(rt; records(&rt, rt.alloc(), &job, 64, bytes.as_slice())?);
+    Ok(())
+}
+
 /// What a file of many sources shows if so many threads read them.
 fn bytes_of_many<R: Threads + Sync>(
     rt: &R,
@@ -174,9 +182,11 @@ fn plays_a_session_beside_one_that_waits(rt: HostRuntime) -> Result<(), Fail> {
         let found = ends(&rt, rt.alloc(), &nine, 2, session, 1_000_000_000);
         assert_eq!(rt; found, [Ok(()), Ok(())]);
     }
-    let two = walks(&rt, rt.alloc(), 2)?;
-    let found = ends(&rt, rt.alloc(), &two, 2, 1, 1_000_000_000);
-    assert_eq!(rt; found, [Ok(()), Ok(())]);
+    for count in [2, 3] {
+        let some = walks(&rt, rt.alloc(), count)?;
+        let found = ends(&rt, rt.alloc(), &some, 2, count - 1, 1_000_000_000);
+        assert_eq!(rt; found, [Ok(()), Ok(())]);
+    }
     Ok(())
 }
 
@@ -184,7 +194,7 @@ fn plays_a_session_beside_one_that_waits(rt: HostRuntime) -> Result<(), Fail> {
 fn plays_one_session_at_a_time_with_one_worker(rt: HostRuntime) -> Result<(), Fail> {
     for count in [2, 3] {
         let job = walks(&rt, rt.alloc(), count)?;
-        let found = ends(&rt, rt.alloc(), &job, 1, 1, 1000);
+        let found = ends(&rt, rt.alloc(), &job, 1, count - 1, 1000);
         assert_eq!(rt;
             found,
             [Err(ReplayFault::GateClosed), Err(ReplayFault::GateClosed)]

@@ -34,7 +34,8 @@ program_from-lined game d [] = tt
 program_from-lined game d (line ∷ lines) =
     going_on-lined line lines (λ d. program_from game d lines) (line_added game d lines line.words) (λ e. program_from-lined game e lines)
 
-program_of-lined : (game : GameParts) → IfErr (program_of game) (NamesOneOf game.rules)
+-- the fault of a program names a rule line of its game
+pub program_of-lined : (game : GameParts) → IfErr (program_of game) (NamesOneOf game.rules)
 unfolding program_of
 program_of-lined game = program_from-lined game nothing game.rules
 

@@ -17,4 +17,5 @@ pub use expanding::expand;
 pub use pz_game::pattern::{Item, Pattern, Row, Rows, Word};
 pub use pz_program::commands::Commands;
 pub use pz_program::group::{Group, Segment};
+pub use pz_program::headings::Headings;
 pub use pz_program::instance::{Block, Blocks, Groups, Instance, Program};

@@ -105,10 +105,18 @@ fn reader_of<'a>(bytes: &'a [u8], fails_at: usize) -> Slow<'a> {
     }
 }
 
+/// The lines of the walk, by rows or columns.
+const WALKED: &str = concat!(
+    "{\"at\":0,\"frame\":0,\"kind\":\"start\",\"level\":\"background wall:0,background player:1,background:2,0,\\n\",\"session\":0}\n",
+    "{\"at\":1,\"frame\":1,\"kind\":\"move\",\"level\":\"background wall:0,background:1,background player:2,0,\\n\",\"session\":0}\n",
+    "{\"at\":2,\"frame\":2,\"kind\":\"move\",\"level\":\"background wall:0,background:1,background player:2,0,\\n\",\"session\":0}\n",
+    "{\"close\":\"passed\",\"frames\":3,\"name\":\"walk\",\"session\":0}\n"
+);
+
 #[test]
 fn ends_at_a_read_that_fails(rt: HostRuntime) -> Result<(), Fail> {
-    for fails_at in 0..REFUSED.len() + 2 {
-        let mut input = Counted::new(reader_of(REFUSED.as_bytes(), fails_at));
+    for fails_at in 0..WALK.len() + 2 {
+        let mut input = Counted::new(reader_of(WALK.as_bytes(), fails_at));
         let mut output = Output::new(Vec::new(rt.alloc()));
         let mut errors = Output::new(Vec::new(rt.alloc()));
         let status = serve(
@@ -121,13 +129,13 @@ fn ends_at_a_read_that_fails(rt: HostRuntime) -> Result<(), Fail> {
         );
         let (output, errors) = (output.into_writer(), errors.into_writer());
         let got = (status, output.as_slice(), errors.as_slice());
-        let wanted = if fails_at > REFUSED.len() {
-            (1, CLOSE.as_bytes(), b"".as_slice())
+        let wanted = if fails_at > WALK.len() {
+            (0, WALKED.as_bytes(), b"".as_slice())
         } else {
             (2, b"".as_slice(), b"read-fault\n".as_slice())
         };
         assert!(rt; got == wanted);
-        assert_eq!(rt; input.into_reader().calls, fails_at.min(REFUSED.len()) + 1);
+        assert_eq!(rt; input.into_reader().calls, fails_at.min(WALK.len()) + 1);
     }
     Ok(())
 }

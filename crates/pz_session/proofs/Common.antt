@@ -7,7 +7,7 @@ pub use Rattle.std.proofs.lemmas.Result.{on_ok_weaker}
 pub use Rattle.std.specs.Prelude.{IfSome, codes, ◌==◌}
 unfoldable pub use Rattle.pz_case.specs.FirstLevel.{level_from}
 pub use Rattle.pz_case.specs.Plan.{PlanState}
-pub use Rattle.pz_case.specs.declared.item.Frame.{Frame}
+pub use Rattle.pz_session.specs.declared.chain.Frame.{Frame}
 pub use Rattle.pz_case.specs.declared.item.FrameKind.{FrameKind}
 pub use Rattle.pz_case.specs.declared.item.Item.{Item}
 pub use Rattle.pz_case.specs.declared.item.Refusal.TheVariants.{NoLevel}

@@ -6,7 +6,7 @@ use Rattle.pz_session.specs.declared.player.Phase.{Phase}
 use Rattle.pz_session.specs.declared.player.Phase.TheVariants as phase
 use Rattle.pz_case.specs.declared.item.Stop.TheVariants.{AgainLimit}
 
-pub left-first : (at : Phase) (n : ℕ) (frame : Frame) (second : List Frame) (taken : ℕ) (inputs : List Input) (state : State) → left_in at n (frame ∷ second) taken inputs state ≡ item.Frame n taken frame ∷ left_in at (n + 1) second taken inputs state
+pub left-first : (at : Phase) (n : ℕ) (frame : Frame) (second : List Frame) (taken : ℕ) (inputs : List Input) (state : State) → left_in at n (frame ∷ second) taken inputs state ≡ item.Frame n frame.kind taken frame.level_text ∷ left_in at (n + 1) second taken inputs state
 unfolding left_in items_from numbered
 left-first at n frame second taken inputs state = refl
 

@@ -52,7 +52,7 @@ abbrev playing : GameParts → Program → List Input → PlanState
 playing game program inputs = record { game = game; program = program; first = 0; inputs = inputs; recorded = []; order = Rows }
 
 abbrev shown : GameParts → ℕ → ℕ → FrameKind → Grid → Item
-shown game number at kind grid = Frame number at (record { kind = kind; level_text = text_of_level game Rows grid })
+shown game number at kind grid = Frame number kind at (text_of_level game Rows grid)
 
 abbrev closed : GameParts → Grid → Item
 closed game grid = Close (if equals_recorded game Rows grid [] then Passed else Differs)

@@ -164,9 +164,9 @@ counting = record {
 
 items_in_order :
     -- frames are numbered from 0, each with the number of inputs taken, and the close follows
-    (items_from 0 (played counting 0 (Undo ∷ Restart ∷ []) 0) ≡ item.Frame 0 1 shown ∷ item.Frame 1 2 shown ∷ item.Close Passed ∷ [])
+    (items_from 0 (played counting 0 (Undo ∷ Restart ∷ []) 0) ≡ item.Frame 0 shown.kind 1 shown.level_text ∷ item.Frame 1 shown.kind 2 shown.level_text ∷ item.Close Passed ∷ [])
     -- at a stop the frames so far stand, and no later input is played
-    × (items_from 0 (played counting 0 (Undo ∷ Undo ∷ Undo ∷ Undo ∷ []) 0) ≡ item.Frame 0 1 shown ∷ item.Frame 1 2 shown ∷ item.Close (Stopped stop.LoopLimit) ∷ [])
+    × (items_from 0 (played counting 0 (Undo ∷ Undo ∷ Undo ∷ Undo ∷ []) 0) ≡ item.Frame 0 shown.kind 1 shown.level_text ∷ item.Frame 1 shown.kind 2 shown.level_text ∷ item.Close (Stopped stop.LoopLimit) ∷ [])
     × (items_from 3 (played counting 7 [] 0) ≡ item.Close Differs ∷ [])
 unfolding played items_from numbered
 items_in_order = (refl, refl, refl)
@@ -209,10 +209,10 @@ plan = record {
 
 whole_sessions :
     -- a step to the right is taken back, the second undo finds nothing, and the last level is the recorded one
-    (items_of_plan (Ok plan) ≡ item.Frame 0 0 (frame kind.Start here_text) ∷ item.Frame 1 1 (frame kind.Move there_text)
-    ∷ item.Frame 2 2 (frame kind.Undo here_text) ∷ item.Frame 3 3 (frame kind.Undo here_text) ∷ item.Close Passed ∷ [])
+    (items_of_plan (Ok plan) ≡ item.Frame 0 kind.Start 0 here_text ∷ item.Frame 1 kind.Move 1 there_text
+    ∷ item.Frame 2 kind.Undo 2 here_text ∷ item.Frame 3 kind.Undo 3 here_text ∷ item.Close Passed ∷ [])
     -- without an input there is the start, and the close
-    × (items_of_plan (Ok (record plan { inputs = []; recorded = [] })) ≡ item.Frame 0 0 (frame kind.Start here_text) ∷ item.Close Differs ∷ [])
+    × (items_of_plan (Ok (record plan { inputs = []; recorded = [] })) ≡ item.Frame 0 kind.Start 0 here_text ∷ item.Close Differs ∷ [])
     -- a refused session has its close alone
     × (items_of_plan (Err NoLevel) ≡ item.Close (Refused NoLevel) ∷ [])
 unfolding items_of_plan played_items items_from numbered played begun start_link press_link undo_link effect reached_link kept_link settled frame_of text_of_level standing_names with_name with_cell piece digits step_of rules_run blocks_run has_won equals_recorded same_set

@@ -20,7 +20,7 @@ use Rattle.pz_level_text.specs.Equality.{equals_recorded}
 use Rattle.pz_level_text.specs.LevelText.{text_of_level}
 use Rattle.pz_case.specs.declared.item.FrameKind.{FrameKind}
 use Rattle.pz_case.specs.declared.item.FrameKind.TheVariants.{Start, Move, Tick, Undo, Restart, Load, Over}
-use Rattle.pz_case.specs.declared.item.Frame.{Frame}
+use Rattle.pz_session.specs.declared.chain.Frame.{Frame}
 use Rattle.pz_case.specs.declared.item.Stop.{Stop}
 use Rattle.pz_case.specs.declared.item.Verdict.{Verdict}
 use Rattle.pz_case.specs.declared.item.Verdict.TheVariants.{Passed, Differs}

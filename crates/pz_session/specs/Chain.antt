@@ -2,7 +2,7 @@
 use Rattle.std.specs.Prelude.{◌≡◌, ℕ, zero, suc, Bool, List, [], ◌++◌, option_to_list, Result, Ok, Err, if◌then◌else◌}
 use Rattle.pz_case.specs.declared.item.Stop.{Stop}
 use Rattle.pz_case.specs.declared.item.Stop.TheVariants.{AgainLimit}
-use Rattle.pz_case.specs.declared.item.Frame.{Frame}
+use Rattle.pz_session.specs.declared.chain.Frame.{Frame}
 use Rattle.pz_session.specs.declared.chain.Shown.{Shown}
 use Rattle.pz_session.specs.declared.chain.PlayFault.{PlayFault}
 use Rattle.pz_session.specs.declared.chain.PlayFault.TheVariants.{Memory, Stopped}

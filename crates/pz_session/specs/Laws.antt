@@ -1,7 +1,7 @@
 -- A law of sessions.
 use Rattle.std.specs.Prelude.{◌≡◌, ℕ, List, [], ◌∷◌, ◌++◌}
 use Rattle.pz_case.specs.declared.case.Case.{Case}
-use Rattle.pz_case.specs.declared.item.Frame.{Frame}
+use Rattle.pz_session.specs.declared.chain.Frame.{Frame}
 use Rattle.pz_case.specs.declared.item.Item.TheVariants as item
 use Rattle.pz_case.specs.declared.item.Verdict.{Verdict}
 use Rattle.pz_session.specs.Session.{numbered}

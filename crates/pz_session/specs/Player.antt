@@ -3,7 +3,7 @@ use Rattle.std.specs.Prelude.{ℕ, ◌+◌, ◌*◌, ◌-◌, List, [], ◌++◌
 use Rattle.pz_session.specs.declared.chain.TheConstants.{MOST_TICKS}
 use Rattle.pz_case.specs.declared.item.Verdict.TheVariants.{Stopped}
 use Rattle.pz_case.specs.declared.item.Item.{Item}
-use Rattle.pz_case.specs.declared.item.Frame.{Frame}
+use Rattle.pz_session.specs.declared.chain.Frame.{Frame}
 use Rattle.pz_case.specs.declared.item.Stop.{Stop}
 use Rattle.pz_record.specs.declared.input.Input.{Input}
 use Rattle.pz_session.specs.declared.player.Phase.{Phase}

@@ -5,7 +5,7 @@ use Rattle.pz_record.specs.declared.input.Input.TheVariants.{Tick}
 use Rattle.pz_case.specs.declared.item.Stop.{Stop}
 use Rattle.pz_case.specs.declared.item.Verdict.{Verdict}
 use Rattle.pz_case.specs.declared.item.Verdict.TheVariants.{Stopped}
-use Rattle.pz_case.specs.declared.item.Frame.{Frame}
+use Rattle.pz_session.specs.declared.chain.Frame.{Frame}
 use Rattle.pz_case.specs.declared.item.Item.{Item}
 use Rattle.pz_case.specs.declared.item.Item.TheVariants as item
 use Rattle.pz_session.specs.declared.chain.TheConstants.{MOST_TICKS}
@@ -52,7 +52,7 @@ played links taken (input ∷ inputs) state =
 -- the frames as items, numbered from n
 unfoldable pub numbered : ℕ → List (ℕ × Frame) → List Item
 numbered n [] = []
-numbered n (f ∷ fs) = item.Frame n f.0 f.1 ∷ numbered (n + 1) fs
+numbered n (f ∷ fs) = item.Frame n f.1.kind f.0 f.1.level_text ∷ numbered (n + 1) fs
 
 -- the frames from number n on, and the close
 unfoldable pub items_from : ℕ → Played → List Item

@@ -13,7 +13,7 @@ ghost use Rattle.pz_turn.specs.declared.outcome.StepFault.TheVariants.{Memory};
 ghost use Rattle.pz_case.specs.FirstLevel.{level_from};
 ghost use Rattle.pz_session.specs.Chain.{GivesLink};
 
-use crate::chain::{PlayFault, Shown};
+use crate::chain::{Frame, PlayFault, Shown};
 use crate::labelled::Labelled;
 use crate::level_texts::equals;
 use crate::place::{put, put_aside, put_before};
@@ -22,7 +22,7 @@ use bitflags::Flags;
 use pz_bare::BareLevel;
 use pz_bare::past::Past;
 use pz_case::first_level::level_after;
-use pz_case::item::{Frame, FrameKind, Verdict};
+use pz_case::item::{FrameKind, Verdict};
 use pz_game::direction::Dir;
 use pz_game::game::Game;
 use pz_grid::Level;

@@ -2,7 +2,8 @@
 
 ghost use Rattle.std.specs.Prelude.{◌≡◌};
 
-use pz_case::item::{Frame, Stop};
+use pz_case::item::{FrameKind, Stop};
+use pz_record::quoted::QuotedText;
 use std::alloc::AllocError;
 
 /// The most ticks of a chain, idle ones included. A tick input is one of them itself.
@@ -12,6 +13,13 @@ pub const MOST_TICKS: u64 = 500;
 pub fn ticks_are_limited()
     ensures { MOST_TICKS ≡ 500 }
 {}
+
+/// A level that is shown, and why. Its text is kept as it will be written.
+#[derive(Drop)]
+pub struct Frame {
+    pub kind: FrameKind,
+    pub level_text: QuotedText,
+}
 
 /// What a link shows, and whether one more tick follows it.
 #[derive(Drop)]

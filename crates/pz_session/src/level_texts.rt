@@ -1,12 +1,11 @@
 //! The text of a level by itself, and whether a level equals a recorded one.
 
-ghost use Rattle.std.specs.Prelude.{◌≡◌, IfOk, Some};
+ghost use Rattle.std.specs.Prelude.{◌≡◌, IfOk, Some, string_bytes};
 ghost use Rattle.pz_level_text.specs.Equality.{equals_recorded};
 ghost use Rattle.pz_level_text.specs.LevelNames.{sets_in};
 ghost use Rattle.pz_level_text.specs.LevelText.{text_of_level, HasNoComma};
 ghost use Rattle.pz_entries.specs.Reading.{reading};
 
-use pz_base::text::Text;
 use pz_game::game::Game;
 use pz_grid::Level;
 use pz_level_text::equality;
@@ -22,9 +21,9 @@ pub fn level_text(
     game: &Game,
     order: Order,
     level: &Level,
-) -> Result<Text, AllocError>
-    ensures text { IfOk result (λ text. text ≡ text_of_level game.now order level.now.grid) }
-    ensures reads_back { IfOk result (λ text. HasNoComma game.now → reading text ≡ Some (sets_in game.now order level.now.grid)) }
+) -> Result<String, AllocError>
+    ensures text { IfOk result (λ text. string_bytes text ≡ text_of_level game.now order level.now.grid) }
+    ensures reads_back { IfOk result (λ text. HasNoComma game.now → reading (string_bytes text) ≡ Some (sets_in game.now order level.now.grid)) }
 {
     // (brings the proof the laws of games and of levels)
     let _objects = game.objects();

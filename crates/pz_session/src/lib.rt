@@ -17,7 +17,7 @@ pub use level_texts::{equals, level_text};
 pub use pz_base::listed::Listed;
 pub use pz_base::text::Text;
 pub use pz_case::case::Case;
-pub use pz_case::item::{Frame, FrameKind, Item, Refusal, Stop, Verdict};
+pub use pz_case::item::{FrameKind, Item, Refusal, Stop, Verdict};
 pub use pz_case::job::Job;
 pub use pz_case::plan::Plan;
 pub use pz_entries::entry::Entry;

@@ -5,10 +5,10 @@ ghost use Rattle.pz_session.specs.Session.{ticks_after};
 ghost use Rattle.pz_session.specs.Player.{rank, to_come, to_follow};
 
 use crate::board::Board;
-use crate::chain::{MOST_TICKS, PlayFault, Shown};
+use crate::chain::{Frame, MOST_TICKS, PlayFault, Shown};
 use crate::place::put;
 use crate::tape::Tape;
-use pz_case::item::{Frame, Item, Stop, Verdict};
+use pz_case::item::{Item, Stop, Verdict};
 use pz_record::input::Input;
 use std::alloc::AllocError;
 
@@ -38,15 +38,17 @@ fn ticks_after(input: Input) -> u64
 /// Makes an item of a frame. It gets the next number, and `at` is the number of inputs taken so far.
 fn numbered(next: &mut u64, taken: u64, frame: Frame) -> Item
     requires { next.old + 1 < 2 ^ 64 }
-    ensures item { result ≡ Item.Frame next.old taken frame }
+    ensures item { result ≡ Item.Frame next.old frame.kind taken frame.level_text }
     ensures after { next.new ≡ next.old + 1 }
 {
     let number = *next;
     *next += 1;
+    let Frame { kind, level_text } = frame;
     Item::Frame {
         number,
+        kind,
         at: taken,
-        frame,
+        level_text,
     }
 }
 

@@ -1,18 +1,18 @@
 -- The segments of a group, run one after another, give what its instances give.
-use Rattle.pz_turn.proofs.Common.{◌≡◌, ℕ, Result, Ok, Err, arith, List, [], ◌∷◌, ◌++◌, ◌||◌, length, inl, inr, fold, get_or, refl, ap, sym, subst, ◌∙◌, All, flat_map, Instance, no_commands, either, Dir, IsInstanceOf, IsGroupOf, RuleRow, IsRowOf, AreRowsOf, AsksAmong, Grid, IsLawful, places, StepFault, applied, Outcome, untouched, followed_by, joined, Runs, pass_of, rest_of, or_assoc, or-false, All-nil, All-cons, All-head, All-tail, All-take, All-drop, take_at, drop_at, fold_stays, fold-append}
+use Rattle.pz_turn.proofs.Common.{◌≡◌, ℕ, Result, Ok, Err, arith, List, [], ◌∷◌, ◌||◌, inl, inr, fold, get_or, refl, ap, sym, subst, ◌∙◌, All, flat_map, Instance, no_commands, either, Dir, IsInstanceOf, IsGroupOf, RuleRow, IsRowOf, AreRowsOf, AsksAmong, Grid, IsLawful, places, StepFault, applied, Outcome, untouched, followed_by, joined, Runs, pass_of, rest_of, or_assoc, or-false, All-head, All-tail, All-take, All-drop, fold_stays, fold-append}
+use Rattle.std.specs.Prelude.{◌-◌, drop}
 use Rattle.pz_game.specs.Masks.{IsLow}
-use Rattle.pz_program.specs.Segments.{IsLeftOut, instances_of}
+use Rattle.pz_program.specs.Segments.{IsLeftOut, instances_in}
+use Rattle.pz_program.specs.declared.group.Segment.{Segment}
 use Rattle.pz_cells.proofs.HoldLemmas.{low_of_game}
 use Rattle.pz_turn.proofs.Passes.{either_assoc, either_comm}
 use Rattle.pz_turn.proofs.SingleRow.{applied_without_effect}
 use Rattle.pz_turn.proofs.Skipping.{IsNoneTaken, none_first, applied_none}
 
--- ---- what holds of all instances of a group holds of those of each segment
-pub all_in_each : {X : Type 0} (P : X → Type 0) (segments : List (List X)) → All P (flat_map (λ (segment : List X). segment) segments) → All (All P) segments
-all_in_each P [] all = All-nil (All P)
-all_in_each {X} P (xs ∷ xss) all =
-    let rest = flat_map (λ (segment : List X). segment) xss in
-    All-cons (All P) xs xss (subst (All P) (take_at xs rest _ refl) (All-take P (length xs) (xs ++ rest) all)) (all_in_each P xss (subst (All P) (drop_at xs rest _ refl) (All-drop P (length xs) (xs ++ rest) all)))
+-- ---- a segment of a group of a game is of that game
+pub segment_of_group : (layers : List ℕ) (group : List Instance) (segment : Segment) → IsGroupOf layers group → IsGroupOf layers (instances_in group segment)
+segment_of_group layers group segment of_game =
+    All-take (IsInstanceOf layers) (segment.end - segment.start) (drop segment.start group) (All-drop (IsInstanceOf layers) segment.start group of_game)
 
 -- ---- outcomes one after another
 joined_twice : {L : Type 0} (first second : Outcome L) (third : Result (Outcome L) StepFault)
@@ -39,19 +39,21 @@ module _ {L I : Type 0} (runs : I → Runs L) where
   follow_pass (Err fault) xs = sym (fold_stays step (Err fault) (λ x. refl) xs)
   follow_pass (Ok o) xs = sym (fold_joined o (Ok (untouched o.level)) xs) ∙ ap (λ (r : Result (Outcome L) StepFault). fold step r xs) (joined_none o)
 
-  fold_segments : (a : Result (Outcome L) StepFault) (segments : List (List I)) → fold (λ so_far segment. followed_by so_far (pass_of runs segment)) a segments ≡ fold step a (flat_map (λ (segment : List I). segment) segments)
-  fold_segments a [] = refl
-  fold_segments a (xs ∷ xss) =
-      let rest = flat_map (λ (segment : List I). segment) xss in
-      grind (arith, fold_segments (followed_by a (pass_of runs xs)) xss, follow_pass a xs, fold-append step a xs rest)
+  module _ {S : Type 0} (part : S → List I) where
+    fold_segments : (a : Result (Outcome L) StepFault) (segments : List S) → fold (λ so_far segment. followed_by so_far (pass_of runs (part segment))) a segments ≡ fold step a (flat_map part segments)
+    fold_segments a [] = refl
+    fold_segments a (segment ∷ segments) =
+        let rest = flat_map part segments in
+        grind (arith, fold_segments (followed_by a (pass_of runs (part segment))) segments, follow_pass a (part segment), fold-append step a (part segment) rest)
 
-  pub pass_by_segments : (segments : List (List I)) (level : L) → pass_of (pass_of runs) segments level ≡ pass_of runs (flat_map (λ (segment : List I). segment) segments) level
-  pass_by_segments segments level = fold_segments (Ok (untouched level)) segments
+    pub pass_by_segments : (segments : List S) (level : L) → pass_of (λ segment. pass_of runs (part segment)) segments level ≡ pass_of runs (flat_map part segments) level
+    pass_by_segments segments level = fold_segments (Ok (untouched level)) segments
 
 -- passes that give the same on each level come to rest the same way
-pub rest_by_segments : (limit : ℕ) (segments : List (List Instance)) (group : List Instance) (level : Grid) → instances_of segments ≡ group → rest_of limit (pass_of (pass_of applied) segments) level ≡ rest_of limit (pass_of applied group) level
+pub rest_by_segments : (limit : ℕ) (segments : List Segment) (group : List Instance) (level : Grid) → flat_map (instances_in group) segments ≡ group
+    → rest_of limit (pass_of (λ segment. pass_of applied (instances_in group segment)) segments) level ≡ rest_of limit (pass_of applied group) level
 rest_by_segments limit segments group level is =
-    ap (λ (pass : Runs Grid). rest_of limit pass level) (λ i at. pass_by_segments applied segments at i)
+    ap (λ (pass : Runs Grid). rest_of limit pass level) (λ i at. pass_by_segments applied (instances_in group) segments at i)
     ∙ ap (λ (instances : List Instance). rest_of limit (pass_of applied instances) level) is
 
 -- ---- instances that leave a level as it is

@@ -1,5 +1,5 @@
 -- An instance applied at all its combinations. If it has one row, each place of the row is one; without effect it leaves a level as it is.
-use Rattle.pz_turn.proofs.Common.{◌≡◌, ◌<◌, ◌≤◌, List, [], ◌∷◌, ◌++◌, map, length, ap, ◌∙◌, arith, Result, Ok, fold, refl, false, append-nil, length-map, Dir, Commands, Instance, RuleRow, Place, Grid, searched, Rewriting, in_rewrite, StepFault, combinations, found_or_stop, after_row, taken, applied_at, applied_to, applied_with, given, outcome_of, applied, le-ltb, nat_tests, sym, inl, inr, zip, IsLawful, places, rewritten, untouched, HasNoEffect, searched-gapless, searched-small, fold_stays}
+use Rattle.pz_turn.proofs.Common.{◌≡◌, ◌<◌, ◌≤◌, List, [], ◌∷◌, ◌++◌, map, length, ap, ◌∙◌, arith, Result, Ok, fold, refl, false, append-nil, length-map, Dir, Commands, Instance, RuleRow, Place, Grid, searched, Rewriting, in_rewrite, StepFault, combinations, found_or_stop, after_row, taken, applied_at, applied_to, applied_with, given, outcome_of, applied, le-ltb, nat_tests, sym, inl, inr, zip, IsLawful, places, untouched, HasNoEffect, searched-gapless, searched-small, fold_stays}
 
 map-nothing_behind : (all : List (List Place)) (behind : List Place) → behind ≡ [] → map (λ places. places ++ behind) all ≡ all
 map-nothing_behind [] behind none = refl

@@ -2,6 +2,7 @@
 
 ghost use Rattle.std.specs.Prelude.{◌≡◌, Ok, IfOk, true, false};
 ghost use Rattle.pz_program.specs.Instance.{IsGroupOf};
+ghost use Rattle.pz_program.specs.Segments.{IsSegmentOf, instances_in};
 ghost use Rattle.pz_sheet.specs.Grid.{SameSize};
 ghost use Rattle.pz_turn.specs.Instance.{applied};
 ghost use Rattle.pz_turn.specs.Outcome.{GivesOutcome, untouched};
@@ -16,29 +17,29 @@ use std::alloc::Global;
 
 /// Whether a look at the level's headings already shows that no instance of a segment does anything there: nothing heads in any of the
 /// directions that they ask for.
-fn is_left_out(level: &Level, segment: &Segment) -> bool
-    requires of_game { IsGroupOf level.now.grid.layers segment.now }
-    ensures { result ≡ true → pass_of applied segment.now level.now.grid ≡ Ok (untouched level.now.grid) }
+fn is_left_out(level: &Level, group: &Group, segment: &Segment) -> bool
+    requires of_game { IsGroupOf level.now.grid.layers group.now }
+    requires of_group { IsSegmentOf group.now segment.now }
+    ensures { result ≡ true → pass_of applied (instances_in group.now segment.now) level.now.grid ≡ Ok (untouched level.now.grid) }
 {
     // (brings the proof the law of levels)
     let _ = level.width();
-    match segment.asked() {
-        None => false,
-        Some(asked) => !level.may_head_in(asked),
-    }
+    segment.needs_headings && !level.may_head_in(&segment.asked)
 }
 
 /// Runs a segment of a group: its instances in order, unless all of them are left out together.
 impl Runnable for Segment {
-    ghost is_of = { IsGroupOf };
+    type Whole = Group;
 
-    ghost runs = { pass_of applied };
+    ghost is_of = { λ layers group segment. IsGroupOf layers group × IsSegmentOf group segment };
 
-    fn run(&self, alloc: Global, level: &mut Level) -> Result<Given, StepFault> {
-        if is_left_out(level, self) {
+    ghost runs = { λ group segment. pass_of applied (instances_in group segment) };
+
+    fn run(&self, group: &Group, alloc: Global, level: &mut Level) -> Result<Given, StepFault> {
+        if is_left_out(level, group, self) {
             return Ok(Given::nothing());
         }
-        pass(alloc, level, self.instances())
+        pass(alloc, level, &(), group.instances_in(self))
     }
 }
 
@@ -54,16 +55,18 @@ pub(crate) fn rest_group(
     ensures calm { IfOk result (λ given. given.calm ≡ false) }
     ensures size { SameSize level.old.grid level.new.grid }
 {
-    to_rest(alloc, level, group.segments())
+    to_rest(alloc, level, group, group.segments())
 }
 
 /// A group of a loop runs to rest.
 impl Runnable for Group {
-    ghost is_of = { IsGroupOf };
+    type Whole = ();
 
-    ghost runs = { group_runs PASSES applied };
+    ghost is_of = { λ layers whole group. IsGroupOf layers group };
 
-    fn run(&self, alloc: Global, level: &mut Level) -> Result<Given, StepFault> {
+    ghost runs = { λ whole group. group_runs PASSES applied group };
+
+    fn run(&self, _whole: &(), alloc: Global, level: &mut Level) -> Result<Given, StepFault> {
         rest_group(alloc, level, self)
     }
 }

@@ -302,11 +302,13 @@ fn apply(alloc: Global, level: &mut Level, instance: &Instance) -> Result<Given,
 }
 
 impl Runnable for Instance {
-    ghost is_of = { IsInstanceOf };
+    type Whole = ();
 
-    ghost runs = { applied };
+    ghost is_of = { λ layers whole instance. IsInstanceOf layers instance };
 
-    fn run(&self, alloc: Global, level: &mut Level) -> Result<Given, StepFault> {
+    ghost runs = { λ whole instance. applied instance };
+
+    fn run(&self, _whole: &(), alloc: Global, level: &mut Level) -> Result<Given, StepFault> {
         apply(alloc, level, self)
     }
 }

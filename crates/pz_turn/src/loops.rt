@@ -28,6 +28,6 @@ pub fn rest_loop(
     ensures size { SameSize level.old.grid level.new.grid }
     ensures lawful { IsLawful level.new.grid }
 {
-    let given = to_rest(alloc, level, groups.items());
+    let given = to_rest(alloc, level, &(), groups.items());
     as_pair(given, level)
 }

@@ -28,15 +28,18 @@ pub(crate) trait Runnable {
     ghost use Rattle.pz_turn.specs.Calm.{IsCalm};
     ghost use Rattle.pz_turn.specs.Rest.{Runs};
 
-    ghost is_of: { List ℕ → Self → Type 0 };
+    /// What it is a part of: a segment has its instances in its group, and all else is whole by itself.
+    type Whole;
 
-    ghost runs: { Self → Runs Grid };
+    ghost is_of: { List ℕ → Self.Whole → Self → Type 0 };
 
-    fn run(&self, alloc: Global, level: &mut Level) -> Result<Given, StepFault>
-        requires of_game { is_of level.old.grid.layers self.now }
-        ensures outcome { GivesOutcome (runs self.now level.old.grid) level.new.grid result }
+    ghost runs: { Self.Whole → Self → Runs Grid };
+
+    fn run(&self, whole: &Self::Whole, alloc: Global, level: &mut Level) -> Result<Given, StepFault>
+        requires of_game { is_of level.old.grid.layers whole.now self.now }
+        ensures outcome { GivesOutcome (runs whole.now self.now level.old.grid) level.new.grid result }
         ensures kept { IfOk result (λ given. given.changed ≡ false → level.new.grid ≡ level.old.grid) }
-        ensures calm { IfOk result (λ given. given.calm ≡ true → IsCalm runs given.commands level.new.grid self.now) }
+        ensures calm { IfOk result (λ given. given.calm ≡ true → IsCalm (runs whole.now) given.commands level.new.grid self.now) }
         ensures size { SameSize level.old.grid level.new.grid };
 }
 
@@ -44,17 +47,18 @@ pub(crate) trait Runnable {
 pub(crate) fn pass<T: Runnable>(
     alloc: Global,
     level: &mut Level,
+    whole: &T::Whole,
     items: &[T],
 ) -> Result<Given, StepFault>
-    requires of_game { All (T.is_of level.old.grid.layers) items.now }
-    ensures outcome { GivesOutcome (pass_of T.runs items.now level.old.grid) level.new.grid result }
-    ensures calm { IfOk result (λ given. given.calm ≡ true → IsCalm (pass_of T.runs) given.commands level.new.grid items.now) }
+    requires of_game { All (T.is_of level.old.grid.layers whole.now) items.now }
+    ensures outcome { GivesOutcome (pass_of (T.runs whole.now) items.now level.old.grid) level.new.grid result }
+    ensures calm { IfOk result (λ given. given.calm ≡ true → IsCalm (pass_of (T.runs whole.now)) given.commands level.new.grid items.now) }
     ensures size { SameSize level.old.grid level.new.grid }
 {
     let mut so_far = Given::nothing();
     let mut calm = false;
     for item in items {
-        let given = item.run(alloc, level)?;
+        let given = item.run(whole, alloc, level)?;
         so_far = so_far.and(given);
         calm = given.calm;
     }
@@ -77,14 +81,15 @@ struct Passed {
 fn pass_after<T: Runnable>(
     alloc: Global,
     level: &mut Level,
+    whole: &T::Whole,
     items: &[T],
     calm_from: usize,
 ) -> Result<Passed, StepFault>
-    requires of_game { All (T.is_of level.old.grid.layers) items.now }
-    ensures outcome { IfOk result (λ passed. pass_of T.runs (cond passed.given.changed items.now (take calm_from items.now)) level.old.grid ≡ Ok (record { level = level.new.grid; commands = passed.given.commands; changed = passed.given.changed })) }
-    ensures fault { IfErr result (λ fault. fault ≢ Memory → pass_of T.runs items.now level.old.grid ≡ Err fault) }
+    requires of_game { All (T.is_of level.old.grid.layers whole.now) items.now }
+    ensures outcome { IfOk result (λ passed. pass_of (T.runs whole.now) (cond passed.given.changed items.now (take calm_from items.now)) level.old.grid ≡ Ok (record { level = level.new.grid; commands = passed.given.commands; changed = passed.given.changed })) }
+    ensures fault { IfErr result (λ fault. fault ≢ Memory → pass_of (T.runs whole.now) items.now level.old.grid ≡ Err fault) }
     ensures kept { IfOk result (λ passed. passed.given.changed ≡ false → level.new.grid ≡ level.old.grid) }
-    ensures calm { IfOk result (λ passed. passed.given.changed ≡ true → AreCalmFrom T.runs passed.given.commands level.new.grid items.now passed.calm_from) }
+    ensures calm { IfOk result (λ passed. passed.given.changed ≡ true → AreCalmFrom (T.runs whole.now) passed.given.commands level.new.grid items.now passed.calm_from) }
     ensures size { SameSize level.old.grid level.new.grid }
 {
     let mut so_far = Given::nothing();
@@ -93,7 +98,7 @@ fn pass_after<T: Runnable>(
         if index == calm_from && !so_far.changed {
             break;
         }
-        let given = item.run(alloc, level)?;
+        let given = item.run(whole, alloc, level)?;
         so_far = so_far.and(given);
         if given.changed {
             first_calm = if given.calm { index } else { index + 1 };
@@ -110,10 +115,11 @@ fn pass_after<T: Runnable>(
 pub(crate) fn to_rest<T: Runnable>(
     alloc: Global,
     level: &mut Level,
+    whole: &T::Whole,
     items: &[T],
 ) -> Result<Given, StepFault>
-    requires of_game { All (T.is_of level.old.grid.layers) items.now }
-    ensures outcome { GivesOutcome (rest_of PASSES (pass_of T.runs items.now) level.old.grid) level.new.grid result }
+    requires of_game { All (T.is_of level.old.grid.layers whole.now) items.now }
+    ensures outcome { GivesOutcome (rest_of PASSES (pass_of (T.runs whole.now) items.now) level.old.grid) level.new.grid result }
     ensures kept { IfOk result (λ given. given.changed ≡ false → level.new.grid ≡ level.old.grid) }
     ensures calm { IfOk result (λ given. given.calm ≡ false) }
     ensures size { SameSize level.old.grid level.new.grid }
@@ -121,7 +127,7 @@ pub(crate) fn to_rest<T: Runnable>(
     let mut so_far = Given::nothing();
     let mut calm_from = items.len();
     'passes: for _ in 0..PASSES {
-        let passed = pass_after(alloc, level, items, calm_from)?;
+        let passed = pass_after(alloc, level, whole, items, calm_from)?;
         so_far = so_far.and(passed.given);
         if !passed.given.changed {
             return Ok(so_far);

@@ -30,16 +30,18 @@ pub struct StepEnd {
 }
 
 impl Runnable for Block {
-    ghost is_of = { IsBlockOf };
+    type Whole = ();
 
-    ghost runs = { block_runs };
+    ghost is_of = { λ layers whole block. IsBlockOf layers block };
+
+    ghost runs = { λ whole block. block_runs block };
 
     /// Runs a group or a loop of groups to rest.
     #[tactic(auto, unfolding(crate::specs::Step::block_runs))]
-    fn run(&self, alloc: Global, level: &mut Level) -> Result<Given, StepFault> {
+    fn run(&self, whole: &(), alloc: Global, level: &mut Level) -> Result<Given, StepFault> {
         match self {
             Block::One(group) => rest_group(alloc, level, group),
-            Block::Loop(groups) => to_rest(alloc, level, groups.items()),
+            Block::Loop(groups) => to_rest(alloc, level, whole, groups.items()),
         }
     }
 }
@@ -57,9 +59,9 @@ fn run_rules(
     ensures outcome { GivesOutcome (rules_run program.now level.old.grid) level.new.grid result }
     ensures size { SameSize level.old.grid level.new.grid }
 {
-    let early = pass(alloc, level, program.early())?;
+    let early = pass(alloc, level, &(), program.early())?;
     resolve(game, level);
-    let late = pass(alloc, level, program.late())?;
+    let late = pass(alloc, level, &(), program.late())?;
     Ok(early.and(late))
 }
 

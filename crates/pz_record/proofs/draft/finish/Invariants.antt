@@ -1,4 +1,4 @@
-use Rattle.std.proofs.Common.{◌≡◌, ◌≤◌, ◌<◌, ◌*◌, ◌-◌, length, map}
+use Rattle.std.proofs.Common.{◌≡◌, ◌≤◌, ◌*◌, ◌-◌, length, map}
 use Rattle.pz_record.specs.declared.draft.TheConstants.{STEP}
 use Rattle.pz_record.specs.Labels.{text_at}
 use Rattle.pz_record.specs.Written.{IsBegun}

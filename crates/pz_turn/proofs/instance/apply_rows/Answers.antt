@@ -1,4 +1,4 @@
-use Rattle.pz_turn.proofs.Common.{applied, applied_with, nat_tests, ◌≡◌, [], length, drop, arith, ap, err_from_is_err_and, drop_all, in_rewrite, combinations, taken}
+use Rattle.pz_turn.proofs.Common.{applied, applied_with, nat_tests, ◌≡◌, [], length, drop, arith, ap, err_from_is_err_and, drop_all, in_rewrite, combinations}
 use Rattle.pz_turn.proofs.SingleRow.{applied_ends}
 use Rattle.pz_turn.proofs.instance.apply_rows.Goals as goal
 

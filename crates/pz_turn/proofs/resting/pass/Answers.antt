@@ -6,11 +6,11 @@ pub returns-in_err-given-clause-outcome : goal.returns-in_err-given-clause-outco
 returns-in_err-given-clause-outcome g c =
     let p = err_from_is_err_and c.from_residual.result c.from_residual.ensures.1 in
     let o : Outcome Grid = record { level = c.loop-item.level.grid; commands = c.loop-item.so_far.commands; changed = c.loop-item.so_far.changed } in
-    rw (p.1, p.2) (λ not_memory. fold_stops g.T.Runnable.runs o c.args.items.now c.loop-item.item-index c.item-item.result _ _ c.loop-item.invariant.whole (omega arith) c.item-item.is (c.in_err-given.ensures.outcome not_memory))
+    rw (p.1, p.2) (λ not_memory. fold_stops (g.T.Runnable.runs c.args.whole.now) o c.args.items.now c.loop-item.item-index c.item-item.result _ _ c.loop-item.invariant.whole (omega arith) c.item-item.is (c.in_err-given.ensures.outcome not_memory))
 
 pub loop-item-preserved : goal.loop-item-preserved
 loop-item-preserved g c =
-    let runs = g.T.Runnable.runs in
+    let runs = g.T.Runnable.runs c.args.whole.now in
     let items = c.args.items.now in
     let n = c.loop-item.item-index in
     let item = c.item-item.result in

@@ -6,11 +6,11 @@ use Rattle.pz_turn.proofs.resting.pass_after.Goals as goal
 pub returns-in_err-given-clause-fault : goal.returns-in_err-given-clause-fault
 returns-in_err-given-clause-fault g c =
     let p = err_from_is_err_and c.from_residual.result c.from_residual.ensures.1 in
-    rw (p.1, p.2) (λ not_memory. passing_stops g.T.Runnable.runs _ _ c.args.calm_from _ c.index-items-index.result _ c.loop-index.first_calm _ c.loop-index-test.true c.index-items-index.is c.loop-index.invariant.passing (c.in_err-given.ensures.outcome not_memory))
+    rw (p.1, p.2) (λ not_memory. passing_stops (g.T.Runnable.runs c.args.whole.now) _ _ c.args.calm_from _ c.index-items-index.result _ c.loop-index.first_calm _ c.loop-index-test.true c.index-items-index.is c.loop-index.invariant.passing (c.in_err-given.ensures.outcome not_memory))
 
 pub loop-index-preserved : goal.loop-index-preserved
 loop-index-preserved g c =
-    let runs = g.T.Runnable.runs in
+    let runs = g.T.Runnable.runs c.args.whole.now in
     let items = c.args.items.now in
     let start = c.args.level.now.grid in
     let calm_from = c.args.calm_from in

@@ -1,4 +1,4 @@
-use Rattle.pz_turn.proofs.Common.{rest_of, up_to, refl, ◌≡◌, Bool, true, false, cond, take, Ok, arith, ap, ◌∙◌, subst, err_from_is_err_and, same_size_on, Grid, Outcome, joined, pass_of, ends, not-false, not-true}
+use Rattle.pz_turn.proofs.Common.{rest_of, up_to, refl, ◌≡◌, Bool, cond, take, Ok, arith, ap, ◌∙◌, subst, err_from_is_err_and, same_size_on, Grid, Outcome, joined, pass_of, ends, not-false, not-true}
 use Rattle.pz_turn.proofs.Passes.{calm_rest, calm_more, rest_ends, find_none, running_more}
 use Rattle.pz_turn.proofs.resting.to_rest.Goals as goal
 
@@ -15,12 +15,12 @@ returns-then-not-passed-clause-outcome g c =
     let given = c.in_ok-passed.passed.given in
     let o : Outcome Grid = record { level = now.level.grid; commands = now.so_far.commands; changed = now.so_far.changed } in
     let quiet = not-true given.changed c.if-not-passed.true in
-    let rest = calm_rest g.T.Runnable.runs c.args.items.now o given.commands given.changed c.pass_after.new.level.grid now.calm_from now.invariant.calm c.in_ok-passed.ensures.outcome quiet (c.in_ok-passed.ensures.kept quiet) in
+    let rest = calm_rest (g.T.Runnable.runs c.args.whole.now) c.args.items.now o given.commands given.changed c.pass_after.new.level.grid now.calm_from now.invariant.calm c.in_ok-passed.ensures.outcome quiet (c.in_ok-passed.ensures.kept quiet) in
     rw c.and-so_far.ensures (rest_ends _ _ _ _ _ now.invariant.running (omega arith) rest.0 ∙ rest.1)
 
 pub passes-preserved : goal.passes-preserved
 passes-preserved g c =
-    let runs = g.T.Runnable.runs in
+    let runs = g.T.Runnable.runs c.args.whole.now in
     let items = c.args.items.now in
     let now = c.passes in
     let passed = c.in_ok-passed.passed in

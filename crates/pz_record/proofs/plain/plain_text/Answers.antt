@@ -7,8 +7,8 @@ use Rattle.pz_record.specs.Labels.{text_at}
 use Rattle.pz_record.specs.CellTexts.{known_of, piece, with_cell}
 use Rattle.pz_record.proofs.KnownCells.{cell_written, cell_known}
 use Rattle.pz_record.proofs.LabelTexts.{none_numbered, one_known, known_piece, new_piece, numbers_more}
-use Rattle.pz_record.proofs.plain.write_labels.Goals as goal
-use Rattle.pz_record.proofs.plain.write_labels.Goals.{in-Some+in_ok-write_number-in-Some, in-None+in_ok-write_new-in-None}
+use Rattle.pz_record.proofs.plain.plain_text.Goals as goal
+use Rattle.pz_record.proofs.plain.plain_text.Goals.{in-Some+in_ok-write_number-in-Some, in-None+in_ok-write_new-in-None}
 
 pub loop-cell-init : goal.loop-cell-init
 loop-cell-init c = record {

@@ -2,7 +2,7 @@ use Rattle.std.proofs.Common.{◌≡◌, ◌<◌, ◌≤◌, ◌%◌, length, ta
 use Rattle.pz_base.specs.NameSet.{number_in}
 use Rattle.pz_record.specs.Labels.{text_at}
 use Rattle.pz_record.specs.CellTexts.{known_of, text_to}
-use Rattle.pz_record.proofs.plain.write_labels.Given as goal
+use Rattle.pz_record.proofs.plain.plain_text.Given as goal
 
 abbrev pub invariant-loop-cell : goal.invariant-loop-cell
 invariant-loop-cell l = record {
