@@ -1,7 +1,7 @@
 //! The reading of sources: what a game has, and the first fault of a source that is refused.
 
 use pz_sample_game::{expect, game_of, source_of};
-use pz_source::{Code, Game, Kind, SourceFault, read_game};
+use pz_source::{Code, Game, Kind, Options, Quantifier, SourceFault, WinLine, read_game};
 use std::alloc::{AllocError, Global};
 use std::test::Fail;
 
@@ -97,4 +97,57 @@ fn expect_names(alloc: Global, game: &Game) -> Result<(), Fail> {
 fn tells_what_names_denote(rt: HostRuntime) -> Result<(), Fail> {
     let game = game_of(rt.alloc(), "", "", "p\n")?;
     expect_names(rt.alloc(), &game)
+}
+
+/// Whether a win line has this quantifier, and names with these words.
+fn is_win(game: &Game, win: WinLine, quantifier: Quantifier, subject: &str, on: &str) -> bool {
+    win.quantifier == quantifier
+        && Some(win.subject) == game.number_of(subject)
+        && win.on == game.number_of(on)
+}
+
+fn has_wins(game: &Game) -> bool {
+    match game.wins() {
+        [first, second, third] => {
+            is_win(game, *first, Quantifier::All, "player", "target")
+                && is_win(game, *second, Quantifier::Some, "thing", "ghost")
+                && is_win(game, *third, Quantifier::No, "crate", "mark")
+        }
+        _ => false,
+    }
+}
+
+#[test]
+fn tells_the_win_lines(rt: HostRuntime) -> Result<(), Fail> {
+    let lines = "All Player on Target\nSome Thing\nNo Crate on Mark\n";
+    let game = game_of(rt.alloc(), "", lines, "p\n")?;
+    assert!(rt; has_wins(&game));
+    Ok(())
+}
+
+/// The options of a game with this line in its prelude, in the order of their names.
+fn options_with(alloc: Global, line: &str) -> Result<(bool, bool), Fail> {
+    let source = source_of(alloc, "", "", "p\n")?;
+    let text = changed(alloc, source.as_str(), 0, line)?;
+    let game = read_game(alloc, text.as_str()).map_err(|_| "a refused source")?;
+    let Options {
+        run_rules_on_level_start,
+        require_player_movement,
+    } = game.options();
+    Ok((require_player_movement, run_rules_on_level_start))
+}
+
+#[test]
+fn tells_the_options(rt: HostRuntime) -> Result<(), Fail> {
+    let alloc = rt.alloc();
+    assert_eq!(rt; options_with(alloc, "title B")?, (false, false));
+    assert_eq!(rt;
+        options_with(alloc, "require_player_movement")?,
+        (true, false)
+    );
+    assert_eq!(rt;
+        options_with(alloc, "run_rules_on_level_start")?,
+        (false, true)
+    );
+    Ok(())
 }

@@ -1,5 +1,5 @@
 -- The fault of a session lies in its source.
-use Rattle.std.proofs.Common.{◌≡◌, ◌<◌, ◌≤◌, ℕ, List, length, map, get_or, Result, Ok, Err, refl, sym, ap, ◌∙◌, subst, arith}
+use Rattle.std.proofs.Common.{◌≡◌, ◌≤◌, ℕ, List, map, get_or, Result, Ok, Err, refl, sym, ap, ◌∙◌, subst}
 use Rattle.std.specs.Prelude.{IfOk, IfErr, Option, Some, None}
 use Rattle.std.specs.List.{All, Contains}
 use Rattle.std.proofs.lemmas.List.{get_or-map}
@@ -45,14 +45,14 @@ from_level source None plan fault is = absurd (let never : Err NoLevel ≡ Err (
 
 from_program : (source : List ℕ) (lines : List RuleLine) (program : Result Program SourceFault) (later : Program → Result PlanState Refusal) → AreWithin (line_count source) lines
     → IfErr program (λ fault. Contains (map (λ (line : RuleLine). line.number) lines) fault.line) → ((p : Program) → NamesALine source (later p)) → NamesALine source (or_refused program later)
-from_program source lines (Ok p) later within named each = each p
+from_program source lines (Ok p) later within named each fault is = each p fault is
 from_program source lines (Err first) later within named each fault is =
     let same : first ≡ fault = (let both : Err (Source first) ≡ Err (Source fault) = is in cc) in
     subst (λ (f : SourceFault). f.line ≤ line_count source) same (one_within (line_count source) lines first.line within named)
 
 from_source : (source : List ℕ) (game : Result GameParts SourceFault) (later : GameParts → Result PlanState Refusal) → IfErr game (λ fault. fault.line ≤ line_count source)
     → IfOk game (λ g. AreWithin (line_count source) g.rules) → ((g : GameParts) → AreWithin (line_count source) g.rules → NamesALine source (later g)) → NamesALine source (or_refused game later)
-from_source source (Ok g) later named within each = each g within
+from_source source (Ok g) later named within each fault is = each g within fault is
 from_source source (Err first) later named within each fault is =
     let same : first ≡ fault = (let both : Err (Source first) ≡ Err (Source fault) = is in cc) in
     subst (λ (f : SourceFault). f.line ≤ line_count source) same named

@@ -4,7 +4,7 @@ ghost use Rattle.std.specs.Prelude.{IfOk};
 ghost use Rattle.pz_rules.specs.Instance.{IsInstanceOf, IsGroupOf, IsProgramOf};
 ghost use Rattle.pz_grid.specs.Grid.{IsOfGame};
 
-use pz_grid::{Level, Place, places, rewrite, still_matches};
+use pz_grid::{Level, Place, places, rewrite, same, still_matches};
 use pz_rules::{Block, Group, Instance, Program};
 use pz_sample_game::{expect, expect_level, game_of, loaded, program_of};
 use pz_source::{Dir, Game};
@@ -202,7 +202,7 @@ fn same_as_copy(alloc: Global, game: &Game, level: &Level) -> Result<bool, Fail>
         &copy,
         "background crate target:0,background player:1,\n",
     )?;
-    Ok(copy.same(level))
+    Ok(same(&copy, level))
 }
 
 fn copies_in(alloc: Global, game: &Game) -> Result<bool, Fail> {

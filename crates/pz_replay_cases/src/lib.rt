@@ -2,6 +2,8 @@
 #![tactic(auto)]
 
 #[cfg(test)]
+mod claims;
+#[cfg(test)]
 mod lane;
 #[cfg(test)]
 mod replaying;

@@ -4,4 +4,4 @@ mod Mapped
 mod Belonging
 mod Ownership
 mod Examples
-mod FaultLines
+pub mod FaultLines

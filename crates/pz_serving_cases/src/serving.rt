@@ -267,6 +267,75 @@ fn says_why_a_file_was_not_opened(rt: HostRuntime) -> Result<(), Fail> {
     Ok(())
 }
 
+/// Gives as many bytes as it is lent room for. It counts its calls, and notes the least room.
+#[derive(Drop)]
+struct Whole<'a> {
+    bytes: &'a [u8],
+    at: usize,
+    calls: u32,
+    least: usize,
+}
+
+impl<'a> Read for Whole<'a> {
+    fn read(&mut self, buf: &mut [u8]) -> io::Result<usize> {
+        self.calls = self.calls.saturating_add(1);
+        self.least = self.least.min(buf.len());
+        let at = self.at.min(self.bytes.len());
+        let count = buf.len().min(self.bytes.len() - at);
+        buf[..count].copy_from_slice(&self.bytes[at..at + count]);
+        self.at = at + count;
+        Ok(count)
+    }
+}
+
+/// Takes all bytes of a call, and counts its calls.
+#[derive(Drop)]
+struct Counting {
+    bytes: Vec<u8>,
+    calls: u32,
+}
+
+impl Write for Counting {
+    fn write(&mut self, buf: &[u8]) -> io::Result<usize> {
+        self.calls = self.calls.saturating_add(1);
+        self.bytes.extend_from_slice(buf)?;
+        Ok(buf.len())
+    }
+
+    fn flush(&mut self) -> io::Result<()> {
+        Ok(())
+    }
+}
+
+/// The walk is shorter than the room that a reader is lent, and its lines are fewer than go out together.
+#[test]
+fn lends_a_device_all_that_it_may_move_at_once(rt: HostRuntime) -> Result<(), Fail> {
+    let mut input = Counted::new(Whole {
+        bytes: WALK.as_bytes(),
+        at: 0,
+        calls: 0,
+        least: usize::MAX,
+    });
+    let mut output = Output::new(Counting {
+        bytes: Vec::new(rt.alloc()),
+        calls: 0,
+    });
+    let mut errors = Output::new(Vec::new(rt.alloc()));
+    let status = serve(
+        &rt,
+        rt.alloc(),
+        &mut input,
+        &mut output,
+        &mut errors,
+        BY_ONE,
+    );
+    let reader = input.into_reader();
+    let writer = output.into_writer();
+    assert!(rt; (status, writer.bytes.as_slice()) == (0, WALKED.as_bytes()));
+    assert_eq!(rt; (reader.calls, reader.least, writer.calls), (2, 4096, 1));
+    Ok(())
+}
+
 /// Takes seven bytes a call, up to its fourth call, which fails. It counts its calls, those after the fourth too.
 #[derive(Drop)]
 struct Failing {

@@ -1,5 +1,5 @@
 -- How many items a session has at most.
-use Rattle.pz_session.proofs.Common.{◌≡◌, ℕ, zero, suc, ◌+◌, ◌*◌, ◌<◌, ◌≤◌, ◌^◌, List, [], ◌∷◌, length, map, Option, option_to_list, Result, Ok, IfOk, refl, ap, ◌∙◌, arith, length-map, length-append, Grid, Outcome, Input, Stop, Frame, FrameKind, PlanState, Link, Chain, follow, ticks, Links, Played, played, going_on, showing, after_chain, ticks_after, numbered, items_from, State, keeping, restarted, won_link, kept_link, reached_link, effect, tick_link, press_link, undo_link, begun, start_link, board_links, state_of, played_items, MOST_TICKS}
+use Rattle.pz_session.proofs.Common.{◌≡◌, ℕ, zero, suc, ◌+◌, ◌*◌, ◌<◌, ◌≤◌, ◌^◌, List, [], ◌∷◌, length, map, option_to_list, Result, Ok, IfOk, refl, ap, arith, length-map, length-append, Grid, Outcome, Input, Stop, Frame, FrameKind, PlanState, Link, Chain, follow, ticks, Links, Played, played, going_on, after_chain, ticks_after, numbered, items_from, State, keeping, restarted, won_link, kept_link, reached_link, effect, tick_link, press_link, undo_link, begun, start_link, board_links, state_of, played_items, MOST_TICKS}
 use Rattle.pz_case.specs.declared.item.FrameKind.TheVariants.{Move, Tick}
 use Rattle.pz_case.specs.declared.item.Item.TheVariants as item
 

@@ -1,7 +1,7 @@
 -- The labels that a writer keeps stay those of a level, wherever the level goes.
 use Rattle.pz_session.proofs.Common.{arith, ◌≡◌, Option, Some, Grid, HasLabels, WriterView}
 use Rattle.pz_session.specs.declared.labelled.Labelled.{Labelled}
-use Rattle.pz_session.specs.declared.labelled.Labelled.TheVariants.{Level, Before, Spare, Nothing}
+use Rattle.pz_session.specs.declared.labelled.Labelled.TheVariants.{Before, Spare}
 use Rattle.pz_session.specs.Labelled.{labelled_of, moved_to}
 
 abbrev Keeps : WriterView → Labelled → Grid → Option Grid → Option Grid → Type 0

@@ -1,5 +1,5 @@
 -- What an item takes from what is left, and that a link leaves it as it is.
-use Rattle.pz_session.proofs.Common.{◌≡◌, ℕ, ◌+◌, ◌≤◌, arith, Bool, false, List, [], ◌∷◌, ◌++◌, Option, None, option_to_list, drop, length, map, Ok, Err, Result, refl, ap, sym, ◌∙◌, drop_all, map-append, append_assoc, Input, Stop, Frame, items_from, numbered, played, showing, going_on, after_chain, State, board_links, tick_link, verdict_of, Link, follow, ticks, Player, pending, left_in, to_come, to_follow, left_with, left, is_waiting, Stopped, ◌<◌, zero, suc, ◌-◌, true, get_or, drop_more, begun, ticks_after, is_waiting_in}
+use Rattle.pz_session.proofs.Common.{◌≡◌, ℕ, ◌+◌, ◌≤◌, arith, Bool, false, List, [], ◌∷◌, ◌++◌, Option, None, option_to_list, drop, length, map, Ok, Err, Result, refl, ap, sym, ◌∙◌, drop_all, map-append, append_assoc, Input, Stop, Frame, items_from, numbered, played, showing, going_on, after_chain, State, board_links, tick_link, verdict_of, Link, follow, ticks, Player, left_in, to_come, to_follow, left_with, left, is_waiting, Stopped, ◌<◌, zero, suc, ◌-◌, true, get_or, drop_more, begun, ticks_after, is_waiting_in}
 use Rattle.std.proofs.lemmas.Bool.Decides.{nat_tests}
 use Rattle.pz_case.specs.declared.item.Item.TheVariants as item
 use Rattle.pz_session.specs.declared.player.Phase.{Phase}

@@ -1,4 +1,4 @@
-use Rattle.pz_session.proofs.Common.{arith, ◌≡◌, ◌<◌, length, ap, refl, ◌∙◌, true, get_or, get_or_default, Input, Press, Up, on_ok_weaker}
+use Rattle.pz_session.proofs.Common.{arith, ◌≡◌, ◌<◌, length, ap, refl, ◌∙◌, get_or, get_or_default, Input, Press, Up, on_ok_weaker}
 use Rattle.std.proofs.lemmas.Bool.Decides.{nat_tests}
 use Rattle.pz_session.proofs.Leaving.{waiting-parts, left-no_tick, left-tick, left-begin}
 use Rattle.pz_session.proofs.player.Player.advance.Goals as goal
