@@ -21,9 +21,10 @@ from saxtegun.commands import add_game, add_playing, add_ticks, printable
 from saxtegun.explaining import heading, summary, told
 from saxtegun.files import guard_output
 from saxtegun.lines import UNANSWERED
-from saxtegun.playing import engine_of, lines_or_played, ticks_told
+from saxtegun.playing import engine_of, lines_or_played
 from saxtegun.sessions import read_sessions
 from saxtegun.texts import over, read_game, say_others
+from saxtegun.ticks import ticks_told
 
 USAGE = "explain SESSIONS [LINES] [--game GAME.txt] [--order rows|columns]"
 
