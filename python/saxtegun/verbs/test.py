@@ -155,8 +155,7 @@ def unsolved_in(suite: Suite, patterns: List[str]) -> Dict[int, str]:
 
 def failures_of(suite: Suite, though_passed: Dict[int, str], given: Namespace, hung: Finder) -> List[Failure]:
     game, paths = split_files(given.files)
-    since = partings(suite.game, suite.sessions.entries, suite.runs, suite.sessions, engine_of(given))
-    found: List[Failure] = []
+    found: Dict[int, Failure] = {}
     for entry, run in zip(suite.sessions.entries, suite.runs):
         path, number = suite.files[entry.number]
         place = f"{path}: session {number}" if len(paths) > 1 else f"session {number}"
@@ -166,10 +165,12 @@ def failures_of(suite: Suite, though_passed: Dict[int, str], given: Namespace, h
         fault = fault_in(run.cause or "")
         if run.close == "passed":
             sentence, below = though_passed[entry.number], []
-        below = [*below, since[entry.number]] if entry.number in since else below
         is_of_game = bool(game and fault)
-        found.append(Failure(f"{place}, {cut(entry.name)}", run.close, sentence, below, game if is_of_game else path, fault[1] if is_of_game and fault else 1))
-    return found
+        found[entry.number] = Failure(f"{place}, {cut(entry.name)}", run.close, sentence, below, game if is_of_game else path, fault[1] if is_of_game and fault else 1)
+    # once all is told that needs no other text to be played
+    for number, where in partings(suite.game, suite.sessions.entries, suite.runs, suite.sessions, engine_of(given)).items():
+        found[number] = found[number]._replace(below=[*found[number].below, where])
+    return list(found.values())
 
 
 def show(line: str) -> None:
