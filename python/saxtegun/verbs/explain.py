@@ -2,10 +2,10 @@
 
 SESSIONS is the file that was played, and LINES what the program wrote for it
 (`-`: standard input). Without LINES the sessions are played now. Each session
-that did not pass has a line with its cause. Below it stands the line of the
-source that the cause names, or the first cells that differ, with what stands
-there and what was recorded. If the game's letters can draw them, both levels
-follow.
+that did not pass has a line with its cause; those that one fault of a game
+refuses have one together. Below it stands the line of the source that the cause
+names, or the first cells that differ, with what stands there and what was
+recorded. If the game's letters can draw them, both levels follow.
 
 Sessions and frames are counted from 0, as the program does, columns and rows
 from 1. --order must be the order of the lines.
