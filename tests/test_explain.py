@@ -1,5 +1,6 @@
 """`saxtegun explain`: on the example, whose lines are played by hand, and on cases of conformance/."""
 import json
+import re
 import unittest
 
 from day import EXAMPLE, OnSessions, case, cases_in_rows
@@ -72,8 +73,21 @@ class Explain(OnSessions):
         answer = run("explain", self.write("sessions.json", sessions), self.write("lines", lines), "--order", "rows")
         self.assertEqual((answer.status, answer.errors), (0, ""))
         failed = sum(1 for line in lines.split("\n")[:-1] if json.loads(line).get("close") in ("differs", "stopped", "refused"))
-        self.assertEqual(sum(line.startswith("session ") for line in answer.out.split("\n")), failed)
+        heads = [line for line in answer.out.split("\n") if line.startswith("session ")]
+        more = sum(int(it) for line in heads for it in re.findall(r" and (\d+) more sessions?: refused: ", line))
+        self.assertEqual(len(heads) + more, failed)
         self.assertNotIn("its cause is", answer.out)
+
+    def test_one_fault_of_a_game_is_explained_once(self):
+        sessions, lines = (it.read_text(encoding="utf-8") for it in case("the-word-random-in-a-rule"))
+        [entry], [line] = json.loads(sessions), lines.splitlines()
+        other = ["another", [entry[1][0].replace("random", "  random"), *entry[1][1:]]]
+        entries = [entry, entry, other, entry]
+        shown = "".join(json.dumps({**json.loads(line), "name": it[0], "session": number}) + "\n" for number, it in enumerate(entries))
+        answer = run("explain", self.write("s.json", json.dumps(entries)), self.write("lines", shown), "--order", "rows")
+        heads = [it.partition(": ")[0] for it in answer.out.splitlines() if it.startswith("session ")]
+        self.assertEqual(heads, [f"session 0, {entry[0]} and 2 more sessions", "session 2, another"])
+        self.assertIn("4 sessions: 0 passed, 0 differ, 0 stopped, 4 refused", answer.out)
 
     def test_a_level_is_not_drawn_where_a_cell_has_no_letter(self):
         source = json.loads(EXAMPLE.read_text(encoding="utf-8"))[4][1][0].replace("* = Crate", "Box = Crate")

@@ -1,5 +1,7 @@
 """What is wrong with a line that a fault names: which word and which bracket of a rule, by docs/language.md, and where a text breaks."""
 import json
+import os
+import random
 import unittest
 
 from day import OnSessions
@@ -46,6 +48,24 @@ BREAKS = {
 }
 
 
+# By hand more of them, and with other seeds.
+SEED, COUNT = (int(os.environ.get(name, count)) for name, count in (("SEED", "74"), ("RULES", "1500")))
+WORDS = "[ ] | -> [_Player_] [_Player_|_] Player no > < ^ v late + right up horizontal moving stationary action parallel again win sfx3 sfx11 message cancel ... bogus (a) LATE [] [|] rigid - ->> x->y".split()
+RULES = ("[ > Player | Player ] -> [ > Player | > Player ]", "late [ Player ] -> [ ] again", "right [ no Player ] [ Player ] -> [ ] [ Player ] win sfx1 message x", "+ [ Player | ... | Player ] -> [ | ... | ]")
+
+
+def rule_by(chance):
+    """A line of a few words, or a rule with a few changes."""
+    if chance.random() < 0.4:
+        return " ".join(chance.choices(WORDS, k=chance.randint(1, 9))).replace("_", " ")
+    words = chance.choice(RULES).split(" ")
+    for _ in range(chance.randint(0, 2)):
+        at = chance.randrange(len(words))
+        words[at : at + chance.randint(0, 1)] = chance.choices(WORDS, k=chance.randint(0, 1))
+        words = words or ["["]
+    return chance.choice((" ", " ", "")).join(words).replace("_", " ")
+
+
 class Reasons(unittest.TestCase):
     def test_the_word_or_the_bracket_is_named(self):
         for rule, told in WRONG.items():
@@ -85,6 +105,18 @@ class DayOfReasons(OnSessions):
         self.assertEqual(answer.out.count("(BadRule:16)"), len(WRONG))
         for rule, told in WRONG.items():
             self.assertIn(f"{rule}: refused: line 16 is no rule: {told} (BadRule:16)", answer.out)
+
+    def test_a_reason_is_given_exactly_where_the_program_finds_no_rule(self):
+        chance = random.Random(SEED)
+        rules = [rule_by(chance) for _ in range(COUNT)]
+        suite = self.write("s.json", json.dumps([["a", [f"{HEAD}late [ Player ] -> [ Player ]\n{it}\n{TAIL}", [], ""]] for it in rules]))
+        closes = [it for it in map(json.loads, run("lines", suite).out.splitlines()) if "close" in it]
+        for rule, close in zip(rules, closes):
+            with self.subTest(rule):
+                is_bad = close.get("cause") == "BadRule:16"
+                told = reason_told("BadRule:16", f"{HEAD}late [ Player ] -> [ Player ]\n{rule}\n{TAIL}")
+                self.assertTrue(bool(told) == is_bad or close.get("cause") == "OutsideProfile:16", f"{close.get('cause')}{told}")
+        self.assertGreater(sum("cause" not in it for it in closes), COUNT // 50)
 
     def test_a_level_text_that_breaks_is_named_by_its_place(self):
         suite = self.write("s.json", json.dumps([["a", [HEAD + TAIL, [], "background:0,\njunk,"]]]))

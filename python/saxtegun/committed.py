@@ -74,10 +74,10 @@ def partings(game: Optional[GameText], entries: Sequence[Entry], runs: Sequence[
 
 
 def parted(before: List[Entry], runs: Sequence[Run], of: Sessions, engine: Engine, name: str) -> Dict[int, str]:
-    """Where runs part from what sessions show over the text before, which they passed."""
+    """Where runs part from what sessions show over the text before, which they passed. Half of the time to explain is left for others."""
     found: Dict[int, str] = {}
     try:
-        for entry, old, new in zip(before, runs_within(before, of, engine, max(EXPLAINING.left, 0.1)), runs):
+        for entry, old, new in zip(before, runs_within(before, of, engine, max(EXPLAINING.left / 2, 0.1)), runs):
             parting = parting_of(old, new) if old.close == "passed" else None
             if parting is not None:
                 one = "" if parting.kind == "level" else " (one)"

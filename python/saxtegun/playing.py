@@ -11,14 +11,14 @@ from time import monotonic
 from typing import Iterator, List, NamedTuple, Optional, Sequence
 
 from saxtegun.belonging import ALL_BUT_ORDER, Tests, read_runs
-from saxtegun.commands import Refused, cut, plural, say
+from saxtegun.commands import Refused, cut, plural
 from saxtegun.files import read_lines
 from saxtegun.lines import SESSION, UNANSWERED, Run, frame_of, line_of
-from saxtegun.reasons import break_of
 from saxtegun.programs import has_played, program_words
+from saxtegun.reasons import break_of
 from saxtegun.running import Unanswered, watched
-from saxtegun.sources import without_clock
 from saxtegun.sessions import MOST_BYTES, MOST_ENTRIES, Entry, Sessions, written_entry
+from saxtegun.ticks import without_ticking
 
 # What the program's lines at status 2 mean; the number is that of a session or of bytes.
 REFUSALS = {
@@ -37,9 +37,6 @@ REFUSALS = {
 # So many sessions are played first where each has a limit of time, which all of them together keep too; then twice as many as long as that is quick.
 FIRST_BATCH = 64
 QUICK = 0.25
-# What is said where games are played without their clock, and whether it was.
-WITHOUT_CLOCK = "played without realtime_interval: ticks as recorded"
-TOLD_OF_TICKS: List[str] = []
 
 
 class Engine(NamedTuple):
@@ -97,26 +94,12 @@ def play_file(path: str, lines: str, engine: Engine, of: Optional[Sessions] = No
     return ran.status
 
 
-def ticks_told() -> str:
-    """That games were played without their clock, behind the words of an answer, or nothing."""
-    return f"; {WITHOUT_CLOCK}" if TOLD_OF_TICKS else ""
-
-
-def as_played(entry: Entry, engine: Engine) -> Entry:
-    """An entry as it is played: without its game's clock where its ticks are those that were recorded, which is then said once."""
-    source = without_clock(entry.source) if engine.has_ticks else entry.source
-    if source != entry.source and not TOLD_OF_TICKS:
-        TOLD_OF_TICKS.append(WITHOUT_CLOCK)
-        say(f"saxtegun: {WITHOUT_CLOCK}")
-    return entry._replace(source=source)
-
-
 def batches(entries: Sequence[Entry], engine: Engine = Engine()) -> Iterator[List[bytes]]:
     """The entries as JSON, in batches of which each is as large as a file may be: the copies of a game that is the source of many don't count."""
     batch: List[bytes] = []
     size = 0
     for entry in entries:
-        text = written_entry(as_played(entry, engine)).encode()
+        text = written_entry(without_ticking(entry) if engine.has_ticks else entry).encode()
         if batch and (size + len(text) + len("[]") > MOST_BYTES or len(batch) == MOST_ENTRIES):
             yield batch
             batch, size = [], 0
@@ -207,7 +190,7 @@ def runs_of(entries: Sequence[Entry], of: Sessions, engine: Engine) -> List[Run]
 def shown_beyond(entry: Entry, known: int, engine: Engine) -> Run:
     """What a session shows behind its first frames, which are known, and how it is closed."""
     with tempfile.TemporaryFile() as given, tempfile.TemporaryFile() as shown:
-        given.write(b"[" + written_entry(as_played(entry, engine)).encode() + b"]")
+        given.write(b"[" + written_entry(without_ticking(entry) if engine.has_ticks else entry).encode() + b"]")
         given.seek(0)
         ran = watched(engine.words(), shown, given, engine.seconds)
         if ran.status not in (0, 1):

@@ -119,7 +119,8 @@ def check_rule(text: str) -> None:
     """Refuses what has not the form of a rule."""
     tokens = [Token(it[0], it.start()) for it in TOKEN.finditer(text)]
     words = [it.text for it in tokens]
-    loops = [it for it in words if it in LOOPS]
+    message = words.index("message") if "message" in words else len(words)
+    loops = [it for it in words[:message] if it in LOOPS]
     if loops and len(words) > 1:
         raise Wrong(f"`{loops[0]}` isn't alone on its line")
     if loops:

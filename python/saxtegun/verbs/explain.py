@@ -2,10 +2,10 @@
 
 SESSIONS is the file that was played, and LINES what the program wrote for it
 (`-`: standard input). Without LINES the sessions are played now. Each session
-that did not pass has a line with its cause. Below it stands the line of the
-source that the cause names, or the first cells that differ, with what stands
-there and what was recorded. If the game's letters can draw them, both levels
-follow.
+that did not pass has a line with its cause; those that one fault of a game
+refuses have one together. Below it stands the line of the source that the cause
+names, or the first cells that differ, with what stands there and what was
+recorded. If the game's letters can draw them, both levels follow.
 
 Sessions and frames are counted from 0, as the program does, columns and rows
 from 1. --order must be the order of the lines.
@@ -15,17 +15,32 @@ from __future__ import annotations
 
 import sys
 from argparse import ArgumentParser, Namespace
-from typing import List
+from typing import Dict, List, NamedTuple, Tuple
 
-from saxtegun.commands import add_game, add_playing, add_ticks, printable
+from saxtegun.commands import add_game, add_playing, add_ticks, plural, printable
 from saxtegun.explaining import heading, summary, told
 from saxtegun.files import guard_output
-from saxtegun.lines import UNANSWERED
-from saxtegun.playing import engine_of, lines_or_played, ticks_told
+from saxtegun.lines import UNANSWERED, Run
+from saxtegun.playing import engine_of, lines_or_played
 from saxtegun.sessions import read_sessions
 from saxtegun.texts import over, read_game, say_others
+from saxtegun.ticks import ticks_told
 
 USAGE = "explain SESSIONS [LINES] [--game GAME.txt] [--order rows|columns]"
+
+
+class Told(NamedTuple):
+    """What is said of a session, and of how many more."""
+
+    run: Run
+    sentence: str
+    below: List[str]
+    more: List[int]
+
+    def lines(self) -> List[str]:
+        name, _, close = heading(self.run).rpartition(": ")
+        name += f" and {plural(len(self.more), 'more session')}" if self.more else ""
+        return [f"{name}: {close}: {printable(self.sentence)}", *(f"    {printable(it)}" for it in self.below)]
 
 
 def add_words(words: ArgumentParser) -> None:
@@ -42,12 +57,18 @@ def main(given: Namespace) -> int:
     sessions = over(read_sessions(given.sessions), game)
     say_others("explain", sessions, game)
     closes: List[str] = []
-    lines: List[str] = []
+    told_of: Dict[Tuple[object, ...], Told] = {}
     with lines_or_played(sessions, given.lines, engine_of(given)) as runs:
         for run in runs:
             closes.append(run.close)
             if run.close != "passed":
-                sentence, below = told(run, sessions.entries[run.number], given.order, given.game or "")
-                lines += [f"{heading(run)}: {printable(sentence)}", *(f"    {printable(it)}" for it in below)]
+                entry = sessions.entries[run.number]
+                # one fault of a game is one, however many sessions it refuses
+                key = (entry.source, run.cause) if run.close == "refused" else (run.number,)
+                if key in told_of:
+                    told_of[key].more.append(run.number)
+                else:
+                    told_of[key] = Told(run, *told(run, entry, given.order, given.game or ""), [])
+    lines = [line for it in told_of.values() for line in it.lines()]
     sys.stdout.write("\n".join([*lines, summary(closes) + ticks_told()]) + "\n")
     return 2 if UNANSWERED in closes else 0

@@ -22,10 +22,8 @@ are told as ever.
 Exit status: 0 all passed, 1 some session did not, 2 there is no whole answer."""
 from __future__ import annotations
 
-import os
 import signal
 import sys
-import time
 from argparse import ArgumentParser, Namespace
 from collections import Counter
 from pathlib import Path
@@ -42,14 +40,15 @@ from saxtegun.junit import junit_of
 from saxtegun.lines import UNANSWERED, Run
 from saxtegun.origins import add_date, origin_of, program_told
 from saxtegun.pages import Report
-from saxtegun.playing import TOLD_OF_TICKS, engine_of, runs_of, ticks_told
+from saxtegun.playing import engine_of, runs_of
 from saxtegun.sessions import Entry, Sessions, fits, read_sessions, unfitting
 from saxtegun.solving import SOLVED, solved_of
 from saxtegun.telling import Failure, annotation, markdown, once
 from saxtegun.texts import GameText, of_another_text, over, read_game, remark
+from saxtegun.ticks import forget, ticks_told
+from saxtegun.watching import times_of, wait_for_save
 
 USAGE = "test [GAME.txt] SESSIONS.json.. [options]"
-PAUSE = 0.2
 
 
 def add_words(words: ArgumentParser) -> None:
@@ -156,8 +155,7 @@ def unsolved_in(suite: Suite, patterns: List[str]) -> Dict[int, str]:
 
 def failures_of(suite: Suite, though_passed: Dict[int, str], given: Namespace, hung: Finder) -> List[Failure]:
     game, paths = split_files(given.files)
-    since = partings(suite.game, suite.sessions.entries, suite.runs, suite.sessions, engine_of(given))
-    found: List[Failure] = []
+    found: Dict[int, Failure] = {}
     for entry, run in zip(suite.sessions.entries, suite.runs):
         path, number = suite.files[entry.number]
         place = f"{path}: session {number}" if len(paths) > 1 else f"session {number}"
@@ -167,10 +165,12 @@ def failures_of(suite: Suite, though_passed: Dict[int, str], given: Namespace, h
         fault = fault_in(run.cause or "")
         if run.close == "passed":
             sentence, below = though_passed[entry.number], []
-        below = [*below, since[entry.number]] if entry.number in since else below
         is_of_game = bool(game and fault)
-        found.append(Failure(f"{place}, {cut(entry.name)}", run.close, sentence, below, game if is_of_game else path, fault[1] if is_of_game and fault else 1))
-    return found
+        found[entry.number] = Failure(f"{place}, {cut(entry.name)}", run.close, sentence, below, game if is_of_game else path, fault[1] if is_of_game and fault else 1)
+    # once all is told that needs no other text to be played
+    for number, where in partings(suite.game, suite.sessions.entries, suite.runs, suite.sessions, engine_of(given)).items():
+        found[number] = found[number]._replace(below=[*found[number].below, where])
+    return list(found.values())
 
 
 def show(line: str) -> None:
@@ -227,26 +227,6 @@ def test(given: Namespace) -> int:
     return 2 if any(it.close == UNANSWERED for it in suite.runs) else 1 if failures else 0
 
 
-def times_of(files: List[str]) -> List[Optional[Tuple[int, int]]]:
-    found: List[Optional[Tuple[int, int]]] = []
-    for path in files:
-        try:
-            it = os.stat(path)
-            found.append((it.st_mtime_ns, it.st_size))
-        except OSError:
-            found.append(None)
-    return found
-
-
-def wait_for_save(files: List[str], times: List[Optional[Tuple[int, int]]]) -> None:
-    """Waits until a file changes, and until none changes any more: an editor may write in pieces."""
-    while times_of(files) == times:
-        time.sleep(PAUSE)
-    while times_of(files) != times:
-        times = times_of(files)
-        time.sleep(PAUSE / 2)
-
-
 def watch(given: Namespace) -> int:
     """Tests again at each save, until it is stopped; the status is that of the last time. It can be stopped so too where whoever started it ignores
     interrupts, as a shell does for what it starts in the background."""
@@ -256,7 +236,7 @@ def watch(given: Namespace) -> int:
         while True:
             times = times_of(given.files)
             EXPLAINING.left = SECONDS
-            TOLD_OF_TICKS.clear()
+            forget()
             try:
                 status = test(given)
             except Refused as why:
