@@ -3,7 +3,8 @@
     tests/planting.py [--seed N] [--count N] [--shown] [--all]
 
 Of the errors that can be planted COUNT are drawn by a seed (300), or --all are taken. Each that no case catches is named with its line. With --shown those
-are played on the sessions of a generator too, and on those of bench/: one that changes an answer there is one that the suite should have caught.
+are played on 400 sessions of a generator too, by the same seed, and on the first presses of those of bench/sessions: one that changes an answer there is
+one that the suite should have caught. The last line says how many were.
 """
 import argparse
 import ast
@@ -11,6 +12,7 @@ import copy
 import json
 import random
 import signal
+import subprocess
 import sys
 from pathlib import Path
 from types import ModuleType
@@ -20,6 +22,8 @@ ENGINE = TOP / "tests" / "engine_by_the_book.py"
 CASES = TOP / "conformance" / "cases"
 # A case that takes longer than this is one of a limit's; an error that makes one run much longer is caught.
 LONG, LIMIT = 0.5, 3
+# So many presses of a session of bench/ are played.
+PRESSES = 6
 OTHERS = {
     ast.Eq: ast.NotEq, ast.NotEq: ast.Eq, ast.Lt: ast.LtE, ast.LtE: ast.Lt, ast.Gt: ast.GtE, ast.GtE: ast.Gt, ast.In: ast.NotIn, ast.NotIn: ast.In,
     ast.Is: ast.IsNot, ast.IsNot: ast.Is, ast.And: ast.Or, ast.Or: ast.And, ast.Add: ast.Sub, ast.Sub: ast.Add,
@@ -237,6 +241,16 @@ def generated(seed, count, engine):
     return found
 
 
+def benched(engine):
+    """The sessions of bench/sessions by their first presses, with what the engine answers."""
+    found = []
+    for kind in ("small", "push", "again"):
+        text = subprocess.run([sys.executable, TOP / "bench" / "sessions", kind, "1"], stdout=subprocess.PIPE, check=True).stdout
+        entries = [[name, [source, inputs[:PRESSES], level, *more]] for name, (source, inputs, level, *more) in json.loads(text)]
+        found.append(Case(f"bench {kind}", entries, "columns", played(engine, entries, "columns", 60)))
+    return found
+
+
 def drawn(tree, seed, count):
     """So many of the errors that can be planted."""
     return random.Random(seed).sample(mutants_of(tree), count)
@@ -255,7 +269,7 @@ def main(words):
     if wrong:
         print(f"without an error it fails {', '.join(wrong)}")
         return 2
-    more = generated(given.seed, 400, good) if given.shown else []
+    more = [*generated(given.seed, 400, good), *benched(good)] if given.shown else []
     chosen = mutants_of(tree) if given.all else drawn(tree, given.seed, given.count)
     left, shown = [], 0
     for mutant in chosen:
@@ -264,10 +278,10 @@ def main(words):
             other = catcher(engine, more)
             shown += other is not None
             left.append(mutant)
-            print(f"{mutant}{' (a generated session shows it)' if other else ''}", flush=True)
+            print(f"{mutant}{f' (a session shows it: {other.name})' if other else ''}", flush=True)
             if other:
                 print(f"    {json.dumps(other.entries[0][1][:2])}")
-    print(f"{len(chosen)} errors planted: {len(chosen) - len(left)} caught, {len(left)} not" + (f", of which {shown} are shown by a generated session" if given.shown else ""))
+    print(f"{len(chosen)} errors planted: {len(chosen) - len(left)} caught, {len(left)} not" + (f", of which {shown} are shown by another session" if given.shown else ""))
     return 0
 
 

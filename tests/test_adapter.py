@@ -2,6 +2,7 @@
 import json
 import shutil
 import subprocess
+import sys
 import unittest
 
 from day import EXAMPLE, OnSessions
@@ -10,6 +11,9 @@ from tool import CASES, PROGRAM, TOP, plays, run
 NODE = shutil.which("node")
 ADAPTER = TOP / "adapters/javascript"
 ENGINE = ADAPTER / "example.js"
+ANOTHER = TOP / "tests/another_engine"
+# Cases of a player who walks and pushes one crate.
+KNOWN = ("walk-two-steps-right-against-a-wall", "push-a-crate-against-a-wall-then-step-back", "undo-with-nothing-past-then-undo-of-a-move", "a-push-rule-has-one-instance-for-each-direction")
 # What hangs on how deep JSON nests and on how its numbers and texts are read, which JavaScript does otherwise.
 OTHERWISE = {
     "brackets-nested-one-deeper", "brackets-nested-too-deep", "file-with-a-fraction", "file-with-a-lone-surrogate", "file-with-a-seed-that-no-float-holds",
@@ -92,6 +96,35 @@ class Adapter(OnSessions):
         answer = run("test", sessions, "--program", ENGINE)
         self.assertEqual((answer.status, answer.out), (2, ""))
         self.assertIn("sessions.json was not played: the engine failed: Cannot read", answer.errors.splitlines()[-1])
+
+
+@unittest.skipUnless(NODE, "node is not there")
+class AnotherEngine(OnSessions):
+    """An engine that isn't ours in shape: rows of numbers, promises, exceptions."""
+
+    def test_the_page_shows_how_it_is_plugged_in(self):
+        self.assertIn(f"```js\n{(ANOTHER / 'play.js').read_text(encoding='utf-8')}```\n", (TOP / "docs/engine.md").read_text(encoding="utf-8"))
+
+    def test_it_passes_the_cases_of_what_it_knows(self):
+        ran = subprocess.run([sys.executable, TOP / "conformance/run", *(it for name in KNOWN for it in ("--only", name)), ANOTHER / "play.js"], stdout=subprocess.PIPE)
+        self.assertEqual((ran.returncode, ran.stdout.decode()), (0, f"{len(KNOWN)} passed, 0 failed\n"))
+
+    def test_a_source_that_it_refuses_by_an_exception_is_closed(self):
+        file = self.write("sessions.json", json.dumps([["a", ["OBJECTS\n", [3], ""]], ["b", ["", [], ""]]]))
+        ran = node(ANOTHER / "play.js", file)
+        self.assertEqual([json.loads(it)["cause"] for it in ran.stdout.decode().splitlines()], ["Section:0", "Section:0"])
+        self.assertEqual((ran.returncode, ran.stderr), (1, b""))
+
+    def test_an_error_of_it_is_told_with_the_input(self):
+        source = "OBJECTS\nBackground .\na\nPlayer p\na\nLEGEND\nCOLLISIONLAYERS\nBackground\nPlayer\nLEVELS\np.\n"
+        file = self.write("sessions.json", json.dumps([["a", [source, [3], ""]], ["b", [source, [3, 1, "tick", 3], ""]], ["c", [source, [3], ""]]]))
+        other = self.write("other", f"#!/bin/sh\nexec {sys.executable} -B {TOP}/tests/engine_by_the_book.py \"$@\"\n")
+        other.chmod(0o755)
+        answer = run("compare", "--engines", other, ANOTHER / "play.js", file)
+        self.assertEqual(answer.out.splitlines(), [
+            "session 1, b: play.js crashed after input 1 (left): ended with status 2: Error: there is no act tick",
+            "3 sessions: 2 the same, 1 diverges",
+        ])
 
 
 @plays

@@ -4,7 +4,8 @@
 //
 //     serve((entry, frame) => { .. frame(at, kind, level) .. });
 //
-// `entry` has source, inputs and index. What is answered closes the session: nothing, or ["stopped", "loop-limit"], or ["refused", "BadRule:3"].
+// `entry` has source, inputs and index. What is answered, or promised, closes the session: nothing, or ["stopped", "loop-limit"], or
+// ["refused", "BadRule:3"].
 // Where the engine throws, the status is 2. A file is tested as far as JavaScript can: it doesn't tell 1.0 from 1, and nests as deep as it will.
 
 const fs = require("fs");
@@ -74,15 +75,16 @@ function readEntries(text) {
   });
 }
 
-// Plays what the command line names, and sets the exit status.
-function serve(play, words = process.argv.slice(2)) {
+// Plays what the command line names, session by session, and sets the exit status.
+async function serve(play, words = process.argv.slice(2)) {
   process.stdout.on("error", () => process.exit(2));
   try {
     const { order, file } = readWords(words);
     const lines = new Lines((text) => process.stdout.write(text), order);
     for (const entry of readEntries(readInput(file))) {
       lines.start(entry.name, entry.level);
-      lines.close(...(play(entry, (at, kind, level) => lines.frame(at, kind, level)) || []));
+      const close = await play(entry, (at, kind, level) => lines.frame(at, kind, level));
+      lines.close(...(close || []));
     }
     process.exitCode = lines.allPassed ? 0 : 1;
   } catch (why) {
