@@ -9,8 +9,8 @@ const ORDERS_OF_CELLS = ["columns", "rows"];
 const keptFile = (file) => file && { name: file.name, bytes: file.bytes };
 
 // What is kept of a state: what was made by hand. `isBusy` is whether something was played when it was kept.
-export function keptOf({ text, order, work, file, isUnsaved, past, tab }, isBusy) {
-  return { version: VERSION, kept: Date.now(), text, order, work, file: keptFile(file), isUnsaved, tab, isBusy, past: past.map((it) => ({ ...it, ...(it.file ? { file: keptFile(it.file) } : {}) })) };
+export function keptOf({ text, order, work, file, isUnsaved, past, tab, isTicked }, isBusy) {
+  return { version: VERSION, kept: Date.now(), text, order, work, file: keptFile(file), isUnsaved, tab, isTicked, isBusy, past: past.map((it) => ({ ...it, ...(it.file ? { file: keptFile(it.file) } : {}) })) };
 }
 
 class Unreadable extends Error {}
@@ -48,10 +48,10 @@ function fromFirst({ source, index, inputs, name, opened, order, file, former, i
 // What a value of the store was kept of, or null where it can't be read.
 export function stateFrom(value, example) {
   try {
-    const { version, text, order, work, file: bytes, isUnsaved, past, tab, isBusy } = value.version === undefined ? fromFirst(value) : value;
+    const { version, text, order, work, file: bytes, isUnsaved, past, tab, isTicked, isBusy } = value.version === undefined ? fromFirst(value) : value;
     wanted(version === VERSION && isText(text) && ORDERS_OF_CELLS.includes(order) && Array.isArray(past));
     const file = fileFrom(bytes);
-    return { ...beginning(example), text, order, work: workFrom(work, file), file, isUnsaved: Boolean(isUnsaved), past: past.map(lostFrom).slice(-MOST_PAST), tab: tab === "sessions" ? tab : "game", isHeld: Boolean(isBusy) };
+    return { ...beginning(example), text, order, work: workFrom(work, file), file, isUnsaved: Boolean(isUnsaved), past: past.map(lostFrom).slice(-MOST_PAST), tab: tab === "sessions" ? tab : "game", isTicked: Boolean(isTicked), isHeld: Boolean(isBusy) };
   } catch {
     return null;
   }

@@ -2,7 +2,7 @@
 import assert from "node:assert/strict";
 import test from "node:test";
 import { Ending, endingTold, obstacleTold, partingOf, partingTold } from "../../web/comparing.mjs";
-import { kindOf } from "../../web/handing.mjs";
+import { handed } from "../../web/handing.mjs";
 import { meaningOf } from "../../web/keys.mjs";
 import { Labels, readCells, widthOf } from "../../web/level-text.mjs";
 import { framesIn, readRuns, runsOf } from "../../web/lines.mjs";
@@ -184,12 +184,28 @@ test("keys mean inputs and moves, but not where something is typed", () => {
   assert.deepEqual(pressed("ArrowLeft"), { input: 1 });
   assert.deepEqual(pressed("D"), { input: 3 });
   assert.deepEqual(pressed("."), { input: "tick" });
+  for (const key of ["x", "c", "C", " ", "Enter"]) assert.deepEqual(pressed(key), { input: 4 }, key);
+  for (const [key, move] of [["+", "larger"], ["-", "smaller"], ["0", "fit"]]) assert.deepEqual(pressed(key), { move });
   assert.deepEqual(pressed("ArrowLeft", "body", { shiftKey: true }), { move: "back" });
   assert.deepEqual(pressed("N", "body", { shiftKey: true }), { move: "previous-failure" });
   assert.deepEqual(pressed("End"), { move: "last" });
-  for (const it of [pressed("x", "textarea"), pressed("q"), pressed("z", "body", { ctrlKey: true }), pressed(" ", "button"), pressed("Tab"), pressed("Enter")]) assert.equal(it, null);
+  for (const it of [pressed("x", "textarea"), pressed("q"), pressed("z", "body", { ctrlKey: true }), pressed(" ", "button"), pressed("Tab"), pressed("Enter", "button")]) assert.equal(it, null);
 });
 
-test("a file is taken for what its first letter says", () => {
-  assert.deepEqual(["\ufeff [", '{"at":0', "title A", ""].map(kindOf), ["sessions", "lines", "game", "game"]);
+const kindOf = (text) => handed("f", typeof text === "string" ? bytesOf(text) : text).kind;
+const wide = (text, isBig) => Uint8Array.from([...text].flatMap((letter) => (isBig ? [0, letter.charCodeAt(0)] : [letter.charCodeAt(0), 0])));
+
+test("a file is taken for what stands in it", () => {
+  const recording = '["a",["OBJECTS",[0],"b:0,"]]';
+  assert.deepEqual(["[]", `[${recording}]`, `so: ${recording},`, '{"at":0', "title A\nOBJECTS\n"].map(kindOf), ["sessions", "sessions", "recordings", "lines", "game"]);
+  assert.deepEqual([wide(`[${recording}]`, false), wide(`[${recording}]`, true), wide("LEVELS\n", true)].map(kindOf), ["sessions", "sessions", "game"]);
+});
+
+test("what is none of these is refused, and prose is no game", () => {
+  const refusals = [
+    ["", "f: it is empty: in PuzzleScript's editor play"], ["Dear Anna, here is my game.", "f: it has no recording, and is no text of a game"], ['{"source": "x"}', "f: it has objects in braces"],
+    ['["a",["OBJECTS",[7],"b:0,"]]', "no recording is left in f: line 1: skipped a recording with a fault: its input 0 is neither"], ['\n["a",["OBJECTS\\n', "no recording is left in f: line 2: skipped a recording that is cut off"],
+    [new Uint8Array([0x61, 0xff]), "f is no text in UTF-8"],
+  ];
+  for (const [text, begin] of refusals) assert.throws(() => kindOf(text), (error) => error instanceof Refusal && error.message.startsWith(begin), begin);
 });
