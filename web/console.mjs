@@ -81,9 +81,10 @@ class Search {
 
   // Reads what was quoted or escaped once; where the search goes on.
   readQuoted(at, isEscaped) {
+    if (this.left < 0) return at + 1;
     const end = isEscaped ? endOfEscaped(this.text, at) : endOfText(this.text, at);
-    if (end === null || end - at < LEAST_LETTERS || this.left < 0) return at + 1;
-    this.left -= end - at;
+    this.left -= Math.abs(end) - at;
+    if (end - at < LEAST_LETTERS) return at + 1;
     const text = unescaped(isEscaped ? this.text.slice(at, end) : this.text.slice(at + 1, end - 1));
     return text !== null && this.readInner(at, text) ? end : at + 1;
   }

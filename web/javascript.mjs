@@ -43,28 +43,28 @@ export function unescaped(text) {
   return isBad ? null : read;
 }
 
-// Where a letter that is escaped ends, or null where the text does.
+// Where a letter that is escaped ends.
 function behindEscape(text, at) {
-  if (at + 1 >= text.length) return null;
   return text.startsWith("\r\n", at + 1) ? at + 3 : at + 1 + (text.codePointAt(at + 1) > 0xffff ? 2 : 1);
 }
 
-// Where the text of JavaScript that begins with a quote ends, or null where it doesn't.
+// Where the text of JavaScript that begins with a quote ends; below 0 where it doesn't: minus the place up to which it was read.
 export function endOfText(text, begin) {
   const { ends, plain } = QUOTES.get(text[begin]);
-  for (let at = begin + 1; at !== null;) {
+  for (let at = begin + 1; ;) {
     at += foundAt(plain, text, at).length;
     const letter = text[at];
-    if (letter === undefined || letter === "\n") return null;
+    if (letter === undefined || letter === "\n") return -at;
     if (ends.includes(letter)) return at + 1;
     if (letter === "$") {
-      if (text[at + 1] === "{") return null;
+      if (text[at + 1] === "{") return -at;
       at += 1;
-    } else if (ends === SMART_ENDS && (text[at + 1] === "\n" || text.startsWith("\r\n", at + 1))) {
-      return null;
-    } else at = behindEscape(text, at);
+    } else {
+      const isBroken = at + 1 >= text.length || (ends === SMART_ENDS && (text[at + 1] === "\n" || text.startsWith("\r\n", at + 1)));
+      if (isBroken) return -at;
+      at = behindEscape(text, at);
+    }
   }
-  return null;
 }
 
 // Where the rest of a text ends that was escaped and has lost its quotes.
@@ -111,7 +111,7 @@ export function tokenAt(text, at) {
   if (inputs !== null) return inputs;
   if (letter === "[" || letter === "]" || letter === ",") return { kind: letter, at, end: at + 1 };
   if (isQuote(letter)) {
-    const end = endOfText(text, at), value = end === null ? null : unescaped(text.slice(at + 1, end - 1));
+    const end = endOfText(text, at), value = end < 0 ? null : unescaped(text.slice(at + 1, end - 1));
     return value === null ? null : { kind: "value", value, at, end };
   }
   const word = foundAt(NAME_OR_NUMBER, text, at), read = word === null ? null : valueOfWord(word);
