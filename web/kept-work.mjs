@@ -1,4 +1,5 @@
 // A state as it is kept between visits, and back. What is kept has a version; what can't be read is no state.
+import { packed, unpacked } from "./packing.mjs";
 import { MOST_PAST } from "./past.mjs";
 import { SessionFile } from "./session-file.mjs";
 import { beginning } from "./work.mjs";
@@ -6,7 +7,7 @@ import { beginning } from "./work.mjs";
 const VERSION = 2;
 const ORDERS_OF_CELLS = ["columns", "rows"];
 
-const keptFile = (file) => file && { name: file.name, bytes: file.bytes };
+const keptFile = (file) => file && packed(file);
 
 // What is kept of a state: what was made by hand. `isBusy` is whether something was played when it was kept.
 export function keptOf({ text, order, work, file, isUnsaved, past, tab, isTicked }, isBusy) {
@@ -30,8 +31,9 @@ function workFrom({ own, index, inputs, name, opened }, file) {
 
 function fileFrom(value) {
   if (!value) return null;
-  wanted(isText(value.name) && value.bytes instanceof Uint8Array);
-  return new SessionFile(value.name, value.bytes);
+  const bytes = unpacked(value);
+  wanted(isText(value.name) && bytes instanceof Uint8Array);
+  return new SessionFile(value.name, bytes);
 }
 
 function lostFrom({ text, work, file, isUnsaved }) {

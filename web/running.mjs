@@ -1,4 +1,5 @@
 // Runs the page: after each change of the state the engine is asked for what is wanted of it, the state is drawn, and it is kept.
+import { playedInParts } from "./parts.mjs";
 import { answered, isWanted, wantedPlay } from "./replaying.mjs";
 import { seeing, suiteCame, wantedSuite } from "./suite.mjs";
 import { playedText } from "./ticks.mjs";
@@ -101,7 +102,8 @@ export class Runner {
         Object.assign(doing, { done, total });
         this.draw(this.state, this.doing, true);
       };
-      const answer = await this.engine.playAll(wanted.file.playedOver(wanted.text, (source) => playedText(source, wanted.isTicked)), { order: wanted.order, signal, progress }).catch((error) => ({ fault: error.message, lines: null }));
+      const parts = wanted.file.partsOver(wanted.text, (source) => playedText(source, wanted.isTicked)), count = wanted.file.entries.length;
+      const answer = await playedInParts(this.engine, parts, count, { order: wanted.order, signal, progress }).catch((error) => ({ fault: error.message, lines: null }));
       return (state) => suiteCame(state, wanted, answer, performance.now() - begun);
     });
   }

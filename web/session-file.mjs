@@ -11,6 +11,7 @@ const BLANK = [0x20, 0x0a, 0x0d, 0x09];
 export class Refusal extends Error {}
 
 export const MOST_INPUTS = 65_536;
+const MOST_BYTES = 16_777_216; // of a file that the engine plays
 
 const isInput = (value) => WORDS.includes(value) || (Number.isInteger(value) && value >= 0 && value <= 4);
 
@@ -103,10 +104,29 @@ export class SessionFile {
     return this.entries.some((entry) => entry.source === "");
   }
 
-  // The file as it is played, with a game's text in the place of empty ones, and each text as the engine gets it.
-  playedOver(game, played = (source) => source) {
-    if (this.entries.every(({ source }) => source !== "" && played(source) === source)) return this.bytes;
-    return encoded(this.entries.map(({ name, source, inputs, level, index }) => [name, [played(source || game), inputs, level, index]]));
+  // The file as it is played, with a game's text in the place of empty ones, and each text as the engine gets it: as few files as the engine takes,
+  // [{ first, bytes }] with the number of the first session in each.
+  partsOver(game, played = (source) => source) {
+    if (this.entries.every(({ source }) => source !== "" && played(source) === source)) return [{ first: 0, bytes: this.bytes }];
+    const parts = [];
+    let texts = [], first = 0, size = 2;
+    const end = (next) => {
+      parts.push({ first, bytes: new TextEncoder().encode(`[${texts.join(",")}]`) });
+      [texts, first, size] = [[], next, 2];
+    };
+    this.entries.forEach(({ name, source, inputs, level, index }, number) => {
+      const text = JSON.stringify([name, [played(source || game), inputs, level, index]]), length = new TextEncoder().encode(text).length + 1;
+      if (texts.length > 0 && size + length > MOST_BYTES) end(number);
+      texts.push(text);
+      size += length;
+    });
+    end(this.entries.length);
+    return parts;
+  }
+
+  // Where the text of each session stands.
+  sourceSpans() {
+    return this.spans().map((span) => spansIn(this.bytes, spansIn(this.bytes, span)[1])[0]);
   }
 
   spans() {

@@ -8,7 +8,12 @@ import { fileNameOf } from "../../web/handing.mjs";
 import { swipeOf } from "../../web/keys.mjs";
 import { messagesAt, messagesOf } from "../../web/messages.mjs";
 import { framesOf } from "../../web/replaying.mjs";
-import { edited, fromLevel, lookedAt, pressed, withGame } from "../../web/work.mjs";
+import { edited, fromLevel, lookedAt, pressed, ticked, withGame } from "../../web/work.mjs";
+import { clockTold, statusOf, verdictOf } from "../../web/page-words.mjs";
+import { SessionFile } from "../../web/session-file.mjs";
+import { withOtherFile } from "../../web/filing.mjs";
+import { rowsOf, sessionOpened } from "../../web/suite.mjs";
+import { hasClock, withoutClock } from "../../web/ticks.mjs";
 import { Bench, module } from "./bench.mjs";
 
 const it = (name, act) => test(name, { skip: module === undefined && "there is no module" }, act);
@@ -117,6 +122,33 @@ it("frames are shown one after another, which any act ends", async () => {
 
 test("a game has a pace", () => {
   assert.deepEqual(["title a\nagain_interval 0.5\n", "AGAIN_INTERVAL .03", "again_interval 99", "again_interval x", "title again_interval 3", ""].map(paceOf), [500, 30, 5000, 100, 100, 100]);
+});
+
+const CLOCKED = FALLING.replace("title Falling", "title Falling\n(a) Realtime_Interval 0.5 (b)");
+
+test("a clock is taken from the text, and its lines keep their numbers", () => {
+  assert.deepEqual([hasClock(CLOCKED), hasClock(FALLING), hasClock("title realtime_interval 1\nOBJECTS\nrealtime_interval\nred\n")], [true, false, false]);
+  assert.equal(withoutClock(CLOCKED), CLOCKED.replace("(a) Realtime_Interval 0.5 (b)", "(a) "));
+  assert.equal(withoutClock("(\n) realtime_interval 1\nx"), "(\n) \nx");
+});
+
+it("a game with a clock is played without it where that is wanted, which the verdict and the list say", async () => {
+  const level = "background:0,0,background goal player:1,\n", bench = new Bench();
+  await bench.act(withGame, CLOCKED);
+  assert.match(clockTold(bench.state).text, /^A game with `realtime_interval` isn't played here.*\?$/);
+  await bench.act(withOtherFile, new SessionFile("f.json", new TextEncoder().encode(JSON.stringify([["clocked", ["", [3, "tick", 3, "tick"], level, 4]], ["free", [FALLING, [3, 3], level, 4]]]))));
+  assert.deepEqual(rowsOf(bench.state).map(({ close, isTicked }) => [close, isTicked]), [["refused", false], ["passed", false]]);
+  await bench.act(ticked, true);
+  assert.deepEqual(rowsOf(bench.state).map(({ close, isTicked }) => [close, isTicked]), [["passed", true], ["passed", false]]);
+  assert.match(verdictOf(bench.state, null).text, /1 was played without `realtime_interval`, with its ticks as recorded\.$/);
+  assert.equal(verdictOf(bench.state, null).close, null);
+  await bench.act(sessionOpened, 0);
+  assert.equal(statusOf(bench.state).text, "Passed: the last level is the recorded one. Played without `realtime_interval`, with its ticks as recorded.");
+  assert.deepEqual(clockTold(bench.state), { text: "Played without `realtime_interval`, with its ticks as recorded.", isAsked: false });
+  await bench.reload();
+  assert.equal(bench.state.isTicked, true);
+  await bench.act(ticked, false);
+  assert.deepEqual([rowsOf(bench.state)[0].close, clockTold(bench.state).isAsked], ["refused", true]);
 });
 
 test("a swipe goes one way", () => {
