@@ -5,7 +5,7 @@ import { heightOf, isDrawn, numberAt, placeOf } from "./levels.mjs";
 const MOST_LISTED = 300;
 
 // What stands in a cell, by the names of its objects.
-export const cellTold = (names) => (names.length === 0 ? "nothing" : names.join(" and "));
+export const cellTold = (names) => (names.join(" ") || "nothing");
 
 // Where a cell stands, counted from 1.
 export function whereTold(level, number) {

@@ -125,7 +125,7 @@ export class Drawn {
   drawLikely(state, game) {
     const isDiffering = sessionOf(state) !== null && runsOfNow(state)?.[state.work.opened].close === "differs";
     const told = isDiffering ? likelyTold({ source: sourceOf(state), game, inputs: state.work.inputs, level: framesOf(state)[0].level }) : null;
-    say("likely", told === null ? "" : `Perhaps ${told}.`);
+    say("likely", told === null ? "" : `${told[0].toUpperCase()}${told.slice(1)}.`);
   }
 
   // Where the text that is written can't be played, what the last one showed stays.

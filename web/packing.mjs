@@ -2,12 +2,12 @@
 const LEAST = 65_536; // bytes of a file that is packed
 
 const packs = new WeakMap();
-const decoder = new TextDecoder("utf-8", { ignoreBOM: true }), encoder = new TextEncoder();
+const reading = new TextDecoder("utf-8", { ignoreBOM: true });
 
 function packOf(file) {
   const { name, bytes } = file, texts = [], numbers = new Map(), pieces = [];
   if (bytes.length < LEAST) return { name, bytes };
-  const between = (begin, end) => decoder.decode(bytes.subarray(begin, end));
+  const between = (begin, end) => reading.decode(bytes.subarray(begin, end));
   let at = 0, size = 0;
   for (const [begin, end] of file.sourceSpans()) {
     const text = between(begin, end);
@@ -31,5 +31,5 @@ export function packed(file) {
 
 // The bytes of what was kept of a file.
 export function unpacked({ bytes, texts, pieces }) {
-  return bytes ?? encoder.encode(pieces.map((piece) => (typeof piece === "number" ? texts[piece] : piece)).join(""));
+  return bytes ?? new TextEncoder().encode(pieces.map((piece) => (typeof piece === "number" ? texts[piece] : piece)).join(""));
 }

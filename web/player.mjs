@@ -168,7 +168,7 @@ export class Player {
     const level = this.levels[number];
     const shown = Math.min(this.at, run.last);
     const changed = at("marks").checked && this.at <= run.last ? run.changesAt(shown) ?? [] : [];
-    drawLevel(at(`level-${number}`), level, this.pictures, scale, [{ cells: changed, ...CHANGED }, { cells: this.differing ?? [], ...DIFFERS }, { cells: this.cells.chosen === null ? [] : [this.cells.chosen], ...DIFFERS, weight: 2 }]);
+    drawLevel(at(`level-${number}`), level, this.pictures, scale, [{ cells: changed, ...CHANGED }, { cells: this.differing ?? [], ...DIFFERS }, { cells: this.cells.chosen === null ? [] : [this.cells.chosen], ...DIFFERS, weight: 1.5 }]);
     const why = level.text === undefined ? "an empty level text" : `a level text that can't be read back: ${level.text}`;
     const told = isDrawn(level) ? this.captionOf(caption, run) : readable(`${caption}: ${why}`);
     at(`caption-${number}`).textContent = told;

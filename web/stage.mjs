@@ -78,7 +78,7 @@ export class Stage {
     at(id).hidden = !isDrawn(level);
     if (!isDrawn(level)) return;
     const { chosen } = this.differing;
-    drawLevel(at(id), level, this.pictures, this.scale, [{ cells: framed, colour: MARK }, { cells: chosen === null ? [] : [chosen], colour: MARK, weight: 2 }]);
+    drawLevel(at(id), level, this.pictures, this.scale, [{ cells: framed, colour: MARK }, { cells: chosen === null ? [] : [chosen], colour: MARK, weight: 1.5 }]);
     at(id).setAttribute("aria-label", `${told}; ${level.width} wide, ${heightOf(level)} high`);
   }
 

@@ -165,7 +165,7 @@ test("the file of a text is named by its title", () => {
 
 test("a level is told row by row, in both orders of cells", () => {
   const names = [["background"], ["background", "player"], []], told = (order) => rowsInWords({ width: 3, cells: [0, 0, 1, 2, 2, 2], order }, (label) => names[label]);
-  assert.deepEqual(told("rows"), ["2 \u00d7 background, background and player", "3 \u00d7 nothing"]);
-  assert.deepEqual(told("columns"), ["background, background and player, nothing", "background, 2 \u00d7 nothing"]);
+  assert.deepEqual(told("rows"), ["2 \u00d7 background, background player", "3 \u00d7 nothing"]);
+  assert.deepEqual(told("columns"), ["background, background player, nothing", "background, 2 \u00d7 nothing"]);
   assert.deepEqual(rowsInWords(null, () => []), []);
 });
