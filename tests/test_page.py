@@ -8,13 +8,19 @@ import subprocess
 import unittest
 import zlib
 from html.parser import HTMLParser
+from random import Random
 
+from test_differences import games
 from tool import CASES, InARoom, TOP, run
+from saxtegun.differences import likely
 from saxtegun.explaining import culprit_told, cause_told, fault_in
+from saxtegun.files import read_any_text
+from saxtegun.finding import find
 from saxtegun.games import Game
 from saxtegun.levelsets import entries_of_levels
 from saxtegun.lines import Frame, Run
 from saxtegun.pages import look_of
+from saxtegun.recordings import COMPILER, CUT_OFF, HOW, OBJECTS, as_sessions, own_name
 from saxtegun.sessions import Entry
 
 NODE, OWN, MODULE = shutil.which("node"), TOP / "tests" / "web", b"\0asm\1\0\0\0"
@@ -140,6 +146,22 @@ STRANGE = ("", "title \u3000 A (comment) b\nOBJECTS (\n) \nx y\n", "color_palett
            "+[a]->[b](c)\nmessage->x (y)\nlevels\nw\u2028w\n")
 
 
+FORMS = json.loads((TOP / "tests/forms/expected.json").read_text(encoding="utf-8"))
+PIECES = ("[", '"', "\\", "\n", "]", ",", "&quot;", "<br>", "> ", "//", "/*", "*/", "`", "\u201c", "\u201d", "${", "null", '"objects"', '["a",["objects",[0],"b:0,",', "1.0", "&#34;", "'", "\r\n", "\ufeff", "\u00a0", "\U0001f600")
+
+
+def broken_forms(count):
+    """Forms in which letters are missing, or pieces stand that don't belong there."""
+    random = Random(1)
+    texts = [read_any_text(str(it)) for it in sorted((TOP / "tests/forms").glob("*.txt"))]
+    for _ in range(count):
+        letters = list(random.choice(texts))
+        for _ in range(random.choice((1, 2, 4))):
+            at = random.randrange(len(letters) + 1)
+            letters[at : at + random.choice((0, 0, 1, 5, 40))] = [random.choice(PIECES)]
+        yield "".join(letters)
+
+
 @unittest.skipUnless(NODE, "Node is not there")
 class Twins(unittest.TestCase):
     """The page reads games and tells faults as the command does: what Python says is what is wanted."""
@@ -167,8 +189,50 @@ class Twins(unittest.TestCase):
             with self.subTest(cause):
                 self.assertEqual(it, {"sentence": sentence, "line": fault[1] if fault and fault[1] else None})
 
+    def found_in(self, texts):
+        """What the page finds in texts, as the command finds it: entries and what was skipped."""
+        return [([(it["line"], it["name"], it["source"], it["inputs"], it["level"], it["index"]) for it in found["found"]], [(it["line"], it["what"]) for it in found["skipped"]])
+                for found in in_node("find.mjs", texts)]
+
+    def test_each_form_gives_its_recordings(self):
+        expected, forms = FORMS["recordings"], FORMS["forms"]
+        texts = {form: read_any_text(str(TOP / f"tests/forms/{form}.txt")) for form in forms}
+        for (form, wanted), (found, skipped) in zip(forms.items(), self.found_in(list(texts.values()))):
+            with self.subTest(form):
+                self.assertEqual([[name, body] for _, name, *body in found], [[name, [expected[key][it] for it in ("source", "inputs", "level", "index")]] for name, key in wanted["took"]])
+                self.assertEqual([it if it in ("compiler", "cut-off") else "fault" for _, it in skipped], wanted["skipped"])
+
+    def test_forms_with_errors_give_what_the_command_finds(self):
+        texts = list(broken_forms(2000))
+        for text, found in zip(texts, self.found_in(texts)):
+            there = find(text)
+            bodies = [json.loads(it.body) for it in there.found]
+            wanted = [(it.line, it.name, *body[:3], (body[3] if len(body) > 3 else 0) or 0) for it, body in zip(there.found, bodies)]
+            self.assertEqual(found, (wanted, [tuple(it) for it in there.skipped]), text)
+
+    def test_recordings_get_the_names_that_the_command_gives(self):
+        for form in ("entry", "body-alone", "without-a-name", "entries-in-a-row", "solved"):
+            findings = find(read_any_text(str(TOP / f"tests/forms/{form}.txt")))
+            entries = as_sessions("a", findings.found, own_name).entries
+            with self.subTest(form):
+                self.assertEqual(in_node("names.mjs", [[it.name, it.source, it.inputs, it.level, it.index] for it in [e._replace(name=f.name) for e, f in zip(entries, findings.found)]]), [it.name for it in entries])
+
+    def test_what_is_skipped_is_told_as_the_command_tells_it(self):
+        page = (TOP / "web/findings.mjs").read_text(encoding="utf-8")
+        for sentence in (COMPILER, CUT_OFF, OBJECTS, HOW):
+            self.assertIn(sentence, page)
+
+    def test_the_likely_difference_is_the_one_that_the_command_names(self):
+        cases = [(value[1][0], [it for it in value[1][1] if isinstance(it, str)], next((it["level"] for it in lines if "level" in it), "")) for value, lines in entries_of_cases() if len(value[1]) > 1 and isinstance(value[1][1], list)]
+        cases += [(source, inputs, level) for source, inputs, _, _ in games() for level in ("", "background:0,crate:1,player box:2,")]
+        cases += [(source, ["undo"], "a:0,") for source in STRANGE]
+        wanted = [likely(Entry(0, "", source, inputs, "", 0, {}, False), Run(0, "", "differs", None, [Frame(0, "start", level)])) for source, inputs, level in cases]
+        self.assertGreater(len(set(wanted)), 6)
+        for case, it, there in zip(cases, wanted, in_node("likely.mjs", cases)):
+            self.assertEqual(there, it, case)
+
     def test_the_logic_of_the_page(self):
-        for name in ("logic", "state", "random"):
+        for name in ("logic", "state", "shown", "random"):
             with self.subTest(name):
                 ran = subprocess.run([NODE, "--test", "--test-reporter=tap", OWN / f"{name}.test.mjs"], stdout=subprocess.PIPE, stderr=subprocess.STDOUT, check=False)
                 self.assertEqual(ran.returncode, 0, ran.stdout.decode(errors="replace"))

@@ -1,113 +1,155 @@
-// Recordings as an editor's console prints them, and as published test data has them: lists of JavaScript within whatever else stands there. The twin,
-// which looks for less, is python/saxtegun/javascript.py.
-import { Game } from "./game.mjs";
-import { bodyFault } from "./session-file.mjs";
+// Recordings in any text: what an editor's console prints, with whatever stands around it, or published test data. The twin of
+// python/saxtegun/finding.py, which holds what is looked for; both are held to the texts of tests/forms.
+import { WHITE_SPACE, behindSpace, endOfEscaped, endOfText, tokenAt, unescaped } from "./javascript.mjs";
+import { faultOf } from "./session-file.mjs";
 
-const BLANK_SPACE = /(?:[\s\ufeff]|\/\/[^\n]*)*/y;
-const TEXT = /"[^"\\\n]*(?:\\(?:\r\n|[^])[^"\\\n]*)*"|'[^'\\\n]*(?:\\(?:\r\n|[^])[^'\\\n]*)*'|`[^`\\]*(?:\\(?:\r\n|[^])[^`\\]*)*`/y;
-const BEGIN = /\[[\s\ufeff]*["'`]/g; // of a recording, or of what is in it
-const SINGLE = /-?(?:0|[1-9]\d*)(?:\.\d+)?(?:[eE][-+]?\d+)?(?![\w.])|(?:null|undefined|true|false)(?!\w)/y;
-const ESCAPED = /\\(?:u\{([0-9a-fA-F]{1,6})\}|u([0-9a-fA-F]{4})|x([0-9a-fA-F]{2})|(\r\n|[^]))/g;
-const ESCAPED_LETTERS = { n: "\n", r: "\r", t: "\t", b: "\b", f: "\f", v: "\v", 0: "\0", "\n": "", "\r\n": "" };
-const HTML_LETTERS = { "&quot;": '"', "&#34;": '"', "&#39;": "'", "&#x27;": "'", "&lt;": "<", "&gt;": ">", "&amp;": "&" };
-const MOST_DEPTH = 100;
-const MOST_WASTED = 100_000; // letters that are read in vain, beside twice those of the text
-const NO_VALUE = Symbol("no value");
+const SPACE_SET = `[${WHITE_SPACE}]*`;
+const BREAK = `[${WHITE_SPACE}>]*(?:(?:<br${SPACE_SET}/?>|&nbsp;)[${WHITE_SPACE}>]*)*`;
+const BROKEN_LINES = `${SPACE_SET}(?:\\\\[nrt]${SPACE_SET})*`;
+// Where a recording may begin: a list whose first item is a text; such a list as a text, or escaped; and such a list in HTML.
+const BEGIN = new RegExp(
+  `(?<list>\\[(?=${BREAK}["'\`\u201c\u201d\u201e]))|(?<quoted>["'\`](?=${BROKEN_LINES}\\[${BROKEN_LINES}\\\\?["'\`]))`
+  + `|(?<escaped>\\[(?=${BROKEN_LINES}\\\\["']))|(?<html>\\[(?=${BREAK}&(?:quot|#34|apos|#39);))`, "g");
+const HTML_LETTERS = new Map(Object.entries({ quot: '"', apos: "'", lt: "<", gt: ">", amp: "&", nbsp: "\xa0" }));
+const HTML_LETTER = /&(?:#([0-9]{1,7});?|#[xX]([0-9a-fA-F]{1,6});?|(quot|lt|gt|amp|nbsp);?|(apos);)/g;
+const MOST_DEPTH = 8; // an entry holds a body, which holds its inputs; behind one that is cut off another may begin
+const LEAST_LETTERS = 9; // of anything that is taken or skipped by name
+const LEAST_READ = 100_000; // letters of what is quoted are read in vain at most, beside four times those of the text
+const MOST_OF_A_HEAD = 4000; // letters of a source in which its first heading is looked for, where it is cut off
 
-// Reads values at places of a text.
-class Reader {
-  constructor(text) {
-    Object.assign(this, { text, at: 0, wasted: 0 });
+const isBody = (value) => Array.isArray(value) && value.length > 2 && typeof value[0] === "string" && Array.isArray(value[1]) && typeof value[2] === "string";
+
+const isEntry = (value) => value.length > 1 && typeof value[0] === "string" && isBody(value[1]);
+
+// Whether a value is [source, messages, their number], as a compiler's test has it.
+const isOfACompiler = (value) => Array.isArray(value) && value.length === 3 && typeof value[0] === "string" && Array.isArray(value[1]) && Number.isInteger(value[2]);
+
+function letterOfHtml(whole, decimal, hexadecimal, ...names) {
+  const name = names.slice(0, 2).find(Boolean);
+  if (name !== undefined) return HTML_LETTERS.get(name);
+  const number = decimal === undefined ? parseInt(hexadecimal, 16) : Number(decimal);
+  return number === 0 || number > 0x10ffff ? "\ufffd" : String.fromCodePoint(number);
+}
+
+const fromHtml = (text) => text.replace(HTML_LETTER, letterOfHtml);
+
+// How many lines end between two places. Nothing is looked for beyond the second.
+function feedsIn(text, low, high) {
+  let count = 0;
+  for (let at = low; at < high; at += 1) count += text.charCodeAt(at) === 0x0a;
+  return count;
+}
+
+// A search through a text. One that was quoted or escaped is inner, and not unquoted again.
+class Search {
+  constructor(text, firstLine = 1, isInner = false) {
+    Object.assign(this, { text, isInner, counted: 0, line: firstLine, lastComment: text.lastIndexOf("*/"), found: [], skipped: [] });
+    this.left = 4 * text.length + LEAST_READ;
   }
 
-  match(pattern) {
-    pattern.lastIndex = this.at;
-    const found = pattern.exec(this.text)?.[0] ?? null;
-    if (found === null) return null;
-    this.at += found.length;
-    return found;
+  // The line of a place; places are asked for in their order, or nearly so.
+  lineOf(at) {
+    const count = feedsIn(this.text, Math.min(at, this.counted), Math.max(at, this.counted));
+    if (at < this.counted) return this.line - count;
+    this.line += count;
+    this.counted = at;
+    return this.line;
   }
 
-  take(letter) {
-    this.match(BLANK_SPACE);
-    if (this.text[this.at] !== letter) return false;
-    this.at += 1;
-    return true;
-  }
-
-  value(depth = 0) {
-    if (this.take("[")) return this.list(depth);
-    const text = this.match(TEXT);
-    if (text !== null) return unescaped(text.slice(1, -1));
-    const single = this.match(SINGLE);
-    if (single === null) throw NO_VALUE;
-    return single === "undefined" ? null : JSON.parse(single);
-  }
-
-  list(depth) {
-    const values = [];
-    if (depth > MOST_DEPTH) throw NO_VALUE;
-    while (!this.take("]")) {
-      values.push(this.value(depth + 1));
-      if (!this.take(",") && !this.take("]")) throw NO_VALUE;
-      if (this.text[this.at - 1] === "]") break;
+  run() {
+    for (let at = 0; ;) {
+      BEGIN.lastIndex = at;
+      const begin = BEGIN.exec(this.text);
+      if (begin === null) return this;
+      const { list, html } = begin.groups;
+      if (list !== undefined) at = this.readList(begin.index);
+      else if (this.isInner) at = begin.index + begin[0].length;
+      else if (html !== undefined) {
+        this.readInner(begin.index, fromHtml(this.text.slice(begin.index)));
+        return this;
+      } else at = this.readQuoted(begin.index, begin.groups.escaped !== undefined);
     }
-    return values;
+  }
+
+  // Searches a text that was quoted; whether something was in it.
+  readInner(at, text) {
+    const { found, skipped } = new Search(text, this.lineOf(at), true).run();
+    for (const it of found) this.found.push(it);
+    for (const it of skipped) this.skipped.push(it);
+    return found.length + skipped.length > 0;
+  }
+
+  // Reads what was quoted or escaped once; where the search goes on.
+  readQuoted(at, isEscaped) {
+    if (this.left < 0) return at + 1;
+    const end = isEscaped ? endOfEscaped(this.text, at) : endOfText(this.text, at);
+    this.left -= Math.abs(end) - at;
+    if (end - at < LEAST_LETTERS) return at + 1;
+    const text = unescaped(isEscaped ? this.text.slice(at, end) : this.text.slice(at + 1, end - 1));
+    return text !== null && this.readInner(at, text) ? end : at + 1;
+  }
+
+  // Reads the list that begins at a place, as far as it goes; where the search goes on.
+  readList(begin) {
+    const lists = [];
+    for (let at = begin; ;) {
+      const token = tokenAt(this.text, at);
+      if (token === null || (token.kind === "[" && lists.length === MOST_DEPTH)) {
+        this.tellCut(lists, at);
+        return Math.max(at, begin + 1);
+      }
+      at = token.end;
+      if (token.kind === "[") lists.push({ at: token.at, items: [] });
+      else if (lists.length === 0) return at; // inputs that stand alone
+      else if (token.kind === "value") lists.at(-1).items.push(token.value);
+      else if (token.kind === "]" && this.close(lists)) return at;
+      at = behindSpace(this.text, at, this.lastComment);
+    }
+  }
+
+  // Ends the innermost list; whether the outermost has ended, or a recording in one that is cut off.
+  close(lists) {
+    const it = lists.pop();
+    if (lists.length === 0) {
+      this.tell(it);
+      return true;
+    }
+    if (lists.length > 1 && isEntry(it.items)) {
+      this.tellCut(lists, it.at);
+      this.tell(it);
+      return true;
+    }
+    lists.at(-1).items.push(it.items);
+    return false;
+  }
+
+  // Takes a list that is a recording, and says which isn't a whole one; any other list is passed over.
+  tell({ at, items }) {
+    if (isEntry(items)) this.take(at, items);
+    else if (isBody(items)) this.take(at, ["", items]);
+    else if (isOfACompiler(items) || (items.length === 2 && isOfACompiler(items[1]))) this.skipped.push({ line: this.lineOf(at), what: "compiler" });
+  }
+
+  // Takes an entry, unless it has a fault.
+  take(at, entry) {
+    const fault = faultOf(entry), [name, [source, inputs, level, index]] = entry;
+    if (fault !== null) this.skipped.push({ line: this.lineOf(at), what: fault });
+    else this.found.push({ line: this.lineOf(at), name, source, inputs, level, index: Math.min(index ?? 0, Number.MAX_SAFE_INTEGER) });
+  }
+
+  // Takes a recording of which only the last brackets are missing, and says which is cut off.
+  tellCut(lists, at) {
+    if (lists.length === 0) return;
+    let items = lists.map((it) => it.items);
+    if (items.length === 2 && items[1].length > 3) items = [[...items[0], items[1]]];
+    if (items.length === 1 && isEntry(items[0])) return this.take(lists[0].at, items[0].slice(0, 2));
+    const texts = lists.flatMap((it) => it.items).filter((it) => typeof it === "string"), [rest] = this.text.slice(at, at + MOST_OF_A_HEAD).split("\n", 1);
+    if ([...texts, rest].some((it) => it.toLowerCase().includes("objects"))) this.skipped.push({ line: this.lineOf(lists[0].at), what: "cut-off" });
   }
 }
 
-function unescaped(text) {
-  return text.replace(ESCAPED, (_, code, four, two, letter) => {
-    if (letter !== undefined) return ESCAPED_LETTERS[letter] ?? letter;
-    const number = parseInt(code ?? four ?? two, 16);
-    return number > 0x10ffff ? "\ufffd" : String.fromCodePoint(number);
-  });
-}
-
-// The recordings in a value: [name, body], a body alone, which gets the title of its game for a name, or a list of these.
-function recordingsIn(value) {
-  if (!Array.isArray(value)) return [];
-  if (typeof value[0] === "string" && Array.isArray(value[1]) && bodyFault(value[1]) === null) return [[value[0], value[1]]];
-  if (bodyFault(value) === null) return [[new Game(value[0]).title, value]];
-  return value.flatMap(recordingsIn);
-}
-
-// The value at a place, or null where there is none.
-function valueAt(reader, at) {
-  reader.at = at;
-  try {
-    return reader.value();
-  } catch (error) {
-    if (error !== NO_VALUE) throw error;
-    reader.wasted += reader.at - at;
-    reader.at = at + 1;
-    return null;
-  }
-}
-
-function recordingsOf(text) {
-  const reader = new Reader(text), found = [], most = 2 * text.length + MOST_WASTED;
-  for (;;) {
-    BEGIN.lastIndex = reader.at;
-    const begin = BEGIN.exec(text);
-    if (begin === null || reader.wasted > most) return found;
-    found.push(...recordingsIn(valueAt(reader, begin.index)));
-  }
-}
-
-// A text in quotes as what it says.
-function unquoted(text) {
-  const reader = new Reader(text);
-  return ["\"", "'", "`"].includes(text.trimStart()[0]) ? String(valueAt(reader, text.length - text.trimStart().length) ?? "") : "";
-}
-
-const fromHtml = (text) => text.replace(/<br\s*\/?>/gi, "\n").replace(/&(?:quot|#34|#39|#x27|lt|gt|amp);/g, (word) => HTML_LETTERS[word]);
-
-// The recordings that stand in a text, { name, source, inputs, level, index }; none where it is something else.
-export function recordingsInText(text) {
-  for (const read of [(it) => it, unquoted, fromHtml]) {
-    const found = recordingsOf(read(text));
-    if (found.length > 0) return found.map(([name, [source, inputs, level, index]]) => ({ name, source: source.replaceAll("\r\n", "\n"), inputs, level, index: Math.min(index ?? 0, Number.MAX_SAFE_INTEGER) }));
-  }
-  return [];
+// The recordings of a text, { line, name, source, inputs, level, index }, and what was skipped in it, { line, what }: "compiler", "cut-off", or a fault.
+export function findingsIn(text) {
+  const { found, skipped } = new Search(text).run();
+  return { found, skipped };
 }

@@ -67,8 +67,8 @@ function strokeFrame(context, level, number, size, inset, isWhole) {
 }
 
 // Frames cells by two lines, a bright one and within it a dark one: one of them is seen on any ground.
-function frameCells(context, level, size, { cells, colour, isWhole = true }) {
-  const thickness = Math.max(1, Math.round(size / 12));
+function frameCells(context, level, size, { cells, colour, isWhole = true, weight = 1 }) {
+  const thickness = weight * Math.max(1, Math.round(size / 12));
   context.lineWidth = thickness;
   for (const [line, inset] of [[colour, thickness / 2], [DARK, thickness * 1.5]]) {
     context.strokeStyle = line;

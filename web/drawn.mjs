@@ -2,10 +2,11 @@
 // changes it.
 import { shapeOf } from "./closes.mjs";
 import { Ending } from "./comparing.mjs";
-import { at, make, plural } from "./elements.mjs";
+import { likelyTold } from "./differences.mjs";
+import { at, make, plural, readable } from "./elements.mjs";
 import { levelsOf } from "./game.mjs";
 import { Labels, readLevel } from "./level-text.mjs";
-import { faultOfText, othersTold, ownTold, putBackTold, statusOf, stepTold, tabTold, toldOfLevel, unlikenessTold, verdictOf } from "./page-words.mjs";
+import { clockTold, faultOfText, othersTold, ownTold, putBackTold, statusOf, stepTold, tabTold, toldOfLevel, unlikenessTold, verdictOf } from "./page-words.mjs";
 import { Stage } from "./stage.mjs";
 import { Strip } from "./strip.mjs";
 import { SessionList } from "./session-list.mjs";
@@ -16,11 +17,12 @@ import { countOfOthers, differenceOf, rowsOf, runsOfNow, seenOf, sessionOf } fro
 
 const TABS = ["game", "sessions"];
 
-const tell = (id, { text, close }) => at(id).replaceChildren(...(close === null ? [] : [shapeOf(close)]), make("span", "", text));
-
-function say(id, text) {
+function say(id, stranger) {
+  const text = readable(stranger);
   if (at(id).textContent !== text) at(id).textContent = text;
 }
+
+const tell = (id, { text, close }) => at(id).replaceChildren(...(close === null ? [] : [shapeOf(close)]), make("span", "", readable(text)));
 
 // Calls a function only where something of what it reads has changed.
 class Changes {
@@ -59,10 +61,12 @@ export class Drawn {
     tell("status", statusOf(state));
     say("own", ownTold(state));
     at("take-text").hidden = state.work.own === null;
+    this.drawClock(clockTold(state));
+    this.drawMessage(state.messages[0]);
     this.drawPlaying(state, doing.play);
     this.drawButtons(state);
     this.drawFile(state, doing.suite);
-    when("list", [state.file, state.suite, state.comparison, state.seen, state.work.opened, state.text, state.order, state.isHeld], () => this.list.show(rowsOf(state), state.work.opened));
+    when("list", [state.file, state.suite, state.comparison, state.seen, state.work.opened, state.text, state.order, state.isHeld, state.isTicked], () => this.list.show(rowsOf(state), state.work.opened));
     document.documentElement.dataset.busy = String(isBusy);
   }
 
@@ -104,18 +108,50 @@ export class Drawn {
 
   drawLevel(state) {
     const frame = framesOf(state)[shownOf(state)];
+    if (frame === undefined) return this.drawRefused(state);
     if (this.look?.source !== sourceOf(state)) this.look = { source: sourceOf(state), labels: new Labels() };
-    const { labels } = this.look, game = gameOf(sourceOf(state)), other = frame && this.comparedWith(state);
+    const { labels } = this.look, game = gameOf(sourceOf(state)), other = this.comparedWith(state);
     this.stage.use(game.look(), labels);
-    if (frame === undefined) {
-      this.stage.show({ level: null, other: null, framed: [], caption: "", otherCaption: "", told: "" });
-      return say("difference", "");
-    }
+    this.kept = { title: game.title, index: state.work.index };
+    this.drawLikely(state, game);
     const ending = other && new Ending(frame.level, other.text, state.order, labels);
     const level = ending ? ending.reached : readLevel(frame.level, labels, state.order);
     const unread = level === null ? "This level can't be drawn: a name of an object in it holds a comma." : "";
-    this.stage.show({ level, other: ending?.recorded ?? null, framed: ending?.cells ?? [], caption: other && level ? "reached" : unread, otherCaption: other?.caption ?? "", told: toldOfLevel(state) });
+    this.stage.show({ level, other: ending?.recorded ?? null, framed: ending?.cells ?? [], caption: other && level ? "reached" : unread, otherCaption: other?.caption ?? "", told: readable(toldOfLevel(state)) });
     return say("difference", ending ? unlikenessTold(state, ending, other.isOfEngines) : "");
+  }
+
+  // Where a session differs: what the site may decide otherwise.
+  drawLikely(state, game) {
+    const isDiffering = sessionOf(state) !== null && runsOfNow(state)?.[state.work.opened].close === "differs";
+    const told = isDiffering ? likelyTold({ source: sourceOf(state), game, inputs: state.work.inputs, level: framesOf(state)[0].level }) : null;
+    say("likely", told === null ? "" : `${told[0].toUpperCase()}${told.slice(1)}.`);
+  }
+
+  // Where the text that is written can't be played, what the last one showed stays.
+  drawRefused(state) {
+    const { title } = gameOf(sourceOf(state));
+    if (this.kept?.title === title && this.kept.index === state.work.index && sourceOf(state).trim() !== "") return this.drawKept();
+    this.stage.show({ level: null, other: null, framed: [], caption: "", otherCaption: "", told: "" });
+    return say("difference", "");
+  }
+
+  drawKept() {
+    this.stage.keep("as the last text showed it that could be played");
+    for (const id of ["difference", "likely"]) say(id, "");
+  }
+
+  drawClock(clock) {
+    at("clock").hidden = clock === null;
+    say("clock-told", clock?.text ?? "");
+    say("as-recorded", clock?.isAsked ? "Play it with its ticks as recorded" : "Refuse it again");
+  }
+
+  drawMessage(message) {
+    const isThere = message !== undefined;
+    at("message").hidden = !isThere;
+    at("boards").hidden = isThere;
+    say("message-text", message ?? "");
   }
 
   drawPlaying(state, play) {
@@ -129,7 +165,7 @@ export class Drawn {
     const { inputs } = state.work, number = namesakeOf(state), isPlayable = framesOf(state).length > 0;
     at("cut").disabled = inputs.length === 0 || (!isAtEnd(state) && takenOf(state) === inputs.length);
     at("put-back").disabled = state.past.length === 0;
-    at("put-back").title = putBackTold(state);
+    at("put-back").title = readable(putBackTold(state));
     at("save").disabled = !isSavable(state);
     at("replace").hidden = number < 0;
     at("replace").disabled = at("save").disabled;

@@ -18,7 +18,12 @@ export function makeButton(className, text, act) {
   return button;
 }
 
-export const cut = (text, most) => (text.length > most ? `${text.slice(0, most)}\u2026` : text);
+const TURNING = /[\u061c\u200e\u200f\u202a-\u202e\u2066-\u2069]/g;
+
+// A text of a stranger on a line among others: letters that turn others around stand there by their numbers.
+export const readable = (text) => text.replace(TURNING, (letter) => `\\u{${letter.charCodeAt(0).toString(16)}}`);
+
+export const cut = (text, most) => readable(text.length > most ? `${text.slice(0, most)}\u2026` : text);
 
 export const plural = (count, word) => (count === 1 ? `1 ${word}` : `${count} ${word}s`);
 

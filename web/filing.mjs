@@ -1,6 +1,7 @@
 // Changes of the sessions file in the state of the page: sessions are saved, accepted and removed, another file is opened, or another engine's lines.
 import { partingOf } from "./comparing.mjs";
 import { plural } from "./elements.mjs";
+import { addedTold, toAdd } from "./findings.mjs";
 import { readRuns } from "./lines.mjs";
 import { remembering } from "./past.mjs";
 import { framesOf, isPlayed } from "./replaying.mjs";
@@ -62,23 +63,13 @@ export function withOtherFile(state, file) {
   return remembering(state, next);
 }
 
-// A name that no session has: with a number where one has it.
-function freeName(name, entries) {
-  const names = new Set(entries.map((entry) => entry.name));
-  for (let number = 2, free = name; ; number += 1) {
-    if (!names.has(free)) return free;
-    free = `${name} ${number}`;
-  }
-}
-
-// Adds recordings that an editor printed. Those of the text at hand follow that.
-export function withRecordings(state, recordings) {
+// Adds recordings that were found in a text: those that aren't there yet. What was skipped beside them is told.
+export function withRecordings(state, recordings, skipped = []) {
   const one = theOneText({ entries: recordings }), isUntouched = state.text.trim() === "" || state.text === state.example;
-  const text = state.file === null && isUntouched ? one ?? state.text : state.text;
-  let file = state.file ?? SessionFile.empty(RECORDINGS);
-  for (const it of recordings) file = file.with({ ...it, name: freeName(it.name, file.entries), source: it.source === text ? "" : it.source });
-  const next = withFile(state, file, { text, isNew: true, tab: "sessions" });
-  return { ...next, saved: `${plural(recordings.length, "recording")} added to ${file.name}` };
+  const text = state.file === null && isUntouched ? one ?? state.text : state.text, former = state.file ?? SessionFile.empty(RECORDINGS);
+  const found = toAdd(recordings, former.entries, text), file = former.withAll(found.added), saved = addedTold(found, file.name, skipped);
+  if (found.added.length === 0) return { ...state, tab: "sessions", told: null, saved };
+  return { ...withFile(state, file, { text, isNew: true, tab: "sessions" }), saved };
 }
 
 // The text that all sessions of a file have as their own, or null.

@@ -1,10 +1,41 @@
 // Files that come into the page and leave it, by the hand of whoever sits before it.
+import { findingsIn } from "./console.mjs";
 import { at } from "./elements.mjs";
+import { allSkippedTold, nothingTold } from "./findings.mjs";
+import { Refusal, codingOf, textOf } from "./session-file.mjs";
 
-// What a text is taken for: "sessions", "lines", or a "game".
-export function kindOf(text) {
-  const first = text.replace(/^\ufeff/, "").trimStart()[0];
-  return first === "[" ? "sessions" : first === "{" ? "lines" : "game";
+// Whether a text is a sessions file, or meant to be one.
+function isSessions(text) {
+  try {
+    const value = JSON.parse(text);
+    return Array.isArray(value) && (value.length === 0 || Array.isArray(value[0]));
+  } catch {
+    return false;
+  }
+}
+
+const isLines = (text) => text.trimStart()[0] === "{" && !text.includes('"source"');
+
+// What bytes are taken for, { kind, text, bytes, found, skipped }: "sessions", "recordings" (found in a text), "lines", or a "game". Refused where they are none.
+export function handed(name, bytes) {
+  const coding = codingOf(bytes), text = textOf(bytes, name, coding), isWide = coding !== "utf-8", plain = text.replace(/^\ufeff+/, "");
+  if (isSessions(isWide ? plain : text)) return { kind: "sessions", text, bytes: isWide ? new TextEncoder().encode(plain) : bytes };
+  const { found, skipped } = findingsIn(plain);
+  if (found.length > 0) return { kind: "recordings", text, found, skipped };
+  if (isLines(plain)) return { kind: "lines", text: plain };
+  if (skipped.length > 0) throw new Refusal(`no recording is left in ${name}: ${allSkippedTold(skipped)}`);
+  const why = nothingTold(plain);
+  if (why !== null) throw new Refusal(`${name}: ${why}`);
+  return { kind: "game", text: plain };
+}
+
+const NOT_IN_FILES = /[\\/:*?"<>|\p{Cc}\p{Cf}\p{Surrogate}]+/gu;
+const MOST_OF_A_NAME = 60; // letters
+
+// The name of a file for the text of a game with a title.
+export function fileNameOf(title) {
+  const name = [...title.replace(NOT_IN_FILES, " ").replace(/\s+/g, " ").trim()].slice(0, MOST_OF_A_NAME).join("").replace(/^[. ]+|[. ]+$/g, "");
+  return `${name || "game"}.txt`;
 }
 
 export function download(name, content) {

@@ -1,4 +1,5 @@
 // A state as it is kept between visits, and back. What is kept has a version; what can't be read is no state.
+import { packed, unpacked } from "./packing.mjs";
 import { MOST_PAST } from "./past.mjs";
 import { SessionFile } from "./session-file.mjs";
 import { beginning } from "./work.mjs";
@@ -6,11 +7,11 @@ import { beginning } from "./work.mjs";
 const VERSION = 2;
 const ORDERS_OF_CELLS = ["columns", "rows"];
 
-const keptFile = (file) => file && { name: file.name, bytes: file.bytes };
+const keptFile = (file) => file && packed(file);
 
 // What is kept of a state: what was made by hand. `isBusy` is whether something was played when it was kept.
-export function keptOf({ text, order, work, file, isUnsaved, past, tab }, isBusy) {
-  return { version: VERSION, kept: Date.now(), text, order, work, file: keptFile(file), isUnsaved, tab, isBusy, past: past.map((it) => ({ ...it, ...(it.file ? { file: keptFile(it.file) } : {}) })) };
+export function keptOf({ text, order, work, file, isUnsaved, past, tab, isTicked }, isBusy) {
+  return { version: VERSION, kept: Date.now(), text, order, work, file: keptFile(file), isUnsaved, tab, isTicked, isBusy, past: past.map((it) => ({ ...it, ...(it.file ? { file: keptFile(it.file) } : {}) })) };
 }
 
 class Unreadable extends Error {}
@@ -30,8 +31,9 @@ function workFrom({ own, index, inputs, name, opened }, file) {
 
 function fileFrom(value) {
   if (!value) return null;
-  wanted(isText(value.name) && value.bytes instanceof Uint8Array);
-  return new SessionFile(value.name, value.bytes);
+  const bytes = unpacked(value);
+  wanted(isText(value.name) && bytes instanceof Uint8Array);
+  return new SessionFile(value.name, bytes);
 }
 
 function lostFrom({ text, work, file, isUnsaved }) {
@@ -48,10 +50,10 @@ function fromFirst({ source, index, inputs, name, opened, order, file, former, i
 // What a value of the store was kept of, or null where it can't be read.
 export function stateFrom(value, example) {
   try {
-    const { version, text, order, work, file: bytes, isUnsaved, past, tab, isBusy } = value.version === undefined ? fromFirst(value) : value;
+    const { version, text, order, work, file: bytes, isUnsaved, past, tab, isTicked, isBusy } = value.version === undefined ? fromFirst(value) : value;
     wanted(version === VERSION && isText(text) && ORDERS_OF_CELLS.includes(order) && Array.isArray(past));
     const file = fileFrom(bytes);
-    return { ...beginning(example), text, order, work: workFrom(work, file), file, isUnsaved: Boolean(isUnsaved), past: past.map(lostFrom).slice(-MOST_PAST), tab: tab === "sessions" ? tab : "game", isHeld: Boolean(isBusy) };
+    return { ...beginning(example), text, order, work: workFrom(work, file), file, isUnsaved: Boolean(isUnsaved), past: past.map(lostFrom).slice(-MOST_PAST), tab: tab === "sessions" ? tab : "game", isTicked: Boolean(isTicked), isHeld: Boolean(isBusy) };
   } catch {
     return null;
   }

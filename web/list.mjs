@@ -66,7 +66,10 @@ export class SessionList {
     const first = Math.max(0, Math.floor(box.scrollTop / ROW) - MORE);
     const last = Math.min(this.shown.length, Math.ceil((box.scrollTop + box.clientHeight) / ROW) + MORE);
     const focused = document.activeElement?.dataset.number;
-    at("list").replaceChildren(...this.shown.slice(first, last).map((number, place) => this.row(number, first + place)));
+    const shown = this.shown.slice(first, last);
+    // one of them is reached by Tab, and from there j and k lead on
+    this.reached = shown.includes(this.current) ? this.current : shown[0];
+    at("list").replaceChildren(...shown.map((number, place) => this.row(number, first + place)));
     if (focused !== undefined) at("list").querySelector(`[data-number="${focused}"]`)?.focus({ preventScroll: true });
   }
 
@@ -76,6 +79,7 @@ export class SessionList {
     const button = makeButton(close, "", () => this.show(number));
     button.title = `${name}: ${close}`;
     button.dataset.number = number;
+    button.tabIndex = number === this.reached ? 0 : -1;
     button.setAttribute("aria-current", String(number === this.current));
     const count = make("span", "frames", frames || "");
     count.title = plural(frames, "frame");
@@ -95,7 +99,9 @@ export class SessionList {
     const box = at("rows");
     const isSeen = place * ROW >= box.scrollTop && (place + 1) * ROW <= box.scrollTop + box.clientHeight;
     if (place >= 0 && !isSeen) box.scrollTop = place * ROW - box.clientHeight / 2;
+    const hadFocus = at("list").contains(document.activeElement);
     this.draw();
+    if (hadFocus) at("list").querySelector('[tabindex="0"]')?.focus({ preventScroll: true });
   }
 
   // The session so many places behind the current one, of those that are wanted; the current one where there is none.

@@ -1,15 +1,17 @@
 // What is clicked and pressed in the playground: each leads from a state to the next.
 import { at } from "./elements.mjs";
-import { download } from "./handing.mjs";
-import { meaningOf } from "./keys.mjs";
+import { download, fileNameOf } from "./handing.mjs";
+import { meaningOf, swipeOf } from "./keys.mjs";
 import { accepted, followed, namesakeOf, removed, withOtherFile } from "./filing.mjs";
+import { gameOf } from "./replaying.mjs";
 import { differenceOf, playedAgain, seenOf } from "./suite.mjs";
-import { begunAnew, cutBack, fromLevel, inOrder, named, pressed, putBack, released, withOwnText } from "./work.mjs";
+import { ACTION, begunAnew, cutBack, fromLevel, inOrder, named, putBack, released, ticked, withOwnText } from "./work.mjs";
 
 function movesOf(page) {
   return {
     back: () => page.step(-1), on: () => page.step(1), first: () => page.step(-Infinity), last: () => page.step(Infinity), cut: () => page.act(cutBack), play: () => page.playFrames(),
     next: () => page.openNext(1, false), previous: () => page.openNext(-1, false), "next-failure": () => page.openNext(1, true), "previous-failure": () => page.openNext(-1, true),
+    larger: () => page.page.stage.zoomBy(1), smaller: () => page.page.stage.zoomBy(-1), fit: () => page.page.stage.fit(),
   };
 }
 
@@ -20,7 +22,7 @@ function listenToKeys(page, moves) {
     event.preventDefault();
     if (meaning.move) moves[meaning.move]();
     // a key that is held down waits for what it did last
-    else if (!event.repeat || page.state.queue.length === 0) page.act(pressed, meaning.input);
+    else if (!event.repeat || page.state.queue.length === 0) page.press(meaning.input);
   });
   at("name").addEventListener("keydown", (event) => { if (event.key === "Escape") at("stage").focus({ preventScroll: true }); });
 }
@@ -40,25 +42,41 @@ function listenToTabs(page) {
 function listenToPad(page) {
   for (const button of at("pad").querySelectorAll("button")) {
     const word = button.dataset.input, input = /^\d$/.test(word) ? Number(word) : word;
-    button.addEventListener("click", () => page.act(pressed, input));
+    button.addEventListener("click", () => page.press(input));
   }
+  at("go-on").addEventListener("click", () => page.press(ACTION));
   // whoever taps here keeps playing by keys too
-  at("pad").addEventListener("mousedown", (event) => {
-    event.preventDefault();
-    at("stage").focus({ preventScroll: true });
+  for (const id of ["pad", "message"]) {
+    at(id).addEventListener("mousedown", (event) => {
+      event.preventDefault();
+      at("stage").focus({ preventScroll: true });
+    });
+  }
+}
+
+// A swipe over a level that is there as a whole is an input; over one that scrolls it scrolls.
+function listenToSwipes(page) {
+  let begin = null;
+  at("stage").addEventListener("pointerdown", (event) => { begin = event.pointerType === "mouse" || !at("stage").classList.contains("whole") ? null : event; });
+  at("stage").addEventListener("pointercancel", () => { begin = null; });
+  at("stage").addEventListener("pointerup", (event) => {
+    const input = begin === null ? null : swipeOf(event.clientX - begin.clientX, event.clientY - begin.clientY);
+    begin = null;
+    if (input !== null) page.press(input);
   });
 }
 
 function listenToButtons(page, moves) {
   const click = (id, act) => at(id).addEventListener("click", act);
-  for (const id of ["first", "back", "on", "last", "play", "cut"]) click(id, moves[id]);
+  for (const id of ["first", "back", "on", "last", "play", "cut", "smaller", "fit", "larger"]) click(id, moves[id]);
   click("put-back", () => page.act(putBack));
   click("new", () => page.act(begunAnew));
   click("example", () => page.takeGame(page.state.example));
+  click("as-recorded", () => page.act((state) => ticked(state, !state.isTicked)));
   click("take-text", () => page.act(withOwnText));
   click("stop-play", () => page.runner.stopPlay());
   click("begin-play", () => page.act(released));
-  click("save-game", () => download("game.txt", page.state.text));
+  click("save-game", () => download(fileNameOf(gameOf(page.state.text).title), page.state.text));
   click("play-all", () => page.act(playedAgain));
   click("stop", () => page.runner.stopSuite());
   click("follow", () => page.act(followed));
@@ -91,5 +109,6 @@ export function listen(page) {
   listenToKeys(page, moves);
   listenToTabs(page);
   listenToPad(page);
+  listenToSwipes(page);
   listenToButtons(page, moves);
 }

@@ -2,6 +2,7 @@
 import { load } from "../engine/saxtegun.mjs";
 import { at } from "./elements.mjs";
 import { MOST_INPUTS } from "./session-file.mjs";
+import { playedText } from "./ticks.mjs";
 
 // The last win shows no frame of its own; with one more input that runs no rule, play that is over shows it.
 const ONE_MORE = "undo";
@@ -23,9 +24,9 @@ const refusedPlay = (fault) => ({ frames: [], cause: `engine:${fault}`, isSolved
 const BROKEN = { ...refusedPlay("broken"), fault: "broken", lines: null };
 
 // What the engine makes of a recording: { frames, cause, isSolved }. A fault of the engine is a cause that begins with `engine:`.
-export function playedBy(engine, { source, index, order, inputs, from }) {
+export function playedBy(engine, { source, index, order, inputs, from, isTicked }) {
   const isFull = inputs.length >= MOST_INPUTS;
-  const { frames, close, fault } = engine.frames({ source, index, inputs: isFull ? inputs : [...inputs, ONE_MORE] }, { order, from });
+  const { frames, close, fault } = engine.frames({ source: playedText(source, isTicked), index, inputs: isFull ? inputs : [...inputs, ONE_MORE] }, { order, from });
   if (fault !== null) return refusedPlay(fault);
   return { frames: frames.filter((frame) => frame.at <= inputs.length), cause: close.cause ?? null, isSolved: frames.at(-1)?.kind === "over" };
 }

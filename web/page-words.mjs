@@ -5,7 +5,8 @@ import { inputTold } from "./faults.mjs";
 import { countOf } from "./closes.mjs";
 import { isFailure } from "./session-list.mjs";
 import { causeOf, framesOf, gameOf, isPlayed, shownOf, sourceOf } from "./replaying.mjs";
-import { countOfOthers, rowsOf, runWithFrames, runsOfNow, sessionOf } from "./suite.mjs";
+import { clocksOf, countOfOthers, rowsOf, runWithFrames, runsOfNow, sessionOf } from "./suite.mjs";
+import { hasClock, isRefusedForClock } from "./ticks.mjs";
 
 const upper = (text) => `${text[0].toUpperCase()}${text.slice(1)}.`;
 
@@ -30,8 +31,19 @@ function sessionTold(state) {
   const { opened, inputs } = state.work, run = runsOfNow(state)?.[opened] ?? null, parting = state.comparison?.partings[opened] ?? null;
   if (run === null) return null;
   if (parting !== null) return { text: `Diverges at ${partingTold(parting, runWithFrames(state.suite, opened), state.comparison.others[opened], inputs)}.`, close: "differs" };
-  if (run.close === "passed") return { text: "Passed: the last level is the recorded one.", close: "passed" };
-  return run.close === "differs" ? { text: `Differs from what was recorded.${sinceTold(state)}`, close: "differs" } : null;
+  const clock = state.isTicked && hasClock(sourceOf(state)) ? ` Played ${WITHOUT_CLOCK}.` : "";
+  if (run.close === "passed") return { text: `Passed: the last level is the recorded one.${clock}`, close: "passed" };
+  return run.close === "differs" ? { text: `Differs from what was recorded.${sinceTold(state)}${clock}`, close: "differs" } : null;
+}
+
+const WITHOUT_CLOCK = "without `realtime_interval`, with its ticks as recorded";
+
+// What is asked, or said, of a clock: { text, isAsked }; null where no game has one.
+export function clockTold(state) {
+  const { played, isTicked } = state, source = sourceOf(state);
+  if (isTicked) return hasClock(source) || (state.file !== null && clocksOf(state) > 0) ? { text: `Played ${WITHOUT_CLOCK}.`, isAsked: false } : null;
+  const isRefused = (isPlayed(state) && isRefusedForClock(source, played.cause)) || clocksOf(state) > 0;
+  return isRefused ? { text: "A game with `realtime_interval` isn't played here, but a recording holds its ticks: play it without that line, with its ticks as recorded?", isAsked: true } : null;
 }
 
 // What stands above the level: { text, close }.
@@ -76,10 +88,11 @@ export function tabTold(state) {
 
 function suiteTold(state, runs) {
   const failures = failuresOf(state).filter(({ close }) => close !== "passed").length, took = `${plural(runs.length, "session")} in ${(state.suite.milliseconds / 1000).toFixed(1)} s`;
+  const clocks = state.isTicked ? clocksOf(state) : 0, behind = clocks > 0 ? ` ${clocks} ${clocks === 1 ? "was" : "were"} played ${WITHOUT_CLOCK}.` : "";
   if (runs.length === 0) return { text: "The file has no session.", close: null };
-  if (failures > 0) return { text: `${failures} did not pass: ${took}.`, close: "differs" };
+  if (failures > 0) return { text: `${failures} did not pass: ${took}.${behind}`, close: "differs" };
   // no tick where a session was played over something else
-  return countOfOthers(state) > 0 ? { text: `All passed, but not all over the text on the left: ${took}.`, close: null } : { text: `All passed: ${took}.`, close: "passed" };
+  return countOfOthers(state) > 0 ? { text: `All passed, but not all over the text on the left: ${took}.${behind}`, close: null } : { text: `All passed: ${took}.${behind}`, close: clocks > 0 ? null : "passed" };
 }
 
 function comparisonTold({ comparison: { name, partings } }) {

@@ -1,10 +1,12 @@
 // The player of a session: its frames, drawn beside the recorded level or beside those of another run.
 import { shapeOf } from "./closes.mjs";
-import { Pictures, cellBelow, drawLevel, scaleFor } from "./drawing.mjs";
-import { at, cut, json, make, makeButton } from "./elements.mjs";
+import { DifferingCells, InWords, cellTold, whereTold } from "./cells.mjs";
+import { Pictures, SIDE, cellBelow, drawLevel, scaleFor } from "./drawing.mjs";
+import { at, cut, json, make, readable } from "./elements.mjs";
 import { Run, textOf } from "./frames.mjs";
-import { differing, heightOf, isDrawn, numberAt } from "./levels.mjs";
-import { differenceTold, frameTold, inputLetter, inputWord } from "./telling.mjs";
+import { InputStrip } from "./input-strip.mjs";
+import { differing, heightOf, isDrawn, numberAt, placeOf } from "./levels.mjs";
+import { differenceTold, frameTold } from "./telling.mjs";
 
 const PAUSE = 160;      // milliseconds between two frames at the speed 1
 const NAMED = 2000;     // letters of a name
@@ -12,7 +14,6 @@ const LARGEST = 24;     // pixels for one of a sprite, at most,
 const FITTING = 12;     // and where the level is fitted into the room
 const LEAST_ROOM = 120; // pixels of height that a level has at least
 const BELOW = 64;       // pixels kept free below a level, for what stands in a cell
-const INPUT = 26;       // pixels of an input in the strip
 const DIFFERS = { colour: "#ff85ad", isWhole: true };
 const CHANGED = { colour: "#35c3ff", isWhole: false };
 const POINT = "Point at a cell, or tap it, to see what stands in it.";
@@ -26,6 +27,9 @@ export class Player {
     this.timer = 0;
     this.zoom = 0; // pixels for one of a sprite, or 0: as many as there is room for
     this.session = null;
+    this.strip = new InputStrip((taken) => this.goTo(this.sides[0].run.frameAfter(taken)));
+    this.words = new InWords();
+    this.cells = new DifferingCells((number) => this.reveal(number));
     this.listen();
   }
 
@@ -47,13 +51,9 @@ export class Player {
     window.addEventListener("resize", () => { if (this.isOpen) this.draw(); });
   }
 
-  get isOpen() {
-    return this.session !== null && this.sides.length > 0;
-  }
+  get isOpen() { return this.session !== null && this.sides.length > 0; }
 
-  get last() {
-    return Math.max(...this.sides.map((side) => side.run.last));
-  }
+  get last() { return Math.max(...this.sides.map((side) => side.run.last)); }
 
   gameOf(number) {
     if (!this.games.has(number)) this.games.set(number, json(`game-${number}`));
@@ -69,7 +69,7 @@ export class Player {
     this.sides = this.session.sides.map(([caption, frames]) => ({ caption, run: new Run(frames, this.index.order, this.index.letters) }));
     at("session").hidden = false;
     at("name").textContent = cut(name, NAMED);
-    at("close").replaceChildren(shapeOf(close), make("span", "", `${close}: ${this.session.told}`));
+    at("close").replaceChildren(shapeOf(close), make("span", "", readable(`${close}: ${this.session.told}`)));
     at("close").className = close;
     this.showSource();
     at("player").hidden = !this.isOpen;
@@ -99,6 +99,8 @@ export class Player {
     this.at = Math.max(0, Math.min(this.last, number));
     this.levels = this.sides.map(({ run }) => run.levelAt(Math.min(this.at, run.last)));
     this.differing = this.sides.length > 1 ? differing(...this.levels) : [];
+    this.cells.show(this.differing ?? [], (cell) => `${whereTold(this.levels[0], cell)}: ${this.besideTold(this.levels.map((level) => this.namesIn(level.cells[cell])))}`);
+    this.words.show(this.levels[0], (label) => this.session.labels[label]);
     this.draw();
     this.tell();
     this.step();
@@ -116,7 +118,7 @@ export class Player {
     at("place").textContent = `frame ${this.at} of ${this.last}`;
     at("back").disabled = this.at === 0;
     at("on").disabled = this.at === this.last;
-    this.showStrip(run.frames[number][0]);
+    this.strip.show(this.session.inputs, run.frames[number][0], { bumps: this.bumps, stop: this.session.stop });
   }
 
   pause() {
@@ -138,27 +140,6 @@ export class Player {
     }
     if (this.at === this.last) this.show(0);
     if (this.last > 0) this.start();
-  }
-
-  // ---- the strip of inputs, as many as there is room for
-
-  showStrip(taken) {
-    const { inputs } = this.session;
-    const room = Math.max(5, Math.floor(at("strip").clientWidth / INPUT));
-    const first = Math.max(0, Math.min(taken - Math.ceil(room / 2), inputs.length - room));
-    at("strip").hidden = inputs.length === 0;
-    at("strip").replaceChildren(...inputs.slice(first, first + room).map((input, place) => this.inputButton(input, first + place, taken)));
-  }
-
-  inputButton(input, number, taken) {
-    const isBump = this.bumps.has(number);
-    const isStop = number === this.session.stop;
-    const button = makeButton(`${isBump ? "bump" : ""} ${isStop ? "stop" : ""}`, inputLetter(input), () => this.goTo(this.sides[0].run.frameAfter(number + 1)));
-    button.title = `input ${number}: ${inputWord(input)}${isBump ? ", nothing changed" : ""}${isStop ? ", here the session stopped" : ""}`;
-    button.setAttribute("aria-label", button.title);
-    button.setAttribute("aria-current", String(number === taken - 1));
-    button.tabIndex = -1;
-    return button;
   }
 
   // ---- drawing
@@ -187,8 +168,9 @@ export class Player {
     const level = this.levels[number];
     const shown = Math.min(this.at, run.last);
     const changed = at("marks").checked && this.at <= run.last ? run.changesAt(shown) ?? [] : [];
-    drawLevel(at(`level-${number}`), level, this.pictures, scale, [{ cells: changed, ...CHANGED }, { cells: this.differing ?? [], ...DIFFERS }]);
-    const told = isDrawn(level) ? this.captionOf(caption, run) : `${caption}: a level text that can't be read back: ${level.text}`;
+    drawLevel(at(`level-${number}`), level, this.pictures, scale, [{ cells: changed, ...CHANGED }, { cells: this.differing ?? [], ...DIFFERS }, { cells: this.cells.chosen === null ? [] : [this.cells.chosen], ...DIFFERS, weight: 1.5 }]);
+    const why = level.text === undefined ? "an empty level text" : `a level text that can't be read back: ${level.text}`;
+    const told = isDrawn(level) ? this.captionOf(caption, run) : readable(`${caption}: ${why}`);
     at(`caption-${number}`).textContent = told;
     if (isDrawn(level)) at(`level-${number}`).setAttribute("aria-label", `${told}: a level ${level.width} wide and ${heightOf(level)} high`);
   }
@@ -196,6 +178,16 @@ export class Player {
   captionOf(caption, run) {
     if (run.last === 0 && this.last > 0) return caption;
     return this.at > run.last ? `${caption}, which has no frame behind ${run.last}` : `${caption}, frame ${this.at}`;
+  }
+
+  // Scrolls both levels until a cell is in the middle of its room.
+  reveal(number) {
+    this.draw();
+    const [column, row] = placeOf(this.levels[0], number), size = SIDE * this.scale;
+    for (const room of this.sides.map((_, side) => at(`level-${side}`).parentElement)) {
+      room.scrollLeft = column * size - (room.clientWidth - size) / 2;
+      room.scrollTop = row * size - (room.clientHeight - size) / 2;
+    }
   }
 
   zoomBy(step) {
@@ -212,14 +204,21 @@ export class Player {
 
   namesAt(level, column, row) {
     if (!isDrawn(level) || column >= level.width || row >= heightOf(level)) return "no cell";
-    return this.session.labels[level.cells[numberAt(level, column, row)]].join(" ") || "nothing";
+    return this.namesIn(level.cells[numberAt(level, column, row)]);
+  }
+
+  namesIn(label) {
+    return cellTold(this.session.labels[label]);
+  }
+
+  // What stands in a cell, and in the same cell of the level beside.
+  besideTold([names, beside]) {
+    return beside === undefined || beside === names ? names : `${names}; ${this.session.beside}: ${beside}`;
   }
 
   pointAt(side, event) {
     const [column, row] = cellBelow(at(`level-${side}`), this.levels[side], event);
-    const [names, beside] = this.levels.map((level) => this.namesAt(level, column, row));
-    const told = beside === undefined || beside === names ? names : `${names}; ${this.session.beside}: ${beside}`;
-    at("cell").textContent = `column ${column + 1}, row ${row + 1}: ${told}`;
+    at("cell").textContent = `column ${column + 1}, row ${row + 1}: ${this.besideTold(this.levels.map((level) => this.namesAt(level, column, row)))}`;
   }
 
   get levelText() {

@@ -1,15 +1,15 @@
 // The playground: a game is played, recorded and replayed, by the engine that stands in the page. What is clicked and pressed leads from one state to
 // the next (work.mjs, suite.mjs), which is drawn (drawn.mjs), played (running.mjs) and kept (keeping.mjs).
-import { recordingsInText } from "./console.mjs";
+import { Animation } from "./animating.mjs";
 import { Drawn } from "./drawn.mjs";
 import { at, json } from "./elements.mjs";
-import { download, kindOf, takeFiles } from "./handing.mjs";
+import { download, handed, takeFiles } from "./handing.mjs";
 import { keptOf, stateOfVisit } from "./kept-work.mjs";
 import { Store } from "./keeping.mjs";
 import { listen } from "./listening.mjs";
 import { PLAYER, servePlayer, startEngine } from "./page-engine.mjs";
 import { Runner } from "./running.mjs";
-import { Refusal, SessionFile, textOf } from "./session-file.mjs";
+import { Refusal, SessionFile } from "./session-file.mjs";
 import { following, isFailure } from "./session-list.mjs";
 import { RECORDINGS, comparedWithLines, filed, savedAs, withOtherFile, withRecordings } from "./filing.mjs";
 import { framesOf, isAtEnd, shownOf } from "./replaying.mjs";
@@ -17,16 +17,6 @@ import { rowsOf, sessionOpened } from "./suite.mjs";
 import { RECORDED_ORDER, edited, inOrder, lookedAt, lookedAtInput, pressed, released, withGame } from "./work.mjs";
 
 const FRAME_PAUSE = 160; // milliseconds between two frames when playing
-
-// Whether a text is a sessions file, or meant to be one.
-function isJson(text) {
-  try {
-    const value = JSON.parse(text);
-    return Array.isArray(value) && (value.length === 0 || Array.isArray(value[0]));
-  } catch {
-    return false;
-  }
-}
 
 class Playground {
   constructor(state, engine, store) {
@@ -38,17 +28,30 @@ class Playground {
       type: (text) => this.runner.type((now) => edited(now, text)),
     };
     this.page = new Drawn(acts);
-    this.runner = new Runner(state, { engine, draw: (...words) => this.page.draw(...words), keep: (...words) => this.keep(...words) });
+    this.animation = new Animation(() => this.runner.show(), () => matchMedia("(prefers-reduced-motion: reduce)").matches);
+    this.runner = new Runner(state, { engine, draw: (...words) => this.draw(...words), keep: (...words) => this.keep(...words) });
   }
 
   get state() {
     return this.runner.state;
   }
 
+  draw(state, ...words) {
+    this.animation.follow(state);
+    this.page.draw(this.animation.seen(state), ...words);
+  }
+
   // Does something to the state. Frames that are shown one after another stop.
   act(change, ...words) {
     this.pause();
+    this.animation.end();
     this.runner.update((state) => change(state, ...words));
+  }
+
+  // Takes a key. What it led to before is shown to its end first; a message that comes there waits for a key of its own.
+  press(input) {
+    if (this.animation.end() && this.state.messages.length > 0) return this.runner.show();
+    return this.act(pressed, input);
   }
 
   // ---- frames one after another
@@ -104,11 +107,11 @@ class Playground {
   // Takes a file by what is in it.
   async take(name, bytes) {
     try {
-      const text = textOf(bytes, name), kind = kindOf(text), recordings = isJson(text) ? [] : recordingsInText(text);
-      if (recordings.length > 0) this.act(withRecordings, recordings);
-      else if (kind === "sessions") this.act(withOtherFile, new SessionFile(name, bytes));
-      else if (kind === "lines") await this.runner.idle().then(() => this.act(comparedWithLines, name, text));
-      else this.takeGame(text);
+      const it = handed(name, bytes);
+      if (it.kind === "recordings") this.act(withRecordings, it.found.map((one) => ({ ...one, source: one.source.replaceAll("\r\n", "\n") })), it.skipped);
+      else if (it.kind === "sessions") this.act(withOtherFile, new SessionFile(name, it.bytes));
+      else if (it.kind === "lines") await this.runner.idle().then(() => this.act(comparedWithLines, name, it.text));
+      else this.takeGame(it.text);
     } catch (error) {
       if (!(error instanceof Refusal)) throw error;
       this.act((state) => ({ ...state, told: { text: `Not opened: ${error.message}.`, close: "refused" } }));
@@ -116,13 +119,13 @@ class Playground {
   }
 
   takeGame(text) {
-    this.act(withGame, text.replace(/^\ufeff/, "").replaceAll("\r\n", "\n"));
+    this.act(withGame, text.replaceAll("\r\n", "\n"));
     at("stage").focus();
   }
 
   // Keeps what was made by hand, where that has changed.
   keep(state, isBusy) {
-    const { text, order, work, file, isUnsaved, past, tab } = state, values = [text, order, work, file, isUnsaved, past, tab, isBusy];
+    const { text, order, work, file, isUnsaved, past, tab, isTicked } = state, values = [text, order, work, file, isUnsaved, past, tab, isTicked, isBusy];
     if (this.kept?.every((value, place) => value === values[place])) return;
     this.kept = values;
     this.store.keep(keptOf(state, isBusy), (isKept) => {

@@ -1,6 +1,7 @@
 // What the engine is wanted to play of a state, what its answer leads to, and the frames that were played.
 import { culpritTold } from "./faults.mjs";
 import { Game } from "./game.mjs";
+import { messagesAt } from "./messages.mjs";
 import { isSameList, remembering } from "./past.mjs";
 import { joined } from "./recording.mjs";
 import { refusalTold } from "./session-file.mjs";
@@ -19,12 +20,12 @@ export function gameOf(source) {
   return games.get(source);
 }
 
-const isPlayOf = (played, { source, index, order }) => played !== null && played.source === source && played.index === index && played.order === order;
+const isPlayOf = (played, { source, index, order, isTicked }) => played !== null && played.source === source && played.index === index && played.order === order && played.isTicked === isTicked;
 
 // Whether what was played is what is worked on now.
 export function isPlayed(state) {
-  const { work: { index, inputs }, order, played } = state;
-  return isPlayOf(played, { source: sourceOf(state), index, order }) && isSameList(played.inputs, inputs);
+  const { work: { index, inputs }, order, isTicked, played } = state;
+  return isPlayOf(played, { source: sourceOf(state), index, order, isTicked }) && isSameList(played.inputs, inputs);
 }
 
 // ---- the frames of the recording
@@ -46,11 +47,11 @@ export const takenOf = (state) => (isAtEnd(state) ? state.work.inputs.length : f
 // What the engine is wanted to play: all of the recording, or one more input behind what is looked at. Null where nothing is.
 export function wantedPlay(state) {
   if (state.isHeld) return null;
-  const { work: { index, inputs }, order, queue } = state, source = sourceOf(state);
-  if (!isPlayed(state)) return { source, index, order, inputs, from: 0, isKey: false };
+  const { work: { index, inputs }, order, isTicked, queue } = state, source = sourceOf(state);
+  if (!isPlayed(state)) return { source, index, order, isTicked, inputs, from: 0, isKey: false };
   if (queue.length === 0) return null;
   const taken = Math.min(inputs.length, queue[0].behind ?? inputs.length);
-  return { source, index, order, inputs: [...inputs.slice(0, taken), queue[0].input], from: taken + 1, isKey: true };
+  return { source, index, order, isTicked, inputs: [...inputs.slice(0, taken), queue[0].input], from: taken + 1, isKey: true };
 }
 
 const isSamePlay = (one, other) => isPlayOf(one, other) && one.from === other.from && one.isKey === other.isKey && isSameList(one.inputs, other.inputs);
@@ -75,16 +76,20 @@ export function causeOf(cause, { source, inputs, frames }) {
 const leftOut = ([{ behind }, next, ...rest]) => (next === undefined ? [] : [{ ...next, behind: next.behind ?? behind }, ...rest]);
 
 function answeredKey(state, asked, { frames: more, cause, isSolved }) {
-  const [key, ...queue] = state.queue, frames = joined(state.played.frames, asked.from, more);
+  const [key, ...waiting] = state.queue, frames = joined(state.played.frames, asked.from, more);
   if (cause !== null) {
     const { sentence } = causeOf(cause, { ...asked, frames });
     return { ...state, queue: leftOut(state.queue), told: { text: `${capital(sentence)}. The input is left out.`, close: null } };
   }
   const work = { ...state.work, inputs: asked.inputs }, isNext = more.some((frame) => frame.kind === "load");
+  const isFirst = !state.played.isSolved, won = frames.filter(({ kind }) => kind === "load").length;
+  const messages = isNext || (isSolved && isFirst) ? messagesAt(asked.source, asked.index, isSolved ? Infinity : won) : [];
+  // keys that were pressed before a message is there aren't meant for what comes behind it
+  const queue = messages.length > 0 ? [] : waiting;
   const told = isSolved ? "Solved: all levels are won." : isNext ? "The next level." : null;
   // who went to another frame since the key was pressed looks at that
   const looked = state.looked === key.looked ? null : state.looked;
-  return remembering(state, { ...state, queue, work, looked, played: { ...asked, frames, cause, isSolved }, told: told && { text: told, close: null } });
+  return remembering(state, { ...state, queue, work, looked, messages, played: { ...asked, frames, cause, isSolved }, told: told && { text: told, close: null } });
 }
 
 // Takes the answer of the engine to what was wanted.

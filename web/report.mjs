@@ -1,7 +1,7 @@
 // The page of a report: a list of sessions, and a player for the one that is open.
 import { addressOf, readAddress } from "./address.mjs";
 import { makeCopy } from "./copying.mjs";
-import { at, json, make, plural } from "./elements.mjs";
+import { at, json, make, plural, readable } from "./elements.mjs";
 import { SessionList, isFailure } from "./list.mjs";
 import { Player } from "./player.mjs";
 
@@ -67,13 +67,16 @@ function showResult() {
 const whenOpen = (act) => () => { if (player.isOpen) act(); };
 
 const KEYS = {
-  ArrowLeft: ["left arrow, right arrow", "a frame back, a frame forward", whenOpen(() => player.goTo(player.at - 1))],
+  ArrowLeft: ["left arrow or [, right arrow or ]", "a frame back, a frame forward", whenOpen(() => player.goTo(player.at - 1))],
   ArrowRight: [null, null, whenOpen(() => player.goTo(player.at + 1))],
+  "[": [null, null, whenOpen(() => player.goTo(player.at - 1))],
+  "]": [null, null, whenOpen(() => player.goTo(player.at + 1))],
   Home: ["Home, End", "the first frame, the last", whenOpen(() => player.goTo(0))],
   End: [null, null, whenOpen(() => player.goTo(player.last))],
-  " ": ["space", "play, or pause", whenOpen(() => player.play())],
-  n: ["n, p", "the next session that did not pass, the one before", () => openSession(list.beside(1, isFailure))],
-  p: [null, null, () => openSession(list.beside(-1, isFailure))],
+  p: ["p or space", "play, or pause", whenOpen(() => player.play())],
+  " ": [null, null, whenOpen(() => player.play())],
+  n: ["n, N", "the next session that did not pass, the one before", () => openSession(list.beside(1, isFailure))],
+  N: [null, null, () => openSession(list.beside(-1, isFailure))],
   j: ["j, k", "the next session of the list, the one before", () => openSession(list.beside(1))],
   k: [null, null, () => openSession(list.beside(-1))],
   "+": ["+, -, 0", "larger, smaller, as large as there is room", whenOpen(() => player.zoomBy(1))],
@@ -113,11 +116,11 @@ function press(event) {
 function showFoot() {
   const told = Object.values(KEYS).filter(([keys]) => keys);
   at("keys").replaceChildren(...[...told, ...MARKS].flatMap(([keys, text]) => [make("dt", "", keys), make("dd", "", text)]));
-  at("foot").replaceChildren(...[...index.origin, ...index.notes].map((note) => make("p", "", note)));
+  at("foot").replaceChildren(...[...index.origin, ...index.notes].map((note) => make("p", "", readable(note))));
 }
 
-document.title = `${index.file}: ${index.title}`;
-at("title").textContent = index.file;
+document.title = readable(`${index.file}: ${index.title}`);
+at("title").textContent = readable(index.file);
 makeCopy(at("copy-link"), () => { writeAddress(); return location.href; });
 makeCopy(at("copy-level"), () => player.levelText);
 makeCopy(at("copy-inputs"), () => JSON.stringify(player.session.inputs));

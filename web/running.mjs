@@ -1,6 +1,8 @@
 // Runs the page: after each change of the state the engine is asked for what is wanted of it, the state is drawn, and it is kept.
+import { playedInParts } from "./parts.mjs";
 import { answered, isWanted, wantedPlay } from "./replaying.mjs";
 import { seeing, suiteCame, wantedSuite } from "./suite.mjs";
+import { playedText } from "./ticks.mjs";
 import { held } from "./work.mjs";
 
 const SLOW = 500; // milliseconds, after which it is said that something is being played
@@ -92,15 +94,16 @@ export class Runner {
   }
 
   askSuite() {
-    const { file, text, order } = this.state;
-    const isSame = (wanted) => wanted.file === file && wanted.order === order && (wanted.text === text || !file.isOverAGame);
+    const { file, text, order, isTicked } = this.state;
+    const isSame = (wanted) => wanted.file === file && wanted.order === order && wanted.isTicked === isTicked && (wanted.text === text || !file.isOverAGame);
     this.begin("suite", wantedSuite(this.state), isSame, async (doing) => {
       const { wanted, controller: { signal } } = doing, begun = performance.now();
       const progress = (done, total) => {
         Object.assign(doing, { done, total });
         this.draw(this.state, this.doing, true);
       };
-      const answer = await this.engine.playAll(wanted.file.playedOver(wanted.text), { order: wanted.order, signal, progress }).catch((error) => ({ fault: error.message, lines: null }));
+      const parts = wanted.file.partsOver(wanted.text, (source) => playedText(source, wanted.isTicked)), count = wanted.file.entries.length;
+      const answer = await playedInParts(this.engine, parts, count, { order: wanted.order, signal, progress }).catch((error) => ({ fault: error.message, lines: null }));
       return (state) => suiteCame(state, wanted, answer, performance.now() - begun);
     });
   }

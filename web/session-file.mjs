@@ -11,6 +11,7 @@ const BLANK = [0x20, 0x0a, 0x0d, 0x09];
 export class Refusal extends Error {}
 
 export const MOST_INPUTS = 65_536;
+const MOST_BYTES = 16_777_216; // of a file that the engine plays
 
 const isInput = (value) => WORDS.includes(value) || (Number.isInteger(value) && value >= 0 && value <= 4);
 
@@ -26,7 +27,7 @@ export function bodyFault([source, inputs, level, index = null]) {
 }
 
 // What makes a value no entry of a sessions file, or null.
-function faultOf(entry) {
+export function faultOf(entry) {
   if (!Array.isArray(entry) || typeof entry[0] !== "string" || !Array.isArray(entry[1])) return "it is no list of a name and a list";
   return bodyFault(entry[1]) ?? (hasHalfALetter(entry[0]) ? "a text of it holds half a letter (a lone surrogate)" : null);
 }
@@ -61,12 +62,18 @@ function entryOf(value, number) {
 }
 
 // The text of bytes, or a refusal where they are none.
-export function textOf(bytes, name) {
+export function textOf(bytes, name, coding = "utf-8") {
   try {
-    return new TextDecoder("utf-8", { fatal: true, ignoreBOM: true }).decode(bytes);
+    return new TextDecoder(coding, { fatal: true, ignoreBOM: true }).decode(bytes);
   } catch {
-    throw new Refusal(`${name} is no text in UTF-8`);
+    throw new Refusal(`${name} is no text in ${coding.toUpperCase()}`);
   }
+}
+
+// How bytes are written that another program has saved: in UTF-8, or in UTF-16, which begins with a mark or has every other byte 0.
+export function codingOf([first, second]) {
+  if ((first === 0xff && second === 0xfe) || second === 0) return "utf-16le";
+  return (first === 0xfe && second === 0xff) || first === 0 ? "utf-16be" : "utf-8";
 }
 
 export class SessionFile {
@@ -97,10 +104,29 @@ export class SessionFile {
     return this.entries.some((entry) => entry.source === "");
   }
 
-  // The file as it is played, with a game's text in the place of empty ones.
-  playedOver(game) {
-    if (!this.isOverAGame) return this.bytes;
-    return encoded(this.entries.map(({ name, source, inputs, level, index }) => [name, [source || game, inputs, level, index]]));
+  // The file as it is played, with a game's text in the place of empty ones, and each text as the engine gets it: as few files as the engine takes,
+  // [{ first, bytes }] with the number of the first session in each.
+  partsOver(game, played = (source) => source) {
+    if (this.entries.every(({ source }) => source !== "" && played(source) === source)) return [{ first: 0, bytes: this.bytes }];
+    const parts = [];
+    let texts = [], first = 0, size = 2;
+    const end = (next) => {
+      parts.push({ first, bytes: new TextEncoder().encode(`[${texts.join(",")}]`) });
+      [texts, first, size] = [[], next, 2];
+    };
+    this.entries.forEach(({ name, source, inputs, level, index }, number) => {
+      const text = JSON.stringify([name, [played(source || game), inputs, level, index]]), length = new TextEncoder().encode(text).length + 1;
+      if (texts.length > 0 && size + length > MOST_BYTES) end(number);
+      texts.push(text);
+      size += length;
+    });
+    end(this.entries.length);
+    return parts;
+  }
+
+  // Where the text of each session stands.
+  sourceSpans() {
+    return this.spans().map((span) => spansIn(this.bytes, spansIn(this.bytes, span)[1])[0]);
   }
 
   spans() {
@@ -135,12 +161,16 @@ export class SessionFile {
 
   // The file with one more session at its end.
   with(entry) {
-    const spans = this.spans(), text = encoded(valueOf(entry));
-    if (spans.length > 0) {
-      const end = spans.at(-1)[1];
-      return this.changedBy([end, end], new Uint8Array([...new TextEncoder().encode(",\n"), ...text]));
-    }
-    return new SessionFile(this.name, new Uint8Array([...new TextEncoder().encode("[\n"), ...text, ...new TextEncoder().encode("\n]\n")]));
+    return this.withAll([entry]);
+  }
+
+  // The file with more sessions at its end.
+  withAll(entries) {
+    const spans = this.spans(), text = entries.map((entry) => JSON.stringify(valueOf(entry))).join(",\n");
+    if (entries.length === 0) return this;
+    if (spans.length === 0) return new SessionFile(this.name, new TextEncoder().encode(`[\n${text}\n]\n`));
+    const end = spans.at(-1)[1];
+    return this.changedBy([end, end], new TextEncoder().encode(`,\n${text}`));
   }
 
   // The file with a session in the place of another.

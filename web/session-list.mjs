@@ -68,14 +68,16 @@ export class SessionList {
   }
 
   row(number) {
-    const { name, close, frames, parting, isLookedAt, isOther } = this.rows[number];
+    const { name, close, frames, parting, isLookedAt, isOther, isTicked } = this.rows[number];
     const button = makeButton(close ?? "unplayed", "", () => this.open(number));
-    const told = [close ?? "not played", ...(parting === null ? [] : [`diverges at frame ${parting.frame}`]), ...(isLookedAt ? ["seen"] : []), ...(isOther ? ["another text"] : [])].join(", ");
+    const told = [close ?? "not played", ...(parting === null ? [] : [`diverges at frame ${parting.frame}`]), ...(isLookedAt ? ["seen"] : []), ...(isOther ? ["another text"] : []), ...(isTicked ? ["ticks as recorded"] : [])].join(", ");
     button.title = `${cut(name, LETTERS)}: ${told}`;
     button.dataset.number = number;
     const shape = close === null ? make("span", "shape", "") : shapeOf(close);
     button.append(shape, make("span", "number", number), make("span", "label", cut(name, LETTERS) || "(no name)"), make("span", "close", told), make("span", "frames", frames ?? ""));
     button.setAttribute("aria-current", String(number === this.current));
+    // one of them is reached by Tab, and from there j and k lead on
+    button.tabIndex = number === this.reached ? 0 : -1;
     const item = document.createElement("li");
     item.append(button);
     return item;
@@ -83,11 +85,13 @@ export class SessionList {
 
   showRows() {
     const numbers = this.numbers, place = Math.max(0, numbers.indexOf(this.current));
-    const [first, behind] = windowAround(numbers.length, place, MOST_ROWS);
+    const [first, behind] = windowAround(numbers.length, place, MOST_ROWS), hadFocus = at("list").contains(document.activeElement);
+    this.reached = numbers[place];
     at("list").replaceChildren(...numbers.slice(first, behind).map((number) => this.row(number)));
     const more = numbers.length - (behind - first);
     at("more").textContent = more > 0 ? `${more} more: filter by name or by close` : `${numbers.length} listed`;
     const current = at("list").querySelector('[aria-current="true"]');
     if (current) reveal(at("list"), current);
+    if (hadFocus) (at("list").querySelector('[tabindex="0"]') ?? at("stage")).focus({ preventScroll: true });
   }
 }

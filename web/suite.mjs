@@ -5,17 +5,18 @@ import { isSameList } from "./past.mjs";
 import { framesOf, isAtEnd, isPlayed, sourceOf } from "./replaying.mjs";
 import { refusalTold } from "./session-file.mjs";
 import { isFailure } from "./session-list.mjs";
+import { hasClock, isRefusedForClock } from "./ticks.mjs";
 import { withWork } from "./work.mjs";
 
 // ---- how all sessions closed
 
 // Whether an answer is one to the file as it stands, over the text at hand.
-const isOfNow = (suite, { file, text, order }) => suite !== null && suite.file === file && suite.order === order && (suite.text === text || !file.isOverAGame);
+const isOfNow = (suite, { file, text, order, isTicked }) => suite !== null && suite.file === file && suite.order === order && suite.isTicked === isTicked && (suite.text === text || !file.isOverAGame);
 
 // What is wanted of the engine for the sessions of the file, or null.
 export function wantedSuite(state) {
-  const { file, text, order, suite, isHeld } = state;
-  return file === null || isHeld || isOfNow(suite, state) ? null : { file, text, order };
+  const { file, text, order, isTicked, suite, isHeld } = state;
+  return file === null || isHeld || isOfNow(suite, state) ? null : { file, text, order, isTicked };
 }
 
 // How the sessions closed, or null where they aren't played as they stand.
@@ -27,12 +28,19 @@ export const runWithFrames = ({ lines, runs }, number) => ({ ...runs[number], fr
 // Whether a session has a text of its own that isn't the one at hand.
 export const isOther = (state, number) => ![ "", state.text ].includes(state.file.entries[number].source);
 
+// How many sessions are refused since their games have a clock, or are played without it.
+export function clocksOf(state) {
+  if (state.isTicked) return rowsOf(state).filter((row) => row.isTicked).length;
+  return (runsOfNow(state) ?? []).filter(({ cause }, number) => isRefusedForClock(state.file.entries[number].source || state.text, cause)).length;
+}
+
 export const countOfOthers = (state) => (state.file?.entries ?? []).filter((_, number) => isOther(state, number)).length;
 
 // What is listed of each session.
 export function rowsOf(state) {
   const runs = runsOfNow(state), { partings = null } = state.comparison ?? {};
-  return (state.file?.entries ?? []).map(({ name }, number) => ({
+  return (state.file?.entries ?? []).map(({ name, source }, number) => ({
+    isTicked: state.isTicked && hasClock(source || state.text),
     name, close: runs?.[number].close ?? null, frames: runs?.[number].count ?? null, parting: partings?.[number] ?? null, isLookedAt: isSeen(state, number), isOther: isOther(state, number),
   }));
 }
@@ -40,7 +48,7 @@ export function rowsOf(state) {
 // The first frame from which on a session goes another way than when all was played last, where it passed then; null where nothing is known.
 function changeOf({ good, suite }, number) {
   const entry = suite.file.entries[number], former = good?.file.entries[number];
-  if (suite.runs === null || former === undefined || good === suite || good.order !== suite.order || good.runs[number].close !== "passed") return null;
+  if (suite.runs === null || former === undefined || good === suite || good.order !== suite.order || good.isTicked !== suite.isTicked || good.runs[number].close !== "passed") return null;
   if (former.name !== entry.name || former.index !== entry.index || !isSameList(former.inputs, entry.inputs)) return null;
   const parting = partingOf(runWithFrames(good, number), runWithFrames(suite, number));
   return parting === null || parting.kind === "close" ? null : { ...parting, at: (runWithFrames(suite, number).frames[parting.frame] ?? runWithFrames(good, number).frames[parting.frame]).at };
@@ -65,10 +73,10 @@ function showingFailure(state) {
 }
 
 // Takes what the sessions came to: { fault, lines }, in so many milliseconds, or null where it was stopped.
-export function suiteCame(state, { file, text, order }, answer, milliseconds) {
-  if (wantedSuite(state) === null || !isOfNow({ file, text, order }, state)) return state;
+export function suiteCame(state, { file, text, order, isTicked }, answer, milliseconds) {
+  if (wantedSuite(state) === null || !isOfNow({ file, text, order, isTicked }, state)) return state;
   const why = answer === null ? "Stopped: not all sessions were played." : answer.fault === null ? null : `${file.name} is not played: ${refusalTold(answer.fault)}.`;
-  const suite = { file, text, order, why, lines: why === null ? answer.lines : null, runs: why === null ? runsOf(answer.lines) : null, milliseconds };
+  const suite = { file, text, order, isTicked, why, lines: why === null ? answer.lines : null, runs: why === null ? runsOf(answer.lines) : null, milliseconds };
   const next = { ...state, suite, comparison: null };
   if (why !== null) return { ...next, isNew: false };
   return { ...showingFailure(next), saved: state.saved, good: isNoWorse(state.good, suite) ? suite : state.good };

@@ -1,6 +1,7 @@
 // The state of the page, which is never changed, and what can be done with a text and a recording: functions from a state to the next. Nothing here
 // knows the page or the engine. What the engine is wanted to play follows from the state, and its answer leads to the next (replaying.mjs, suite.mjs).
 import { levelsOf } from "./game.mjs";
+import { messagesAt } from "./messages.mjs";
 import { behindAll, remembering } from "./past.mjs";
 import { firstFrom } from "./recording.mjs";
 import { framesOf, isAtEnd, isPlayed, takenOf } from "./replaying.mjs";
@@ -20,6 +21,7 @@ export function beginning(example) {
     looked: null, // the number of the frame that is looked at; null for the last
     queue: [], // keys that were pressed and aren't played yet: { input, behind (so many inputs, or null for all), looked }
     played: null, // what was played last, with its frames
+    isTicked: false, // whether games with a clock are played without it, their ticks as recorded
     isHeld: false, // whether nothing is played until it is asked for
     file: null,
     isUnsaved: false, // whether the file has changes that were not saved as a file
@@ -31,20 +33,21 @@ export function beginning(example) {
     past: [],
     tab: "game",
     since: null, // where the session that is open began to go another way
+    messages: [], // of LEVELS, which are shown one after another before play goes on
     told: null, // what was said of the last act
     saved: "",
   };
 }
 
 // What no longer holds once another text is at hand.
-const AFRESH = { seen: new Map(), isHeld: false, comparison: null, told: null, saved: "", since: null };
+const AFRESH = { seen: new Map(), isHeld: false, comparison: null, messages: [], told: null, saved: "", since: null };
 
 // ---- the recording
 
 // Goes to a frame.
 export function lookedAt(state, frame) {
   const last = Math.max(0, framesOf(state).length - 1), number = Math.max(0, Math.min(last, frame));
-  return { ...state, looked: number === last ? null : number, told: null };
+  return { ...state, looked: number === last ? null : number, messages: [], told: null };
 }
 
 // Goes to what so many inputs led to: the last frame of these.
@@ -55,8 +58,11 @@ export const held = (state) => ({ ...state, isHeld: true, queue: [], told: null 
 
 export const released = (state) => ({ ...state, isHeld: false, told: null });
 
-// Takes a key, which is played behind the frame that is looked at.
+export const ACTION = 4;
+
+// Takes a key, which is played behind the frame that is looked at. Before a message only the action does something: it goes on behind that.
 export function pressed(state, input) {
+  if (state.messages.length > 0) return input === ACTION ? { ...state, messages: state.messages.slice(1) } : state;
   const { queue, looked } = state, last = queue.at(-1);
   if (isPlayed(state) && framesOf(state).length === 0) return state;
   if (state.work.inputs.length + queue.length >= MOST_INPUTS) return { ...state, told: { text: `A session has ${MOST_INPUTS} inputs at most.`, close: null } };
@@ -66,7 +72,7 @@ export function pressed(state, input) {
 
 // The state with something else worked on.
 export function withWork(state, work, more = {}) {
-  return remembering(state, { ...state, work, looked: null, queue: [], told: null, saved: "", since: null, ...more });
+  return remembering(state, { ...state, work, looked: null, queue: [], messages: [], told: null, saved: "", since: null, ...more });
 }
 
 // Leaves out all inputs behind the frame that is looked at, or the last one where that is looked at; a key that isn't played yet is the last.
@@ -80,7 +86,12 @@ export const named = (state, name) => ({ ...state, work: { ...state.work, name }
 
 export const begunAnew = (state) => withWork(state, { ...state.work, inputs: [], name: "", opened: null });
 
-export const fromLevel = (state, index) => withWork(state, { ...state.work, index, inputs: [], name: "", opened: null });
+const messagesAtStart = ({ own, index }, text) => messagesAt(own ?? text, index, 0);
+
+export function fromLevel(state, index) {
+  const work = { ...state.work, index, inputs: [], name: "", opened: null };
+  return withWork(state, work, { messages: messagesAtStart(work, state.text) });
+}
 
 // ---- the text at hand
 
@@ -98,7 +109,8 @@ export function edited(state, text) {
 
 // Takes another game.
 export function withGame(state, text) {
-  return withWork(state, workOn(text), { ...AFRESH, text, tab: "game" });
+  const work = workOn(text);
+  return withWork(state, work, { ...AFRESH, text, tab: "game", messages: messagesAtStart(work, text) });
 }
 
 // Takes the text of the session that is open to hand.
@@ -106,6 +118,9 @@ export function withOwnText(state) {
   const { own } = state.work;
   return own === null ? state : withWork(state, { ...state.work, own: null }, { ...AFRESH, text: own, tab: "game" });
 }
+
+// Plays games with a clock without it, or refuses them again.
+export const ticked = (state, isTicked) => ({ ...state, ...AFRESH, isTicked, looked: null, queue: [] });
 
 export const inOrder = (state, order) => ({ ...state, ...AFRESH, order, looked: null, queue: [] });
 

@@ -2,6 +2,8 @@
 import assert from 'node:assert/strict';
 import test from 'node:test';
 import { culpritTold } from '../../web/faults.mjs';
+import { readFileSync } from 'node:fs';
+import { findingsIn } from '../../web/console.mjs';
 import { Game } from '../../web/game.mjs';
 import { lineOf, linesOf, trimmed } from '../../web/source.mjs';
 
@@ -54,3 +56,30 @@ for (const [what, [size, act]] of Object.entries(READINGS)) {
     assert.ok(growths.some(it => it <= MOST), `${growths}`);
   });
 }
+
+const FORM = readFileSync(new URL('../forms/console-with-headings.txt', import.meta.url), 'utf-8');
+const LONG = 2_600_000, SHORTER = 400_000, MOST_MS = 3000;
+const HOSTILE = ['["', '"["', '"[\\"', '[\\"', "['", "'[\"", '[`', '[&quot;', '["a",', '["a",["objects",[0],"b",', '/*["', '["/*', '["objects"\n', '[\u201c', '["a\\', '"\n[', '["undo",', '\\n[', '[<br>"', '["a",//'];
+
+/** Milliseconds that a search takes; a busy machine is given a second try. */
+function searchOf(text, count) {
+  const times = [];
+  while (times.length < 2 && !times.some(it => it < MOST_MS)) {
+    const begin = process.cpuUsage();
+    assert.equal(findingsIn(text).found.length, count);
+    times.push(process.cpuUsage(begin).user / 1000);
+  }
+  return Math.min(...times);
+}
+
+test('what only looks like recordings is searched in no time', () => {
+  assert.ok(searchOf('["'.repeat(LONG / 2), 0) < MOST_MS);
+  for (const piece of HOSTILE) assert.ok(searchOf(piece.repeat(SHORTER / piece.length), 0) < MOST_MS, piece);
+});
+
+test('26 MB of text are searched in no time', () => {
+  for (const [piece, each] of [[FORM, 1], ['[ > Player | Crate ] -> [ > Player ]\n', 0]]) {
+    const count = Math.floor((10 * LONG) / piece.length);
+    assert.ok(searchOf(piece.repeat(count), each * count) < MOST_MS, piece);
+  }
+});

@@ -2,8 +2,10 @@
 import assert from "node:assert/strict";
 import test from "node:test";
 import { Ending, endingTold, obstacleTold, partingOf, partingTold } from "../../web/comparing.mjs";
-import { kindOf } from "../../web/handing.mjs";
+import { handed } from "../../web/handing.mjs";
 import { meaningOf } from "../../web/keys.mjs";
+import { packed, unpacked } from "../../web/packing.mjs";
+import { playedInParts } from "../../web/parts.mjs";
 import { Labels, readCells, widthOf } from "../../web/level-text.mjs";
 import { framesIn, readRuns, runsOf } from "../../web/lines.mjs";
 import { likeness, nearest } from "../../web/nearest.mjs";
@@ -40,7 +42,35 @@ test("a sessions file is read", () => {
     { name: "two", source: "", inputs: [], level: "b:0,", index: 0 },
   ]);
   assert.equal(file.isOverAGame, true);
-  assert.equal(textOf(file.playedOver("the game")), '[["one",["source",[0,"undo"],"a:0,",1]],["two",["the game",[],"b:0,",0]]]');
+  assert.deepEqual(file.partsOver("the game").map(({ first, bytes }) => [first, textOf(bytes)]), [[0, '[["one",["source",[0,"undo"],"a:0,",1]],["two",["the game",[],"b:0,",0]]]']]);
+});
+
+test("a file is played in as few parts as the engine takes, and their lines are joined", async () => {
+  const entries = Array.from({ length: 300 }, (_, number) => [`s${number}`, ["", [], "b:0,", 0]]), file = new SessionFile("f.json", bytesOf(JSON.stringify(entries))), game = "x".repeat(150_000);
+  const parts = file.partsOver(game), counts = parts.map(({ bytes }) => JSON.parse(textOf(bytes)).length);
+  // 16,777,216 bytes have room for 111 entries of 150,000 letters and some 20 around them
+  assert.deepEqual([counts, parts.map(({ first }) => first)], [[111, 111, 78], [0, 111, 222]]);
+  assert.ok(parts.every(({ bytes }) => bytes.length <= 16_777_216));
+  const line = (number) => `{"at":0,"session":7}\n{"close":"passed","frames":0,"name":"\\"session\\":5}","session":${number}}\n`, told = [];
+  const engine = { playAll: async (bytes, { progress }) => { progress(2, 9); return { fault: null, lines: bytesOf(line(JSON.parse(textOf(bytes)).length)) }; } };
+  const asked = { order: "rows", signal: new AbortController().signal, progress: (...words) => told.push(words) };
+  const { lines } = await playedInParts(engine, parts, 300, asked);
+  assert.equal(textOf(lines), line(111) + line(222).replace(":7", ":118") + line(300).replace(":7", ":229"));
+  assert.deepEqual(told, [[2, 300], [113, 300], [224, 300]]);
+  const failing = { playAll: async () => ({ fault: "bad-level 4", lines: null }) };
+  assert.equal((await playedInParts(failing, parts.slice(1), 300, asked)).fault, "bad-level 115");
+  assert.equal((await playedInParts(failing, parts.slice(0, 1), 300, asked)).fault, "bad-level 4");
+});
+
+test("a file whose sessions share a text is kept small, and each byte comes back", () => {
+  const game = `title A\n${"x".repeat(2000)}\u00e9`, entries = Array.from({ length: 2000 }, (_, number) => `["s${number}", [${JSON.stringify(game)}, [${number % 4}] , "b:0,"]]`);
+  const file = new SessionFile("f.json", bytesOf(`[ ${entries.join(",\n")}\n]\n`)), kept = packed(file);
+  assert.ok(JSON.stringify(kept).length < 120_000 && file.bytes.length > 4_000_000);
+  assert.deepEqual([Buffer.from(unpacked(structuredClone(kept))).equals(file.bytes), kept.texts.length, packed(file) === kept], [true, 1, true]);
+  const small = new SessionFile("f.json", bytesOf(FILE));
+  assert.deepEqual(packed(small), { name: "f.json", bytes: small.bytes });
+  const apart = new SessionFile("f.json", bytesOf(JSON.stringify(Array.from({ length: 40 }, (_, number) => ["s", [`${number}${"x".repeat(3000)}`, [], "b:0,"]]))));
+  assert.equal(packed(apart).bytes, apart.bytes);
 });
 
 test("a changed level leaves all else letter by letter", () => {
@@ -184,12 +214,28 @@ test("keys mean inputs and moves, but not where something is typed", () => {
   assert.deepEqual(pressed("ArrowLeft"), { input: 1 });
   assert.deepEqual(pressed("D"), { input: 3 });
   assert.deepEqual(pressed("."), { input: "tick" });
+  for (const key of ["x", "c", "C", " ", "Enter"]) assert.deepEqual(pressed(key), { input: 4 }, key);
+  for (const [key, move] of [["+", "larger"], ["-", "smaller"], ["0", "fit"]]) assert.deepEqual(pressed(key), { move });
   assert.deepEqual(pressed("ArrowLeft", "body", { shiftKey: true }), { move: "back" });
   assert.deepEqual(pressed("N", "body", { shiftKey: true }), { move: "previous-failure" });
   assert.deepEqual(pressed("End"), { move: "last" });
-  for (const it of [pressed("x", "textarea"), pressed("q"), pressed("z", "body", { ctrlKey: true }), pressed(" ", "button"), pressed("Tab"), pressed("Enter")]) assert.equal(it, null);
+  for (const it of [pressed("x", "textarea"), pressed("q"), pressed("z", "body", { ctrlKey: true }), pressed(" ", "button"), pressed("Tab"), pressed("Enter", "button")]) assert.equal(it, null);
 });
 
-test("a file is taken for what its first letter says", () => {
-  assert.deepEqual(["\ufeff [", '{"at":0', "title A", ""].map(kindOf), ["sessions", "lines", "game", "game"]);
+const kindOf = (text) => handed("f", typeof text === "string" ? bytesOf(text) : text).kind;
+const wide = (text, isBig) => Uint8Array.from([...text].flatMap((letter) => (isBig ? [0, letter.charCodeAt(0)] : [letter.charCodeAt(0), 0])));
+
+test("a file is taken for what stands in it", () => {
+  const recording = '["a",["OBJECTS",[0],"b:0,"]]';
+  assert.deepEqual(["[]", `[${recording}]`, `so: ${recording},`, '{"at":0', "title A\nOBJECTS\n"].map(kindOf), ["sessions", "sessions", "recordings", "lines", "game"]);
+  assert.deepEqual([wide(`[${recording}]`, false), wide(`[${recording}]`, true), wide("LEVELS\n", true)].map(kindOf), ["sessions", "sessions", "game"]);
+});
+
+test("what is none of these is refused, and prose is no game", () => {
+  const refusals = [
+    ["", "f: it is empty: in PuzzleScript's editor play"], ["Dear Anna, here is my game.", "f: it has no recording, and is no text of a game"], ['{"source": "x"}', "f: it has objects in braces"],
+    ['["a",["OBJECTS",[7],"b:0,"]]', "no recording is left in f: line 1: skipped a recording with a fault: its input 0 is neither"], ['\n["a",["OBJECTS\\n', "no recording is left in f: line 2: skipped a recording that is cut off"],
+    [new Uint8Array([0x61, 0xff]), "f is no text in UTF-8"],
+  ];
+  for (const [text, begin] of refusals) assert.throws(() => kindOf(text), (error) => error instanceof Refusal && error.message.startsWith(begin), begin);
 });

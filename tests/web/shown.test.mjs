@@ -1,0 +1,171 @@
+// What the page shows on the way: messages, ticks and won levels one after another, names of strangers, and levels in words. What is expected is written by hand.
+import assert from "node:assert/strict";
+import test from "node:test";
+import { Animation, WON, paceOf, scenesOf } from "../../web/animating.mjs";
+import { rowsInWords } from "../../web/cells.mjs";
+import { cut, readable } from "../../web/elements.mjs";
+import { fileNameOf } from "../../web/handing.mjs";
+import { swipeOf } from "../../web/keys.mjs";
+import { messagesAt, messagesOf } from "../../web/messages.mjs";
+import { framesOf } from "../../web/replaying.mjs";
+import { edited, fromLevel, lookedAt, pressed, ticked, withGame } from "../../web/work.mjs";
+import { clockTold, statusOf, verdictOf } from "../../web/page-words.mjs";
+import { SessionFile } from "../../web/session-file.mjs";
+import { withOtherFile } from "../../web/filing.mjs";
+import { rowsOf, sessionOpened } from "../../web/suite.mjs";
+import { hasClock, withoutClock } from "../../web/ticks.mjs";
+import { Bench, module } from "./bench.mjs";
+
+const it = (name, act) => test(name, { skip: module === undefined && "there is no module" }, act);
+
+// Levels of one row, each won by two steps to the right, with messages around them.
+const FALLING = `title Falling
+again_interval 0.25
+OBJECTS
+Background .
+black
+Player p
+white
+Goal g
+blue
+LEGEND
+COLLISIONLAYERS
+Background
+Goal
+Player
+RULES
+WINCONDITIONS
+All Player on Goal
+LEVELS
+message first (of all)
+p.g
+
+MESSAGE second
+message third
+
+p.g
+
+message the end
+`;
+// The same with two cells more, where an action and then each tick take the player one step on.
+const TICKING = FALLING.replace("RULES\n", "RULES\n[ action Player ] -> [ right Player ] again\n[ stationary Player ] -> [ right Player ] again\n").replaceAll("p.g", "p...g");
+
+test("the messages of LEVELS stand between its levels", () => {
+  assert.deepEqual(messagesOf(FALLING), ["first (of all)", null, "second", "third", null, "the end"]);
+  assert.deepEqual([0, 1, 2].map((won) => messagesAt(FALLING, 1, won)), [["first (of all)"], ["second", "third"], ["the end"]]);
+  assert.deepEqual([messagesAt(FALLING, 2, 0), messagesAt(FALLING, 4, 1), messagesAt("title none\n", 0, 0)], [["second", "third"], ["the end"], []]);
+});
+
+it("messages are shown where a game begins, before the next level and behind the last, and an action goes on behind each", async () => {
+  const bench = new Bench();
+  await bench.act(withGame, FALLING);
+  assert.deepEqual(bench.state.messages, ["first (of all)"]);
+  await bench.act(pressed, 3);
+  assert.deepEqual([bench.state.messages, bench.state.work.inputs], [["first (of all)"], []]);
+  await bench.act(pressed, 4);
+  assert.deepEqual([bench.state.messages, bench.state.work.inputs], [[], []]);
+  await bench.act(pressed, 3);
+  await bench.act(pressed, 3);
+  assert.deepEqual([bench.state.messages, bench.state.work.inputs, framesOf(bench.state).at(-1).kind], [["second", "third"], [3, 3], "load"]);
+  for (const input of ["undo", 4, 1, 4, 3, 3]) await bench.act(pressed, input);
+  assert.deepEqual([bench.state.messages, bench.state.work.inputs, bench.state.played.isSolved], [["the end"], [3, 3, 3, 3], true]);
+  await bench.act(lookedAt, 0);
+  assert.deepEqual(bench.state.messages, []);
+  await bench.act(fromLevel, 4);
+  assert.deepEqual(bench.state.messages, ["second", "third"]);
+  await bench.act(edited, FALLING.replace("white", "red"));
+  assert.deepEqual(bench.state.messages, []);
+});
+
+it("keys that wait as a message comes are left out", async () => {
+  const bench = new Bench();
+  await bench.act(withGame, FALLING);
+  await bench.act(pressed, 4);
+  for (const input of [3, 3, 1, 1]) bench.runner.update((state) => pressed(state, input));
+  await bench.runner.idle();
+  assert.deepEqual([bench.state.messages.length, bench.state.work.inputs], [2, [3, 3]]);
+});
+
+it("a won level is shown for a moment, and the ticks of an input at the pace of the game", async () => {
+  const bench = new Bench();
+  await bench.act(withGame, FALLING);
+  for (const input of [4, 3]) await bench.act(pressed, input);
+  assert.deepEqual(scenesOf(bench.state), []);
+  await bench.act(pressed, 3);
+  assert.deepEqual(framesOf(bench.state).map(({ kind }) => kind), ["start", "move", "move", "load"]);
+  assert.deepEqual(scenesOf(bench.state), [[2, WON]]);
+  await bench.act(withGame, TICKING);
+  for (const input of [4, 4]) await bench.act(pressed, input);
+  assert.deepEqual(framesOf(bench.state).map(({ kind, at }) => [kind, at]), [["start", 0], ["move", 1], ["tick", 1], ["tick", 1], ["tick", 1], ["load", 1]]);
+  assert.deepEqual(scenesOf(bench.state), [[1, 250], [2, 250], [3, 250], [4, WON]]);
+  await bench.act(lookedAt, 1);
+  assert.deepEqual(scenesOf(bench.state), []);
+});
+
+it("frames are shown one after another, which any act ends", async () => {
+  const bench = new Bench(), seen = [];
+  const animation = new Animation(() => { animation.follow(bench.state); seen.push(animation.seen(bench.state).looked); });
+  await bench.act(withGame, TICKING.replace("0.25", "0.01"));
+  for (const input of [4, 4]) await bench.act(pressed, input);
+  animation.follow(bench.state);
+  assert.deepEqual([animation.seen(bench.state).looked, animation.seen(bench.state).messages, bench.state.looked], [1, [], null]);
+  while (seen.length < 3) await new Promise((settle) => setTimeout(settle, 10));
+  assert.deepEqual(seen, [2, 3, 4]);
+  await bench.act(lookedAt, 0);
+  animation.follow(bench.state);
+  assert.equal(animation.seen(bench.state), bench.state);
+  assert.equal(animation.end(), false);
+  const still = new Animation(() => assert.fail("it moves"), () => true);
+  still.follow(bench.state);
+  assert.equal(still.seen(bench.state), bench.state);
+});
+
+test("a game has a pace", () => {
+  assert.deepEqual(["title a\nagain_interval 0.5\n", "AGAIN_INTERVAL .03", "again_interval 99", "again_interval x", "title again_interval 3", ""].map(paceOf), [500, 30, 5000, 100, 100, 100]);
+});
+
+const CLOCKED = FALLING.replace("title Falling", "title Falling\n(a) Realtime_Interval 0.5 (b)");
+
+test("a clock is taken from the text, and its lines keep their numbers", () => {
+  assert.deepEqual([hasClock(CLOCKED), hasClock(FALLING), hasClock("title realtime_interval 1\nOBJECTS\nrealtime_interval\nred\n")], [true, false, false]);
+  assert.equal(withoutClock(CLOCKED), CLOCKED.replace("(a) Realtime_Interval 0.5 (b)", "(a) "));
+  assert.equal(withoutClock("(\n) realtime_interval 1\nx"), "(\n) \nx");
+});
+
+it("a game with a clock is played without it where that is wanted, which the verdict and the list say", async () => {
+  const level = "background:0,0,background goal player:1,\n", bench = new Bench();
+  await bench.act(withGame, CLOCKED);
+  assert.match(clockTold(bench.state).text, /^A game with `realtime_interval` isn't played here.*\?$/);
+  await bench.act(withOtherFile, new SessionFile("f.json", new TextEncoder().encode(JSON.stringify([["clocked", ["", [3, "tick", 3, "tick"], level, 4]], ["free", [FALLING, [3, 3], level, 4]]]))));
+  assert.deepEqual(rowsOf(bench.state).map(({ close, isTicked }) => [close, isTicked]), [["refused", false], ["passed", false]]);
+  await bench.act(ticked, true);
+  assert.deepEqual(rowsOf(bench.state).map(({ close, isTicked }) => [close, isTicked]), [["passed", true], ["passed", false]]);
+  assert.match(verdictOf(bench.state, null).text, /1 was played without `realtime_interval`, with its ticks as recorded\.$/);
+  assert.equal(verdictOf(bench.state, null).close, null);
+  await bench.act(sessionOpened, 0);
+  assert.equal(statusOf(bench.state).text, "Passed: the last level is the recorded one. Played without `realtime_interval`, with its ticks as recorded.");
+  assert.deepEqual(clockTold(bench.state), { text: "Played without `realtime_interval`, with its ticks as recorded.", isAsked: false });
+  await bench.reload();
+  assert.equal(bench.state.isTicked, true);
+  await bench.act(ticked, false);
+  assert.deepEqual([rowsOf(bench.state)[0].close, clockTold(bench.state).isAsked], ["refused", true]);
+});
+
+test("a swipe goes one way", () => {
+  assert.deepEqual([swipeOf(3, -30), swipeOf(-30, 3), swipeOf(3, 30), swipeOf(30, 3), swipeOf(20, 20)], [0, 1, 2, 3, null]);
+});
+
+test("a name that turns letters around is readable, and others stay as they are", () => {
+  assert.deepEqual([readable("a\u202eb\u2066"), cut("\u202eab", 2), readable("\u05d0 e\u0301 \u{1f468}\u200d\u{1f469}")], ["a\\u{202e}b\\u{2066}", "\\u{202e}a\u2026", "\u05d0 e\u0301 \u{1f468}\u200d\u{1f469}"]);
+});
+
+test("the file of a text is named by its title", () => {
+  assert.deepEqual(["Simple Block Pushing Game", "a/b: c?", "..", "", "\u202ea\nb", "x".repeat(99)].map(fileNameOf), ["Simple Block Pushing Game.txt", "a b c.txt", "game.txt", "game.txt", "a b.txt", `${"x".repeat(60)}.txt`]);
+});
+
+test("a level is told row by row, in both orders of cells", () => {
+  const names = [["background"], ["background", "player"], []], told = (order) => rowsInWords({ width: 3, cells: [0, 0, 1, 2, 2, 2], order }, (label) => names[label]);
+  assert.deepEqual(told("rows"), ["2 \u00d7 background, background player", "3 \u00d7 nothing"]);
+  assert.deepEqual(told("columns"), ["background, background player, nothing", "background, 2 \u00d7 nothing"]);
+  assert.deepEqual(rowsInWords(null, () => []), []);
+});

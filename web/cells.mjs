@@ -1,0 +1,89 @@
+// The cells of a level in words, and those in which two levels differ as a list that is gone through one by one.
+import { at, make, plural } from "./elements.mjs";
+import { heightOf, isDrawn, numberAt, placeOf } from "./levels.mjs";
+
+const MOST_LISTED = 300;
+
+// What stands in a cell, by the names of its objects.
+export const cellTold = (names) => (names.join(" ") || "nothing");
+
+// Where a cell stands, counted from 1.
+export function whereTold(level, number) {
+  const [column, row] = placeOf(level, number);
+  return `column ${column + 1}, row ${row + 1}`;
+}
+
+// What stands in the rows of a level, a sentence for each: cells that are alike beside one another are counted.
+export function rowsInWords(level, namesOf) {
+  if (!isDrawn(level)) return [];
+  return Array.from({ length: heightOf(level) }, (_, row) => {
+    const runs = [];
+    for (let column = 0; column < level.width; column += 1) {
+      const told = cellTold(namesOf(level.cells[numberAt(level, column, row)])), last = runs.at(-1);
+      if (last?.told === told) last.count += 1;
+      else runs.push({ told, count: 1 });
+    }
+    return runs.map(({ told, count }) => (count > 1 ? `${count} \u00d7 ${told}` : told)).join(", ");
+  });
+}
+
+// A level in words, made once somebody looks.
+export class InWords {
+  constructor() {
+    this.level = null;
+    at("in-words").addEventListener("toggle", () => this.draw());
+  }
+
+  show(level, namesOf) {
+    Object.assign(this, { level, namesOf });
+    at("in-words").hidden = !isDrawn(level);
+    this.draw();
+  }
+
+  draw() {
+    if (!at("in-words").open || this.level === null) return;
+    at("words").replaceChildren(...rowsInWords(this.level, this.namesOf).map((row) => make("li", "", row)));
+  }
+}
+
+// The cells in which two levels differ. show(number) shows one, and is told null where none is chosen.
+export class DifferingCells {
+  constructor(choose) {
+    Object.assign(this, { choose, cells: [], current: null });
+    at("next-cell").addEventListener("click", () => this.next());
+  }
+
+  // Lists cells, each told by a function.
+  show(cells, told) {
+    const isSame = cells.length === this.cells.length && cells.every((cell, place) => cell === this.cells[place]);
+    if (!isSame) this.current = null;
+    Object.assign(this, { cells, told });
+    at("differing-cells").hidden = cells.length === 0;
+    this.draw();
+  }
+
+  get chosen() {
+    return this.current === null ? null : this.cells[this.current];
+  }
+
+  next() {
+    if (this.cells.length === 0) return;
+    this.current = this.current === null ? 0 : (this.current + 1) % this.cells.length;
+    this.draw();
+    this.choose(this.chosen);
+  }
+
+  draw() {
+    const first = Math.max(0, Math.min(this.cells.length - MOST_LISTED, (this.current ?? 0) - Math.floor(MOST_LISTED / 2)));
+    const listed = this.cells.slice(first, first + MOST_LISTED), more = this.cells.length - listed.length;
+    const items = listed.map((cell, place) => this.item(cell, first + place));
+    at("differing").replaceChildren(...items, ...(more > 0 ? [make("li", "faint", `and ${plural(more, "cell")} more`)] : []));
+    at("chosen-cell").textContent = this.current === null ? "" : `${this.current + 1} of ${this.cells.length}: ${this.told(this.chosen)}`;
+  }
+
+  item(cell, place) {
+    const item = make("li", "", this.told(cell));
+    item.setAttribute("aria-current", String(place === this.current));
+    return item;
+  }
+}

@@ -1,0 +1,70 @@
+// Recordings that were found in a text, as sessions of a file: their names, those that are there already, and what is said of the rest. The twin of
+// python/saxtegun/recordings.py.
+import { plural } from "./elements.mjs";
+import { Game, entriesOfLevels } from "./game.mjs";
+import { isSameList } from "./past.mjs";
+import { fold, readSource } from "./source.mjs";
+
+const HOW = "in PuzzleScript's editor play, press Ctrl+J, and copy all that the console prints then";
+const SKIPPED = {
+  compiler: "what the compiler printed, which is no recording: one is printed below it, by Ctrl+J after you played",
+  "cut-off": "a recording that is cut off: copy it again, up to its last bracket",
+};
+const OBJECTS = 'it has objects in braces, and a recording is a list, ["name", ["source", [inputs], "level", index]]';
+const WITHOUT_NAME = ["", "untitled test"]; // a recording without a name of its own
+const SKIPPED_TOLD = 3;
+
+const skippedTold = ({ line, what }) => `line ${line}: skipped ${Object.hasOwn(SKIPPED, what) ? SKIPPED[what] : `a recording with a fault: ${what}`}`;
+
+// What was skipped of a text, as sentences without their ends.
+export function allSkippedTold(skipped) {
+  const more = skipped.length > SKIPPED_TOLD ? [`and ${skipped.length - SKIPPED_TOLD} more`] : [];
+  return [...skipped.slice(0, SKIPPED_TOLD).map(skippedTold), ...more].join("; ");
+}
+
+// Why a text without recordings is nothing that the page takes, and what to do; null where it is the text of a game.
+export function nothingTold(text) {
+  if (text.trim() === "") return `it is empty: ${HOW}`;
+  if (text.includes('"source"') && text.includes("{")) return `${OBJECTS}: ${HOW}`;
+  return readSource(text).headings.length > 0 ? null : `it has no recording, and is no text of a game, since it has no heading as OBJECTS or LEVELS: ${HOW}`;
+}
+
+// Whether two texts are the same, but for how lines end and what stands behind the last.
+const isSameText = (one, other) => one.replaceAll("\r\n", "\n").trimEnd() === other.replaceAll("\r\n", "\n").trimEnd();
+
+// The name of a recording: its own; or the title with the level, where it has none or the title, as the editor writes it.
+export function ownName({ name, source, index }) {
+  const { title } = new Game(source), level = 1 + entriesOfLevels(source).slice(0, index).filter((rows) => rows.length > 0).length;
+  return WITHOUT_NAME.includes(name) || fold(name) === fold(title) ? `${title}, level ${level}` : name;
+}
+
+// A name that no other has: itself, or with a number.
+function freeName(name, taken) {
+  for (let number = 1, free = name; ; free = `${name} (${number})`) {
+    if (!taken.has(free)) return free;
+    number += 1;
+  }
+}
+
+const isSameRecording = (one, other) => one.index === other.index && one.level === other.level && isSameList(one.inputs, other.inputs) && isSameText(one.source, other.source);
+
+// What of some recordings is added to the entries of a file, under names that no other has, and how many are there already: { added, known }. Those of
+// the text at hand follow it.
+export function toAdd(recordings, entries, text) {
+  const there = entries.map((it) => ({ ...it, source: it.source || text })), names = new Set(entries.map(({ name }) => name)), added = [];
+  for (const it of recordings) {
+    const whole = { ...it, source: it.source || text };
+    if (there.some((other) => isSameRecording(whole, other))) continue;
+    const name = freeName(ownName(whole), names);
+    names.add(name);
+    there.push(whole);
+    added.push({ ...it, name, source: isSameText(whole.source, text) ? "" : it.source });
+  }
+  return { added, known: recordings.length - added.length };
+}
+
+// What was done with recordings, in a sentence without its end.
+export function addedTold({ added, known }, file, skipped) {
+  const parts = [`${plural(added.length, "recording")} added to ${file}`, ...(known > 0 ? [`${known} ${known === 1 ? "is" : "are"} there already`] : []), ...(skipped.length > 0 ? [allSkippedTold(skipped)] : [])];
+  return parts.join("; ");
+}

@@ -1,0 +1,28 @@
+// The messages of LEVELS, where the site shows them: where a game begins, before a level that comes next, and behind the last.
+import { cutAtSpace, fold, linesOf, trimmed } from "./source.mjs";
+
+// The entries of LEVELS: the text of a message, or null for a level.
+export function messagesOf(source) {
+  const found = [];
+  let isInLevel = false;
+  for (const { text } of linesOf(source).filter((line) => line.section === "levels")) {
+    const [word, rest] = cutAtSpace(text), isMessage = fold(word) === "message";
+    if (isMessage) found.push(trimmed(rest));
+    else if (text !== "" && !isInLevel) found.push(null);
+    isInLevel = text !== "" && !isMessage;
+  }
+  return found;
+}
+
+// The messages directly before an entry.
+function messagesBefore(entries, index) {
+  let first = index;
+  while (first > 0 && entries[first - 1] !== null) first -= 1;
+  return entries.slice(first, index);
+}
+
+// The messages before the level that a session is in once it has won so many; behind the last level, where there is no such level.
+export function messagesAt(source, index, won) {
+  const entries = messagesOf(source), levels = entries.map((_, number) => number).filter((number) => number >= index && entries[number] === null);
+  return messagesBefore(entries, levels[won] ?? entries.length);
+}

@@ -1,0 +1,35 @@
+// Sessions that are more than the engine takes in one file: they are played in parts, whose lines are joined as if they were one.
+const SESSION = /(?<="session":)[0-9]+(?=\}$)/gm;
+
+// The lines of a part, whose sessions are numbered from `first` on.
+function renumbered(lines, first) {
+  if (first === 0) return lines;
+  return new TextEncoder().encode(new TextDecoder().decode(lines).replace(SESSION, (number) => String(first + Number(number))));
+}
+
+function joinedBytes(pieces) {
+  const whole = new Uint8Array(pieces.reduce((sum, piece) => sum + piece.length, 0));
+  let at = 0;
+  for (const piece of pieces) {
+    whole.set(piece, at);
+    at += piece.length;
+  }
+  return whole;
+}
+
+// A fault that names a session of a part.
+const faultOfPart = (fault, first) => fault.replace(/(?<= )[0-9]+$/, (number) => String(first + Number(number)));
+
+// What the engine makes of parts of `count` sessions: { fault, lines }.
+export async function playedInParts(engine, parts, count, { order, signal, progress }) {
+  const pieces = [];
+  for (const { first, bytes } of parts) {
+    const isWhole = parts.length === 1, told = isWhole ? progress : (done) => progress(first + done, count);
+    const answer = await engine.playAll(bytes, { order, signal, progress: told });
+    if (isWhole) return answer;
+    signal.throwIfAborted();
+    if (answer.fault !== null) return { fault: faultOfPart(answer.fault, first), lines: null };
+    pieces.push(renumbered(answer.lines, first));
+  }
+  return { fault: null, lines: joinedBytes(pieces) };
+}

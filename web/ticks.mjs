@@ -1,0 +1,34 @@
+// Games with a clock, `realtime_interval`, which are refused. A recording has its ticks among its inputs, so it is played without that line where that is
+// wanted: each answer says so.
+import { cutAtSpace, fold, linesOf, trimmed } from "./source.mjs";
+
+const CLOCK = "realtime_interval";
+const MOST_KNOWN = 64;
+const known = new Map(); // whether a text has a clock
+
+const clockLinesOf = (source) => linesOf(source).filter(({ section, text }) => section === "prelude" && fold(cutAtSpace(text)[0]) === CLOCK);
+
+// Whether a game has a clock.
+export function hasClock(source) {
+  if (!known.has(source)) {
+    if (known.size >= MOST_KNOWN) known.clear();
+    known.set(source, clockLinesOf(source).length > 0);
+  }
+  return known.get(source);
+}
+
+// The text of a game without its clock. All other lines keep their numbers.
+export function withoutClock(source) {
+  const lines = source.split("\n");
+  for (const { number, text } of clockLinesOf(source)) {
+    const line = trimmed(lines[number - 1]);
+    lines[number - 1] = line.slice(0, line.length - text.length);
+  }
+  return lines.join("\n");
+}
+
+// The text that the engine gets of a game.
+export const playedText = (source, isTicked) => (isTicked ? withoutClock(source) : source);
+
+// Whether a game is refused for its clock.
+export const isRefusedForClock = (source, cause) => (cause ?? "").startsWith("OutsideProfile:") && hasClock(source);
