@@ -11,11 +11,19 @@ from tool import TOP
 sys.path.insert(0, str(TOP / "dev"))
 from freshness import PARTS, SOURCES, digests, newer, written  # noqa: E402
 
+HOW = "commit all else, call dev/release --released, and commit released/ next"
 GIT = shutil.which("git") is not None and (TOP / ".git").exists()
 
 
 def git(folder, *words):
     return subprocess.run(["git", "-c", "user.name=a", "-c", "user.email=a@example", *words], cwd=folder, check=True, stdout=subprocess.PIPE).stdout.decode()
+
+
+@unittest.skipUnless(GIT, "what is committed is known in a clone alone")
+class Released(unittest.TestCase):
+    def test_its_files_are_of_the_sources_that_are_committed(self):
+        found = newer(TOP, TOP / "released")
+        self.assertEqual(found, [], f"newer than released/ is {', '.join(found)}: {HOW}")
 
 
 @unittest.skipUnless(GIT, "what is committed is known in a clone alone")
