@@ -110,10 +110,14 @@ def layers_in(cell: str, game: Game, layers: Dict[str, Optional[int]]) -> Dict[s
     return found
 
 
+def cells_in(side: str) -> List[str]:
+    return [cell for row in ROW.findall(side) for cell in row.split("|")]
+
+
 def cells_of(text: str) -> Iterator[Tuple[str, str]]:
     """The cells of a rule, left and right of it side by side."""
-    sides = [[cell for row in ROW.findall(side) for cell in row.split("|")] for side in text[:MOST_LETTERS].partition("->")[::2]]
-    return zip(*sides)
+    left, _, right = text[:MOST_LETTERS].partition("->")
+    return zip(cells_in(left), cells_in(right))
 
 
 def moved_layers(source: str, game: Game, layers: Dict[str, Optional[int]]) -> Set[Optional[int]]:

@@ -64,7 +64,7 @@ def main(given: Namespace) -> int:
             if run.close != "passed":
                 entry = sessions.entries[run.number]
                 # one fault of a game is one, however many sessions it refuses
-                key = (entry.source, run.cause) if run.close == "refused" else (run.number,)
+                key: Tuple[object, ...] = (entry.source, run.cause) if run.close == "refused" else (run.number,)
                 if key in told_of:
                     told_of[key].more.append(run.number)
                 else:
