@@ -98,6 +98,20 @@ class Joined(unittest.TestCase):
             self.assertEqual(ran.returncode, 0, ran.stdout.decode())
 
 
+class Pages(unittest.TestCase):
+    def test_a_page_says_what_it_needs_where_no_script_runs(self):
+        for name in ("playground.html", "report.html"):
+            self.assertRegex((WEB / name).read_text(encoding="utf-8"), "<noscript><p>[^<]+JavaScript")
+
+    def test_a_page_is_printed_without_what_is_clicked(self):
+        for name in ("playground.css", "report.css"):
+            self.assertRegex((WEB / name).read_text(encoding="utf-8"), r"@media print \{(\n  [^\n]+)*\n  [^\n]*#[a-z-]+, [^\n]*display: none; \}")
+
+    def test_names_of_strangers_turn_nothing_around_them(self):
+        for name in ("playground.css", "report.css"):
+            self.assertRegex((WEB / name).read_text(encoding="utf-8"), r"#list \.label[^}]*unicode-bidi: isolate")
+
+
 class Modules(unittest.TestCase):
     @unittest.skipUnless(shutil.which("node"), "Node is not there")
     def test_what_needs_no_browser_passes_in_node(self):

@@ -58,6 +58,7 @@ export class Drawn {
     when("levels", [sourceOf(state), state.work.index], () => this.drawLevels(state));
     when("recording", [frames, shown, state.work.inputs, state.played], () => this.drawRecording(state));
     when("level", [frames, shown, state.order, state.suite, state.comparison, state.file, state.work, window.innerWidth, window.innerHeight, at("stage").clientWidth], () => this.drawLevel(state));
+    when("likely", [sourceOf(state), state.work, state.suite, state.played, state.file], () => this.drawLikely(state));
     tell("status", statusOf(state));
     say("own", ownTold(state));
     at("take-text").hidden = state.work.own === null;
@@ -113,7 +114,6 @@ export class Drawn {
     const { labels } = this.look, game = gameOf(sourceOf(state)), other = this.comparedWith(state);
     this.stage.use(game.look(), labels);
     this.kept = { title: game.title, index: state.work.index };
-    this.drawLikely(state, game);
     const ending = other && new Ending(frame.level, other.text, state.order, labels);
     const level = ending ? ending.reached : readLevel(frame.level, labels, state.order);
     const unread = level === null ? "This level can't be drawn: a name of an object in it holds a comma." : "";
@@ -122,9 +122,9 @@ export class Drawn {
   }
 
   // Where a session differs: what the site may decide otherwise.
-  drawLikely(state, game) {
-    const isDiffering = sessionOf(state) !== null && runsOfNow(state)?.[state.work.opened].close === "differs";
-    const told = isDiffering ? likelyTold({ source: sourceOf(state), game, inputs: state.work.inputs, level: framesOf(state)[0].level }) : null;
+  drawLikely(state) {
+    const source = sourceOf(state), isDiffering = sessionOf(state) !== null && isPlayed(state) && runsOfNow(state)?.[state.work.opened].close === "differs";
+    const told = isDiffering ? likelyTold({ source, game: gameOf(source), inputs: state.work.inputs, level: framesOf(state)[0]?.level }) : null;
     say("likely", told === null ? "" : `${told[0].toUpperCase()}${told.slice(1)}.`);
   }
 
@@ -138,7 +138,7 @@ export class Drawn {
 
   drawKept() {
     this.stage.keep("as the last text showed it that could be played");
-    for (const id of ["difference", "likely"]) say(id, "");
+    say("difference", "");
   }
 
   drawClock(clock) {

@@ -326,6 +326,14 @@ it("what can't be read, or has another version, leaves a page that works", async
   assert.deepEqual(stateOfVisit([{ name: "one", value: {} }], GAME).state, beginning(GAME));
 });
 
+it("of thousands of recordings over one text that text is kept once, and the file is there again byte for byte", async () => {
+  const bench = new Bench(), entries = Array.from({ length: 3000 }, (_, number) => [`s${number}`, [BROKEN, [number % 4], "background:0,", 0]]), file = fileOf(entries);
+  bench.runner.update((state) => ({ ...withOtherFile(state, file), isHeld: true }));
+  assert.ok(JSON.stringify(bench.kept).length < file.bytes.length / 5);
+  const { state } = stateOfVisit([{ name: "work", value: structuredClone(bench.kept) }], GAME);
+  assert.deepEqual([Buffer.from(state.file.bytes).equals(file.bytes), state.file.entries.length], [true, 3000]);
+});
+
 it("what an earlier page kept without a version is read", async () => {
   const bytes = bytesOf(DAY), former = { name: "former.json", bytes: bytesOf([]) };
   const state = stateFrom({ source: BROKEN, index: 1, inputs: [0], name: "old", opened: 0, order: "columns", file: { name: "f.json", bytes }, former, isUnsaved: true }, GAME);

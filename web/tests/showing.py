@@ -110,6 +110,12 @@ class Showing:
         self.wait()
         self.assertEqual(self.browser.value("document.querySelectorAll('#strip button').length"), 2)
 
+    def test_a_low_window_keeps_the_footer_free(self):
+        self.browser.size(1280, 657)
+        self.hand_sessions("block-pushing.json", self.example)
+        self.assertLessEqual(self.browser.value(place_of("left"))["bottom"], self.browser.value("document.querySelector('footer').getBoundingClientRect().top"))
+        self.assertEqual(self.browser.value("['left', 'sessions'].some((it) => getComputedStyle(document.getElementById(it)).overflowY === 'auto')"), True)
+
     def test_a_swipe_is_an_input(self):
         swipe = """((it) => { const send = (kind, x, y) => it.dispatchEvent(new PointerEvent(kind, { pointerType: 'touch', clientX: x, clientY: y, bubbles: true }));
             send('pointerdown', 100, 200); send('pointerup', 100, 260); send('pointerdown', 100, 200); send('pointerup', 104, 203); return 1; })(document.getElementById('level'))"""
