@@ -1,7 +1,7 @@
 //! The places of rows, and instances rewritten at them.
 
 ghost use Rattle.std.specs.Prelude.{IfOk};
-ghost use Rattle.pz_rules.specs.Instance.{IsInstanceOf, IsGroupOf, IsProgramOf};
+ghost use Rattle.pz_rules.specs.Instance.{IsInstanceOf, IsGroupOf, IsBlockOf, IsProgramOf};
 ghost use Rattle.pz_grid.specs.Grid.{IsOfGame};
 
 use pz_grid::{Level, Place, places, rewrite, same, still_matches};
@@ -21,14 +21,25 @@ fn first_of<'a>(game: &Game, group: &'a Group) -> Result<&'a Instance, Fail>
     }
 }
 
+/// The first block before the movement.
+fn first_block<'a>(game: &Game, program: &'a Program) -> Result<&'a Block, Fail>
+    requires { IsProgramOf game.now.layers program.now }
+    ensures { IfOk result (λ block. IsBlockOf game.now.layers block.now) }
+{
+    match program.early() {
+        [block, ..] => Ok(block),
+        _ => Err(Fail::new("no block")),
+    }
+}
+
 /// The first instance of the first group.
 pub(crate) fn first_instance<'a>(game: &Game, program: &'a Program) -> Result<&'a Instance, Fail>
     requires { IsProgramOf game.now.layers program.now }
     ensures { IfOk result (λ instance. IsInstanceOf game.now.layers instance.now) }
 {
-    match program.early() {
-        [Block::One(group), ..] => first_of(game, group),
-        _ => Err(Fail::new("no group")),
+    match first_block(game, program)? {
+        Block::One(group) => first_of(game, group),
+        Block::Loop(_) => Err(Fail::new("no group")),
     }
 }
 
