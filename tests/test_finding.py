@@ -27,6 +27,11 @@ SAID = {
 
 
 class Forms(unittest.TestCase):
+    def test_what_is_no_recording_is_passed_over(self):
+        for text in ('["undo"]', 'x ["tick", 3]', '["a",["s",[1\u0663],"x"]]', '["a",["s",[\u0663],"x"]]'):
+            with self.subTest(text):
+                self.assertEqual(find(text), ([], []))
+
     def test_each_form_gives_its_recordings(self):
         self.assertEqual(sorted(it.stem for it in FORMS.glob("*.txt")), sorted(EXPECTED["forms"]))
         for form, expected in EXPECTED["forms"].items():

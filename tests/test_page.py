@@ -223,11 +223,13 @@ class Twins(unittest.TestCase):
             self.assertIn(sentence, page)
 
     def test_the_likely_difference_is_the_one_that_the_command_names(self):
-        cases = [(value[1][0], [it for it in value[1][1] if isinstance(it, str)], next((it["level"] for it in lines if "level" in it), "")) for value, lines in entries_of_cases() if len(value[1]) > 1 and isinstance(value[1][1], list)]
-        cases += [(source, inputs, level) for source, inputs, _, _ in games() for level in ("", "background:0,crate:1,player box:2,")]
-        cases += [(source, ["undo"], "a:0,") for source in STRANGE]
-        wanted = [likely(Entry(0, "", source, inputs, "", 0, {}, False), Run(0, "", "differs", None, [Frame(0, "start", level)])) for source, inputs, level in cases]
-        self.assertGreater(len(set(wanted)), 6)
+        cases = [(value[1][0], [it for it in value[1][1] if isinstance(it, str)], [it for it in lines if "level" in it]) for value, lines in entries_of_cases() if len(value[1]) > 1 and isinstance(value[1][1], list)]
+        starts = [[{"at": 0, "kind": "start", "level": level}] for level in ("", "background:0,crate:1,player box:2,", "a:0,")]
+        cases += [(source, inputs, start) for source, inputs, _, _ in games() for start in starts[:2]]
+        cases += [(source, ["undo"], starts[2]) for source in STRANGE]
+        wanted = [likely(Entry(0, "", source, inputs, "", 0, {}, False), Run(0, "", "differs", None, [Frame(it["at"], it["kind"], it["level"]) for it in frames]))
+                  for source, inputs, frames in cases]
+        self.assertGreater(len(set(wanted)), 9)
         for case, it, there in zip(cases, wanted, in_node("likely.mjs", cases)):
             self.assertEqual(there, it, case)
 

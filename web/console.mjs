@@ -16,6 +16,7 @@ const MOST_DEPTH = 8; // an entry holds a body, which holds its inputs; behind o
 const LEAST_LETTERS = 9; // of anything that is taken or skipped by name
 const LEAST_READ = 100_000; // letters of what is quoted are read in vain at most, beside four times those of the text
 const MOST_OF_A_HEAD = 4000; // letters of a source in which its first heading is looked for, where it is cut off
+const HEADING = /objects/giu;
 
 const isBody = (value) => Array.isArray(value) && value.length > 2 && typeof value[0] === "string" && Array.isArray(value[1]) && typeof value[2] === "string";
 
@@ -43,7 +44,7 @@ function feedsIn(text, low, high) {
 // A search through a text. One that was quoted or escaped is inner, and not unquoted again.
 class Search {
   constructor(text, firstLine = 1, isInner = false) {
-    Object.assign(this, { text, isInner, counted: 0, line: firstLine, lastComment: text.lastIndexOf("*/"), found: [], skipped: [] });
+    Object.assign(this, { text, isInner, counted: 0, line: firstLine, lastComment: text.lastIndexOf("*/"), heading: -1, found: [], skipped: [] });
     this.left = 4 * text.length + LEAST_READ;
   }
 
@@ -143,8 +144,17 @@ class Search {
     let items = lists.map((it) => it.items);
     if (items.length === 2 && items[1].length > 3) items = [[...items[0], items[1]]];
     if (items.length === 1 && isEntry(items[0])) return this.take(lists[0].at, items[0].slice(0, 2));
-    const texts = lists.flatMap((it) => it.items).filter((it) => typeof it === "string"), [rest] = this.text.slice(at, at + MOST_OF_A_HEAD).split("\n", 1);
-    if ([...texts, rest].some((it) => it.toLowerCase().includes("objects"))) this.skipped.push({ line: this.lineOf(lists[0].at), what: "cut-off" });
+    if (this.hasHeading(lists[0].at, at)) this.skipped.push({ line: this.lineOf(lists[0].at), what: "cut-off" });
+  }
+
+  // Whether a heading of a source stands in what was read, or soon behind it in its line.
+  hasHeading(begin, at) {
+    if (this.heading < begin) {
+      HEADING.lastIndex = begin;
+      this.heading = HEADING.exec(this.text)?.index ?? this.text.length;
+    }
+    const feed = this.text.indexOf("\n", at);
+    return this.heading < Math.min(at + MOST_OF_A_HEAD, this.text.length) && (feed < 0 || feed >= this.heading);
   }
 }
 

@@ -124,7 +124,7 @@ export class Drawn {
   // Where a session differs: what the site may decide otherwise.
   drawLikely(state) {
     const source = sourceOf(state), isDiffering = sessionOf(state) !== null && isPlayed(state) && runsOfNow(state)?.[state.work.opened].close === "differs";
-    const told = isDiffering ? likelyTold({ source, game: gameOf(source), inputs: state.work.inputs, level: framesOf(state)[0]?.level }) : null;
+    const told = isDiffering ? likelyTold({ source, game: gameOf(source), inputs: state.work.inputs, frames: framesOf(state) }) : null;
     say("likely", told === null ? "" : `${told[0].toUpperCase()}${told.slice(1)}.`);
   }
 

@@ -162,6 +162,8 @@ class Search:
             elif token.kind == "]":
                 if self.close(lists):
                     return at
+            elif not lists:
+                return at  # inputs that stand alone
             else:
                 lists[-1].items.append(token.json)
             at = skip_space(self.text, at, self.last_comment)

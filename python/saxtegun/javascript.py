@@ -14,7 +14,7 @@ SPACE = re.compile(r"(?:[\s,]+|\ufeff|<br\s*/?>|&nbsp;|(?<=\n)[ \t]*>+)*")
 NO_SPACE = '"[]0123456789'
 # A list of inputs as JSON has it, which is what most of a recording is.
 INPUTS = re.compile(r'\[[0-9,\s]*(?:"(?:undo|restart|tick)"[0-9,\s]*)*\]')
-WORD = re.compile(r"-?(?:0|[1-9]\d*)(?:\.\d+)?(?:[eE][-+]?\d+)?(?![\w.])|[A-Za-z_]\w*")
+WORD = re.compile(r"-?(?:0|[1-9][0-9]*)(?:\.[0-9]+)?(?:[eE][-+]?[0-9]+)?(?![\w.])|[A-Za-z_]\w*")
 # No number of a recording is longer, and Python reads none of thousands of digits.
 MOST_OF_A_NUMBER = 400
 WORDS = {"null": "null", "undefined": "null", "true": "true", "false": "false"}

@@ -1,6 +1,6 @@
-// The likely difference of sessions that standard input has as a list of JSON: [source, inputs, the level of the first frame].
+// The likely difference of sessions that standard input has as a list of JSON: [source, inputs, the frames].
 import { readFileSync } from "node:fs";
 import { likelyTold } from "../../web/differences.mjs";
 import { Game } from "../../web/game.mjs";
 
-process.stdout.write(JSON.stringify(JSON.parse(readFileSync(0, "utf-8")).map(([source, inputs, level]) => likelyTold({ source, game: new Game(source), inputs, level }))));
+process.stdout.write(JSON.stringify(JSON.parse(readFileSync(0, "utf-8")).map(([source, inputs, frames]) => likelyTold({ source, game: new Game(source), inputs, frames }))));
