@@ -10,9 +10,9 @@ const MOST_PROPERTIES = 50; // properties of a source that are looked at
 const BEHIND_A_COMMENT = /\([^()]*\)\s*(?:again|win|restart|cancel|checkpoint|message|sfx\d+)\b/i;
 
 const ROW = /\[([^[\]]*)\]/g;
-const TURNING = new Set([..."^v<>", "parallel", "perpendicular"]);
+const WORDS_THAT_TURN = new Set([..."^v<>", "parallel", "perpendicular"]);
 const DIRECTIONS = new Set(["up", "down", "left", "right", "horizontal", "vertical", "orthogonal"]);
-const BEFORE_A_NAME = new Set(["no", "action", "stationary", "moving", ...TURNING, ...DIRECTIONS]);
+const BEFORE_A_NAME = new Set(["no", "action", "stationary", "moving", ...WORDS_THAT_TURN, ...DIRECTIONS]);
 const START = "run_rules_on_level_start";
 
 const rulesOf = (source) => linesOf(source).filter((line) => line.section === "rules").map(({ number, text }) => ({ number, text: fold(text) }));
@@ -63,7 +63,7 @@ const haveCommon = (one, other) => [...one].some((it) => other.has(it));
 function scanTold(rules) {
   for (const { number, text } of rules) {
     const { before, behind, isThere } = sidesOf(text);
-    const isTurned = [...wordsIn(before), ...wordsIn(behind)].some((it) => TURNING.has(it)) || wordsOf(before.split("[", 1)[0]).some((it) => DIRECTIONS.has(it));
+    const isTurned = [...wordsIn(before), ...wordsIn(behind)].some((it) => WORDS_THAT_TURN.has(it)) || wordsOf(before.split("[", 1)[0]).some((it) => DIRECTIONS.has(it));
     if (isThere && !before.includes("|") && before.split("[").length > 2 && behind.includes("[") && isTurned) {
       return `the rows of the rule on line ${number} have one cell: on the site it takes places in its own direction, not column by column`;
     }
