@@ -98,6 +98,13 @@ class Suite(InARoom):
         joined = run("join", self.parts)
         self.assertEqual((len(self.files()), joined.out, joined.status), (1, "", 0))
 
+    def test_what_has_more_behind_its_list_is_not_split(self):
+        whole = json.dumps([["a", ["", [], ""]]])
+        for text in (f"{whole}\n{whole}", "[]x", "[] []"):
+            with self.subTest(text=text):
+                self.assert_refused(self.split(1, text), "is no JSON list: more stands behind the list")
+        self.assertEqual(self.split(1, f" {whole} \n").status, 0)
+
     def test_what_is_no_list_is_not_split(self):
         for text in ("", "{}", "[1", "[1 2]", "[1,]", "[,]"):
             with self.subTest(text=text):

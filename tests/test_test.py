@@ -16,6 +16,7 @@ from saxtegun.lines import Frame, Run
 from saxtegun.levelsets import count_of_levels, entries_of_levels, first_level, still_in
 from saxtegun.sessions import sessions_in
 from saxtegun.telling import Failure, annotation, markdown
+from saxtegun.texts import same_text
 
 # Of the example's sessions the first two play both levels to their end, the others stay within a level.
 ENDS = ("passed, solved: both levels solved", "passed, solved: the second level alone", "passed, not solved: half way through the first", "passed, not solved: there and back again")
@@ -62,6 +63,21 @@ class DayOfTests(OfAGame):
             self.assertEqual(answer.status, 1)
             self.assertIn("session 0, half way: passed: no longer solved: not solved\n", answer.out)
         self.assertEqual(run("test", self.game, self.write_entries([[*self.entries[0], "solved"]])).status, 0)
+
+    def test_what_must_be_solved_must_be_over_the_text_at_hand_too(self):
+        game = self.write("game.txt", self.source.replace("All Target on Crate", "No Crate"))
+        name, [_, inputs, level, *rest] = self.entries[1][0], self.entries[1][1]
+        # the second level alone: with the other win line it ends as it did, and isn't won
+        own = [name, [self.source, inputs, level, *rest]]
+        for entry, words in (([*own, "solved"], ()), (own, ("--solved", "*"))):
+            answer = run("test", game, self.write_entries([entry]), *words)
+            self.assertEqual(answer.status, 1)
+            self.assertIn(f"session 0, {name}: passed: over its own text, but over {game} no longer solved: not solved\n", answer.out)
+        self.assertEqual(run("test", game, self.write_entries([own])).status, 0)
+
+    def test_a_letter_that_only_python_takes_for_white_space_is_part_of_a_text(self):
+        self.assertFalse(same_text(self.source, f"{self.source}\x1c\n"))
+        self.assertTrue(same_text(self.source, self.source.replace("\n", "\r\n") + "\x85 \n"))
 
     def test_a_session_that_ends_in_the_second_level_is_solved_in_part(self):
         name, (source, inputs, level, index) = self.entries[0]

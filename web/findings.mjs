@@ -3,7 +3,7 @@
 import { plural } from "./elements.mjs";
 import { Game, entriesOfLevels } from "./game.mjs";
 import { isSameList } from "./past.mjs";
-import { fold, readSource } from "./source.mjs";
+import { fold, isSpace, readSource } from "./source.mjs";
 
 const HOW = "in PuzzleScript's editor play, press Ctrl+J, and copy all that the console prints then";
 const SKIPPED = {
@@ -29,8 +29,17 @@ export function nothingTold(text) {
   return readSource(text).headings.length > 0 ? null : `it has no recording, and is no text of a game, since it has no heading as OBJECTS or LEVELS: ${HOW}`;
 }
 
+// A text without the white space of a game behind its last line.
+function withoutEnd(text) {
+  let end = text.length;
+  while (isSpace(text[end - 1])) end -= 1;
+  return text.slice(0, end);
+}
+
+const endless = (text) => withoutEnd(text.replaceAll("\r\n", "\n"));
+
 // Whether two texts are the same, but for how lines end and what stands behind the last.
-const isSameText = (one, other) => one.replaceAll("\r\n", "\n").trimEnd() === other.replaceAll("\r\n", "\n").trimEnd();
+const isSameText = (one, other) => endless(one) === endless(other);
 
 // The name of a recording: its own; or the title with the level, where it has none or the title, as the editor writes it.
 export function ownName({ name, source, index }) {

@@ -59,6 +59,6 @@ def escaped(text: str, is_property: bool = False) -> str:
 
 def annotation(failure: Failure) -> str:
     """A failure as GitHub shows it beside the code."""
-    place = f"file={escaped(failure.file, True)},line={failure.line}," if failure.file else ""
+    place = f"file={escaped(printable(failure.file), True)},line={failure.line}," if failure.file else ""
     below = "\n".join([cut(printable(failure.sentence)), *map(printable, failure.below)])
     return f"::error {place}title={escaped(cut(printable(failure.name)), True)}::{escaped(below)}"

@@ -7,6 +7,7 @@ from typing import List, NamedTuple, Optional, Sequence
 from saxtegun.commands import Refused, cut, plural, say
 from saxtegun.files import MARK, read_text
 from saxtegun.sessions import Entry, Sessions
+from saxtegun.sources import WHITE
 
 # So many names are told.
 NAMES_TOLD = 3
@@ -33,8 +34,8 @@ def read_game(path: Optional[str]) -> Optional[GameText]:
 
 
 def same_text(one: str, other: str) -> bool:
-    """Whether two sources are the same, but for how lines end and what stands behind the last."""
-    return one.replace("\r\n", "\n").rstrip() == other.replace("\r\n", "\n").rstrip()
+    """Whether two sources are the same, but for how lines end and the white space of a game behind the last."""
+    return one.replace("\r\n", "\n").rstrip(WHITE) == other.replace("\r\n", "\n").rstrip(WHITE)
 
 
 def over(sessions: Sessions, game: Optional[GameText]) -> Sessions:

@@ -77,12 +77,14 @@ def entries_in(text: str) -> List[Cut]:
     mark, at = next_mark(text, 0, ("[",))
     at = after_space(text, at)
     if text[at : at + 1] == "]":
-        return entries
+        mark, at = next_mark(text, at, ("]",))
     while mark != "]":
         begin = after_space(text, at)
         value, end = READER.raw_decode(text, begin)
         entries.append(Cut(text[begin:end], name_in(value), cost_of(value)))
         mark, at = next_mark(text, end, (",", "]"))
+    if after_space(text, at) < len(text):
+        raise ValueError(f"more stands behind the list, from letter {at} on")
     return entries
 
 

@@ -69,7 +69,7 @@ def add_words(words: ArgumentParser) -> None:
 
 class Suite(NamedTuple):
     """What was played: the sessions of all files, numbered through, what they showed, how they ended, and the file of each. `elsewhere` is why sessions fail
-    that passed over a text of their own, and `remarks` tells which have one; `game` is the text at hand."""
+    that passed over a text of their own, and `remarks` tells which have one; `game` is the text at hand, over which those of `unanswered` weren't answered."""
 
     sessions: Sessions
     runs: List[Run]
@@ -78,6 +78,7 @@ class Suite(NamedTuple):
     elsewhere: Dict[int, str]
     remarks: List[str]
     game: Optional[GameText]
+    unanswered: List[int]
 
 
 class Picked(NamedTuple):
@@ -114,23 +115,31 @@ def read_files(given: Namespace, game: Optional[GameText]) -> List[Picked]:
     return [Picked(it, picked(it, given.filter)) for it in files]
 
 
-def elsewhere_in(file: Picked, runs: List[Run], game: GameText, given: Namespace) -> Dict[int, str]:
-    """Why sessions fail that passed over a text of their own, by their places: over the text at hand they don't pass."""
+def must_be_solved(entry: Entry, patterns: List[str]) -> bool:
+    return entry.is_solved_wanted or any(fits(entry.name, pattern) for pattern in patterns)
+
+
+def elsewhere_in(file: Picked, runs: List[Run], game: GameText, given: Namespace) -> Tuple[Dict[int, str], List[int]]:
+    """Why sessions fail that passed over a text of their own, by their places: over the text at hand they don't pass, or aren't solved and must be. Behind
+    that the places of those that weren't answered there."""
     others = {it.number for it in of_another_text(file.entries, game)}
     places = [place for place, it in enumerate(file.entries) if it.number in others and runs[place].close == "passed"]
     entries = [file.entries[it]._replace(source=game.source) for it in places]
     shown = runs_of(entries, file.sessions, engine_of(given)) if entries else []
+    ends = solved_of(entries, shown, file.sessions, engine_of(given)) if any(must_be_solved(it, given.solved) for it in entries) else {}
     found: Dict[int, str] = {}
-    for place, entry, run in zip(places, entries, shown):
+    for number, (place, entry, run) in enumerate(zip(places, entries, shown)):
         if run.close != "passed":
             found[place] = f"over its own text, but not over {game.path}: {run.close}: {told(run, entry, given.order, game.path)[0]}"
-    return found
+        elif must_be_solved(entry, given.solved) and ends.get(number) != SOLVED:
+            found[place] = f"over its own text, but over {game.path} no longer solved: {ends.get(number, 'not played')}"
+    return found, [place for place, run in zip(places, shown) if run.close == UNANSWERED]
 
 
 def played(given: Namespace) -> Suite:
     game = read_game(split_files(given.files)[0])
     engine = engine_of(given)
-    suite = Suite(Sessions(", ".join(Path(it).name for it in split_files(given.files)[1]), "", []), [], {}, [], {}, [], game)
+    suite = Suite(Sessions(", ".join(Path(it).name for it in split_files(given.files)[1]), "", []), [], {}, [], {}, [], game, [])
     for file in read_files(given, game):
         first = len(suite.runs)
         shown = runs_of(file.entries, file.sessions, engine) if file.entries else []
@@ -138,7 +147,9 @@ def played(given: Namespace) -> Suite:
         others = of_another_text(file.entries, game)
         if game and others:
             suite.remarks.append(remark(file.sessions.path, others, game))
-            suite.elsewhere.update({first + place: why for place, why in elsewhere_in(file, shown, game, given).items()})
+            elsewhere, unanswered = elsewhere_in(file, shown, game, given)
+            suite.elsewhere.update({first + place: why for place, why in elsewhere.items()})
+            suite.unanswered.extend(first + place for place in unanswered)
         suite.files.extend((file.sessions.path, it.number) for it in file.entries)
         suite.sessions.entries.extend(it._replace(number=first + place) for place, it in enumerate(file.entries))
         suite.runs.extend(it._replace(number=first + it.number) for it in shown)
@@ -148,7 +159,7 @@ def played(given: Namespace) -> Suite:
 
 def unsolved_in(suite: Suite, patterns: List[str]) -> Dict[int, str]:
     """Why sessions fail that passed, and must be solved."""
-    wanted = [it for it in suite.sessions.entries if it.is_solved_wanted or any(fits(it.name, pattern) for pattern in patterns)]
+    wanted = [it for it in suite.sessions.entries if must_be_solved(it, patterns)]
     ends = {it.number: suite.solved.get(it.number, "not played") for it in wanted}
     return {number: f"no longer solved: {end}" for number, end in ends.items() if end != SOLVED and suite.runs[number].close == "passed"}
 
@@ -224,7 +235,7 @@ def test(given: Namespace) -> int:
     though_passed = {**unsolved, **suite.elsewhere}
     failures = once(failures_of(suite, though_passed, given, hung))
     write_files(suite, failures, though_passed, tell(suite, failures, unsolved, given), given, hung)
-    return 2 if any(it.close == UNANSWERED for it in suite.runs) else 1 if failures else 0
+    return 2 if suite.unanswered or any(it.close == UNANSWERED for it in suite.runs) else 1 if failures else 0
 
 
 def watch(given: Namespace) -> int:
