@@ -24,12 +24,14 @@ MODULE = "engine/out/saxtegun.wasm"
 PASSED = "out/gate-passed"
 SUMS = "SHA256SUMS"
 RELEASED = "released"
+# Who made this and its parts, and under which terms: it goes wherever a part of others goes.
+NOTICES = "NOTICES"
 MOST_RELEASED = 1_000_000
 GATE_ENDED = "The gate, ./check, passed on that commit; so its parts ended:"
 # The engine for Node and for pages, beside its module.
 GLUE = ["engine/saxtegun.mjs", "engine/saxtegun.d.ts", "engine/replay.mjs"]
 # What stands in a release as it stands here: the command with its package, the examples, and the documents for users.
-TAKEN = ["saxtegun", "VERSION", "README.md", "CHANGELOG.md", "CONTRIBUTING.md", "SECURITY.md", "python", "web", "examples", "docs", "adapters", "HANDLES", *GLUE]
+TAKEN = ["saxtegun", "VERSION", "README.md", "CHANGELOG.md", "CONTRIBUTING.md", "SECURITY.md", NOTICES, "python", "web", "examples", "docs", "adapters", "HANDLES", *GLUE]
 
 
 class Broken(Exception):
@@ -151,6 +153,7 @@ CONTENTS = """# What is in this archive
 - `engine/` has what plays in Node and in a page: `node engine/replay.mjs examples/block-pushing.json`.
 - `examples/` has sessions, the lines that the program wrote for them, and a page of each, to open in a browser: `examples/day.html`.
 - `docs/`, `adapters/` and `web/` are as in the repository; `man/saxtegun.1` is the manual page. `PROVED.txt` names the commit.
+- `NOTICES` says who made this, under which terms, and which parts of others the program and the module hold.
 
 Only the repository has the proofs, and what builds and tests all this. The documents name these paths, which are not here:
 
@@ -202,7 +205,7 @@ def engine_files(top: Path, files: Dict[str, File], version: str) -> Dict[str, F
         "engines": {"node": ">=20"},
     }
     packed = {path.partition("/")[2]: files[path] for path in [*GLUE, MODULE]}
-    return {**packed, "package.json": File((json.dumps(said, indent=2) + "\n").encode(), False)}
+    return {**packed, NOTICES: files[NOTICES], "package.json": File((json.dumps(said, indent=2) + "\n").encode(), False)}
 
 
 def archive(files: Dict[str, File], folder: str, time: int) -> bytes:
@@ -256,6 +259,7 @@ def package_files(files: Dict[str, File], version: str, time: int) -> Dict[str, 
         **{f"usr/lib/saxtegun/{path}": file for path, file in files.items()},
         "usr/bin/saxtegun": File(b'#!/bin/sh\nexec /usr/lib/saxtegun/saxtegun "$@"\n', True),
         "usr/share/man/man1/saxtegun.1.gz": File(gzip.compress(MANUAL.encode(), 9, mtime=time), False),
+        "usr/share/doc/saxtegun/copyright": files[NOTICES],
         "DEBIAN/control": File(control.encode(), False),
     }
 
@@ -342,6 +346,7 @@ class Release(NamedTuple):
             f"saxtegun_{self.version}_amd64.deb": self.package(),
             f"saxtegun-engine-{self.version}.tgz": self.node_package(),
             "saxtegun.html": self.files["saxtegun.html"].content,
+            NOTICES: self.files[NOTICES].content,
         }
         return {**made, SUMS: sums_of(made).encode()}
 

@@ -1,4 +1,4 @@
-"""Holds a file of a release against what the commit that it names makes: the archive, the Debian package, the package for Node, the page or the sums.
+"""Holds a file of a release against what the commit that it names makes: the archive, the Debian package, the package for Node, the page, the notices or the sums.
 
 The whole file is compared, byte by byte: a forged archive can hold members that one reader skips and another unpacks. An archive is read only to find its
 commit and how its gate ended, and to name what differs once something does."""
@@ -12,7 +12,7 @@ import tarfile
 from pathlib import Path
 from typing import Dict, List, Optional
 
-from releasing import SUMS, Broken, Built, File, ends_in, gate_of, package_files, release_of, sum_of, told
+from releasing import NOTICES, SUMS, Broken, Built, File, ends_in, gate_of, package_files, release_of, sum_of, told
 
 # A member that no release has: a link, a device, a file with other rights.
 STRANGE = File(b"", False)
@@ -135,8 +135,9 @@ def differences(top: Path, path: Path, built: Built) -> List[str]:
     content = path.read_bytes()
     if content.startswith(b"!<arch>\n"):
         return of_package(top, path, content, built)
-    if content.startswith(b"<!DOCTYPE html>"):
-        return compared(release_of(top, version_of(top), built).files["saxtegun.html"].content, content, ["differs: saxtegun.html"])
+    single = NOTICES if path.name == NOTICES else "saxtegun.html" if content.startswith(b"<!DOCTYPE html>") else None
+    if single:
+        return compared(release_of(top, version_of(top), built).files[single].content, content, [f"differs: {single}"])
     if content.startswith(b"\x1f\x8b"):
         is_for_node = "package/package.json" in members(content)
         return (of_node_package if is_for_node else of_archive)(top, path, content, built)

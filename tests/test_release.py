@@ -14,13 +14,16 @@ from pathlib import Path
 
 TOP = Path(__file__).resolve().parent.parent
 sys.path.insert(0, str(TOP / "dev"))
-from releasing import MODULE, PROGRAM, Broken, Built, check_version, ends_in, gate_of, headline, make, make_released, package_files, release_of, sum_of, told  # noqa: E402
+from releasing import MODULE, NOTICES, PROGRAM, Broken, Built, check_version, ends_in, gate_of, headline, make, make_released, package_files, release_of, sum_of, told  # noqa: E402
+from crates import all_below, read_crates, read_uses  # noqa: E402
 from freshness import newer  # noqa: E402
 from forging import EVIL, forged, forged_packages  # noqa: E402
 from symbols import c_library_of  # noqa: E402
 from tool import PROGRAM as PROVED, plays  # noqa: E402
 from verifying import differences  # noqa: E402
 
+# The sources of the kit's libraries, each with its terms.
+KIT = Path("/opt/rattle/rattle")
 # Stands in for the program: it says how it was called. The module is one without anything in it.
 ENDS = ["rt ci: 7 passed, 0 failed", "cases by the program: 9 passed, 0 failed"]
 STAND_IN = Built(b'#!/bin/sh\necho "$@"\n', b"\0asm\1\0\0\0", ENDS)
@@ -73,6 +76,40 @@ class DayOfTheLibrary(unittest.TestCase):
                 self.assertEqual(re.findall(r"C library,? (?:from )?(\d\.\d+) (?:or later|on)", text), [needed])
 
 
+class PartsOfOthers(unittest.TestCase):
+    """NOTICES names each library of the kit that a crate of the program or of the module names in crates.txt, and says whether the module has it."""
+
+    def below(self, crate):
+        uses = read_uses(TOP)
+        return {it for name in [*all_below(read_crates(TOP), crate), crate] for it in uses[name] if it not in uses}
+
+    def test_each_library_is_there_with_its_terms(self):
+        text = (TOP / NOTICES).read_text(encoding="utf-8")
+        rows = re.findall(r"^  (\w+) +(yes|no) +(\S.*)$", text, re.M)
+        named = {name: (in_module, terms) for name, in_module, terms in rows}
+        program, module = self.below("pz_replayer"), self.below("pz_export")
+        self.assertEqual(program | module, program)
+        self.assertLessEqual(program, set(named))
+        for name in sorted(program):
+            with self.subTest(name):
+                self.assertEqual(named[name][0], "yes" if name in module else "no")
+
+    def test_the_text_of_each_of_these_terms_is_there(self):
+        text = " ".join((TOP / NOTICES).read_text(encoding="utf-8").split())
+        for words in ("Permission is hereby granted, free of charge", 'THE SOFTWARE IS PROVIDED "AS IS"', "Apache License Version 2.0, January 2004"):
+            self.assertIn(words, text)
+
+    @unittest.skipUnless(KIT.is_dir(), "there is no kit")
+    def test_each_copyright_of_a_part_is_there(self):
+        """What the kit's files of terms say of who holds the rights stands in NOTICES too."""
+        text = (TOP / NOTICES).read_text(encoding="utf-8")
+        for name, _, _ in re.findall(r"^  (\w+) +(yes|no) +(\S.*)$", text, re.M):
+            for file in sorted((KIT / name).glob("LICENSE*")):
+                for line in re.findall(r"^Copyright \(c\) .*$", file.read_text(encoding="utf-8"), re.M):
+                    with self.subTest(name):
+                        self.assertIn(line.strip(), text)
+
+
 @unittest.skipUnless((TOP / ".git").exists() and shutil.which("dpkg-deb"), "a release is made of a clone, with dpkg-deb")
 class Release(unittest.TestCase):
     @classmethod
@@ -97,7 +134,7 @@ class Release(unittest.TestCase):
         again = Path(self.kept.name) / "again"
         make(other, self.version, again, STAND_IN)
         names = sorted(it.name for it in self.release.iterdir())
-        self.assertEqual(names, ["SHA256SUMS", f"saxtegun-{self.version}-linux-x86_64.tar.gz", f"saxtegun-engine-{self.version}.tgz", "saxtegun.html", f"saxtegun_{self.version}_amd64.deb"])
+        self.assertEqual(names, ["NOTICES", "SHA256SUMS", f"saxtegun-{self.version}-linux-x86_64.tar.gz", f"saxtegun-engine-{self.version}.tgz", "saxtegun.html", f"saxtegun_{self.version}_amd64.deb"])
         for file in self.release.iterdir():
             self.assertEqual(file.read_bytes(), (again / file.name).read_bytes(), file.name)
 
@@ -158,7 +195,7 @@ class Release(unittest.TestCase):
     def test_the_package_for_node_has_what_npm_wants(self):
         with tarfile.open(self.release / f"saxtegun-engine-{self.version}.tgz") as tar:
             content = {info.name: tar.extractfile(info).read() for info in tar}
-        wanted = ["out/saxtegun.wasm", "package.json", "replay.mjs", "saxtegun.d.ts", "saxtegun.mjs"]
+        wanted = ["NOTICES", "out/saxtegun.wasm", "package.json", "replay.mjs", "saxtegun.d.ts", "saxtegun.mjs"]
         self.assertEqual(sorted(content), [f"package/{it}" for it in wanted])
         said = json.loads(content["package/package.json"])
         self.assertEqual((said["name"], said["version"]), ("saxtegun-engine", self.version))
@@ -178,7 +215,7 @@ class Release(unittest.TestCase):
 
     def test_the_package_has_the_command_and_its_page(self):
         listed = subprocess.run(["dpkg-deb", "-c", str(self.release / f"saxtegun_{self.version}_amd64.deb")], capture_output=True, text=True)
-        for path in ("./usr/bin/saxtegun", "./usr/lib/saxtegun/bin/pz_replayer", "./usr/lib/saxtegun/saxtegun.html", "./usr/share/man/man1/saxtegun.1.gz"):
+        for path in ("./usr/bin/saxtegun", "./usr/lib/saxtegun/bin/pz_replayer", "./usr/lib/saxtegun/saxtegun.html", "./usr/share/man/man1/saxtegun.1.gz", "./usr/share/doc/saxtegun/copyright"):
             self.assertRegex(listed.stdout, rf"(?m) {path}$")
         self.assertNotRegex(listed.stdout, r"(?m)^\S+ (?!root/root)")
 
@@ -289,7 +326,7 @@ class Release(unittest.TestCase):
         other = clone(Path(self.kept.name) / "other", self.one)
         git(other, "commit", "-q", "--allow-empty", "-m", "Another commit")
         for file in self.release.iterdir():
-            if file.name != "saxtegun.html":  # a page names no commit
+            if file.name not in ("saxtegun.html", NOTICES):  # they name no commit
                 with self.subTest(file.name), self.assertRaisesRegex(Broken, "is checked out"):
                     differences(other, file, STAND_IN)
         for content in (b"", b"no release\n", b"\x1f\x8b", b"!<arch>\n"):
