@@ -198,6 +198,7 @@ def engine_files(top: Path, files: Dict[str, File], version: str) -> Dict[str, F
         "version": version,
         "gitHead": told(top, "git", "rev-parse", "HEAD"),
         "description": "Replays recorded PuzzleScript sessions: the proved engine as a WebAssembly module",
+        "license": f"SEE LICENSE IN {NOTICES}",
         "type": "module",
         "exports": {".": {"types": "./saxtegun.d.ts", "default": "./saxtegun.mjs"}, "./out/saxtegun.wasm": "./out/saxtegun.wasm"},
         "types": "./saxtegun.d.ts",

@@ -9,13 +9,7 @@ For whoever tests.
 
 ## The crates
 
-<!-- crates -->
-
-**A tower**
-
-- `pz_one`: a crate of one function
-
-<!-- end of the crates -->
+There is one: `pz_one`.
 
 ## Rules
 
@@ -37,10 +31,10 @@ class OfDocuments(OnSmallCrates):
         self.write("README.md", "# Front\n\n| a | b |\n|---|---|\n| c | d |\n")
         self.write("conformance/README.md", "# Cases\n")
 
-    def told(self, page, *words):
+    def told(self, page):
         """What is told of a page, and the status."""
         self.write("docs/architecture.md", page)
-        answer = run(self.tool, *words)
+        answer = run(self.tool)
         self.assertEqual(answer.errors, "")
         *lines, last = answer.out.splitlines()
         self.assertEqual(last, f"check-docs: {len(lines)} missing")
@@ -51,13 +45,13 @@ class OfDocuments(OnSmallCrates):
 
     def test_each_fault_is_reported_with_its_line(self):
         for old, new, told in (
-            ("`pz_one/src/lib.rt`\n  `same`", "`pz_one/src/lib.rt`\n  `other`", "17: other does not stand in the file named before it"),
-            ("`pz_one/src/lib.rt` `same` |", "`pz_one/src/lib.rt` `other` |", "22: other does not stand in the file named before it"),
-            ("`pz_one/src/lib.rt`\n  `same`", "`pz_one/src/gone.rt`\n  `same`", "17: pz_one/src/gone.rt is not there"),
-            ("`crates/pz_one`", "`crates/pz_two`", "24: crates/pz_two is not there"),
-            ("../README.md#front", "../GONE.md", "24: ../GONE.md is not there"),
-            ("(#the-crates)", "(#the-rules)", "24: architecture.md has no heading the-rules"),
-            ("README.md#front", "README.md#back", "24: README.md has no heading back"),
+            ("`pz_one/src/lib.rt`\n  `same`", "`pz_one/src/lib.rt`\n  `other`", "11: other does not stand in the file named before it"),
+            ("`pz_one/src/lib.rt` `same` |", "`pz_one/src/lib.rt` `other` |", "16: other does not stand in the file named before it"),
+            ("`pz_one/src/lib.rt`\n  `same`", "`pz_one/src/gone.rt`\n  `same`", "11: pz_one/src/gone.rt is not there"),
+            ("`crates/pz_one`", "`crates/pz_two`", "18: crates/pz_two is not there"),
+            ("../README.md#front", "../GONE.md", "18: ../GONE.md is not there"),
+            ("(#the-crates)", "(#the-rules)", "18: architecture.md has no heading the-rules"),
+            ("README.md#front", "README.md#back", "18: README.md has no heading back"),
             ("For whoever tests.", "For whoever " + "tests " * 20 + "much.", "3: 137 columns"),
         ):
             with self.subTest(told):
@@ -71,21 +65,13 @@ class OfDocuments(OnSmallCrates):
         self.write("README.md", f"# Front\n\n| a | {'word ' * 31}|\n")
         self.assertEqual(self.told(PAGE), (1, ["README.md:3: a cell of more than 30 words"]))
 
-    def test_the_crates_are_listed_as_in_crates_txt(self):
-        page = PAGE.replace("a crate of one function", "a crate of two functions")
-        self.assertEqual(self.told(page), (1, ["docs/architecture.md: crates.txt says otherwise of the crates; dev/check-docs --write puts it there"]))
-        self.assertEqual(self.told(page, "--write"), (0, []))
-        self.assertEqual((self.room / "docs/architecture.md").read_text(encoding="utf-8"), PAGE)
-
     def test_a_crate_without_a_line_above_it(self):
         self.write("crates.txt", "# A tower\n\npz_one:\n")
-        page = PAGE.replace(": a crate of one function", ":")
-        self.assertEqual(self.told(page), (1, ["crates.txt: no line above pz_one says what it is"]))
+        self.assertEqual(self.told(PAGE), (1, ["crates.txt: no line above pz_one says what it is"]))
 
-    def test_a_tower_begins_at_a_comment_before_an_empty_line(self):
-        self.write("crates.txt", "# Of no crate\n\n# A tower\n\n# a crate of one function\npz_one:\n\n# Another\n\n# tests\npz_two: pz_one\n")
-        page = PAGE.replace("\n\n<!-- end", "\n\n**Another**\n\n- `pz_two`: tests\n\n<!-- end")
-        self.assertEqual(self.told(page), (0, []))
+    def test_a_comment_before_an_empty_line_is_of_no_crate(self):
+        self.write("crates.txt", "# A tower\n\n# a crate of one function\npz_one:\n\n# Another\n\npz_two: pz_one\n")
+        self.assertEqual(self.told(PAGE), (1, ["crates.txt: no line above pz_two says what it is"]))
 
 
 if __name__ == "__main__":

@@ -323,7 +323,7 @@ class InACi(unittest.TestCase):
         made, published = [runner.run(step) for step in file["jobs"]["release"]["steps"] if "run" in step]
         self.assertEqual((made[0], published[0]), (0, 0), made)
         self.assertIn(f"saxtegun_{self.version}_amd64.deb", made[1])
-        self.assertTrue(published[1].startswith(f"token release create v{self.version} saxtegun/release/SHA256SUMS saxtegun/release/saxtegun-"), published)
+        self.assertTrue(published[1].startswith(f"token release create v{self.version} saxtegun/release/NOTICES saxtegun/release/SHA256SUMS saxtegun/release/saxtegun-"), published)
 
 
 if __name__ == "__main__":
