@@ -1,4 +1,4 @@
-"""action.yml and docs/ci.md: each shell step runs, in its order, against a release that is served from the disk."""
+"""action.yml, docs/ci.md and examples/ci: each shell step runs, in its order, against a release that is served from the disk."""
 import functools
 import json
 import os
@@ -82,15 +82,17 @@ class Yaml:
 
 
 def read_yaml(text):
-    reader = Yaml(text)
+    reader = Yaml(re.sub(r"^#.*\n", "", text, flags=re.M))
     found = reader.value()
     assert reader.indent() == -1, reader.lines[reader.at]
     return found
 
 
 def files_of_page():
-    """The YAML files of docs/ci.md."""
-    return [read_yaml(it) for it in re.findall(r"```yaml\n(.*?)```", (TOP / "docs/ci.md").read_text(encoding="utf-8"), re.S)]
+    """The YAML files of docs/ci.md, and those of examples/ci that it names."""
+    page = (TOP / "docs/ci.md").read_text(encoding="utf-8")
+    named = [(TOP / it).read_text(encoding="utf-8") for it in re.findall(r"`(examples/ci/[\w.]+)`", page)]
+    return [read_yaml(it) for it in re.findall(r"```yaml\n(.*?)```", page, re.S) + named]
 
 
 def commands_of_page():
