@@ -1,4 +1,4 @@
-"""The worked examples of docs/language.md and docs/sessions.md are what the cases of conformance/ say, and the program of docs/library.md is built."""
+"""The worked examples of docs/language.md and docs/sessions.md are what the cases of conformance/ say, and what docs/library.md shows of a program is built and prints what it says."""
 import json
 import re
 import unittest
@@ -57,14 +57,12 @@ class Documents(unittest.TestCase):
 
     def test_the_program_of_the_library_page_is_the_one_that_is_built(self):
         text = (TOP / "docs" / "library.md").read_text(encoding="utf-8")
-        program = (TOP / "crates" / "pz_library_example" / "src" / "main.rt").read_text(encoding="utf-8")
-        self.assertIn(f"```rust\n{program}```\n", text)
-
-    def test_the_program_of_the_library_page_prints_what_stands_behind_it(self):
-        text = (TOP / "docs" / "library.md").read_text(encoding="utf-8")
+        crate = TOP / "crates" / "pz_library_example"
+        quoted = re.search(r"```rust\n(    let game = .*?)```\n", text, re.S)[1]
+        self.assertIn(quoted, (crate / "src" / "main.rt").read_text(encoding="utf-8"))
         # rt ci holds what it prints against this file
-        printed = (TOP / "crates" / "pz_library_example" / "stdout").read_text(encoding="utf-8")
-        self.assertIn("```\n\nIt prints the text of the level and whether it is won:\n\n" + "".join(f"    {it}\n" for it in printed.splitlines()) + "\n", text)
+        printed = "".join(f"    {it}\n" for it in (crate / "stdout").read_text(encoding="utf-8").splitlines())
+        self.assertIn(f"It prints the text of the level and whether it is won:\n\n{printed}\n", text)
 
 
 if __name__ == "__main__":
