@@ -1,4 +1,4 @@
-"""The worked examples of docs/language.md and docs/sessions.md are what the cases of conformance/ say, and what docs/library.md shows of a program is built and prints what it says."""
+"""The worked examples of conformance/README.md and docs/sessions.md are what the cases of conformance/ say, and what docs/library.md shows of a program is built and prints what it says."""
 import json
 import re
 import unittest
@@ -12,7 +12,7 @@ KINDS = ("start", "move", "tick", "undo", "restart", "load", "over")
 
 def examples():
     """Each example by the name of its case: the words and what stands behind them, line by line."""
-    text = (TOP / "docs" / "language.md").read_text(encoding="utf-8")
+    text = (TOP / "conformance" / "README.md").read_text(encoding="utf-8")
     for name, block in EXAMPLE.findall(text):
         yield name, [(line[4:12].strip(), line[12:]) for line in block.splitlines()]
 
