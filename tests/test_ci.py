@@ -225,7 +225,7 @@ class InACi(unittest.TestCase):
             self.assertRegex(step["uses"], "@[0-9a-f]{40}$")
             if step["uses"].startswith("actions/checkout"):
                 self.assertEqual(step["with"]["persist-credentials"], "false")
-        for path in ("action.yml", "docs/ci.md"):
+        for path in ("action.yml", "docs/ci.md", "examples/ci/gitlab.yml"):
             text = (TOP / path).read_text(encoding="utf-8")
             self.assertEqual(text.count("curl "), text.count("curl --proto '=https' "))
         jobs = [job for file in files_of_page() for job in file.get("jobs", {}).values()]
