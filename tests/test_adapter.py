@@ -1,5 +1,6 @@
 """adapters/javascript: an engine in JavaScript that is plugged in writes our lines, and takes our command line. Left out where node is not there."""
 import json
+import re
 import shutil
 import subprocess
 import sys
@@ -103,7 +104,8 @@ class AnotherEngine(OnSessions):
     """An engine that isn't ours in shape: rows of numbers, promises, exceptions."""
 
     def test_the_page_shows_how_it_is_plugged_in(self):
-        self.assertIn(f"```js\n{(ANOTHER / 'play.js').read_text(encoding='utf-8')}```\n", (TOP / "docs/engine.md").read_text(encoding="utf-8"))
+        quoted = re.search(r"```js\n(serve\(.*?)```", (TOP / "docs/engine.md").read_text(encoding="utf-8"), re.S)[1]
+        self.assertTrue((ANOTHER / "play.js").read_text(encoding="utf-8").endswith(quoted))
 
     def test_it_passes_the_cases_of_what_it_knows(self):
         ran = subprocess.run([sys.executable, TOP / "conformance/run", *(it for name in KNOWN for it in ("--only", name)), ANOTHER / "play.js"], stdout=subprocess.PIPE)

@@ -89,15 +89,14 @@ def read_yaml(text):
 
 
 def files_of_page():
-    """The YAML files of docs/ci.md, and those of examples/ci that it names."""
-    page = (TOP / "docs/ci.md").read_text(encoding="utf-8")
-    named = [(TOP / it).read_text(encoding="utf-8") for it in re.findall(r"`(examples/ci/[\w.]+)`", page)]
-    return [read_yaml(it) for it in re.findall(r"```yaml\n(.*?)```", page, re.S) + named]
+    """The files of examples/ci that docs/ci.md names."""
+    named = re.findall(r"`(examples/ci/[\w.]+)`", (TOP / "docs/ci.md").read_text(encoding="utf-8"))
+    return [read_yaml((TOP / it).read_text(encoding="utf-8")) for it in named]
 
 
 def commands_of_page():
     """The commands that stand in docs/ci.md outside of its files: to compare closes, to play parts, and to play them on several hosts."""
-    text = re.sub(r"```yaml\n.*?```", "", (TOP / "docs/ci.md").read_text(encoding="utf-8"), flags=re.S)
+    text = (TOP / "docs/ci.md").read_text(encoding="utf-8")
     return [re.sub("^    ", "", it, flags=re.M) for it in re.findall(r"(?:^    .*\n)+", text, re.M)]
 
 
@@ -218,6 +217,9 @@ class InACi(unittest.TestCase):
         (runner.work / "bad.json").write_text("[")
         self.assertEqual([it[0] for it in self.act(runner, sessions="bad.json", artifact="bad")], [0, 2, 0])
         self.assertEqual((self.uploaded(runner), (runner.room / "GITHUB_STEP_SUMMARY").read_text()), ([], ""))
+
+    def test_each_file_to_copy_is_named(self):
+        self.assertEqual(len(files_of_page()), len(list((TOP / "examples/ci").iterdir())))
 
     def test_what_is_fetched_is_pinned_and_keeps_no_credentials(self):
         steps = [step for file in files_of_page() for job in file.get("jobs", {}).values() for step in job["steps"]] + self.action["runs"]["steps"]
