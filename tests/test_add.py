@@ -1,10 +1,12 @@
 """`saxtegun add`: recordings as a console prints them, which are played and then added, or refused whole."""
 import json
+import subprocess
+import sys
 import unittest
 
 from test_test import OfAGame
 from day import EXAMPLE
-from tool import plays, run
+from tool import TOP, environment, plays, run
 
 
 @plays
@@ -54,6 +56,20 @@ class DayOfAdding(OfAGame):
             self.assert_refused(answer, what)
             self.assertEqual(self.suite.read_bytes(), before)
         self.assertEqual(sorted(it.name for it in self.room.iterdir()), ["example.lines", "game.txt", "recordings.json", "suite.json"])
+
+    def test_the_same_recording_that_demands_more_is_added(self):
+        """One that must be solved isn't there where the same is there that needn't be."""
+        entry, new = self.whole[0], self.room / "new.json"
+        for text in (json.dumps(entry), json.dumps([*entry, "solved"]), json.dumps([*entry, "solved"])):
+            self.assertEqual(run("add", new, stdin=text.encode()).status, 0)
+        self.assertEqual(json.loads(new.read_text(encoding="utf-8")), [entry, [f"{entry[0]} (2)", entry[1], "solved"]])
+
+    def test_a_name_that_no_file_can_hold_is_refused_before_anything_is_played(self):
+        before = self.suite.read_bytes()
+        for verb, *words in (("add", self.suite, "--name", b"\xff"), ("play", self.game, "--save", b"\xff", self.suite)):
+            ran = subprocess.run([sys.executable, TOP / "saxtegun", verb, *words], input=self.console(0).encode(), stdout=subprocess.PIPE, stderr=subprocess.PIPE, env=environment())
+            self.assertEqual((ran.returncode, ran.stdout, ran.stderr.decode()), (2, b"", f"saxtegun {verb}: the name '\\udcff' is not UTF-8\n"))
+        self.assertEqual(self.suite.read_bytes(), before)
 
     def test_a_place_that_can_not_be_written_is_reported(self):
         self.assert_refused(run("add", self.room / "no/where.json", stdin=self.console(0).encode()), "can't be written")

@@ -1,6 +1,10 @@
 """What explaining costs: not much more than twice as much for an input of twice the size, and with one budget of time for all of it."""
+import io
 import json
+import tempfile
 import unittest
+from contextlib import redirect_stderr
+from pathlib import Path
 from resource import RUSAGE_SELF, getrusage
 
 import tool  # puts the package on the path
@@ -17,6 +21,7 @@ from saxtegun.playing import Engine
 from saxtegun.sessions import sessions_in
 from saxtegun.smaller import things_of as objects_of
 from saxtegun.sources import lines_of, trimmed
+from saxtegun.verbs.add import add_to
 
 HEAD = "OBJECTS\nBackground .\nblack\nPlayer p\nwhite\n"
 TAIL = "WINCONDITIONS\nLEVELS\np.\n"
@@ -45,6 +50,19 @@ def line_told(code, text, before="RULES\n"):
     return fault_told(code, source, Game(source), source.count("\n"))
 
 
+def added(size):
+    """Adds recordings to a file: as many of one name as this, and as many that are there already under other names."""
+    name = "one name"
+    there = [[f"{name} {it}", ["", [it % 5], "b:0,", it]] for it in range(size // 4)]
+    new = [[name, body] for _, body in there] + [[name, ["", [], "", it]] for it in range(size)]
+    with tempfile.TemporaryDirectory() as room, redirect_stderr(io.StringIO()):
+        path = Path(room) / "sessions.json"
+        path.write_text(json.dumps(there), encoding="utf-8")
+        total = add_to(str(path), sessions_in("new", json.dumps(new)), None).total
+    if total != size // 4 + size:
+        raise AssertionError("other recordings are there")
+
+
 # What is read of an input of a size, each from a size on that takes long enough to be timed.
 READINGS = {
     "blanks behind a title": (200_000, lambda size: trimmed("title x" + " " * size + "x")),
@@ -68,6 +86,7 @@ READINGS = {
     "quotes that are escaped up to one that is not": (20_000, lambda size: find("`[" + "\\`[" * size + "`")),
     "quotes of a word processor": (20_000, lambda size: find("[\u201e" * size)),
     "lists that are cut off": (20_000, lambda size: find('["a"x' * size)),
+    "recordings of one name": (2000, added),
     "numbers": (50_000, lambda size: find("['a',[''," + "[" + "1," * size + "1],'']]")),
 }
 

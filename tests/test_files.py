@@ -1,16 +1,21 @@
 """Files that are too long, that change while they are written, or whose folder is gone."""
 import html
 import json
+import os
 import re
 import subprocess
 import sys
 import unittest
+import unittest.mock
 
 from day import EXAMPLE, OnSessions
 from tool import TOP, environment, run
+from saxtegun.commands import Refused
 from saxtegun.files import Changed, read_text, write_again
-from saxtegun.sessions import MOST_BYTES
+from saxtegun.sessions import MOST_BYTES, sessions_in
 from saxtegun.telling import Failure, markdown
+from saxtegun.verbs import play
+from saxtegun.verbs.add import add_to
 
 ENTRY = '["n %d", ["OBJECTS", [3], "background:0,", %d]]'
 # Answers each session at once, with the recorded level.
@@ -55,6 +60,43 @@ class Sizes(OnSessions):
 
     def test_a_file_that_is_as_long_as_it_may_be_is_read(self):
         self.assert_refused(run("explain", self.long("s.json", MOST_BYTES)), "no JSON list of sessions")
+
+    def test_what_could_not_be_read_again_is_not_written(self):
+        """By the largest file that is read, of one entry with a long name."""
+        program, console, game = self.write("program", PLAYER), self.write("console.txt", ENTRY % (1, 7)), self.write("game.txt", "title A\n" * 100)
+        program.chmod(0o755)
+        begin, end = '[["', '",["OBJECTS",[],"background:0,"]]]'
+        full = self.write("full.json", begin + "x" * (MOST_BYTES - len(begin + end)) + end)
+        # a comma and two line feeds more, and three blanks of its body less
+        size = MOST_BYTES + len(ENTRY % (1, 7))
+        limit = f"{full} would have {size:,} bytes, and a sessions file has at most 16,777,216: nothing is written; "
+        for words, told in (
+            (("add", full, console, "--program", program), f"{limit}add them to another file, or name the game by --game, whose text isn't copied"),
+            (("source", game, full, "--in-place"), "bytes, and a sessions file has at most 16,777,216: nothing is written; with --follow they need no copies of the text"),
+        ):
+            with self.subTest(words[0]):
+                self.assert_refused(run(*words), told)
+                self.assertEqual(full.stat().st_size, MOST_BYTES)
+                self.assertTrue(full.read_bytes().endswith(f'x{end}'.encode()))
+
+    def test_no_more_entries_are_written_than_a_file_has(self):
+        path = self.write("three.json", f"[{','.join(ENTRY % (it, it) for it in range(3))}]")
+        before, new = path.read_bytes(), sessions_in("new", f"[{ENTRY % (4, 4)}]")
+        with unittest.mock.patch("saxtegun.sessions.MOST_ENTRIES", 3):
+            for act in (lambda: add_to(str(path), new, None), lambda: play.append(str(path), ENTRY % (4, 4)), lambda: play.guard_saving("a", str(path))):
+                with self.assertRaisesRegex(Refused, "three.json would have 4 sessions, and a sessions file has at most 3: nothing is written; "):
+                    act()
+        self.assertEqual(path.read_bytes(), before)
+
+    def test_a_pipe_is_not_waited_for(self):
+        pipe = self.room / "pipe.json"
+        os.mkfifo(pipe)
+        for words in (("test", pipe), ("test", pipe, EXAMPLE), ("add", self.room / "new.json", pipe), ("add", pipe, EXAMPLE), ("lines", pipe), ("explain", EXAMPLE, pipe), ("split", pipe, "2", self.room / "parts"),
+                      ("compare", pipe, pipe), ("play", pipe), ("source", pipe, EXAMPLE), ("testdata", pipe), ("explain", "/dev/zero")):
+            with self.subTest(str(words)):
+                ran = subprocess.run([sys.executable, TOP / "saxtegun", *words], stdin=subprocess.DEVNULL, stdout=subprocess.PIPE, stderr=subprocess.PIPE, env=environment(), timeout=20, check=False)
+                self.assertEqual((ran.returncode, ran.stdout), (2, b""))
+                self.assertIn("can't be read: it is a pipe or a device; name a file, or - for standard input", ran.stderr.decode())
 
     def test_what_is_no_utf_8_is_told_with_its_place(self):
         path = self.room / "x.json"

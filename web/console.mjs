@@ -1,7 +1,7 @@
 // Recordings in any text: what an editor's console prints, with whatever stands around it, or published test data. The twin of
 // python/saxtegun/finding.py, which holds what is looked for; both are held to the texts of tests/forms.
 import { WHITE_SPACE, behindSpace, endOfEscaped, endOfText, tokenAt, unescaped } from "./javascript.mjs";
-import { faultOf } from "./session-file.mjs";
+import { faultOf, restOf } from "./session-file.mjs";
 
 const SPACE_SET = `[${WHITE_SPACE}]*`;
 const BREAK = `[${WHITE_SPACE}>]*(?:(?:<br${SPACE_SET}/?>|&nbsp;)[${WHITE_SPACE}>]*)*`;
@@ -135,7 +135,7 @@ class Search {
   take(at, entry) {
     const fault = faultOf(entry), [name, [source, inputs, level, index]] = entry;
     if (fault !== null) this.skipped.push({ line: this.lineOf(at), what: fault });
-    else this.found.push({ line: this.lineOf(at), name, source, inputs, level, index: Math.min(index ?? 0, Number.MAX_SAFE_INTEGER) });
+    else this.found.push({ line: this.lineOf(at), name, source, inputs, level, index: Math.min(index ?? 0, Number.MAX_SAFE_INTEGER), ...restOf(entry) });
   }
 
   // Takes a recording of which only the last brackets are missing, and says which is cut off.

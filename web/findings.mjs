@@ -2,7 +2,6 @@
 // python/saxtegun/recordings.py.
 import { plural } from "./elements.mjs";
 import { Game, entriesOfLevels } from "./game.mjs";
-import { isSameList } from "./past.mjs";
 import { fold, isSpace, readSource } from "./source.mjs";
 
 const HOW = "in PuzzleScript's editor play, press Ctrl+J, and copy all that the console prints then";
@@ -13,6 +12,7 @@ const SKIPPED = {
 const OBJECTS = 'it has objects in braces, and a recording is a list, ["name", ["source", [inputs], "level", index]]';
 const WITHOUT_NAME = ["", "untitled test"]; // a recording without a name of its own
 const SKIPPED_TOLD = 3;
+const DEMAND = "solved"; // what stands behind the body of a recording that must be solved
 
 const skippedTold = ({ line, what }) => `line ${line}: skipped ${Object.hasOwn(SKIPPED, what) ? SKIPPED[what] : `a recording with a fault: ${what}`}`;
 
@@ -47,27 +47,60 @@ export function ownName({ name, source, index }) {
   return WITHOUT_NAME.includes(name) || fold(name) === fold(title) ? `${title}, level ${level}` : name;
 }
 
-// A name that no other has: itself, or with a number.
-function freeName(name, taken) {
-  for (let number = 1, free = name; ; free = `${name} (${number})`) {
-    if (!taken.has(free)) return free;
-    number += 1;
+// Names of which no two are alike. Each keeps the number that it got last, so that many of one name aren't counted anew.
+class Names {
+  constructor(taken) {
+    this.taken = new Set(taken);
+    this.numbers = new Map();
+  }
+
+  // Takes a name that no other has: itself, or with a number.
+  free(name) {
+    let number = this.numbers.get(name) ?? 1, free = name;
+    while (this.taken.has(free)) {
+      number += 1;
+      free = `${name} (${number})`;
+    }
+    this.numbers.set(name, number);
+    this.taken.add(free);
+    return free;
   }
 }
 
-const isSameRecording = (one, other) => one.index === other.index && one.level === other.level && isSameList(one.inputs, other.inputs) && isSameText(one.source, other.source);
+// Recordings, each found by what it is, whatever its name.
+class Known {
+  constructor(entries) {
+    this.keys = new Map(); // of each, whether it must be solved
+    this.texts = new Map(); // the number of each text, of which one may be that of many recordings
+    this.numbers = new Map();
+    entries.forEach((it) => this.take(it));
+  }
+
+  numberOf(source) {
+    if (!this.texts.has(source)) {
+      const text = endless(source);
+      if (!this.numbers.has(text)) this.numbers.set(text, this.numbers.size);
+      this.texts.set(source, this.numbers.get(text));
+    }
+    return this.texts.get(source);
+  }
+
+  // Takes a recording that isn't there yet, or demands more; whether it was none of these.
+  take({ source, inputs, level, index, rest = [] }) {
+    const key = JSON.stringify([this.numberOf(source), inputs, level, index]), isWanted = rest.includes(DEMAND), isNew = !this.keys.has(key) || (isWanted && !this.keys.get(key));
+    if (isNew) this.keys.set(key, isWanted);
+    return isNew;
+  }
+}
 
 // What of some recordings is added to the entries of a file, under names that no other has, and how many are there already: { added, known }. Those of
 // the text at hand follow it.
 export function toAdd(recordings, entries, text) {
-  const there = entries.map((it) => ({ ...it, source: it.source || text })), names = new Set(entries.map(({ name }) => name)), added = [];
+  const known = new Known(entries.map((it) => ({ ...it, source: it.source || text }))), names = new Names(entries.map(({ name }) => name)), added = [];
   for (const it of recordings) {
     const whole = { ...it, source: it.source || text };
-    if (there.some((other) => isSameRecording(whole, other))) continue;
-    const name = freeName(ownName(whole), names);
-    names.add(name);
-    there.push(whole);
-    added.push({ ...it, name, source: isSameText(whole.source, text) ? "" : it.source });
+    if (!known.take(whole)) continue;
+    added.push({ ...it, name: names.free(ownName(whole)), source: isSameText(whole.source, text) ? "" : it.source });
   }
   return { added, known: recordings.length - added.length };
 }

@@ -3,6 +3,7 @@ import { CLOSES } from "./closes.mjs";
 import { Refusal } from "./session-file.mjs";
 
 const KINDS = ["start", "move", "undo", "restart", "load", "tick", "over"];
+const BEFORE_OVER = ["move", "tick", "over"]; // of what kinds the frame is before one that shows that play is over
 const NEW_LINE = 0x0a;
 const CLOSE_LETTER = 0x63; // a close begins with its cause or itself, and a frame with `at`
 
@@ -51,8 +52,17 @@ function readLine(text, place) {
   return line;
 }
 
-function testFrame(line, place, count) {
-  if (!isCount(line.at) || !KINDS.includes(line.kind) || typeof line.level !== "string" || line.frame !== count) throw new Refusal(`line ${place}: not frame ${count} of its session`);
+// Whether a frame may stand behind another of its session, or first (undefined): a session begins with `start`, and is over only behind a step, at a later
+// input, for good.
+export function mayFollow(before, { kind, at }) {
+  if (before === undefined || kind === "start") return before === undefined && kind === "start" && at === 0;
+  if (kind === "over") return BEFORE_OVER.includes(before.kind) && at > before.at;
+  return at >= before.at && before.kind !== "over";
+}
+
+function testFrame(line, place, frames) {
+  const count = frames.length, isFrame = isCount(line.at) && KINDS.includes(line.kind) && typeof line.level === "string" && line.frame === count;
+  if (!isFrame || !mayFollow(frames.at(-1), line)) throw new Refusal(`line ${place}: not frame ${count} of its session`);
 }
 
 function testClose(line, place, count) {
@@ -70,7 +80,7 @@ export function readRuns(text) {
     const place = at + 1, line = readLine(it, place);
     if (line.session !== runs.length) throw new Refusal(`line ${place}: session ${line.session} where session ${runs.length} is wanted`);
     if (line.close === undefined) {
-      testFrame(line, place, frames.length);
+      testFrame(line, place, frames);
       frames.push({ at: line.at, kind: line.kind, level: line.level });
       return;
     }

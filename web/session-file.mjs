@@ -52,13 +52,16 @@ function spliced(bytes, [begin, end], piece) {
   return whole;
 }
 
+// What stands behind the body of an entry, such as that it must be solved; nothing where nothing does.
+export const restOf = (entry) => (entry.length > 2 ? { rest: entry.slice(2) } : {});
+
 const encoded = (value) => new TextEncoder().encode(JSON.stringify(value));
 
 function entryOf(value, number) {
   const fault = faultOf(value);
   if (fault !== null) throw new Refusal(`session ${number}: ${fault}`);
   const [name, [source, inputs, level, index]] = value;
-  return { name, source, inputs, level, index: Math.min(index ?? 0, Number.MAX_SAFE_INTEGER) };
+  return { name, source, inputs, level, index: Math.min(index ?? 0, Number.MAX_SAFE_INTEGER), ...restOf(value) };
 }
 
 // The text of bytes, or a refusal where they are none.
@@ -173,9 +176,10 @@ export class SessionFile {
     return this.changedBy([end, end], new TextEncoder().encode(`,\n${text}`));
   }
 
-  // The file with a session in the place of another.
+  // The file with a session in the place of another. What stands behind the other's body stays, such as that it must be solved.
   withReplaced(number, entry) {
-    return this.changedBy(this.spans()[number], encoded(valueOf(entry)));
+    const span = this.spans()[number], more = spansIn(this.bytes, span).slice(2).map(([begin, end]) => `,${new TextDecoder().decode(this.bytes.subarray(begin, end))}`);
+    return this.changedBy(span, new TextEncoder().encode(`${JSON.stringify(valueOf(entry)).slice(0, -1)}${more.join("")}]`));
   }
 
   without(number) {
@@ -187,7 +191,7 @@ export class SessionFile {
 }
 
 // An entry as a sessions file has it.
-export const valueOf = ({ name, source, inputs, level, index }) => [name, [source, inputs, level, index]];
+export const valueOf = ({ name, source, inputs, level, index, rest = [] }) => [name, [source, inputs, level, index], ...rest];
 
 const REFUSALS = {
   "too-many": "it has more than 16 MiB or 65,536 sessions",

@@ -17,14 +17,27 @@ MIB = 2**20
 MOST_BYTES = 64 * MIB
 
 
+class NoFile(Refused):
+    """What has the name of a file is none."""
+
+
+def without_waiting(path: str, flags: int) -> int:
+    """Opens a file. A pipe that nobody writes into would be waited for here."""
+    return os.open(path, flags | getattr(os, "O_NONBLOCK", 0))
+
+
 def opened(path: str) -> BinaryIO:
-    """A file, or standard input where the path is `-`."""
+    """A file, or standard input where the path is `-`. Refused where it is a pipe or a device, which may have no end."""
     if path == "-" and sys.stdin is None:
         raise Refused("standard input is closed")
     try:
-        return sys.stdin.buffer if path == "-" else open(path, "rb")
+        file: BinaryIO = sys.stdin.buffer if path == "-" else open(path, "rb", opener=without_waiting)
     except (OSError, ValueError) as why:
         raise Refused(f"{path} can't be read: {getattr(why, 'strerror', None) or why}") from None
+    if path != "-" and not stat.S_ISREG(os.fstat(file.fileno()).st_mode):
+        file.close()
+        raise NoFile(f"{path} can't be read: it is a pipe or a device; name a file, or - for standard input where a verb reads that")
+    return file
 
 
 def read_lines(path: str) -> Iterator[Tuple[int, str]]:

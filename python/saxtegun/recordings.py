@@ -2,7 +2,7 @@
 from __future__ import annotations
 
 import json
-from typing import Callable, Iterable, List, Optional, Sequence, Set
+from typing import Callable, Dict, Iterable, List, Optional, Sequence, Set, Tuple
 
 from saxtegun.commands import Refused, fold, say
 from saxtegun.files import read_any_text
@@ -11,7 +11,7 @@ from saxtegun.games import game_of
 from saxtegun.levelsets import first_level
 from saxtegun.sessions import Entry, Sessions, sessions_in
 from saxtegun.sources import lines_of
-from saxtegun.texts import same_text
+from saxtegun.texts import plain_text
 
 HOW = "in PuzzleScript's editor play, press Ctrl+J, and copy all that the console prints then"
 COMPILER = "what the compiler printed, which is no recording: one is printed below it, by Ctrl+J after you played"
@@ -52,13 +52,22 @@ def read_findings(verb: str, path: str) -> Findings:
     return findings
 
 
-def free_name(name: str, taken: Set[str]) -> str:
-    """A name that no other has: itself, or with a number."""
-    number, free = 1, name
-    while free in taken:
-        number += 1
-        free = f"{name} ({number})"
-    return free
+class Names:
+    """Names of which no two are alike. Each keeps the number that it got last, so that many of one name aren't counted anew."""
+
+    def __init__(self, taken: Iterable[str]) -> None:
+        self.taken: Set[str] = set(taken)
+        self.numbers: Dict[str, int] = {}
+
+    def free(self, name: str) -> str:
+        """Takes a name that no other has: itself, or with a number."""
+        number, free = self.numbers.get(name, 1), name
+        while free in self.taken:
+            number += 1
+            free = f"{name} ({number})"
+        self.numbers[name] = number
+        self.taken.add(free)
+        return free
 
 
 def own_name(name: str, entry: Entry) -> str:
@@ -78,18 +87,29 @@ def as_sessions(path: str, found: Sequence[Found], name_of: Callable[[str, Entry
     return sessions_in(path, "[\n" + ",\n".join(entry_text(name, it) for name, it in zip(names, found)) + "\n]\n")
 
 
-def like(entry: Entry, others: Iterable[Entry]) -> Optional[Entry]:
-    """The one of some entries that is the same recording, whatever its name."""
-    for it in others:
-        if (it.inputs, it.level, it.index) == (entry.inputs, entry.level, entry.index) and same_text(it.source, entry.source):
-            return it
-    return None
+class Known:
+    """Recordings, each found by what it is, whatever its name."""
+
+    def __init__(self, entries: Iterable[Entry]) -> None:
+        self.of: Dict[Tuple[object, ...], Entry] = {}
+        # of a game that many have as their source one text
+        self.texts: Dict[str, str] = {}
+        for it in entries:
+            self.like(it)
+
+    def like(self, entry: Entry) -> Optional[Entry]:
+        """The one of these that is the same recording and demands as much; None where there is none, and then it is one of these."""
+        if entry.source not in self.texts:
+            self.texts[entry.source] = plain_text(entry.source)
+        key = (self.texts[entry.source], tuple(entry.inputs), entry.level, entry.index)
+        it = self.of.get(key)
+        if it is None or (entry.is_solved_wanted and not it.is_solved_wanted):
+            self.of[key] = entry
+            return None
+        return it
 
 
 def named(given: Optional[str], entries: Sequence[Entry], taken: Iterable[str]) -> List[str]:
     """A name for each entry that no other has: the one that is given, or its own."""
-    known, names = set(taken), []
-    for it in entries:
-        names.append(free_name(given or it.name, known))
-        known.add(names[-1])
-    return names
+    names = Names(taken)
+    return [names.free(given or it.name) for it in entries]

@@ -185,6 +185,21 @@ def chosen(sessions: Sessions, patterns: Optional[Sequence[str]]) -> List[Entry]
     return [entry for entry in sessions.entries if any(fits(entry.name, it) for it in patterns)]
 
 
+def check_name(name: str) -> None:
+    """Refuses a name of the command line that isn't UTF-8, which no file can hold."""
+    if LONE_SURROGATE.search(name):
+        raise Refused(f"the name {cut(name)!r} is not UTF-8")
+
+
+def guard_size(path: str, text: str, count: int, remedy: str) -> None:
+    """Refuses to write a sessions file that could not be played any more. `remedy` says what to do then."""
+    if count > MOST_ENTRIES:
+        raise Refused(f"{path} would have {count:,} sessions, and a sessions file has at most {MOST_ENTRIES:,}: nothing is written; {remedy}")
+    size = len(text.encode())
+    if size > MOST_BYTES:
+        raise Refused(f"{path} would have {size:,} bytes, and a sessions file has at most {MOST_BYTES:,}: nothing is written; {remedy}")
+
+
 def with_more(old: Sessions, new: Sequence[str]) -> str:
     """The text of a sessions file with more entries behind its own."""
     close = old.text.rstrip().rindex("]")

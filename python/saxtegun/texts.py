@@ -33,9 +33,14 @@ def read_game(path: Optional[str]) -> Optional[GameText]:
     return read_named(path) if path else None
 
 
+def plain_text(source: str) -> str:
+    """A source without what two that are the same may differ in: how lines end, and the white space of a game behind the last."""
+    return source.replace("\r\n", "\n").rstrip(WHITE)
+
+
 def same_text(one: str, other: str) -> bool:
     """Whether two sources are the same, but for how lines end and the white space of a game behind the last."""
-    return one.replace("\r\n", "\n").rstrip(WHITE) == other.replace("\r\n", "\n").rstrip(WHITE)
+    return plain_text(one) == plain_text(other)
 
 
 def over(sessions: Sessions, game: Optional[GameText]) -> Sessions:

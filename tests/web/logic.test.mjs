@@ -38,7 +38,7 @@ const FILE = `[ ["one", ["source", [0, "undo"], "a:0,", 1, "seed"], "solved"] ,\
 test("a sessions file is read", () => {
   const file = new SessionFile("f.json", bytesOf(FILE));
   assert.deepEqual(file.entries, [
-    { name: "one", source: "source", inputs: [0, "undo"], level: "a:0,", index: 1 },
+    { name: "one", source: "source", inputs: [0, "undo"], level: "a:0,", index: 1, rest: ["solved"] },
     { name: "two", source: "", inputs: [], level: "b:0,", index: 0 },
   ]);
   assert.equal(file.isOverAGame, true);
@@ -88,6 +88,9 @@ test("a session is added, replaced and removed", () => {
   const three = '["three",["s",[3],"",2]]';
   assert.equal(textOf(file.with(entry).bytes), FILE.replace('"b:0,"]]', `"b:0,"]],\n${three}`));
   assert.equal(textOf(file.withReplaced(1, entry).bytes), FILE.replace('["\\u0074wo",["",[],"b:0,"]]', three));
+  // what stands behind a body stays where another session takes the place
+  const demanding = new SessionFile("f", bytesOf('[["one",["s",[],"",0,"seed"],"solved" , {"a":1e400}]]'));
+  assert.equal(textOf(demanding.withReplaced(0, entry).bytes), '[["three",["s",[3],"",2],"solved",{"a":1e400}]]');
   assert.deepEqual(file.with(entry).without(1).entries.map(({ name }) => name), ["one", "three"]);
   assert.deepEqual(file.without(0).entries.map(({ name }) => name), ["two"]);
   assert.deepEqual(file.without(1).without(0).entries, []);
@@ -126,7 +129,8 @@ test("lines of another engine are read the same, and refused where they are none
   assert.deepEqual([one.close, one.frames.length, two.cause], ["differs", 2, "BadRule:3"]);
   for (const [text, message] of [
     ["no\n", "line 1: no line of a recording"], ['{"session":0,"close":"won"}\n', "line 1: neither a frame nor a close"],
-    [frame(0, 1, "start", "", 0), "line 1: not frame 0 of its session"], [frame(0, 0, "start", "", 0), "the lines end within session 0, which has no close"],
+    [frame(0, 1, "start", "", 0), "line 1: not frame 0 of its session"], [frame(0, 0, "over", "", 0), "line 1: not frame 0 of its session"],
+    [`${frame(0, 0, "start", "", 0)}${frame(1, 1, "over", "", 0)}`, "line 2: not frame 1 of its session"], [`${frame(0, 0, "start", "", 0)}${frame(0, 1, "start", "", 0)}`, "line 2: not frame 1 of its session"], [frame(0, 0, "start", "", 0), "the lines end within session 0, which has no close"],
     ['{"close":"passed","frames":1,"name":"one","session":0}\n', "line 1: no close of a session of 0 frames"], [frame(0, 0, "start", "", 3), "line 1: session 3 where session 0 is wanted"],
     ['{"close":"stopped","frames":0,"name":"one","session":0}\n', "line 1: no close of a session of 0 frames"],
   ]) assert.throws(() => readRuns(text), (error) => error instanceof Refusal && error.message === message, text);

@@ -21,6 +21,7 @@ Exit status: 0 all were added or are there, 1 a recording did not pass and so
 none was, or one was cut off or had a fault, 2 a file is refused."""
 from __future__ import annotations
 
+import json
 from argparse import ArgumentParser, Namespace
 from typing import List, NamedTuple, Optional, Sequence
 
@@ -28,11 +29,13 @@ from saxtegun.commands import Refused, add_playing, add_ticks, cut, plural, say
 from saxtegun.explaining import told
 from saxtegun.files import guard_places, locked, write_whole
 from saxtegun.playing import engine_of, runs_of
-from saxtegun.recordings import as_sessions, is_broken, like, named, own_name, read_findings
-from saxtegun.sessions import Entry, Sessions, changed, read_or_new, with_more
+from saxtegun.recordings import Known, as_sessions, is_broken, named, own_name, read_findings
+from saxtegun.sessions import Entry, Sessions, check_name, guard_size, read_or_new, with_more
 from saxtegun.texts import GameText, of_another_text, over, read_game, remark, same_text
 
 USAGE = "add SESSIONS.json [CONSOLE.txt|-] [--game GAME.txt] [--name NAME] [--anyway] [--order rows|columns]"
+# What to do where a file has no room for more.
+FULL = "add them to another file"
 
 
 def add_words(words: ArgumentParser) -> None:
@@ -55,30 +58,34 @@ class Added(NamedTuple):
 def entry_with(new: Sessions, entry: Entry, name: str, game: Optional[GameText]) -> str:
     """The text of an entry with this name, and with the empty text as its source where that is the text at hand."""
     changes = [("name", name), *([("source", "")] if game and same_text(entry.source, game.source) else [])]
-    text = new.text
-    begin, end = entry.spans["entry"]
-    for part, word in sorted(changes, key=lambda it: entry.spans[it[0]], reverse=True):
-        text = changed(new._replace(text=text), {entry.number: (part, word)})
-    return text[begin : end + len(text) - len(new.text)]
+    at, end = entry.spans["entry"]
+    pieces: List[str] = []
+    for part, word in sorted(changes, key=lambda it: entry.spans[it[0]]):
+        begin, behind = entry.spans[part]
+        pieces += [new.text[at:begin], json.dumps(word, ensure_ascii=False)]
+        at = behind
+    return "".join([*pieces, new.text[at:end]])
 
 
 def add_to(path: str, new: Sessions, game: Optional[GameText], name: Optional[str] = None) -> Added:
     """Adds entries to a sessions file as it is at this moment, whoever else has added some meanwhile."""
     with locked(path):
         old = read_or_new(path)
-        known = list(over(old, game).entries)
+        known = Known(over(old, game).entries)
         wanted: List[Entry] = []
         for entry, it in zip(new.entries, over(new, game).entries):
-            same = like(it, known)
+            same = known.like(it)
             if same is None:
-                known.append(it)
                 wanted.append(entry)
             else:
                 say(f"add: {cut(entry.name)}: is there already, as {cut(same.name)}: not added again")
         names = named(name, wanted, (it.name for it in old.entries))
+        total = len(old.entries) + len(wanted)
         if wanted or not old.entries:
-            write_whole(path, with_more(old, [entry_with(new, it, word, game) for it, word in zip(wanted, names)]))
-    return Added(names, len(old.entries) + len(wanted))
+            text = with_more(old, [entry_with(new, it, word, game) for it, word in zip(wanted, names)])
+            guard_size(path, text, total, FULL if game else f"{FULL}, or name the game by --game, whose text isn't copied")
+            write_whole(path, text)
+    return Added(names, total)
 
 
 def failures_in(new: Sessions, game: Optional[GameText], given: Namespace) -> int:
@@ -111,6 +118,7 @@ def say_own_texts(entries: Sequence[Entry], game: Optional[GameText], path: str)
 def main(given: Namespace) -> int:
     if given.sessions == "-":
         raise Refused("name a sessions file: nothing can be added to standard input")
+    check_name(given.name or "")
     read_or_new(given.sessions)
     guard_places(given.sessions)
     game = read_game(given.game)

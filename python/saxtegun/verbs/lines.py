@@ -21,7 +21,7 @@ from concurrent.futures import ThreadPoolExecutor
 from typing import List, Optional, Sequence, Tuple
 
 from saxtegun.commands import Refused, add_game, add_playing, add_ticks, plural
-from saxtegun.files import guard_output, read_bytes
+from saxtegun.files import NoFile, guard_output, read_bytes
 from saxtegun.playing import engine_of, lines_within, refusal
 from saxtegun.running import Ran, watched
 from saxtegun.sessions import MOST_BYTES, Entry, read_sessions, sessions_in
@@ -48,9 +48,11 @@ def told_of(path: str) -> str:
 
 
 def data_of(path: str) -> bytes:
-    """The bytes of a file, none where it can't be read: the program says so itself."""
+    """The bytes of a file, none where it can't be read: the program says so itself, but would wait for a pipe."""
     try:
         return read_bytes(path, MOST_BYTES)
+    except NoFile:
+        raise
     except Refused:
         if path == "-":
             raise

@@ -31,10 +31,11 @@ from saxtegun.levels import Labels, in_rows, read_cells, width_of
 from saxtegun.levelsets import count_of_levels, entries_of_levels
 from saxtegun.lines import Frame
 from saxtegun.playing import Engine, runs_of, shown_beyond
-from saxtegun.sessions import Entry, Input, Sessions, read_or_new, with_more
+from saxtegun.sessions import Entry, Input, Sessions, check_name, guard_size, read_or_new, with_more
 from saxtegun.terminal import CLEAR, KEYS, lettered, painted
 
 USAGE = "play GAME.txt [--level N] [--save NAME SESSIONS.json] [--letters]"
+FULL = "save in another file"
 HELP = "arrows move, x acts, z undoes, r restarts, t ticks, q ends"
 
 
@@ -75,7 +76,18 @@ def next_key(is_terminal: bool) -> str:
 def append(path: str, entry: str) -> None:
     """Adds an entry to a sessions file as it is at this moment."""
     with locked(path):
-        write_whole(path, with_more(read_or_new(path), [entry]))
+        old = read_or_new(path)
+        text = with_more(old, [entry])
+        guard_size(path, text, len(old.entries) + 1, FULL)
+        write_whole(path, text)
+
+
+def guard_saving(name: str, path: str) -> None:
+    """Refuses a name that can't be written, and a file to which nothing can be added, before anything is played that would be lost."""
+    check_name(name)
+    old = read_or_new(path)
+    guard_size(path, old.text, len(old.entries) + 1, FULL)
+    guard_places(path)
 
 
 class Play:
@@ -163,9 +175,7 @@ def main(given: Namespace) -> int:
     if sys.stdin is None:
         raise Refused("standard input is closed, so there are no keys")
     if given.save:
-        # refused before anything is played, and not behind it
-        read_or_new(given.save[1])
-        guard_places(given.save[1])
+        guard_saving(*given.save)
     play = Play(given)
     on_signals(interrupt)
     try:

@@ -18,10 +18,12 @@ from argparse import ArgumentParser, Namespace
 from saxtegun.commands import Refused, plural, say
 from saxtegun.games import game_of
 from saxtegun.files import guard_output, guard_places, write_again
-from saxtegun.sessions import changed, chosen, read_sessions
+from saxtegun.sessions import changed, chosen, guard_size, read_sessions
 from saxtegun.texts import read_named
 
 USAGE = "source GAME.txt SESSIONS [--follow] [--only PATTERN..] [--all] [--in-place] [>NEW]"
+# What to do where each session with its text would be more than a file holds.
+LARGE = "with --follow they need no copies of the text"
 
 
 def add_words(words: ArgumentParser) -> None:
@@ -47,6 +49,7 @@ def main(given: Namespace) -> int:
         raise Refused(f"the sessions are of {len(titles)} games, by their titles: name those of {given.game} with --only, or say --all")
     new = changed(sessions, {it.number: ("source", source) for it in entries})
     if given.in_place:
+        guard_size(given.sessions, new, len(sessions.entries), LARGE)
         write_again(given.sessions, sessions.text, new)
     else:
         sys.stdout.write(new)
