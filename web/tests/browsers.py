@@ -8,7 +8,7 @@ import subprocess
 import time
 from pathlib import Path
 
-SECONDS = 30  # so long a page may take
+SECONDS = 60  # so long a page may take, also on a machine that proves beside
 # Keys that have no letter, by their number in the messages of firefox.
 FIREFOX_KEYS = {"ArrowUp": "\ue013", "ArrowLeft": "\ue012", "ArrowDown": "\ue015", "ArrowRight": "\ue014", "Home": "\ue011", "End": "\ue010", "Tab": "\ue004", "Enter": "\ue007",
                 "Escape": "\ue00c", "Backspace": "\ue003"}
