@@ -1,20 +1,58 @@
 """`saxtegun coverage`: on the example with rules that nothing can need, and with what all need."""
 import json
+import tracemalloc
 import unittest
+import unittest.mock
+from argparse import Namespace
 
 from test_test import RULE, OfAGame
 from tool import plays, run
-from saxtegun.leaving import parts_of
+from saxtegun.leaving import Leaving
+from saxtegun.lines import Frame, Run
+from saxtegun.sessions import sessions_in
+from saxtegun.verbs import coverage
 
 SOURCE = "RULES\n[ a ] -> [ b ]\n+ [ b ] -> [ c ]\nstartloop\nlate [ c ] -> (aside) [ d ]\nendloop\nWINCONDITIONS\n\nall a on b\nLEVELS\na\n"
 
 
-class Leaving(unittest.TestCase):
+class LeavingOut(unittest.TestCase):
     def test_each_rule_and_win_line_is_left_out_in_turn(self):
-        parts = parts_of(SOURCE)
-        self.assertEqual([(it.number, it.section, it.text) for it in parts], [(2, "rules", "[ a ] -> [ b ]"), (3, "rules", "+ [ b ] -> [ c ]"), (9, "winconditions", "all a on b")])
-        self.assertEqual(parts[0].source, SOURCE.replace("[ a ] -> [ b ]\n+", "\n "))
-        self.assertEqual(parts[2].source, SOURCE.replace("all a on b", ""))
+        leaving = Leaving(SOURCE)
+        parts = leaving.parts()
+        self.assertEqual(parts, [(2, "rules", "[ a ] -> [ b ]"), (3, "rules", "+ [ b ] -> [ c ]"), (9, "winconditions", "all a on b")])
+        self.assertEqual(leaving.without(parts[0]), SOURCE.replace("[ a ] -> [ b ]\n+", "\n "))
+        self.assertEqual(leaving.without(parts[1]), SOURCE.replace("+ [ b ] -> [ c ]", ""))
+        self.assertEqual(leaving.without(parts[2]), SOURCE.replace("all a on b", ""))
+
+
+class Memory(unittest.TestCase):
+    """What is held for a game of many rules is about its size, and not its size for each rule."""
+
+    RULES = 2000
+
+    def play(self, entries, of, engine):
+        self.played += len(entries) // 2
+        self.most = max(self.most, sum(len(it.source) for it in entries))
+        for number, it in enumerate(entries):
+            yield Run(number, it.name, "passed", None, [Frame(0, "start", "a:0,")])
+
+    def test_no_more_is_held_than_what_is_played_at_once(self):
+        source = "RULES\n" + "[ Player ] -> [ Player ] (so that it is long)\n" * self.RULES
+        sessions = sessions_in("s.json", json.dumps([["a", [source, [], "a:0,"]]]))
+        self.played, self.most = 0, 0
+        with unittest.mock.patch.object(coverage, "runs_played", self.play):
+            tracemalloc.start()
+            try:
+                it = coverage.Coverage(sessions, Namespace(order="columns", workers=None, program=None))
+                it.run()
+                peak = tracemalloc.get_traced_memory()[1]
+            finally:
+                tracemalloc.stop()
+        # each rule once, and the session itself; no session notices that a rule is gone
+        self.assertEqual((self.played, it.tried, len(it.unnoticed)), (1 + self.RULES, self.RULES, self.RULES))
+        # two of each source are played at once, of one text; a source has 90 KB, and all sources without a rule would have 180 MB
+        self.assertLess(self.most, 2 * (coverage.MOST_LETTERS + len(source) + 1))
+        self.assertLess(peak, 50_000_000)
 
 
 @plays
@@ -44,6 +82,14 @@ class DayOfCoverage(OfAGame):
         self.assertIn(": no session notices it: All Target on Crate", answer.out)
         last = self.write_entries([self.entries[1]])
         self.assertEqual(run("coverage", self.game, last).status, 0)
+
+    def test_a_game_that_is_refused_is_not_covered_by_sessions_of_another_text(self):
+        self.with_rule(RULE.replace("Crate", "Crat"))
+        mixed = self.write_entries([self.entries[1], ["own", [self.source, *self.entries[1][1][1:]]]], "mixed.json")
+        answer = run("coverage", self.game, mixed)
+        self.assertEqual((answer.status, answer.out), (2, ""))
+        number = self.number(RULE.replace("Crate", "Crat"))
+        self.assertIn(f"no session is played over {self.game}, so none of its lines was left out: session 0, {self.entries[1][0]}: line {number} has a name that is not there", answer.errors)
 
     def test_where_no_session_is_played_there_is_no_answer(self):
         sessions = self.write("refused.json", json.dumps([["a", ["", [], ""]]]))

@@ -1,12 +1,15 @@
 """`saxtegun compare --engines` and `saxtegun shrink` with an engine that crashes, hangs, or writes a line of its own: each is told, with the session and the input."""
 import json
+import tempfile
 import unittest
 from pathlib import Path
 from time import monotonic
 
 from day import OnSessions
 from tool import run
+from saxtegun.commands import Refused
 from saxtegun.engines import Ended, Reader
+from saxtegun.lines import runs_in
 from saxtegun.sessions import Entry
 
 SOURCE = """OBJECTS
@@ -46,7 +49,52 @@ class OnEngines(OnSessions):
         return self.write("sessions.json", json.dumps([[f"session of {len(it)}", [source, it, "", 0]] for it in inputs]))
 
 
+class Frames(unittest.TestCase):
+    """Which frame may follow which: a frame that no session shows is a line of the engine's own."""
+
+    def stray(self, *kinds):
+        """The line at which a reader takes a session's frames, (kind, at), for none; None where it takes all."""
+        reader = Reader([Entry(0, "a", "", [0, 0, 0], "", 0, {}, False)])
+        for number, (kind, at) in enumerate(kinds):
+            reader.take(json.dumps({"at": at, "frame": number, "kind": kind, "level": "a:0,\n", "session": 0}) + "\n")
+            if reader.stray:
+                return number
+        return None
+
+    def test_what_sessions_show_is_taken(self):
+        for kinds in (
+            [("start", 0), ("tick", 0), ("load", 0), ("move", 1), ("undo", 2), ("restart", 3), ("tick", 3)],
+            [("start", 0), ("move", 1), ("over", 2), ("over", 3)], [("start", 0), ("tick", 0), ("over", 1)], [("start", 0), ("move", 1), ("move", 3)],
+        ):
+            self.assertIsNone(self.stray(*kinds), kinds)
+
+    def test_what_no_session_shows_is_none(self):
+        """A session begins with its start, no input is taken back, and play is over only behind a won step, for good."""
+        for kinds in (
+            [("over", 0)], [("move", 0)], [("start", 1)], [("start", 0), ("start", 0)], [("start", 0), ("over", 1)], [("start", 0), ("move", 1), ("over", 1)], [("start", 0), ("undo", 1), ("over", 2)],
+            [("start", 0), ("move", 2), ("move", 1)], [("start", 0), ("move", 1), ("over", 2), ("move", 3)],
+        ):
+            self.assertEqual(self.stray(*kinds), len(kinds) - 1, kinds)
+
+    def test_lines_that_no_program_writes_are_refused(self):
+        for kinds in ([("over", 0)], [("start", 0), ("over", 1)]):
+            with tempfile.NamedTemporaryFile("w", encoding="utf-8") as file:
+                for number, (kind, at) in enumerate(kinds):
+                    file.write(json.dumps({"at": at, "frame": number, "kind": kind, "level": "a:0,\n", "session": 0}, separators=(",", ":")) + "\n")
+                file.flush()
+                with self.assertRaisesRegex(Refused, f"line {len(kinds)}: not frame {len(kinds) - 1} of session 0"):
+                    list(runs_in(file.name))
+
+
 class Compare(OnEngines):
+    def test_an_engine_that_says_that_all_is_over_at_once_is_not_believed(self):
+        self.sessions([3])
+        other = self.write("over", "#!/bin/sh\necho '{\"at\":0,\"frame\":0,\"kind\":\"over\",\"level\":\"a:0,\",\"session\":0}'\necho '{\"close\":\"passed\",\"frames\":1,\"name\":\"session of 1\",\"session\":0}'\n")
+        other.chmod(0o755)
+        answer = run("compare", "--engines", other, other, self.room / "sessions.json")
+        self.assertEqual(answer.status, 1)
+        self.assertIn("one wrote a line before its first frame that is none of its session: ", answer.out)
+
     def compare(self, other, *words):
         return run("compare", "--engines", self.engine("none"), other, self.room / "sessions.json", *words)
 

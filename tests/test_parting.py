@@ -51,6 +51,18 @@ class Compare(OfAGame):
         self.assertEqual((parting.frame, parting.kind, parting.other), (1, "end", None))
         self.assertIsNone(parting_of(Run(0, "a", "passed", None, frames), Run(0, "a", "passed", None, list(frames))))
 
+    def test_where_nothing_was_played_nothing_is_the_same(self):
+        """Two files without a line, as two programs leave that crash, and sessions that both sides refuse."""
+        self.assert_refused(run("compare", self.write("a.lines", ""), self.write("b.lines", "")), "there is no session, so nothing was compared")
+        close = {"cause": "Section:0", "close": "refused", "frames": 0, "name": "a", "session": 0}
+        lines = self.write("refused.lines", json.dumps(close) + "\n")
+        sessions = self.write("empty.json", '[["a",["",[],""]]]')
+        self.assert_refused(run("compare", lines, lines, sessions), "no session was played: their source is the empty text, which stands for a game's; ")
+        # an engine's own refusals can be compared, and that is told
+        sessions = self.write("faulty.json", '[["a",["no game",[],""]]]')
+        answer = run("compare", lines, lines, sessions)
+        self.assertEqual((answer.status, answer.out), (0, "1 session: 1 the same, 0 diverge; 1 was refused by both, and not played\n"))
+
     def test_lines_of_other_sessions_are_refused(self):
         lines = self.lines.read_text(encoding="utf-8")
         self.assert_refused(self.compare(lines.replace("half way", "half-way")), "session 2 is named 'half way through the first' in")
@@ -95,6 +107,13 @@ class DayOfComparing(OfAGame):
         # by hand: the second input goes away from a crate, which is pulled
         self.assertIn("session 0, both levels solved: frame 2, after input 1 (left)\n    column 3, row 5: background; the other: background crate\n", answer.out)
         self.assertEqual(run("compare", "--sources", self.game, self.game, self.recordings).out, SAME)
+
+    def test_two_texts_over_which_nothing_is_played_are_not_the_same(self):
+        broken = [self.write(name, self.source.replace(RULE, f"[ {name} ] -> [ ]")) for name in ("one", "other")]
+        self.assert_refused(run("compare", "--sources", *broken, self.recordings), "no session was played: both refuse each, as they do session 0: line ")
+        answer = run("compare", "--engines", PROGRAM, PROGRAM, self.recordings)
+        self.assertEqual((answer.status, answer.out), (2, ""))
+        self.assertIn("no session was played: their source is the empty text", answer.errors)
 
     def test_two_programs_are_compared(self):
         program = self.write("program", f'#!/bin/sh\n"{PROGRAM}" "$@" | sed \'2s/"move"/"tick"/\'\nexit 1\n')

@@ -1,9 +1,15 @@
 """`saxtegun accept --reindex`: recordings of levels that have moved pass again, and nothing else is changed."""
 import json
 import unittest
+import unittest.mock
 
+from test_running import PLAYER, Programs
 from test_test import OfAGame
 from tool import plays, run
+from saxtegun import reindexing
+from saxtegun.lines import UNANSWERED, Run
+from saxtegun.playing import Engine
+from saxtegun.sessions import sessions_in
 
 # A level of another kind than the two of the example, which can not be won: a target, and no crate.
 NEW = "#####\n#P.O#\n#####\n"
@@ -67,6 +73,58 @@ class DayOfReindexing(OfAGame):
     def test_it_plays_by_itself(self):
         for words in (("--review",), (self.lines,)):
             self.assert_refused(run("accept", self.recordings, *words, "--reindex", "--game", self.game), "--reindex plays by itself")
+
+
+# So many levels more than are tried.
+LEFT = 7
+
+
+class Bounds(unittest.TestCase):
+    """What is said where not all levels were tried, or where some session had no answer: never more than is known."""
+
+    def found(self, count, closes):
+        """What is found for a recording of the first of so many levels that differs, and closes so with the indices that are named, and else differs."""
+        source = "LEVELS\n" + "a\n\n" * count
+        sessions = sessions_in("s.json", json.dumps([["a", [source, [], "a:0,"]]]))
+
+        def played(entries, of, engine):
+            return [Run(number, it.name, closes.get(it.index, "differs"), "not answered in 1 s" if closes.get(it.index) == UNANSWERED else None, []) for number, it in enumerate(entries)]
+
+        with unittest.mock.patch.object(reindexing, "runs_of", played):
+            found, = reindexing.reindexed(sessions.entries, sessions, Engine())
+        return found
+
+    def test_where_all_levels_are_tried_one_alone_is_taken(self):
+        found = self.found(1 + reindexing.MOST_LEVELS, {700: "passed"})
+        self.assertEqual((found.new, found.told()), (700, "session 0, a: its index 0 becomes 700, with which it passes"))
+
+    def test_where_levels_are_left_nothing_is_changed(self):
+        count = 1 + reindexing.MOST_LEVELS + LEFT
+        found = self.found(count, {700: "passed", 1003: "passed"})
+        self.assertEqual((found.new, found.has_answer), (None, True))
+        self.assertEqual(found.told(), "session 0, a: passes in 1 level (index 700) of the 1000 that were tried; 7 more were not tried, so its index 0 stays")
+        self.assertEqual(self.found(count, {}).told(), "session 0, a: passes in no level of the 1000 that were tried; 7 more were not tried, so its index 0 stays")
+
+    def test_a_level_without_an_answer_is_named(self):
+        found = self.found(4, {1: "passed", 3: UNANSWERED})
+        self.assertEqual((found.new, found.has_answer), (None, False))
+        self.assertEqual(found.told(), "session 0, a: passes in 1 level (index 1) of the 3 that were tried; 1 level had no answer in time (index 3), so its index 0 stays")
+
+    def test_a_session_without_an_answer_is_named(self):
+        found = self.found(4, {0: UNANSWERED, 1: "passed"})
+        self.assertEqual((found.new, found.has_answer), (None, False))
+        self.assertEqual(found.told(), "session 0, a: not answered in 1 s, so it was tried in no other level, and its index 0 stays")
+
+
+class Time(Programs):
+    def test_a_session_without_an_answer_is_named_and_the_status_is_2(self):
+        sessions = self.suite(["quick", "slow"])
+        for words in ((), ("--reindex",), ("--only", "slow"), ("--only", "slow", "--reindex")):
+            answer = run("accept", sessions, *words, "--program", self.program(PLAYER), "--timeout", "1")
+            self.assertEqual((answer.status, answer.out), (2, sessions.read_text(encoding="utf-8")), words)
+            self.assertIn("accept: session 1, slow", answer.errors)
+            self.assertIn("not answered in 1 s", answer.errors)
+        self.assertEqual(run("accept", sessions, "--only", "quick", "--reindex", "--program", self.program(PLAYER), "--timeout", "1").status, 0)
 
 
 if __name__ == "__main__":

@@ -48,6 +48,7 @@ WRONG = {
     "writes another number": "sed 's/\"session\":1/\"session\":7/' shown",
     "says that all passed": "sed 's/\"close\":\"differs\"/\"close\":\"passed\"/' shown",
     "says that none passed": "sed 's/\"close\":\"passed\"/\"close\":\"differs\"/' shown; exit 1",
+    "says that play is over at the start": "sed '1s/\"start\"/\"over\"/' shown",
     "says much, and nothing else": "head -c 3000000 /dev/zero | tr '\\0' a >&2; exit 2",
 }
 
@@ -65,7 +66,7 @@ class Programs(OnSessions):
 class Wrong(Programs):
     def test_no_wrong_program_is_believed(self):
         self.write("shown", lines_of_example(EXAMPLE.read_text(encoding="utf-8")))
-        self.assertEqual(len(WRONG), 21)
+        self.assertEqual(len(WRONG), 22)
         for number, (what, script) in enumerate(WRONG.items()):
             for verb in ("test", "explain", "report")[: 1 if number % 7 else 3]:
                 with self.subTest(f"{verb}: {what}"):

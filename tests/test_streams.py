@@ -13,7 +13,7 @@ from strangers import NAMES
 from tool import TOP, environment, run
 
 LONG = "long " * 1000
-STRANGE = [*NAMES, "a\rb\x1b[2J\x1b]0;title\x07", "\u0085\u2028\u2029\x0b\x0c", "::error::no ##[error]no", "| a | `b` | <b>", "\u202eright to left", LONG]
+STRANGE = [*NAMES, "a\rb\x1b[2J\x1b]0;title\x07", "\u0085\u2028\u2029\x0b\x0c", "::error::no ##[error]no", "see www.example.org", "| a | `b` | <b>", "\u202eright to left", LONG]
 SOURCE = "OBJECTS\nBackground .\nred\nPlayer p\nred\nLEGEND\nCOLLISIONLAYERS\nBackground\nPlayer\nRULES\n%s\nLEVELS\np.\n"
 # An engine that refuses the sessions that begin at entry 0, and shows one frame of the others.
 ENGINE = """#!%s
@@ -149,10 +149,13 @@ class OfStrangers(OnSessions):
         commands = [it for it in answer.out.splitlines() if it.lstrip().startswith("::") or "##[" in it]
         self.assertEqual(len(commands), 2 * len(STRANGE))
         self.assertTrue(all(it.startswith("::error ") for it in commands))
+        # GitHub and Azure read these wherever they stand in a line, and so within a command too
+        self.assertIsNone(re.search(r"##[a-zA-Z]*\[", answer.out))
         cases = list(ElementTree.parse(self.room / "xml").iter("testcase"))
         self.assertEqual(len(cases), 2 * len(STRANGE))
         markdown = (self.room / "md").read_text(encoding="utf-8")
         self.assert_lines(markdown, 6000)
+        self.assertNotIn("www.", re.sub("(?s)````*text\n.*?\n````*\n", "", markdown))
         self.assertIsNone(re.search("<(script|img|b)", re.sub("(?s)````*text\n.*?\n````*\n", "", markdown)))
 
     def test_what_is_refused_names_a_stranger_in_one_line(self):

@@ -54,6 +54,14 @@ class Suite(InARoom):
         self.assertEqual(answer.status, 2)
         self.assertIn(what, answer.errors)
 
+    def test_a_name_is_told_cut(self):
+        names = ["a" * 300, "b" * 300]
+        self.assertEqual(self.split(1, json.dumps([[names[0], ["OBJECTS", [], ""]]])).status, 0)
+        (self.parts / "00000000.lines").write_text(json.dumps({"close": "passed", "frames": 0, "name": names[1], "session": 0}, separators=(",", ":")) + "\n", encoding="utf-8")
+        answer = run("join", self.parts)
+        self.assertEqual((answer.status, answer.out), (2, ""))
+        self.assertIn(f"closes '{'b' * 200}..', where '{'a' * 200}..' is wanted", answer.errors)
+
     def test_the_joined_lines_are_those_of_the_whole_file(self):
         for name in SUITES:
             for count in (1, 2, 3, 4, 100):

@@ -1,5 +1,6 @@
 """Over which text a session is played: where it brings one of its own that isn't the one at hand, each answer says so, and no answer is green by it."""
 import json
+import re
 import subprocess
 import sys
 import unittest
@@ -51,6 +52,23 @@ class DayOfTexts(OfTwoTexts):
         self.assertIn("2 sessions: 2 passed, 0 differ, 0 stopped, 0 refused, 2 only over its own text", answer.out)
         self.assertIn(self.remark(alone, "2 sessions have"), answer.out)
         self.assertIn(self.remedy(alone, "them"), answer.out)
+
+    def test_a_report_lists_what_failed_over_the_game_alone(self):
+        """The first passes over both texts, the others over their own; the last two must be solved, over both and over the game."""
+        self.with_rule(STUCK)
+        quiet = ["quiet", [self.source, [], self.entries[3][1][2]]]
+        start = [it for it in self.lines.read_text(encoding="utf-8").splitlines() if '"session":0}' in it][0]
+        quiet[1][2] = json.loads(start)["level"]
+        suite = self.write_entries([quiet, self.own, [*quiet, "solved"], ["follows", ["", *quiet[1][1:]], "solved"]], "suite.json")
+        page = self.room / "page.html"
+        answer = run("test", self.game, suite, "--report", page)
+        self.assertEqual(answer.status, 1)
+        text = page.read_text(encoding="utf-8")
+        rows = re.findall(r'\["([^"]*)","(passed|failed|differs)",\d+\]', text)
+        self.assertEqual(rows, [("quiet", "passed"), (self.own[0], "failed"), ("quiet", "failed"), ("follows", "failed")])
+        self.assertIn(f'"told":"passed: over its own text, but not over {self.game}: differs: ', text)
+        self.assertIn(f'"told":"passed: over its own text, but over {self.game} no longer solved: not solved"', text)
+        self.assertIn('"told":"passed: no longer solved: not solved"', text)
 
     def test_the_remedy_makes_them_follow(self):
         self.with_rule(STUCK)

@@ -8,6 +8,7 @@ const SHAPES = {
   stopped: "M3 3H9V9H3Z",
   refused: "M2.5 2.5 9.5 9.5M9.5 2.5 2.5 9.5",
   diverges: "M6 11V6.5M6 6.5 2 1.5M6 6.5 10 1.5",
+  failed: "M6 1.5V7.5M6 9V11", // passed, and does not count as that
 };
 const SVG = "http://www.w3.org/2000/svg";
 

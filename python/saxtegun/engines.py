@@ -10,7 +10,7 @@ from typing import IO, Any, Iterator, List, NamedTuple, Optional, Sequence, Tupl
 
 from saxtegun.commands import Refused, cut
 from saxtegun.explaining import input_told
-from saxtegun.lines import UNANSWERED, Frame, Run, close_of, frame_of, line_of, written_frame
+from saxtegun.lines import UNANSWERED, Frame, Run, close_of, frame_of, line_of, may_follow, written_frame
 from saxtegun.playing import Engine, batches
 from saxtegun.running import PATIENCE, Said, Unanswered, check_bounds, end, started, time_left, wait_a_while, written_to
 from saxtegun.sessions import Entry
@@ -96,13 +96,17 @@ class Reader:
         run = None
         if frame is None and number < len(self.entries):
             frame, run = self.read(text, number)
-        if frame is not None and number < len(self.entries) and frame.at <= len(self.entries[number].inputs):
+        if frame is not None and self.is_next(frame, number):
             self.frames.append(frame)
         elif run is not None:
             self.runs.append(self.run_of(run))
             self.frames, self.stray = [], None
         elif self.stray is None:
             self.stray = text.rstrip("\n"), len(self.frames)
+
+    def is_next(self, frame: Frame, number: int) -> bool:
+        """Whether a frame may be the next of a session."""
+        return number < len(self.entries) and frame.at <= len(self.entries[number].inputs) and may_follow(self.frames[-1] if self.frames else None, frame)
 
     def read(self, text: str, number: int) -> Tuple[Optional[Frame], Optional[Run]]:
         """A line as the next frame of a session, or as its close, or as neither."""

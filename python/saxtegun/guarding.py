@@ -16,7 +16,12 @@ CIS = ("CI", "TF_BUILD", "GITHUB_ACTIONS")
 
 def guarded(line: str) -> str:
     """A line of a log in which no letters are a command of a CI's."""
-    return MARK.sub(r"#\\u{23}", COLONS.sub(r"\1| ::", line))
+    return without_marks(COLONS.sub(r"\1| ::", line))
+
+
+def without_marks(text: str) -> str:
+    """A text in which no letters are a command wherever they stand in a line."""
+    return MARK.sub(r"#\\u{23}", text)
 
 
 def is_log(stream: TextIO) -> bool:

@@ -10,33 +10,36 @@ LOOP_WORDS = ("startloop", "endloop")
 
 
 class Part(NamedTuple):
-    """A line that can be left out, and the source without it."""
+    """A line that can be left out."""
 
     number: int
     section: str
     text: str
-    source: str
+
+
+class Leaving:
+    """A source of which lines are left out, one at a time."""
+
+    def __init__(self, source: str) -> None:
+        self.raw, self.lines = source.split("\n"), lines_of(source)
+        rules = [it for it in self.lines if it.section == "rules" and it.text]
+        # the rule that would begin a group where another that began it is left out
+        self.heirs = {one.number: other for one, other in zip(rules, rules[1:]) if not one.text.startswith("+") and other.text.startswith("+")}
+
+    def parts(self) -> List[Part]:
+        """Each rule and win line that can be left out. One that a comment cuts in two is not among them."""
+        return [Part(it.number, it.section, it.text) for it in parts_in(self.lines) if it.text in self.raw[it.number - 1]]
+
+    def without(self, part: Part) -> str:
+        """The source without a line. Where it began a group, the next line of the group begins it."""
+        raw = list(self.raw)
+        raw[part.number - 1] = raw[part.number - 1].replace(part.text, "", 1)
+        heir = self.heirs.get(part.number)
+        if heir is not None:
+            raw[heir.number - 1] = raw[heir.number - 1].replace("+", " ", 1)
+        return "\n".join(raw)
 
 
 def parts_in(lines: Sequence[Line]) -> List[Line]:
     """The rules and win lines of a source."""
     return [it for it in lines if it.text and (it.section == "winconditions" or (it.section == "rules" and fold(it.text) not in LOOP_WORDS))]
-
-
-def without(source: str, lines: Sequence[Line], left: Line) -> str:
-    """The source without a line. Where it began a group, the next line of the group begins it."""
-    raw = source.split("\n")
-    if left.text not in raw[left.number - 1]:
-        return ""
-    raw[left.number - 1] = raw[left.number - 1].replace(left.text, "", 1)
-    later = [it for it in lines if it.number > left.number and it.section == "rules" and it.text]
-    if left.section == "rules" and not left.text.startswith("+") and later and later[0].text.startswith("+"):
-        raw[later[0].number - 1] = raw[later[0].number - 1].replace("+", " ", 1)
-    return "\n".join(raw)
-
-
-def parts_of(source: str) -> List[Part]:
-    """Each rule and win line of a source that can be left out. One that a comment cuts in two is not among them."""
-    lines = lines_of(source)
-    parts = [Part(it.number, it.section, it.text, without(source, lines, it)) for it in parts_in(lines)]
-    return [it for it in parts if it.source]

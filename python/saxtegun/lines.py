@@ -11,6 +11,8 @@ from saxtegun.files import read_lines
 from saxtegun.sessions import LONE_SURROGATE, is_number
 
 KINDS = ("start", "move", "undo", "restart", "load", "tick", "over")
+# Of what kinds the frame is before one that shows that play is over.
+BEFORE_OVER = ("move", "tick", "over")
 READER = json.JSONDecoder()
 CLOSES = ("passed", "differs", "stopped", "refused")
 # How a session is closed that the command has stopped, since it had no answer in its time. No program writes that.
@@ -67,6 +69,16 @@ def frame_of(line: Dict[str, Any]) -> Optional[Frame]:
     return Frame(line["at"], line["kind"], line["level"])
 
 
+def may_follow(before: Optional[Frame], frame: Frame) -> bool:
+    """Whether a frame may stand behind another of its session, or first (None): a session begins with `start`, and is over only behind a step, at a later
+    input, for good."""
+    if before is None or frame.kind == "start":
+        return before is None and frame.kind == "start" and frame.at == 0
+    if frame.kind == "over":
+        return before.kind in BEFORE_OVER and frame.at > before.at
+    return frame.at >= before.at and before.kind != "over"
+
+
 @lru_cache(maxsize=MOST_HEADS)
 def head_of(text: str) -> Optional[Tuple[int, int, str]]:
     """What the head of a frame's line says: the inputs taken, its number, its kind; or None where the program writes none such."""
@@ -105,7 +117,7 @@ def runs_in(path: str) -> Iterator[Tuple[int, Run]]:
     frames: List[Frame] = []
     for number, text in read_lines(path):
         written = written_frame(text, count, len(frames))
-        if written:
+        if written and may_follow(frames[-1] if frames else None, written):
             frames.append(written)
             continue
         line = line_of(path, number, text)
@@ -113,7 +125,7 @@ def runs_in(path: str) -> Iterator[Tuple[int, Run]]:
             raise Refused(f"{path}, line {number}: session {line['session']} where session {count} is wanted")
         if "close" not in line:
             frame = frame_of(line)
-            if frame is None or line.get("frame") != len(frames):
+            if frame is None or line.get("frame") != len(frames) or not may_follow(frames[-1] if frames else None, frame):
                 raise Refused(f"{path}, line {number}: not frame {len(frames)} of session {count}")
             frames.append(frame)
             continue

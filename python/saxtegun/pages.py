@@ -33,6 +33,8 @@ MOST_NOTES = 50
 LETTERS = "".join(chr(code) for code in range(33, 127) if chr(code) not in "\"\\<>&")
 # A change of so many cells is written as a whole level: a cell of it takes a letter, and one that changed takes its number too.
 DEAR = 5
+# How a session stands in the page that passed, and is asked for more.
+FAILED = "failed"
 
 
 def safe(value: Any) -> str:
@@ -182,7 +184,7 @@ class Report:
         self.blocks: List[str] = []
         self.games: Dict[str, int] = {}
         self.notes: Dict[str, None] = {}
-        self.title, self.closes, self.result = "replay report", list(CLOSES), ""
+        self.title, self.closes, self.result = "replay report", [*CLOSES, FAILED], ""
 
     def game(self, source: str) -> int:
         """The number of a source's game, whose look is in the page once."""
@@ -197,12 +199,16 @@ class Report:
         self.blocks.append(block(f"session-{len(self.rows)}", session))
         self.rows.append([name, close, frames])
 
-    def add(self, run: Run) -> None:
+    def add(self, run: Run, failure: Optional[str] = None) -> None:
+        """Adds a session. `failure` is why one that passed counts as failed."""
         entry = self.sessions.entries[run.number]
         game = self.game(entry.source) if run.frames else None
         # the page has a word and a colour for each close of the program's, and none for what the command has stopped itself
         close = "stopped" if run.close == UNANSWERED else run.close
-        self.put(run.name, close, len(run.frames), session_of(entry, run, game, self.order, self.hung(entry, run)))
+        session = session_of(entry, run, game, self.order, self.hung(entry, run))
+        if failure is not None and run.close == "passed":
+            close, session["told"] = FAILED, f"passed: {failure}"
+        self.put(run.name, close, len(run.frames), session)
 
     def add_pair(self, parting: Parting, one: Run, other: Run, names: Sequence[str]) -> None:
         """Adds a session of which two runs part, with the names of the two."""

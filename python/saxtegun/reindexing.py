@@ -2,52 +2,103 @@
 from __future__ import annotations
 
 from itertools import islice
-from typing import Dict, List, NamedTuple, Sequence
+from typing import Dict, List, NamedTuple, Optional, Sequence
 
 from saxtegun.commands import cut, plural
 from saxtegun.levelsets import entries_of_levels
+from saxtegun.lines import UNANSWERED
 from saxtegun.playing import Engine, runs_of
 from saxtegun.sessions import Entry, Sessions
 
 # So many sessions are played at once, and for so many levels a recording is tried.
 MOST_AT_ONCE = 5_000
 MOST_LEVELS = 1_000
+# So many indices are told.
+MOST_TOLD = 10
+
+
+class Places(NamedTuple):
+    """The indices with which an entry is tried, and how many more levels there are."""
+
+    tried: List[int]
+    left: int
 
 
 class Found(NamedTuple):
-    """The indices with which a recording passes that doesn't pass with its own."""
+    """The indices with which a recording passes that doesn't pass with its own, those with which it wasn't answered, and in how many levels it was tried and
+    wasn't. `why` is why its own index had no answer, and then it was tried in none."""
 
     entry: Entry
     indices: List[int]
+    unanswered: List[int]
+    tried: int
+    left: int
+    why: str = ""
+
+    @property
+    def new(self) -> Optional[int]:
+        """The index with which it passes, where it was tried in all levels and passes in this one alone."""
+        return self.indices[0] if len(self.indices) == 1 and self.is_whole else None
+
+    @property
+    def is_whole(self) -> bool:
+        return not (self.left or self.unanswered or self.why)
+
+    @property
+    def has_answer(self) -> bool:
+        return not (self.unanswered or self.why)
 
     def told(self) -> str:
         """What is to be said of it."""
         head = f"session {self.entry.number}, {cut(self.entry.name)}: "
-        if not self.indices:
-            return f"{head}passes in no level, so its index {self.entry.index} stays"
-        if len(self.indices) > 1:
-            return f"{head}passes in {plural(len(self.indices), 'level')} (index {', '.join(map(str, self.indices))}), so its index {self.entry.index} stays"
-        return f"{head}its index {self.entry.index} becomes {self.indices[0]}, with which it passes"
+        if self.why:
+            return f"{head}{self.why}, so it was tried in no other level, and its index {self.entry.index} stays"
+        if self.new is not None:
+            return f"{head}its index {self.entry.index} becomes {self.new}, with which it passes"
+        return f"{head}passes in {self.where}{self.untried}, so its index {self.entry.index} stays"
+
+    @property
+    def where(self) -> str:
+        """In which levels it passes, of those in which it was tried."""
+        levels = f"{plural(len(self.indices), 'level')} (index {listed(self.indices)})" if self.indices else "no level"
+        return levels if self.is_whole else f"{levels} of the {self.tried} that were tried"
+
+    @property
+    def untried(self) -> str:
+        """In which levels it isn't known."""
+        late = f"; {plural(len(self.unanswered), 'level')} had no answer in time (index {listed(self.unanswered)})" if self.unanswered else ""
+        return f"{late}; {self.left} more {'was' if self.left == 1 else 'were'} not tried" if self.left else late
 
 
-def indices_of(entry: Entry) -> List[int]:
+def listed(indices: Sequence[int]) -> str:
+    """Some indices, as many as are told."""
+    return ", ".join([*map(str, indices[:MOST_TOLD]), *([".."] if len(indices) > MOST_TOLD else [])])
+
+
+def places_of(entry: Entry) -> Places:
     """The places of the levels of a source, messages left out, but for the one that an entry names."""
     places = [place for place, it in enumerate(entries_of_levels(entry.source)) if it.rows]
     # an index that names a message begins with the level behind it
     own = next((it for it in places if it >= entry.index), None)
-    return [it for it in places if it != own][:MOST_LEVELS]
+    others = [it for it in places if it != own]
+    return Places(others[:MOST_LEVELS], max(0, len(others) - MOST_LEVELS))
 
 
 def reindexed(entries: Sequence[Entry], of: Sessions, engine: Engine) -> List[Found]:
     """For recordings that don't pass the indices with which they do; no other has a line."""
     if not entries:
         return []
-    closes = [it.close for it in runs_of(entries, of, engine)]
-    failed = [it for it, close in zip(entries, closes) if close in ("differs", "stopped", "refused")]
-    tried = (it._replace(index=index) for it in failed for index in indices_of(it))
-    passed: Dict[int, List[int]] = {it.number: [] for it in failed}
+    runs = {it.number: run for it, run in zip(entries, runs_of(entries, of, engine))}
+    failed = [it for it in entries if runs[it.number].close != "passed"]
+    late = {it.number: str(runs[it.number].cause) for it in failed if runs[it.number].close == UNANSWERED}
+    places = {it.number: Places([], 0) if it.number in late else places_of(it) for it in failed}
+    closes: Dict[int, Dict[str, List[int]]] = {it.number: {"passed": [], UNANSWERED: []} for it in failed}
+    tried = (it._replace(index=index) for it in failed for index in places[it.number].tried)
     for batch in iter(lambda: list(islice(tried, MOST_AT_ONCE)), []):
         for it, run in zip(batch, runs_of(batch, of, engine)):
-            if run.close == "passed":
-                passed[it.number].append(it.index)
-    return [Found(it, passed[it.number]) for it in failed]
+            closes[it.number].setdefault(run.close, []).append(it.index)
+    return [found_of(it, closes[it.number], places[it.number], late.get(it.number, "")) for it in failed]
+
+
+def found_of(entry: Entry, closes: Dict[str, List[int]], places: Places, why: str) -> Found:
+    return Found(entry, closes["passed"], closes[UNANSWERED], len(places.tried), places.left, why)

@@ -5,6 +5,7 @@ import re
 from typing import Dict, Iterable, List, NamedTuple, Tuple
 
 from saxtegun.commands import cut, plural, printable
+from saxtegun.guarding import without_marks
 
 MOST_FAILURES = 20
 
@@ -30,7 +31,7 @@ def once(failures: Iterable[Failure]) -> List[Failure]:
 
 def in_table(text: str) -> str:
     """A text of a stranger in a cell of a table of Markdown."""
-    return re.sub(r"[&<>\"'\\`*_{}\[\]()#+!|~@:-]", lambda it: f"&#{ord(it[0])};", cut(printable(text)))
+    return re.sub(r"[&<>\"'\\`*_{}\[\]()#+!|~@:-]|(?<=[wW]{3})\.", lambda it: f"&#{ord(it[0])};", cut(printable(text)))
 
 
 def fenced(lines: Iterable[str]) -> str:
@@ -53,7 +54,7 @@ def markdown(failures: List[Failure], counts: str) -> str:
 
 def escaped(text: str, is_property: bool = False) -> str:
     """A text as GitHub's commands have it."""
-    text = text.replace("%", "%25").replace("\r", "%0D").replace("\n", "%0A")
+    text = without_marks(text).replace("%", "%25").replace("\r", "%0D").replace("\n", "%0A")
     return text.replace(":", "%3A").replace(",", "%2C") if is_property else text
 
 

@@ -13,8 +13,9 @@ Look first at what you accept, by `saxtegun report` or `saxtegun explain`. Or
 let --review show one after the other, with both levels, and ask.
 
 With --reindex no level is accepted: a recording that doesn't pass is tried in
-every other level, as when levels were inserted or moved. If it passes in one
-alone, its index is set; standard error says which. No other is touched.
+the other levels, up to 1,000 of them, as when levels were inserted or moved. If
+it was tried in all and passes in one alone, its index is set; standard error
+says which, and how many levels were not tried. No other is touched.
 
 Nothing is changed if a session was played in another order than it was recorded
 in. That shows if LINES don't begin with the level that the source draws in this
@@ -23,7 +24,7 @@ reached one in the other order. With levels that are the same in both orders it
 doesn't show.
 
 Exit status: 0; 1 a session that --only names could not be changed; 2 a file is
-refused."""
+refused, or with --timeout some session had no answer."""
 from __future__ import annotations
 
 import sys
@@ -33,10 +34,10 @@ from typing import Dict, List, Mapping, Optional, Sequence, Tuple, Union
 from saxtegun.commands import Refused, add_game, add_playing, add_ticks, plural, printable, say
 from saxtegun.explaining import UNREADABLE, Ending, heading, source_told, told
 from saxtegun.files import guard_output, guard_places, write_again
-from saxtegun.lines import Run
+from saxtegun.lines import UNANSWERED, Run
 from saxtegun.playing import engine_of, lines_or_played
 from saxtegun.reindexing import reindexed
-from saxtegun.sessions import Entry, Sessions, changed, chosen, read_sessions
+from saxtegun.sessions import Entry, Sessions, changed, chosen, guard_size, read_sessions
 from saxtegun.texts import over, read_game, say_others
 
 USAGE = "accept SESSIONS [LINES] [--only PATTERN..] [--review|--reindex] [--in-place] [--game GAME.txt] [--order rows|columns] [>NEW]"
@@ -97,17 +98,21 @@ def write(sessions: Sessions, changes: Mapping[int, Tuple[str, Union[str, int]]]
         sys.stdout.write(changed(sessions, changes))
         sys.stdout.flush()
     elif changes:
-        write_again(given.sessions, sessions.text, changed(sessions, changes))
+        new = changed(sessions, changes)
+        guard_size(given.sessions, new, len(sessions.entries), "divide it by saxtegun split, and accept the parts")
+        write_again(given.sessions, sessions.text, new)
 
 
 def reindex(sessions: Sessions, wanted: Sequence[Entry], given: Namespace) -> int:
     """Sets the indices with which recordings pass again."""
     found = reindexed(wanted, sessions, engine_of(given))
-    changes = {it.entry.number: ("index", it.indices[0]) for it in found if len(it.indices) == 1}
+    changes = {it.entry.number: ("index", it.new) for it in found if it.new is not None}
     write(sessions, changes, given)
     for it in found:
         say(f"accept: {printable(it.told())}")
     say(f"accept: {len(changes)} of {plural(len(sessions.entries), 'index', 'indices')} changed")
+    if not all(it.has_answer for it in found):
+        return 2
     return 1 if len(changes) < len(found) and given.only else 0
 
 
@@ -133,13 +138,14 @@ def main(given: Namespace) -> int:
     review = Review(given.order) if given.review else None
     changes: Dict[int, Tuple[str, str]] = {}
     said: List[str] = []
-    failed = False
+    failed, late = False, False
     with lines_or_played(sessions, given.lines, engine_of(given), is_drawn=True) as runs:
         for run in runs:
             if run.number not in wanted or run.close == "passed":
                 continue
             why = obstacle(sessions.entries[run.number], run, given.order)
             failed = failed or why is not None
+            late = late or run.close == UNANSWERED
             if why is None and (review is None or review.accepts(sessions.entries[run.number], run)):
                 changes[run.number] = ("level", run.frames[-1].level)
                 said.append(f"{heading(run)}, accepted")
@@ -149,4 +155,4 @@ def main(given: Namespace) -> int:
     for line in said:
         say(f"accept: {printable(line)}")
     say(f"accept: {len(changes)} of {plural(len(sessions.entries), 'recorded level')} changed")
-    return 1 if failed and given.only else 0
+    return 2 if late else 1 if failed and given.only else 0

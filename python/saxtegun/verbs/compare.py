@@ -14,7 +14,8 @@ An engine that crashes, that writes a line of its own or that has no answer in
 With --report F it also writes a page that shows both runs side by side, from
 the frame at which they diverge. Frames and inputs are counted from 0.
 
-Exit status: 0 all are the same, 1 some diverge, 2 something is refused."""
+Exit status: 0 all are the same, 1 some diverge, 2 something is refused, or there
+is no session to compare."""
 from __future__ import annotations
 
 import sys
@@ -26,6 +27,7 @@ from typing import Iterator, List, NamedTuple, Optional, Sequence, Tuple
 from saxtegun.belonging import NAMES_ALONE, OF_ANY_ENGINE, read_runs
 from saxtegun.commands import Refused, add_playing, cut, plural, printable
 from saxtegun.engines import FAILED, SECONDS, answers, engine_at, failure_told, with_frames
+from saxtegun.explaining import cause_told
 from saxtegun.files import guard_files, guard_output, guard_places, write_whole
 from saxtegun.lines import Run
 from saxtegun.origins import add_date, origin_of
@@ -38,6 +40,7 @@ from saxtegun.texts import read_named, say_others
 USAGE = "compare (ONE.lines OTHER.lines [SESSIONS] | --engines P Q SESSIONS | --sources OLD.txt NEW.txt SESSIONS) [options]"
 # Where an engine failed so often, the sessions behind aren't played.
 MOST_FAILED = 10
+EMPTY = "their source is the empty text, which stands for a game's; `saxtegun source GAME.txt SESSIONS >NEW` writes a file with that text in it, to be compared"
 
 
 def add_words(words: ArgumentParser) -> None:
@@ -61,7 +64,7 @@ def pairs_of(one: Iterator[Run], other: Iterator[Run], paths: Sequence[str]) -> 
         if left is None or right is None:
             raise Refused(f"{paths[0]} and {paths[1]} don't have the same number of sessions")
         if left.name != right.name:
-            raise Refused(f"session {left.number} is named {left.name!r} in {paths[0]}, and {right.name!r} in {paths[1]}")
+            raise Refused(f"session {left.number} is named {cut(left.name)!r} in {paths[0]}, and {cut(right.name)!r} in {paths[1]}")
         yield left, right
 
 
@@ -109,7 +112,8 @@ class Comparing:
 
     def __init__(self, given: Namespace, sides: Sides) -> None:
         self.order, self.sides, self.names = given.order, sides, names_of(given)
-        self.count, self.parted, self.failed = 0, 0, 0
+        self.count, self.parted, self.failed, self.refused = 0, 0, 0, 0
+        self.why = ""
         self.report: Optional[Report] = None
         if given.report and sides.sessions is None:
             raise Refused("--report needs the sessions file after the lines")
@@ -119,6 +123,8 @@ class Comparing:
     def run(self) -> None:
         for one, other in self.sides.pairs:
             self.count += 1
+            self.refused += one.close == other.close == "refused"
+            self.why = self.why or cause_told(one.cause or "")
             has_failed = self.sides.engines and (one.close in FAILED or other.close in FAILED)
             parting = parting_of(one, other)
             if has_failed:
@@ -156,9 +162,23 @@ class Comparing:
     @property
     def result(self) -> str:
         told = f"{plural(self.count, 'session')}: {self.count - self.parted} the same, {self.parted} {'diverges' if self.parted == 1 else 'diverge'}"
+        told += f"; {self.refused} {'was' if self.refused == 1 else 'were'} refused by both, and not played" if self.refused else ""
         sessions = self.sides.sessions
         left = len(sessions.entries) - self.count if sessions else 0
         return f"{told}; {left} more not played, since an engine failed {MOST_FAILED} times" if left and self.failed == MOST_FAILED else told
+
+
+def check_played(comparing: Comparing, given: Namespace) -> None:
+    """Refuses an answer that would stand for nothing: two runs without a session are the same, and so are two in which nothing was played over any text."""
+    sessions = comparing.sides.sessions
+    if comparing.count == 0:
+        raise Refused("there is no session, so nothing was compared")
+    if comparing.refused < comparing.count or sessions is None:
+        return
+    if given.sources:
+        raise Refused(f"no session was played: both refuse each, as they do session 0: {comparing.why}")
+    if not any(it.source for it in sessions.entries):
+        raise Refused(f"no session was played: {EMPTY}")
 
 
 def main(given: Namespace) -> int:
@@ -167,6 +187,7 @@ def main(given: Namespace) -> int:
     guard_places(given.report)
     comparing = Comparing(given, sides_of(given))
     comparing.run()
+    check_played(comparing, given)
     print(comparing.result)
     sys.stdout.flush()
     if comparing.report:

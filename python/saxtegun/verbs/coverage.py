@@ -15,19 +15,19 @@ from __future__ import annotations
 
 import sys
 from argparse import ArgumentParser, Namespace
-from typing import Dict, Iterator, List, NamedTuple, Set, Tuple
+from typing import Dict, Iterable, Iterator, List, NamedTuple, Optional, Set, Tuple
 
 from saxtegun.commands import Refused, add_playing, add_ticks, cut, plural, printable
 from saxtegun.explaining import source_told
 from saxtegun.files import guard_output
 from saxtegun.games import game_of
-from saxtegun.leaving import Part, parts_of
+from saxtegun.leaving import Leaving, Part
 from saxtegun.lines import UNANSWERED, Run
 from saxtegun.levelsets import wins_of
-from saxtegun.playing import engine_of, runs_of
+from saxtegun.playing import engine_of, runs_played
 from saxtegun.sessions import Entry, Sessions, read_sessions
 from saxtegun.solving import MOST_INPUTS, ONE_MORE
-from saxtegun.texts import over, read_game, say_others
+from saxtegun.texts import GameText, over, read_game, say_others
 
 USAGE = "coverage [GAME.txt] SESSIONS.json [--order rows|columns] [--workers N]"
 # So much is played at once.
@@ -51,7 +51,8 @@ def unplayed(sessions: Sessions, found: Dict[int, Tuple[Signature, Signature]]) 
 
 
 class Trial(NamedTuple):
-    """A line of a source that is left out, with the sessions that are played without it."""
+    """A line of a source that is left out, and the sessions of that source. The source without it is made only while it is played: of a game of many rules all
+    of them would need much more memory than the game."""
 
     source: str
     part: Part
@@ -62,13 +63,25 @@ def longer(entry: Entry) -> Entry:
     return entry._replace(inputs=[*entry.inputs, ONE_MORE]) if len(entry.inputs) < MOST_INPUTS else entry
 
 
-def batches(trials: List[Trial]) -> Iterator[List[Trial]]:
+def played_in(trials: List[Trial]) -> List[Entry]:
+    """The sessions that are played for some trials, each over its source without the line that is left out."""
+    entries: List[Entry] = []
+    leaving: Optional[Tuple[str, Leaving]] = None
+    for trial in trials:
+        if leaving is None or leaving[0] is not trial.source:
+            leaving = trial.source, Leaving(trial.source)
+        source = leaving[1].without(trial.part)
+        entries += [it._replace(source=source) for it in trial.entries]
+    return entries
+
+
+def batches(trials: Iterable[Trial]) -> Iterator[List[Trial]]:
     """The trials in parts, each of which is played at once."""
     batch: List[Trial] = []
     letters, count = 0, 0
     for trial in trials:
         batch.append(trial)
-        letters += sum(len(it.source) + len(it.level) + 4 * len(it.inputs) for it in trial.entries)
+        letters += sum(len(trial.source) + len(it.level) + 4 * len(it.inputs) for it in trial.entries)
         count += len(trial.entries)
         if letters > MOST_LETTERS or count > MOST_ENTRIES:
             yield batch
@@ -82,25 +95,34 @@ def progress(done: int, count: int) -> None:
         print(f"\r{done} of {plural(count, 'line')}", end="\n" if done == count else "", file=sys.stderr, flush=True)
 
 
+def answered(run: Run) -> Run:
+    """A run. Refused where it has no answer in its time."""
+    if run.close == UNANSWERED:
+        raise Refused(f"{cut(run.name)}: {run.cause}, so there is no whole answer")
+    return run
+
+
+def closing_of(run: Run) -> Signature:
+    return answered(run).close, run.cause
+
+
+def winning_of(run: Run) -> Signature:
+    return wins_of(answered(run)), any(it.kind == "over" for it in run.frames)
+
+
 class Coverage:
     """The lines of the sources of sessions, and which of them some session notices."""
 
-    def __init__(self, sessions: Sessions, given: Namespace) -> None:
-        self.sessions, self.given = sessions, given
+    def __init__(self, sessions: Sessions, given: Namespace, text: Optional[GameText] = None) -> None:
+        self.sessions, self.given, self.text = sessions, given, text
         self.before: Dict[int, Tuple[Signature, Signature]] = {}
         self.unnoticed: List[Trial] = []
         self.tried, self.alone = 0, 0
 
-    def play(self, entries: List[Entry]) -> List[Run]:
-        return runs_of(entries, self.sessions, engine_of(self.given)) if entries else []
-
     def signatures(self, entries: List[Entry]) -> List[Tuple[Signature, Signature]]:
-        """For each session how it closes, and how it wins."""
-        runs = self.play([it for entry in entries for it in (entry, longer(entry))])
-        late = [it for it in runs if it.close == UNANSWERED]
-        if late:
-            raise Refused(f"{cut(late[0].name)}: {late[0].cause}, so there is no whole answer")
-        return [((one.close, one.cause), (wins_of(more), any(it.kind == "over" for it in more.frames))) for one, more in zip(runs[::2], runs[1::2])]
+        """For each session how it closes, and how it wins. What the sessions show isn't kept."""
+        runs: Iterator[Run] = runs_played([it for entry in entries for it in (entry, longer(entry))], self.sessions, engine_of(self.given)) if entries else iter(())
+        return [(closing_of(one), winning_of(more)) for one, more in zip(runs, runs)]
 
     def trials(self) -> List[Trial]:
         """All lines to be left out, with the sessions of their source that are played. Refused where none is."""
@@ -111,7 +133,11 @@ class Coverage:
                 of.setdefault(entry.source, []).append(entry)
         if not of:
             raise Refused(f"{self.sessions.path} has no session that can be played, so no line was left out: {unplayed(self.sessions, self.before)}")
-        return [Trial(source, part, [it._replace(source=part.source) for it in entries]) for source, entries in of.items() for part in parts_of(source)]
+        if self.text is not None and self.text.source not in of and any(it.source == self.text.source for it in self.sessions.entries):
+            first = next(it for it in self.sessions.entries if it.source == self.text.source)
+            why = source_told(first, str(self.before[first.number][0][1]))
+            raise Refused(f"no session is played over {self.text.path}, so none of its lines was left out: session {first.number}, {cut(first.name)}: {why}")
+        return [Trial(source, part, entries) for source, entries in of.items() for part in Leaving(source).parts()]
 
     def judge(self, trial: Trial, found: List[Tuple[Signature, Signature]]) -> None:
         if all(close[0] == "refused" for close, _ in found):
@@ -127,7 +153,7 @@ class Coverage:
         trials = self.trials()
         done = 0
         for batch in batches(trials):
-            found = iter(self.signatures([it for trial in batch for it in trial.entries]))
+            found = iter(self.signatures(played_in(batch)))
             for trial in batch:
                 self.judge(trial, [next(found) for _ in trial.entries])
             done += len(batch)
@@ -142,7 +168,7 @@ def main(given: Namespace) -> int:
     sessions = over(read_sessions(given.files[-1]), text)
     say_others("coverage", sessions, text)
     game = text.path if text else ""
-    coverage = Coverage(sessions, given)
+    coverage = Coverage(sessions, given, text)
     coverage.run()
     sources: Set[str] = {it.source for it in coverage.unnoticed}
     for trial in coverage.unnoticed:

@@ -16,7 +16,7 @@ import sys
 from argparse import ArgumentParser, Namespace
 from typing import Tuple
 
-from saxtegun.commands import Refused
+from saxtegun.commands import Refused, cut
 from saxtegun.files import guard_output, read_lines
 from saxtegun.lines import SESSION
 from saxtegun.parts import Part, read_manifest
@@ -51,8 +51,8 @@ def joined_part(folder: str, part: Part) -> bool:
         if not line.startswith('{"at":'):
             close, name = close_in(line)
             if closed >= len(part.names) or not close or name != part.names[closed]:
-                wanted = repr(part.names[closed]) if closed < len(part.names) else "no session"
-                raise Refused(f"{lines}, line {number}, closes {name!r}, where {wanted} is wanted: these are lines of another part")
+                wanted = repr(cut(part.names[closed])) if closed < len(part.names) else "no session"
+                raise Refused(f"{lines}, line {number}, closes {cut(name)!r}, where {wanted} is wanted: these are lines of another part")
             closed += 1
             passed = passed and close == "passed"
         sys.stdout.write(f'{line[: session.start()]}"session":{part.first + int(session[1])}}}\n')

@@ -222,7 +222,7 @@ def write_files(suite: Suite, failures: List[Failure], though_passed: Dict[int, 
     if given.report:
         report = Report(suite.sessions, given.order, origin_of(suite.sessions, given, program_told(engine_of(given).words())), hung)
         for run in suite.runs:
-            report.add(run)
+            report.add(run, though_passed.get(run.number))
         write_whole(given.report, report.page())
     if given.markdown:
         write_whole(given.markdown, markdown(failures, counts))
