@@ -424,6 +424,13 @@ impl<'a> Board<'a> {
         self.program
     }
 
+    /// The order of cells in the texts of levels.
+    pub fn order(&self) -> Order
+        ensures { result ≡ self.now.order }
+    {
+        self.order
+    }
+
     /// The level.
     pub fn level(&self) -> &Level
         ensures level { result.now.grid ≡ self.now.level }
