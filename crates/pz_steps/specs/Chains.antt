@@ -1,8 +1,7 @@
 -- What a call leaves that plays links.
-use Rattle.std.specs.Prelude.{◌≡◌, ℕ, Bool, true, false, Option, Some, None, Result, Ok, Err, if◌then◌else◌}
+use Rattle.std.specs.Prelude.{◌≡◌, ℕ, Bool, Option, Some, None, Result, Ok, Err, if◌then◌else◌}
 use Rattle.pz_case.specs.declared.item.Stop.{Stop}
 use Rattle.pz_session.specs.declared.chain.PlayFault.{PlayFault}
-use Rattle.pz_session.specs.declared.chain.PlayFault.TheVariants.{Memory, Stopped}
 use Rattle.pz_session.specs.declared.chain.Shown.{Shown}
 use Rattle.pz_session.specs.Chain.{GivesLink, Link, ticks}
 use Rattle.pz_session.specs.Board.{State, tick_link}

@@ -1,5 +1,5 @@
 -- The steps of an input that are still to come.
-use Rattle.std.specs.Prelude.{ℕ, Bool, true, false, List, [], ◌∷◌, Option, Some, None}
+use Rattle.std.specs.Prelude.{ℕ, Bool, true, List, [], ◌∷◌, Option, Some}
 use Rattle.pz_record.specs.declared.input.Input.TheVariants as input
 use Rattle.pz_session.specs.Board.{State}
 use Rattle.pz_steps.specs.declared.steps.Next.{Next}

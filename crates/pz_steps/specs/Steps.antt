@@ -38,9 +38,13 @@ abbrev pub after_inputs : List Input → State → Option State
 after_inputs [] state = Some state
 after_inputs (input ∷ inputs) state = and_then (after_inputs inputs) (settled_after (chain_of input state))
 
--- where a session stands once it has started and so many of its inputs were played, unless it stopped before
+-- where a session stands once it has started, and these of its inputs were played, unless it stopped before
+abbrev pub stands_behind : List Input → State → Option State
+stands_behind inputs state = and_then (after_inputs inputs) (settled_after (start_chain state))
+
+-- where it stands once so many of its inputs were played
 unfoldable pub standing_after : PlanState → ℕ → Option State
-standing_after plan count = and_then (after_inputs (take count plan.inputs)) (settled_after (start_chain (state_of plan)))
+standing_after plan count = stands_behind (take count plan.inputs) (state_of plan)
 
 -- a step: where the session stands, and the direction of a press, or none for a tick
 pub record Taken : Type 0 where
@@ -71,18 +75,14 @@ steps_in_play Undo state = later_steps Undo state
 steps_in_play Restart state = later_steps Restart state
 steps_in_play Tick state = tick_steps MOST_TICKS state
 
--- the steps of an input; after play is over there are none
-abbrev pub steps_of : Input → State → List Taken
-steps_of input state = if state.is_over then [] else steps_in_play input state
-
 -- the steps of a session's start
 abbrev pub start_steps : State → List Taken
 start_steps state = following (tick_steps MOST_TICKS) (Ok (start_link state))
 
--- the steps of the first of these inputs
+-- the steps of the first of these inputs; after play is over there are none
 abbrev pub first_steps : List Input → State → List Taken
 first_steps [] state = []
-first_steps (input ∷ inputs) state = steps_of input state
+first_steps (input ∷ inputs) state = if state.is_over then [] else steps_in_play input state
 
 abbrev pub steps_from : List Input → Option State → List Taken
 steps_from inputs None = []
