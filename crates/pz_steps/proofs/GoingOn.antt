@@ -57,12 +57,13 @@ inputs_lead (suc count) taken (input ∷ inputs) from state is = next (λ middle
       let later = leads middle is in
       let number : (taken + 1) + min count (length inputs) ≡ taken + min (suc count) (suc (length inputs)) = omega arith in
       let shown = shown_at (taken + 1) (chain_of input from) in
-      let end = played board_links (taken + min (suc count) (suc (length inputs))) (drop count inputs) state in
-      (shown ++ later.0,
-      chain_leads (taken + 1) (played board_links (taken + 1) inputs) (chain_of input from) middle at
-      ∙ ap (behind shown) later.1
-      ∙ ap (λ (n : ℕ). behind shown (behind later.0 (played board_links n (drop count inputs) state))) number
-      ∙ ap (λ (frames : Frames). record { shown = frames; close = end.close }) (sym (append_assoc shown later.0 end.shown)))
+      let end = played board_links (taken + min (suc count) (suc (length inputs))) (drop count inputs) state in (
+        shown ++ later.0,
+        chain_leads (taken + 1) (played board_links (taken + 1) inputs) (chain_of input from) middle at
+            ∙ ap (behind shown) later.1
+            ∙ ap (λ (n : ℕ). behind shown (behind later.0 (played board_links n (drop count inputs) state))) number
+            ∙ ap (λ (frames : Frames). record { shown = frames; close = end.close }) (sym (append_assoc shown later.0 end.shown)),
+      )
 
 numbered_append : (n : ℕ) (frames more : Frames) → numbered n (frames ++ more) ≡ numbered n frames ++ numbered (n + length frames) more
 unfolding numbered
@@ -93,9 +94,10 @@ go_on plan count state is = started (settled_after (start_chain (state_of plan))
       let later = inputs_lead count 0 plan.inputs first state is in
       let number : 0 + min count (length plan.inputs) ≡ min count (length plan.inputs) = omega arith in
       let end = played board_links (min count (length plan.inputs)) (drop count plan.inputs) state in
-      let frames = shown_at 0 chain ++ later.0 in
-      (frames,
-      ap (items_from 0) (chain_leads 0 (played board_links 0 plan.inputs) chain first at
-      ∙ ap (behind (shown_at 0 chain)) (later.1 ∙ ap (λ (n : ℕ). behind later.0 (played board_links n (drop count plan.inputs) state)) number)
-      ∙ ap (λ (frames : Frames). record { shown = frames; close = end.close }) (sym (append_assoc (shown_at 0 chain) later.0 end.shown)))
-      ∙ items_behind frames end)
+      let frames = shown_at 0 chain ++ later.0 in (
+        frames,
+        ap (items_from 0) (chain_leads 0 (played board_links 0 plan.inputs) chain first at
+            ∙ ap (behind (shown_at 0 chain)) (later.1 ∙ ap (λ (n : ℕ). behind later.0 (played board_links n (drop count plan.inputs) state)) number)
+            ∙ ap (λ (frames : Frames). record { shown = frames; close = end.close }) (sym (append_assoc (shown_at 0 chain) later.0 end.shown)))
+            ∙ items_behind frames end,
+      )

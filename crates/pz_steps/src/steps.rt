@@ -193,9 +193,7 @@ impl<'a> Steps<'a> {
                 let input = Input::Press(dir);
                 behind(begin(&mut self.board, input)?, ticks_after(input))
             }
-            Next::Tick(allowed) if allowed > 0 => {
-                behind(tick(&mut self.board)?, allowed - 1)
-            }
+            Next::Tick(allowed) if allowed > 0 => { behind(tick(&mut self.board)?, allowed - 1) }
             _ => Next::Nothing,
         };
         Ok(())
