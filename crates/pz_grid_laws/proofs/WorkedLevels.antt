@@ -203,6 +203,7 @@ two_rows left more right others = record {
   left = one_cell left ∷ one_cell more ∷ [];
   right = one_cell right ∷ one_cell others ∷ [];
   commands = no_command;
+  below = 0;
 }
 
 -- [ Player ] [ Player ] -> [ Crate ] [ ] on one cell: the second row finds no player there any more, and the crate stays

@@ -97,6 +97,7 @@ marking = record {
   left = record { cells = (item 2 Present ∷ item 6 Absent ∷ []) ∷ only 3 ∷ []; gap_at = Some 1 } ∷ [];
   right = record { cells = (item 2 Present ∷ item 6 Present ∷ []) ∷ only 4 ∷ []; gap_at = Some 1 } ∷ [];
   commands = no_command;
+  below = 0;
 }
 
 -- the level p#.#
@@ -118,13 +119,13 @@ pub marking_second : still_matches marked marking (at 0 0 2 ∷ []) ≡ false
 marking_second = refl
 
 -- no match: a gap for a row without one, a wrong number of places, a cell off the map
-pub gap_without : still_matches crates (record { scan = Right; left = one ∷ []; right = []; commands = no_command }) (at 0 0 1 ∷ []) ≡ false
+pub gap_without : still_matches crates (record { scan = Right; left = one ∷ []; right = []; commands = no_command; below = 0 }) (at 0 0 1 ∷ []) ≡ false
 gap_without = refl
 
-pub too_few : still_matches crates (record { scan = Right; left = one ∷ []; right = []; commands = no_command }) [] ≡ false
+pub too_few : still_matches crates (record { scan = Right; left = one ∷ []; right = []; commands = no_command; below = 0 }) [] ≡ false
 too_few = refl
 
-pub off_the_map : still_matches crates (record { scan = Right; left = one ∷ []; right = []; commands = no_command }) (at 3 0 0 ∷ []) ≡ false
+pub off_the_map : still_matches crates (record { scan = Right; left = one ∷ []; right = []; commands = no_command; below = 0 }) (at 3 0 0 ∷ []) ≡ false
 off_the_map = refl
 
 -- [ Player ] -> [ Crate ] on a player that heads right: the crate heads where what stood there did
@@ -148,5 +149,5 @@ pub removes_under_no : rewritten_cell (only 2) (item 2 Present ∷ item 6 Absent
 removes_under_no = refl
 
 -- a rewriting that gives the same cell hasn't changed anything
-pub changes_nothing : rewritten (record { scan = Right; left = one ∷ []; right = one ∷ []; commands = no_command }) (at 0 0 0 ∷ []) (in_rewrite crates false) ≡ in_rewrite crates false
+pub changes_nothing : rewritten (record { scan = Right; left = one ∷ []; right = one ∷ []; commands = no_command; below = 0 }) (at 0 0 0 ∷ []) (in_rewrite crates false) ≡ in_rewrite crates false
 changes_nothing = refl

@@ -1,5 +1,5 @@
 -- Games of the same rules have the same program.
-use Rattle.std.proofs.Common.{◌≡◌, ℕ, suc, List, [], ◌∷◌, Option, Some, None, Result, Ok, Err, refl, ap, subst, arith, codes, if◌then◌else◌}
+use Rattle.std.proofs.Common.{◌≡◌, ℕ, suc, List, [], ◌∷◌, Option, Some, None, Result, Ok, Err, refl, ap, subst, arith, codes, length, if◌then◌else◌}
 use Rattle.std.specs.List.{All}
 use Rattle.std.specs.Option.{option_map_or, option_or}
 use Rattle.std.specs.Str.{bytes_eq}
@@ -80,7 +80,7 @@ loop_added_same draft lines more loop_words.End same = refl
 
 -- the draft with a line of these words, whether they are a loop word or a rule's
 abbrev added_by : GameParts → Draft → List RuleLine → List (List ℕ) → Option LoopWord → Result Draft RuleFault
-added_by game draft below words None = parsed_added game draft (parsed (tokens_of game.names words))
+added_by game draft below words None = parsed_added game draft (length below) (parsed (tokens_of game.names words))
 added_by game draft below words (Some word) = loop_added draft below word
 
 going_on_same : (number other : ℕ) (later more : Draft → Result Program SourceFault) (given : Result Draft RuleFault) (program : Program)
@@ -90,28 +90,29 @@ going_on_same number other later more (Ok draft) program each is = each draft is
 going_on_same number other later more (Err fault) program each is = absurd (cc)
 
 module _ (game other : GameParts) (values : game.values ≡ other.values) (layers : game.layers ≡ other.layers) where
-  rule_added_same : (draft : Draft) (rule : Rule) → rule_added game draft rule ≡ rule_added other draft rule
+  rule_added_same : (draft : Draft) (below : ℕ) (rule : Rule) → rule_added game draft below rule ≡ rule_added other draft below rule
   unfolding rule_added
-  rule_added_same draft rule =
-      λ i. if is_misplaced draft rule then Err fault.BadRule else extended_by draft rule (expanded (values i) (layers i) draft.pairs (lateness draft rule) rule)
+  rule_added_same draft below rule =
+      λ i. if is_misplaced draft rule then Err fault.BadRule else extended_by draft rule (expanded (values i) (layers i) below draft.pairs (lateness draft rule) rule)
 
-  parsed_added_same : (draft : Draft) (rule : Option Rule) → parsed_added game draft rule ≡ parsed_added other draft rule
-  parsed_added_same draft None = refl
-  parsed_added_same draft (Some rule) = rule_added_same draft rule
+  parsed_added_same : (draft : Draft) (below : ℕ) (rule : Option Rule) → parsed_added game draft below rule ≡ parsed_added other draft below rule
+  parsed_added_same draft below None = refl
+  parsed_added_same draft below (Some rule) = rule_added_same draft below rule
 
   added_by_same : (draft : Draft) (words : List (List ℕ)) (below others : List RuleLine) (word : Option LoopWord) → tokens_of game.names words ≡ tokens_of other.names words
-      → next_loop below ≡ next_loop others → added_by game draft below words word ≡ added_by other draft others words word
-  added_by_same draft words below others None tokens loops =
-      subst (λ ts. parsed_added game draft (parsed (tokens_of game.names words)) ≡ parsed_added other draft (parsed ts)) tokens
-      (parsed_added_same draft (parsed (tokens_of game.names words)))
-  added_by_same draft words below others (Some word) tokens loops = loop_added_same draft below others word loops
+      → length below ≡ length others → next_loop below ≡ next_loop others → added_by game draft below words word ≡ added_by other draft others words word
+  added_by_same draft words below others None tokens count loops =
+      subst (λ ts. parsed_added game draft (length below) (parsed (tokens_of game.names words)) ≡ parsed_added other draft (length others) (parsed ts)) tokens
+      (subst (λ (n : ℕ). parsed_added game draft (length below) (parsed (tokens_of game.names words)) ≡ parsed_added other draft n (parsed (tokens_of game.names words))) count
+      (parsed_added_same draft (length below) (parsed (tokens_of game.names words))))
+  added_by_same draft words below others (Some word) tokens count loops = loop_added_same draft below others word loops
 
   line_added_same : (draft : Draft) (line more : RuleLine) (below others : List RuleLine) → IsSameLine game.names other.names line more → AreSameLines game.names other.names below others
       → line_added game draft below line.words ≡ line_added other draft others more.words
   unfolding line_added
   line_added_same draft line more below others same rest =
       subst (λ words. line_added game draft below line.words ≡ line_added other draft others words) same.words
-      (added_by_same draft line.words below others (loop_word line.words) (tokens_same game.names other.names line.words same.numbers)
+      (added_by_same draft line.words below others (loop_word line.words) (tokens_same game.names other.names line.words same.numbers) rest.count
       (next_loop_same game.names other.names below others rest))
 
   program_from_same : (draft : Draft) (lines more : List RuleLine) → AreSameLines game.names other.names lines more → (program : Program)

@@ -3,7 +3,8 @@
 
 pub mod fault;
 pub mod line;
-mod naming;
+pub mod naming;
 pub mod output;
 pub mod packed;
+pub mod parts;
 pub mod writing;

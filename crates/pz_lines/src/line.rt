@@ -1,53 +1,18 @@
 //! The line of an item: compact JSON, its keys in the order of their bytes, and a line feed. It is written after the lines before
 //! it.
 
-ghost use Rattle.std.specs.Prelude.{◌≡◌, ◌++◌, IfOk, OnOk, decimal};
-ghost use Rattle.json.specs.Print.{quoted};
+ghost use Rattle.std.specs.Prelude.{◌≡◌, ◌++◌, IfOk, OnOk};
 ghost use Rattle.pz_lines.specs.Lines.{frame_count, frame_line, close_line, is_from, item_line, with_cause};
 ghost use Rattle.pz_lines.specs.Naming.{cause_name};
 
 use crate::naming::{cause_name, close_name, quoted_kind};
-use itoa::Buffer;
+use crate::parts::{put_json, put_number, put_quoted, put_text};
 use pz_case::item::{FrameKind, Item, Verdict};
 use pz_record::quoted::QuotedText;
 use std::alloc::{AllocError, Global};
 
 /// Room for what a line has beside its text.
 const ROOM: usize = 128;
-
-/// Writes a key, with what stands before it, and its value, as it is written.
-fn put_json(lines: &mut Vec<u8>, key: &[u8], value: &[u8]) -> Result<(), AllocError>
-    ensures { OnOk result (lines.new.items ≡ lines.old.items ++ (key.now ++ value.now)) }
-{
-    lines.extend_from_slice(key)?;
-    lines.extend_from_slice(value)
-}
-
-/// Writes a key, with what stands before it, and its text, as it is kept.
-fn put_quoted(lines: &mut Vec<u8>, key: &[u8], text: &QuotedText) -> Result<(), AllocError>
-    ensures { OnOk result (lines.new.items ≡ lines.old.items ++ (key.now ++ quoted text.now)) }
-{
-    put_json(lines, key, text.as_json())
-}
-
-/// Writes a key, with what stands before it, and its text. The text is quoted in its own room, because a writer of JSON first
-/// clears all the room that it has, and lines have much.
-fn put_text(lines: &mut Vec<u8>, key: &[u8], text: &str) -> Result<(), AllocError>
-    ensures { OnOk result (lines.new.items ≡ lines.old.items ++ (key.now ++ quoted text.now)) }
-{
-    let text = QuotedText::of_str(*lines.allocator(), text)?;
-    put_quoted(lines, key, &text)
-}
-
-/// Writes a key, with what stands before it, and its number.
-fn put_number(lines: &mut Vec<u8>, key: &[u8], number: u64) -> Result<(), AllocError>
-    ensures { OnOk result (lines.new.items ≡ lines.old.items ++ (key.now ++ decimal number)) }
-{
-    let mut digits = Buffer::new();
-    lines.extend_from_slice(key)?;
-    lines.extend_from_slice(digits.format(number).as_bytes())?;
-    Ok(())
-}
 
 /// Writes the line of a frame.
 fn write_frame(

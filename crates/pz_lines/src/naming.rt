@@ -52,7 +52,8 @@ fn code_name(code: Code) -> &'static str
     }
 }
 
-fn stop_name(stop: Stop) -> &'static str
+/// What a line calls a stop.
+pub fn stop_name(stop: Stop) -> &'static str
     ensures { result.now ≡ stop_name stop }
 {
     match stop {

@@ -9,12 +9,13 @@ use pz_game::direction::Dir;
 use pz_game::pattern::Rows;
 
 /// A rule for one direction and one choice of members and words: its rows, scanned for in one direction, and the commands
-/// that it gives.
+/// that it gives. `below` says whose instance it is: so many lines of RULES stand below the rule's line.
 pub struct Instance {
     pub scan: Dir,
     pub left: Rows,
     pub right: Rows,
     pub commands: Commands,
+    pub below: usize,
 }
 
 /// Written out, so that dropping one is a single call everywhere.
@@ -25,6 +26,7 @@ impl Drop for Instance {
             left,
             right,
             commands: _,
+            below: _,
         } = self;
         drop(left);
         drop(right);

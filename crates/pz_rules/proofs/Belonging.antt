@@ -284,21 +284,21 @@ rows-are_of layers d picks some h rows k =
     (λ row e. each-map (list_all (term_fits (length layers))) (list_all (item_is_of layers)) (cell_of layers d picks) (cell-is_of layers d picks some h) row.cells e)
     rows k
 
-instance-is_of : (layers : List ℕ) (plan : Plan) (d : Dir) → 0 < length layers → plan_fits (length layers) plan ≡ true → (picks : List Pick) → list_all (pick_fits (length layers)) picks ≡ true → instance_is_of layers (instance_of layers plan d picks) ≡ true
+instance-is_of : (layers : List ℕ) (below : ℕ) (plan : Plan) (d : Dir) → 0 < length layers → plan_fits (length layers) plan ≡ true → (picks : List Pick) → list_all (pick_fits (length layers)) picks ≡ true → instance_is_of layers (instance_of layers below plan d picks) ≡ true
 unfolding instance_of
-instance-is_of layers plan d some fits picks h =
+instance-is_of layers below plan d some fits picks h =
     let n = length layers in
     let a = and_parts (list_all (row_fits n) plan.left) (list_all (row_fits n) plan.right) fits in
     and_from (list_all (row_is_of layers) (rows_of layers d picks plan.left)) (list_all (row_is_of layers) (rows_of layers d picks plan.right))
     (rows-are_of layers d picks some h plan.left a.0)
     (rows-are_of layers d picks some h plan.right a.1)
 
-pub instances-are_of : (table : List Denotation) (layers : List ℕ) (plan : Plan) → 0 < length layers → list_all (denotes (length layers)) table ≡ true → plan_fits (length layers) plan ≡ true → list_all (instance_is_of layers) (instances_of table layers plan) ≡ true
+pub instances-are_of : (table : List Denotation) (layers : List ℕ) (below : ℕ) (plan : Plan) → 0 < length layers → list_all (denotes (length layers)) table ≡ true → plan_fits (length layers) plan ≡ true → list_all (instance_is_of layers) (instances_of table layers below plan) ≡ true
 unfolding instances_of possible_of
-instances-are_of table layers plan some h fits =
+instances-are_of table layers below plan some h fits =
     let n = length layers in
-    each-firsts (instance_is_of layers) same_instance (flat_map (possible_of table layers plan) plan.directions)
-    (each-flat_map_all (instance_is_of layers) (possible_of table layers plan)
-    (λ d. each-filter (instance_is_of layers) is_possible (map (instance_of layers plan d) (picks_of table plan d))
-    (each-map (list_all (pick_fits n)) (instance_is_of layers) (instance_of layers plan d) (instance-is_of layers plan d some fits) (picks_of table plan d) (picks-fit n table plan d h)))
+    each-firsts (instance_is_of layers) same_instance (flat_map (possible_of table layers below plan) plan.directions)
+    (each-flat_map_all (instance_is_of layers) (possible_of table layers below plan)
+    (λ d. each-filter (instance_is_of layers) is_possible (map (instance_of layers below plan d) (picks_of table plan d))
+    (each-map (list_all (pick_fits n)) (instance_is_of layers) (instance_of layers below plan d) (instance-is_of layers below plan d some fits) (picks_of table plan d) (picks-fit n table plan d h)))
     plan.directions)

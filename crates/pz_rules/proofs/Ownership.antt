@@ -77,23 +77,23 @@ unless_clash-is_of layers total is h =
     let by : (b : Bool) → ExpansionIsOf layers (if b then Err fault.RightClash else yes) = λ b. elim b as (λ b. ExpansionIsOf layers (if b then Err fault.RightClash else yes)) [ true ↦ tt | false ↦ h ] in
     by (list_any has_clash is)
 
-within-is_of : (layers : List ℕ) (table : List Denotation) (total : ℕ) (plan : Plan) → HasTable layers table → PlanFits (length layers) (Ok plan) → ExpansionIsOf layers (expansion_within table layers total plan)
+within-is_of : (layers : List ℕ) (table : List Denotation) (below total : ℕ) (plan : Plan) → HasTable layers table → PlanFits (length layers) (Ok plan) → ExpansionIsOf layers (expansion_within table layers below total plan)
 unfolding expansion_within
-within-is_of layers table total plan has fits =
-    let kept = unless_clash total (instances_of table layers plan) in
+within-is_of layers table below total plan has fits =
+    let kept = unless_clash total (instances_of table layers below plan) in
     let by : (b : Bool) → ExpansionIsOf layers (if b then Err fault.TooManyRules else kept) = λ b. elim b as (λ b. ExpansionIsOf layers (if b then Err fault.TooManyRules else kept)) [
       | true ↦ tt
-      | false ↦ unless_clash-is_of layers total (instances_of table layers plan) (instances-are_of table layers plan has.some has.entries fits)
+      | false ↦ unless_clash-is_of layers total (instances_of table layers below plan) (instances-are_of table layers below plan has.some has.entries fits)
     ] in
     by (nat_lt 65_536 total)
 
-expanded_plan-is_of : (layers : List ℕ) (table : List Denotation) (pairs : ℕ) (o : Result Plan RuleFault) → HasTable layers table → PlanFits (length layers) o → ExpansionIsOf layers (expanded_plan table layers pairs o)
-expanded_plan-is_of layers table pairs (Ok plan) has fits = within-is_of layers table (pairs + pair_count table plan) plan has fits
-expanded_plan-is_of layers table pairs (Err fault) has fits = tt
+expanded_plan-is_of : (layers : List ℕ) (table : List Denotation) (below pairs : ℕ) (o : Result Plan RuleFault) → HasTable layers table → PlanFits (length layers) o → ExpansionIsOf layers (expanded_plan table layers below pairs o)
+expanded_plan-is_of layers table below pairs (Ok plan) has fits = within-is_of layers table below (pairs + pair_count table plan) plan has fits
+expanded_plan-is_of layers table below pairs (Err fault) has fits = tt
 
-expanded-is_of : (layers : List ℕ) (table : List Denotation) (pairs : ℕ) (late : Bool) (rule : Rule) → HasTable layers table → ExpansionIsOf layers (expanded table layers pairs late rule)
+expanded-is_of : (layers : List ℕ) (table : List Denotation) (below pairs : ℕ) (late : Bool) (rule : Rule) → HasTable layers table → ExpansionIsOf layers (expanded table layers below pairs late rule)
 unfolding expanded
-expanded-is_of layers table pairs late rule has = expanded_plan-is_of layers table pairs (plan_of table late rule) has (plan-fits (length layers) table late rule has.entries)
+expanded-is_of layers table below pairs late rule has = expanded_plan-is_of layers table below pairs (plan_of table late rule) has (plan-fits (length layers) table late rule has.entries)
 
 -- a draft
 
@@ -183,19 +183,19 @@ extended_by-is_of : (layers : List ℕ) (d : Draft) (rule : Rule) (o : Result Ex
 extended_by-is_of layers d rule (Ok more) h k = extended-is_of layers d rule more h k
 extended_by-is_of layers d rule (Err fault) h k = tt
 
-rule_added-is_of : (game : GameParts) (d : Draft) (rule : Rule) → HasTable game.layers game.values → IsDraftOf game.layers d → DraftsOf game.layers (rule_added game d rule)
+rule_added-is_of : (game : GameParts) (d : Draft) (below : ℕ) (rule : Rule) → HasTable game.layers game.values → IsDraftOf game.layers d → DraftsOf game.layers (rule_added game d below rule)
 unfolding rule_added
-rule_added-is_of game d rule has h =
-    let more = extended_by d rule (expanded game.values game.layers d.pairs (lateness d rule) rule) in
+rule_added-is_of game d below rule has h =
+    let more = extended_by d rule (expanded game.values game.layers below d.pairs (lateness d rule) rule) in
     let by : (b : Bool) → DraftsOf game.layers (if b then Err fault.BadRule else more) = λ b. elim b as (λ b. DraftsOf game.layers (if b then Err fault.BadRule else more)) [
       | true ↦ tt
-      | false ↦ extended_by-is_of game.layers d rule (expanded game.values game.layers d.pairs (lateness d rule) rule) h (expanded-is_of game.layers game.values d.pairs (lateness d rule) rule has)
+      | false ↦ extended_by-is_of game.layers d rule (expanded game.values game.layers below d.pairs (lateness d rule) rule) h (expanded-is_of game.layers game.values below d.pairs (lateness d rule) rule has)
     ] in
     by (is_misplaced d rule)
 
-parsed_added-is_of : (game : GameParts) (d : Draft) (o : Option Rule) → HasTable game.layers game.values → IsDraftOf game.layers d → DraftsOf game.layers (parsed_added game d o)
-parsed_added-is_of game d None has h = tt
-parsed_added-is_of game d (Some rule) has h = rule_added-is_of game d rule has h
+parsed_added-is_of : (game : GameParts) (d : Draft) (below : ℕ) (o : Option Rule) → HasTable game.layers game.values → IsDraftOf game.layers d → DraftsOf game.layers (parsed_added game d below o)
+parsed_added-is_of game d below None has h = tt
+parsed_added-is_of game d below (Some rule) has h = rule_added-is_of game d below rule has h
 
 unless-is_of : (layers : List ℕ) (b : Bool) (d : Draft) → IsDraftOf layers d → DraftsOf layers (if b then Ok d else Err fault.BadRule)
 unless-is_of layers true d h = h
@@ -209,9 +209,9 @@ loop_added-is_of layers d lines loop_words.End h = unless-is_of layers _ (closed
 line_added-is_of : (game : GameParts) (d : Draft) (lines : List RuleLine) (words : List (List ℕ)) → HasTable game.layers game.values → IsDraftOf game.layers d → DraftsOf game.layers (line_added game d lines words)
 unfolding line_added
 line_added-is_of game d lines words has h =
-    let rule = parsed_added game d (parsed (tokens_of game.names words)) in
+    let rule = parsed_added game d (length lines) (parsed (tokens_of game.names words)) in
     let by : (o : Option LoopWord) → DraftsOf game.layers (elim o [ None ↦ rule | Some word ↦ loop_added d lines word ]) = λ o. elim o as (λ o. DraftsOf game.layers (elim o [ None ↦ rule | Some word ↦ loop_added d lines word ])) [
-      | None ↦ parsed_added-is_of game d (parsed (tokens_of game.names words)) has h
+      | None ↦ parsed_added-is_of game d (length lines) (parsed (tokens_of game.names words)) has h
       | Some word ↦ loop_added-is_of game.layers d lines word h
     ] in
     by (loop_word words)

@@ -1,5 +1,5 @@
 -- The program of a game, line by line.
-use Rattle.std.specs.Prelude.{ℕ, Bool, true, not, ◌&&◌, List, [], ◌∷◌, ◌++◌, Option, Some, None, Result, Ok, Err, is_some, if◌then◌else◌}
+use Rattle.std.specs.Prelude.{ℕ, Bool, true, not, ◌&&◌, List, [], ◌∷◌, ◌++◌, Option, Some, None, Result, Ok, Err, is_some, length, if◌then◌else◌}
 use Rattle.pz_base.specs.declared.fault.SourceFault.{SourceFault}
 use Rattle.pz_game.specs.declared.game.GameParts.{GameParts}
 use Rattle.pz_game.specs.declared.rule_line.RuleLine.{RuleLine}
@@ -94,15 +94,15 @@ abbrev pub extended_by : Draft → Rule → Result Expansion RuleFault → Resul
 extended_by draft rule (Ok more) = Ok (extended draft rule more)
 extended_by draft rule (Err fault) = Err fault
 
--- the draft with a rule, or the first fault of the rule
-unfoldable pub rule_added : GameParts → Draft → Rule → Result Draft RuleFault
-rule_added game draft rule =
+-- the draft with a rule, below which so many lines stand, or the first fault of the rule
+unfoldable pub rule_added : GameParts → Draft → ℕ → Rule → Result Draft RuleFault
+rule_added game draft below rule =
     if is_misplaced draft rule then Err fault.BadRule
-    else extended_by draft rule (expanded game.values game.layers draft.pairs (lateness draft rule) rule)
+    else extended_by draft rule (expanded game.values game.layers below draft.pairs (lateness draft rule) rule)
 
-abbrev pub parsed_added : GameParts → Draft → Option Rule → Result Draft RuleFault
-parsed_added game draft None = Err fault.BadRule
-parsed_added game draft (Some rule) = rule_added game draft rule
+abbrev pub parsed_added : GameParts → Draft → ℕ → Option Rule → Result Draft RuleFault
+parsed_added game draft below None = Err fault.BadRule
+parsed_added game draft below (Some rule) = rule_added game draft below rule
 
 -- a loop line. If it begins a loop, the next loop line below ends that; if it ends a loop, one was begun above
 unfoldable pub loop_added : Draft → List RuleLine → LoopWord → Result Draft RuleFault
@@ -113,7 +113,7 @@ loop_added draft below loop_words.End = if is_some draft.repeated then Ok (close
 unfoldable pub line_added : GameParts → Draft → List RuleLine → List (List ℕ) → Result Draft RuleFault
 line_added game draft below words =
     elim (loop_word words) [
-      | None ↦ parsed_added game draft (parsed (tokens_of game.names words))
+      | None ↦ parsed_added game draft (length below) (parsed (tokens_of game.names words))
       | Some word ↦ loop_added draft below word
     ]
 

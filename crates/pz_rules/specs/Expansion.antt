@@ -20,14 +20,14 @@ unless_clash total instances =
     if list_any has_clash instances then Err fault.RightClash else Ok (record { instances = instances; pairs = total })
 
 -- the instances of a plan, if all rules up to it have no more pairs than rules may have
-unfoldable pub expansion_within : List Denotation → List ℕ → ℕ → Plan → Result Expansion RuleFault
-expansion_within table layers total plan =
-    if nat_lt PAIRS total then Err fault.TooManyRules else unless_clash total (instances_of table layers plan)
+unfoldable pub expansion_within : List Denotation → List ℕ → ℕ → ℕ → Plan → Result Expansion RuleFault
+expansion_within table layers below total plan =
+    if nat_lt PAIRS total then Err fault.TooManyRules else unless_clash total (instances_of table layers below plan)
 
-abbrev pub expanded_plan : List Denotation → List ℕ → ℕ → Result Plan RuleFault → Result Expansion RuleFault
-expanded_plan table layers pairs (Err fault) = Err fault
-expanded_plan table layers pairs (Ok plan) = expansion_within table layers (pairs + pair_count table plan) plan
+abbrev pub expanded_plan : List Denotation → List ℕ → ℕ → ℕ → Result Plan RuleFault → Result Expansion RuleFault
+expanded_plan table layers below pairs (Err fault) = Err fault
+expanded_plan table layers below pairs (Ok plan) = expansion_within table layers below (pairs + pair_count table plan) plan
 
--- the instances of a rule, late or not; the rules above it have so many pairs
-unfoldable pub expanded : List Denotation → List ℕ → ℕ → Bool → Rule → Result Expansion RuleFault
-expanded table layers pairs is_late rule = expanded_plan table layers pairs (plan_of table is_late rule)
+-- the instances of a rule, late or not; so many lines of RULES stand below it, and the rules above it have so many pairs
+unfoldable pub expanded : List Denotation → List ℕ → ℕ → ℕ → Bool → Rule → Result Expansion RuleFault
+expanded table layers below pairs is_late rule = expanded_plan table layers below pairs (plan_of table is_late rule)

@@ -84,13 +84,15 @@ is_one_cell row = length row.cells == 1
 unfoldable pub scan_of : Plan → Dir → Dir
 scan_of plan direction = if list_all is_one_cell plan.left then Up else direction
 
-unfoldable pub instance_of : List ℕ → Plan → Dir → List Pick → Instance
-instance_of layers plan direction picks =
+-- the instance of a rule below which so many lines of RULES stand
+unfoldable pub instance_of : List ℕ → ℕ → Plan → Dir → List Pick → Instance
+instance_of layers below plan direction picks =
     record {
       scan = scan_of plan direction;
       left = rows_of layers direction picks plan.left;
       right = rows_of layers direction picks plan.right;
       commands = plan.commands;
+      below = below;
     }
 
 -- some level can be as the left of an instance says
@@ -102,15 +104,15 @@ unfoldable pub picks_of : List Denotation → Plan → Dir → List (List Pick)
 picks_of table plan direction = product (map (options_of table direction) plan.choices)
 
 -- the instances of one direction, the impossible ones dropped
-unfoldable pub possible_of : List Denotation → List ℕ → Plan → Dir → List Instance
-possible_of table layers plan direction = filter is_possible (map (instance_of layers plan direction) (picks_of table plan direction))
+unfoldable pub possible_of : List Denotation → List ℕ → ℕ → Plan → Dir → List Instance
+possible_of table layers below plan direction = filter is_possible (map (instance_of layers below plan direction) (picks_of table plan direction))
 
 -- the instances of a rule: the possible ones, directions varying slowest, and of equal ones the first
-unfoldable pub instances_of : List Denotation → List ℕ → Plan → List Instance
-instances_of table layers plan = firsts same_instance (flat_map (possible_of table layers plan) plan.directions)
+unfoldable pub instances_of : List Denotation → List ℕ → ℕ → Plan → List Instance
+instances_of table layers below plan = firsts same_instance (flat_map (possible_of table layers below plan) plan.directions)
 
 -- the instances that are kept, after the one of these picks
-unfoldable pub considered : List ℕ → Plan → Dir → List Instance → List Pick → List Instance
-considered layers plan direction kept picks =
-    let instance = instance_of layers plan direction picks in
+unfoldable pub considered : List ℕ → ℕ → Plan → Dir → List Instance → List Pick → List Instance
+considered layers below plan direction kept picks =
+    let instance = instance_of layers below plan direction picks in
     if is_possible instance then added same_instance kept instance else kept

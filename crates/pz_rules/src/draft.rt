@@ -208,16 +208,17 @@ fn extend(draft: &mut Draft, rule: &Rule, more: Expansion) -> Result<(), RuleFau
     Ok(())
 }
 
-/// Adds a rule, or names its first fault.
+/// Adds a rule, below which so many lines stand, or names its first fault.
 fn add_rule(
     patterns: &mut Patterns,
     game: &Game,
     draft: &mut Draft,
+    below: usize,
     rule: &Rule,
 ) -> Result<(), RuleFault>
     requires whole { is_whole rule.now ≡ true }
-    ensures draft { OnOk result (rule_added game.now draft.old rule.now ≡ Ok draft.new) }
-    ensures fault { IfErr result (λ fault. fault ≢ Memory → rule_added game.now draft.old rule.now ≡ Err fault) }
+    ensures draft { OnOk result (rule_added game.now draft.old below rule.now ≡ Ok draft.new) }
+    ensures fault { IfErr result (λ fault. fault ≢ Memory → rule_added game.now draft.old below rule.now ≡ Err fault) }
 {
     if is_misplaced(draft, rule) {
         return Err(RuleFault::BadRule);
@@ -226,6 +227,7 @@ fn add_rule(
         patterns,
         game.values(),
         game.layers(),
+        below,
         draft.pairs,
         lateness(draft, rule),
         rule,
@@ -280,7 +282,7 @@ fn add_line(
         return add_loop_line(alloc, draft, below, word);
     }
     match rule_of(alloc, game, words)? {
-        Some(rule) => add_rule(patterns, game, draft, &rule),
+        Some(rule) => add_rule(patterns, game, draft, below.len(), &rule),
         None => Err(RuleFault::BadRule),
     }
 }

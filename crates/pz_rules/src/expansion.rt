@@ -63,33 +63,35 @@ fn expansion_within(
     patterns: &mut Patterns,
     table: &[Denotation],
     layers: &[usize],
+    below: usize,
     pairs: u64,
     plan: &Plan,
 ) -> Result<Expansion, RuleFault>
     requires left { AreShaped plan.now.left }
     requires right { AreShaped plan.now.right }
-    ensures more { IfOk result (λ more. expansion_within table.now layers.now (pairs + pair_count table.now plan.now) plan.now ≡ Ok more) }
-    ensures fault { IfErr result (λ fault. fault ≢ Memory → expansion_within table.now layers.now (pairs + pair_count table.now plan.now) plan.now ≡ Err fault) }
+    ensures more { IfOk result (λ more. expansion_within table.now layers.now below (pairs + pair_count table.now plan.now) plan.now ≡ Ok more) }
+    ensures fault { IfErr result (λ fault. fault ≢ Memory → expansion_within table.now layers.now below (pairs + pair_count table.now plan.now) plan.now ≡ Err fault) }
 {
     let Some(total) = total_within(table, pairs, plan) else {
         return Err(RuleFault::TooManyRules);
     };
-    unless_clash(total, instances_of(patterns, table, layers, plan)?)
+    unless_clash(total, instances_of(patterns, table, layers, below, plan)?)
 }
 
-/// The instances of a rule, late or not, or its first fault. The rules above it have so many pairs.
+/// The instances of a rule, late or not, or its first fault. So many lines of RULES stand below it, and the rules above it have so many pairs.
 pub fn expanded(
     patterns: &mut Patterns,
     table: &[Denotation],
     layers: &[usize],
+    below: usize,
     pairs: u64,
     is_late: bool,
     rule: &Rule,
 ) -> Result<Expansion, RuleFault>
     requires whole { is_whole rule.now ≡ true }
-    ensures more { IfOk result (λ more. expanded table.now layers.now pairs is_late rule.now ≡ Ok more) }
-    ensures fault { IfErr result (λ fault. fault ≢ Memory → expanded table.now layers.now pairs is_late rule.now ≡ Err fault) }
+    ensures more { IfOk result (λ more. expanded table.now layers.now below pairs is_late rule.now ≡ Ok more) }
+    ensures fault { IfErr result (λ fault. fault ≢ Memory → expanded table.now layers.now below pairs is_late rule.now ≡ Err fault) }
 {
     let plan = plan_of(patterns.alloc(), table, is_late, rule)?;
-    expansion_within(patterns, table, layers, pairs, &plan)
+    expansion_within(patterns, table, layers, below, pairs, &plan)
 }

@@ -27,10 +27,11 @@ pub enum Pick {
     Toward(Dir),
 }
 
-/// A plan in one of its directions, and the layer of each object.
+/// A plan in one of its directions, the layer of each object, and how many lines of RULES stand below the rule.
 #[derive(Drop)]
 struct DirectedPlan<'a> {
     layers: &'a [usize],
+    below: usize,
     plan: &'a Plan,
     direction: Dir,
 }
@@ -230,7 +231,7 @@ fn consider(
 ) -> Result<(), AllocError>
     requires left { AreShaped directed.now.plan.now.left }
     requires right { AreShaped directed.now.plan.now.right }
-    ensures { OnOk result (kept.new ≡ considered directed.now.layers.now directed.now.plan.now directed.now.direction kept.old picks.now) }
+    ensures { OnOk result (kept.new ≡ considered directed.now.layers.now directed.now.below directed.now.plan.now directed.now.direction kept.old picks.now) }
 {
     let plan = directed.plan;
     let left = rows_of(patterns, directed, picks, plan.left.items())?;
@@ -242,6 +243,7 @@ fn consider(
         left,
         right: rows_of(patterns, directed, picks, plan.right.items())?,
         commands: plan.commands,
+        below: directed.below,
     })
 }
 
@@ -256,7 +258,7 @@ fn consider_all(
     requires left { AreShaped directed.now.plan.now.left }
     requires right { AreShaped directed.now.plan.now.right }
     ensures kept { OnOk result
-        (kept.new ≡ fold (considered directed.now.layers.now directed.now.plan.now directed.now.direction) kept.old
+        (kept.new ≡ fold (considered directed.now.layers.now directed.now.below directed.now.plan.now directed.now.direction) kept.old
         (map (λ rest. picks.old.items ++ rest) (product options.now))) }
     ensures picks { OnOk result (picks.new.items ≡ picks.old.items) }
 {
@@ -297,7 +299,7 @@ fn consider_direction(
     requires left { AreShaped directed.now.plan.now.left }
     requires right { AreShaped directed.now.plan.now.right }
     ensures { OnOk result
-        (kept.new ≡ fold (considered directed.now.layers.now directed.now.plan.now directed.now.direction) kept.old
+        (kept.new ≡ fold (considered directed.now.layers.now directed.now.below directed.now.plan.now directed.now.direction) kept.old
         (picks_of table.now directed.now.plan.now directed.now.direction)) }
 {
     let alloc = patterns.alloc();
@@ -313,17 +315,19 @@ fn consider_directions(
     patterns: &mut Patterns,
     table: &[Denotation],
     layers: &[usize],
+    below: usize,
     plan: &Plan,
     kept: &mut Kept,
 ) -> Result<(), AllocError>
     requires none { kept.old ≡ [] }
     requires left { AreShaped plan.now.left }
     requires right { AreShaped plan.now.right }
-    ensures { OnOk result (kept.new ≡ instances_of table.now layers.now plan.now) }
+    ensures { OnOk result (kept.new ≡ instances_of table.now layers.now below plan.now) }
 {
     for direction in plan.directions.items() {
         let directed = DirectedPlan {
             layers,
+            below,
             plan,
             direction: *direction,
         };
@@ -332,19 +336,20 @@ fn consider_directions(
     Ok(())
 }
 
-/// The instances of a plan: the possible ones in order, and of equal ones the first.
+/// The instances of a plan: the possible ones in order, and of equal ones the first. So many lines of RULES stand below the rule.
 pub fn instances_of(
     patterns: &mut Patterns,
     table: &[Denotation],
     layers: &[usize],
+    below: usize,
     plan: &Plan,
 ) -> Result<Vec<Instance>, AllocError>
     requires left { AreShaped plan.now.left }
     requires right { AreShaped plan.now.right }
-    ensures { IfOk result (λ instances. instances.items ≡ instances_of table.now layers.now plan.now) }
+    ensures { IfOk result (λ instances. instances.items ≡ instances_of table.now layers.now below plan.now) }
 {
     let alloc = patterns.alloc();
     let mut kept = Kept::new(alloc);
-    consider_directions(patterns, table, layers, plan, &mut kept)?;
+    consider_directions(patterns, table, layers, below, plan, &mut kept)?;
     kept.into_instances(alloc)
 }

@@ -102,7 +102,7 @@ moving = record { cells = (record { object = 2; layer = 1; word = Toward Right }
 
 abbrev giving : ℕ → Program
 giving commands = record {
-  early = One (record { scan = Right; left = moving ∷ []; right = moving ∷ []; commands = record { 0 = commands } } ∷ []) ∷ [];
+  early = One (record { scan = Right; left = moving ∷ []; right = moving ∷ []; commands = record { 0 = commands }; below = 0 } ∷ []) ∷ [];
   late = [];
 }
 

@@ -406,6 +406,47 @@ impl<'a> Board<'a> {
     }
 }
 
+/// What can be seen of a board.
+impl<'a> Board<'a> {
+    ghost use Rattle.pz_session.specs.Board.{IsOneGame};
+
+    /// The game that is played.
+    pub fn game(&self) -> &'a Game
+        ensures { result.now ≡ self.now.game }
+    {
+        self.game
+    }
+
+    /// The rules of the game.
+    pub fn program(&self) -> &'a Program
+        ensures { result.now ≡ self.now.program }
+    {
+        self.program
+    }
+
+    /// The order of cells in the texts of levels.
+    pub fn order(&self) -> Order
+        ensures { result ≡ self.now.order }
+    {
+        self.order
+    }
+
+    /// The level.
+    pub fn level(&self) -> &Level
+        ensures level { result.now.grid ≡ self.now.level }
+        ensures game { IsOneGame self.now }
+    {
+        &self.level
+    }
+
+    /// Whether the last level was won.
+    pub fn is_over(&self) -> bool
+        ensures { result ≡ self.now.is_over }
+    {
+        self.is_over
+    }
+}
+
 /// What a player asks of its board. A call that plays a link leaves the state that the link leaves.
 impl<'a> Board<'a> {
     ghost use Rattle.pz_session.specs.Board.{begun, settled, verdict_of};

@@ -1,8 +1,10 @@
 //! Links of a session: what an input does first, and the ticks that follow.
 
 ghost use Rattle.std.specs.Prelude.{◌≡◌};
+ghost use Rattle.pz_session.specs.Session.{ticks_after};
 
 use pz_case::item::{FrameKind, Stop};
+use pz_record::input::Input;
 use pz_record::quoted::QuotedText;
 use std::alloc::AllocError;
 
@@ -13,6 +15,16 @@ pub const MOST_TICKS: u64 = 500;
 pub fn ticks_are_limited()
     ensures { MOST_TICKS ≡ 500 }
 {}
+
+/// How many ticks may follow an input's first link.
+pub fn ticks_after(input: Input) -> u64
+    ensures { result ≡ ticks_after input }
+{
+    match input {
+        Input::Tick => MOST_TICKS - 1,
+        _ => MOST_TICKS,
+    }
+}
 
 /// A level that is shown, and why. Its text is kept as it will be written.
 #[derive(Drop)]

@@ -1,8 +1,8 @@
 //! Plays cases. The run of a case gives its items one by one: the frames that the session shows, then its close.
 #![tactic(auto)]
 
-mod board;
-mod chain;
+pub mod board;
+pub mod chain;
 mod labelled;
 pub mod laws;
 mod level_texts;

@@ -1,11 +1,10 @@
 //! A session in play, one item at a time.
 
 ghost use Rattle.std.specs.Prelude.{◌≡◌, ◌≢◌, ◌<◌, ◌≤◌, ◌+◌, ◌^◌, List, OnOk, IfOk, IfErr, Err, None, MatchOption, false, true, ℕ, drop, Result, Ok};
-ghost use Rattle.pz_session.specs.Session.{ticks_after};
 ghost use Rattle.pz_session.specs.Player.{rank, to_come, to_follow};
 
 use crate::board::Board;
-use crate::chain::{Frame, MOST_TICKS, PlayFault, Shown};
+use crate::chain::{Frame, MOST_TICKS, PlayFault, Shown, ticks_after};
 use crate::place::put;
 use crate::tape::Tape;
 use pz_case::item::{Item, Stop, Verdict};
@@ -23,16 +22,6 @@ pub enum Phase {
     Stopped(Stop),
     /// Nothing: the close was handed out.
     Closed,
-}
-
-/// How many ticks may follow an input's first link.
-fn ticks_after(input: Input) -> u64
-    ensures { result ≡ ticks_after input }
-{
-    match input {
-        Input::Tick => MOST_TICKS - 1,
-        _ => MOST_TICKS,
-    }
 }
 
 /// Makes an item of a frame. It gets the next number, and `at` is the number of inputs taken so far.

@@ -57,7 +57,7 @@ abbrev row : List (List Item) → RuleRow
 row cells = record { cells = cells; gap_at = None }
 
 abbrev rule : List RuleRow → List RuleRow → Commands → Instance
-rule left right commands = record { scan = Right; left = left; right = right; commands = commands }
+rule left right commands = record { scan = Right; left = left; right = right; commands = commands; below = 0 }
 
 -- right [ > Player | Crate ] -> [ > Player | > Crate ]
 abbrev push : Instance

@@ -113,7 +113,7 @@ fn is_left_out(level: &Level, instance: &Instance) -> bool
 
 /// The places of each row. `None`: some row has none, and no row before it has too many. Mostly it is the first row; then no memory was
 /// asked for.
-fn take_places(
+pub fn take_places(
     alloc: Global,
     level: &Level,
     instance: &Instance,
@@ -136,7 +136,7 @@ fn take_places(
 }
 
 /// How many combinations there are, counted up to one above the limit.
-fn combination_count(lists: &[Listed<Place>]) -> u64
+pub fn combination_count(lists: &[Listed<Place>]) -> u64
     ensures { result ≡ min (length (combinations lists.now)) (COMBINATION_LIMIT + 1) }
 {
     let mut count: u64 = 1;

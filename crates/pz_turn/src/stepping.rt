@@ -152,14 +152,15 @@ fn has_stayed(players: &[usize], before: &Level, after: &Level) -> bool
 }
 
 /// Whether `require_player_movement` cancels a step: a press had to move the player, and hasn't.
-fn must_cancel(game: &Game, input: Option<Dir>, before: &Level, after: &Level) -> bool
+pub fn must_cancel(game: &Game, input: Option<Dir>, before: &Level, after: &Level) -> bool
     ensures { result ≡ must_cancel game.now input before.now.grid after.now.grid }
 {
     game.options().require_player_movement
         && (input.is_some() && has_stayed(game.players(), before, after))
 }
 
-fn with_cancel(cancelled: bool, commands: Commands) -> Commands
+/// The commands of a step, with `cancel` if the step is cancelled though no rule gave it.
+pub fn with_cancel(cancelled: bool, commands: Commands) -> Commands
     ensures { result ≡ with_cancel cancelled commands }
 {
     if cancelled {

@@ -9,5 +9,5 @@ decreases-consider_all l = length l.options.now
 -- every list of picks that goes on with one of the first options has been considered
 abbrev pub invariant-options : goal.invariant-options
 invariant-options l =
-    (l.kept ≡ fold (considered l.directed.layers.now l.directed.plan.now l.directed.direction) l.fn.kept (map (λ rest. l.fn.picks.items ++ rest) (headed l.others (take l.pick-index l.pick-items))))
+    (l.kept ≡ fold (considered l.directed.layers.now l.directed.below l.directed.plan.now l.directed.direction) l.fn.kept (map (λ rest. l.fn.picks.items ++ rest) (headed l.others (take l.pick-index l.pick-items))))
     × (l.picks.items ≡ l.fn.picks.items)

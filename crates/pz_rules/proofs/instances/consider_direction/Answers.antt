@@ -11,7 +11,7 @@ unfolding picks_of
 returns c =
     let plan = c.args.directed.now.plan.now in
     let direction = c.args.directed.now.direction in
-    let step = considered c.args.directed.now.layers.now plan direction in
+    let step = considered c.args.directed.now.layers.now c.args.directed.now.below plan direction in
     let run : List Pick → List (List Pick) → List Instance = λ picks options. fold step c.args.kept.now (map (λ rest. picks ++ rest) (product options)) in
     let options : c.deref.result.now ≡ map (options_of c.args.table.now direction) plan.choices =
     c.deref.ensures.value ∙ c.in_ok-options.ensures ∙ ap (map (options_of c.args.table.now direction)) c.items-choices.ensures in

@@ -15,4 +15,4 @@ loop-direction-preserved c =
     let in_range : i < length ds = omega (arith, ap length same_directions) in
     let at : d ≡ get_or ds i d = ap (λ l. get_or l i Up) same_directions ∙ get_or_default ds i Up d in_range in
     c.in_ok-consider_direction.ensures
-    ∙ firsts-possible_more c.args.table.now c.args.layers.now plan ds i d c.loop-direction.kept in_range at c.loop-direction.invariant
+    ∙ firsts-possible_more c.args.table.now c.args.layers.now c.args.below plan ds i d c.loop-direction.kept in_range at c.loop-direction.invariant

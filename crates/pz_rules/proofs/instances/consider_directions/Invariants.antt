@@ -6,4 +6,4 @@ use Rattle.pz_rules.specs.Instances.{possible_of}
 use Rattle.pz_rules.proofs.instances.consider_directions.Given as goal
 
 abbrev pub invariant-loop-direction : goal.invariant-loop-direction
-invariant-loop-direction l = l.kept ≡ firsts same_instance (flat_map (possible_of l.table l.layers l.plan) (take l.direction-index l.plan.directions))
+invariant-loop-direction l = l.kept ≡ firsts same_instance (flat_map (possible_of l.table l.layers l.below l.plan) (take l.direction-index l.plan.directions))

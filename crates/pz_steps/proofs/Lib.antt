@@ -1,0 +1,4 @@
+pub mod GoingOn
+pub mod Numbered
+pub mod Staged
+pub mod Stepping
