@@ -74,7 +74,7 @@ class Forms(unittest.TestCase):
             began = time.process_time()
             self.assertEqual(len(find(long).found), count)
             # the machine may be busy: twice the time that it may take
-            self.assertLess(time.process_time() - began, 6)
+            self.assertLess(time.process_time() - began, 15)
 
 
 class TestData(InARoom):
