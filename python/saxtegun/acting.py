@@ -3,7 +3,7 @@ from __future__ import annotations
 
 from typing import Dict, List, Mapping, NamedTuple, Optional, Sequence, Tuple
 
-from saxtegun.commands import cut
+from saxtegun.commands import cut, plural
 from saxtegun.culprits import repeated_in
 from saxtegun.explaining import CELLS_TOLD, STOPS, cell_told, input_told, source_line
 from saxtegun.games import Game, game_of
@@ -66,11 +66,10 @@ def stage_told(stage: Told, source: str) -> str:
     return block_told(stage, source) if stage.is_block else {INPUT: "the press", MOVEMENT: "the movement", END: "the end"}[stage.name]
 
 
-def rule_lines(stage: Stage, text: Text, most: int = LINES_TOLD) -> List[str]:
-    """The lines that a group or a loop is made of, as they stand in the text."""
-    told = [f"{text.place(it)}: {cut((source_line(text.source, it) or '').strip())}" for it in stage.lines[:most]]
-    more = len(stage.lines) - most
-    return [*told, f"and {more} more"] if more > 0 else told
+def rule_lines(lines: Sequence[int], text: Text, most: int = LINES_TOLD) -> List[str]:
+    """Lines of rules as they stand in the text."""
+    told = [f"{text.place(it)}: {cut((source_line(text.source, it) or '').strip())}" for it in lines[:most]]
+    return [*told, f"and {plural(len(lines) - most, 'more line')}"] if len(lines) > most else told
 
 
 def changed_cells(before: Rows, after: Rows) -> List[Tuple[int, int]]:
@@ -105,19 +104,24 @@ def picture(rows: Rows, changed: Sequence[Tuple[int, int]], headings: Sequence[H
     return ["| " + "".join(it.ljust(room) for it in line).rstrip() for line in zip(*([name, *drawn] for name, drawn in parts))]
 
 
+def heading_told(it: Heading) -> str:
+    """A piece that heads somewhere. Columns and rows are counted from 1."""
+    return f"column {it.column + 1}, row {it.row + 1}: {cut(it.name)} heads {it.direction}"
+
+
 def headings_told(stage: Stage, before: Optional[Stage]) -> List[str]:
-    """The pieces that head elsewhere than before, a line each. Columns and rows are counted from 1."""
+    """The pieces that head elsewhere than before, a line each."""
     old = set(before.headings) if before else set()
     new = [it for it in stage.headings if it not in old]
-    lines = [f"column {it.column + 1}, row {it.row + 1}: {cut(it.name)} heads {it.direction}" for it in new[:CELLS_TOLD]]
-    return [*lines, f"and {len(new) - CELLS_TOLD} more that head elsewhere"] if len(new) > CELLS_TOLD else lines
+    lines = [heading_told(it) for it in new[:CELLS_TOLD]]
+    return [*lines, f"and {plural(len(new) - CELLS_TOLD, 'more piece')} that head elsewhere"] if len(new) > CELLS_TOLD else lines
 
 
 def cells_told(before: Rows, after: Rows, changed: Sequence[Tuple[int, int]]) -> List[str]:
     """The first cells that changed, a line each."""
     lines = [f"column {column + 1}, row {row + 1}: {cell_told(after[row][column])}; before: {cell_told(before[row][column])}" for column, row in changed[:CELLS_TOLD]]
     more = len(changed) - CELLS_TOLD
-    return [*lines, f"and {more} more {'cell' if more == 1 else 'cells'}"] if more > 0 else lines
+    return [*lines, f"and {plural(more, 'more cell')}"] if more > 0 else lines
 
 
 def drawn(stage: Stage, before: Optional[Stage], text: Text, is_always: bool = False) -> List[str]:
@@ -161,5 +165,5 @@ def told_of(stage: Told, before: Optional[Stage], entry: Entry, at: int, text: T
     title = title_of(stage, entry, at)
     if isinstance(stage, Stop):
         return [title]
-    below = [*rule_lines(stage, text), *drawn(stage, before, text, before is None)]
+    below = [*rule_lines(stage.lines, text), *drawn(stage, before, text, before is None)]
     return [title, *(f"    {it}" for it in below)]

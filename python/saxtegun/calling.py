@@ -62,4 +62,4 @@ def main() -> int:
 def call() -> None:
     """Runs the command, and ends with its status."""
     verb = sys.argv[1] if len(sys.argv) > 1 and sys.argv[1] in VERBS else ""
-    serve(f"saxtegun {verb}".strip(), main, verb in OF_DATA)
+    serve(f"saxtegun {verb}".strip(), main, verb in OF_DATA or (verb == "why" and "--json" in sys.argv))

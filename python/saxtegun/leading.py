@@ -5,15 +5,17 @@ import re
 from difflib import SequenceMatcher
 from functools import lru_cache
 from itertools import zip_longest
+from time import monotonic
 from typing import Dict, Iterator, List, NamedTuple, Optional, Sequence, Set, Tuple
 
-from saxtegun.acting import Text, drawn, rule_lines, stage_told, where_told
-from saxtegun.budget import EXPLAINING
-from saxtegun.commands import fold
-from saxtegun.explaining import cause_told, stop_of
+from saxtegun.acting import Text, drawn, heading_told, rule_lines, stage_told, where_told
+from saxtegun.budget import EXPLAINING, SECONDS
+from saxtegun.commands import fold, plural
+from saxtegun.explaining import CELLS_TOLD, cause_told, stop_of
 from saxtegun.lines import Frame, Run
 from saxtegun.parting import Parting, below_of, is_same_level, parting_of, sentence_of
 from saxtegun.playing import Engine
+from saxtegun.running import Unanswered
 from saxtegun.sessions import Entry
 from saxtegun.sources import lines_of, words_of
 from saxtegun.stages import NAMES, Stage, Stop, Told, stages_of
@@ -102,15 +104,22 @@ def blocks_behind(told: Iterator[Told], tick: int) -> List[Stage]:
 
 def parted_at(sides: Sides, at: int, engine: Engine) -> Optional[Parted]:
     """Where the stages of an input part over two texts; None where they are the same."""
-    with EXPLAINING.spent():
-        one, other = (stages_of(it.entry, at, engine) for it in sides)
-        before: Optional[Stage] = None
-        for left, right in zip_longest(one, other):
-            if not is_same_stage(left, right):
-                later = [blocks_behind(rest, it.tick) if it is not None else [] for rest, it in ((one, left), (other, right))]
-                return Parted(left, right, before, (later[0], later[1]))
-            before = left if isinstance(left, Stage) else before
+    one, other = (stages_of(it.entry, at, engine) for it in sides)
+    before: Optional[Stage] = None
+    for left, right in zip_longest(one, other):
+        if not is_same_stage(left, right):
+            later = [blocks_behind(rest, it.tick) if it is not None else [] for rest, it in ((one, left), (other, right))]
+            return Parted(left, right, before, (later[0], later[1]))
+        before = left if isinstance(left, Stage) else before
     return None
+
+
+class Led(NamedTuple):
+    """At which stage two texts of a game part: a sentence, the rule lines that it is about, and what is left of it in cells and letters."""
+
+    sentence: str
+    rules: List[str]
+    drawing: List[str]
 
 
 class Telling:
@@ -119,127 +128,140 @@ class Telling:
     def __init__(self, sides: Sides, at: int, parted: Parted) -> None:
         self.sides, self.at, self.parted = sides, at, parted
         self.old, self.new = (it.text.source for it in sides)
+        self.become = counterparts(self.old, self.new)
 
-    def is_counterpart(self, one: Stage, other: Stage) -> bool:
-        """Whether a group of the old text is what a group of the new one was."""
-        become = counterparts(self.old, self.new)
-        return one.name == other.name and any(become.get(it, set()) & set(other.lines) for it in one.lines)
+    def told(self) -> Led:
+        one, other = self.parted.one, self.parted.other
+        for number, it in enumerate((one, other)):
+            if isinstance(it, Stop):
+                return self.stopped(number, it)
+        if isinstance(one, Stage) and isinstance(other, Stage) and one.tick == other.tick:
+            return self.of_stages(one, other)
+        number, more = (0, one) if isinstance(one, Stage) and (other is None or one.tick > other.tick) else (1, other)
+        assert isinstance(more, Stage)
+        return Led(f"{where_told(self.sides[number].entry, self.at, more.tick)}: is taken in {self.name(number)}, not in {self.name(1 - number)}", [], [])
 
-    def is_edited(self, one: Stage, other: Stage) -> bool:
-        return [rules_of(self.old).get(it) for it in one.lines] != [rules_of(self.new).get(it) for it in other.lines]
+    def of_stages(self, one: Stage, other: Stage) -> Led:
+        """Where they part in a step that both take."""
+        places = NAMES.index(one.name), NAMES.index(other.name)
+        if places[0] != places[1]:
+            number = 0 if places[0] < places[1] else 1
+            return self.alone(number, (one, other)[number])
+        if not one.is_block or self.is_counterpart(one, other):
+            return self.both(one, other)
+        for number, it in enumerate((one, other)):
+            if not self.acts_in(1 - number, it):
+                return self.alone(number, it)
+        behind = stage_told(other, self.new)
+        return Led(f"{self.named(0, one)}: acts here in {self.name(0)}, in {self.name(1)} behind the {behind}", self.rules(0, one), [])
 
-    def acts_in(self, number: int, stage: Stage) -> bool:
-        """Whether a group of one text acts in the rest of the step in the other."""
-        there = [*([self.parted[1 - number]] if isinstance(self.parted[1 - number], Stage) else []), *self.parted.later[1 - number]]
-        return any(self.is_counterpart(*((stage, it) if number == 0 else (it, stage))) for it in there if isinstance(it, Stage) and it.is_block)
+    def alone(self, number: int, stage: Stage) -> Led:
+        """That a group acts in one text and not in the other."""
+        sentence = f"{self.named(number, stage)}: acts in {self.name(number)}, not in {self.name(1 - number)}"
+        return Led(sentence, self.rules(number, stage), drawn(stage, self.parted.before, self.sides[number].text))
+
+    def both(self, one: Stage, other: Stage) -> Led:
+        """In what two stages differ that are the same part of a step."""
+        acts = "" if not one.is_block else "acts in both, edited: " if self.is_edited(one.lines, other.lines) else "acts in both: "
+        cells = below_of(Parting(0, Frame(0, "", one.level), Frame(0, "", other.level)), self.sides[1].entry, self.sides[1].text.order)
+        drawing = self.headings(one, other) if is_same_level(one.level, other.level) else cells
+        return Led(f"{self.named(0, one)}: {acts}{self.difference(one, other)}", self.rules(0, one) if one.is_block else [], drawing)
+
+    def stopped(self, number: int, stop: Stop) -> Led:
+        where = where_told(self.sides[number].entry, self.at, stop.tick)
+        return Led(f"{where}: behind the same stages {self.name(number)} stops: {cause_told(stop.cause)} ({stop.cause})", [], [])
+
+    def name(self, number: int) -> str:
+        return self.sides[number].name
 
     def named(self, number: int, stage: Told) -> str:
         """Where a stage is, and what it is called."""
         return f"{where_told(self.sides[number].entry, self.at, stage.tick)}, {stage_told(stage, self.sides[number].text.source)}"
 
-    def alone(self, number: int, stage: Stage) -> List[str]:
-        """That a group acts in one text and not in the other, with its lines and what they have become."""
-        name, other = self.sides[number].name, self.sides[1 - number].name
-        return [f"{self.named(number, stage)}: acts in {name}, not in {other}", *self.lines(number, stage), *self.draw(number, stage)]
+    def is_counterpart(self, one: Stage, other: Stage) -> bool:
+        """Whether a group of the new text is what one of the old has become."""
+        return one.name == other.name and any(self.become.get(it, set()) & set(other.lines) for it in one.lines)
 
-    def lines(self, number: int, stage: Stage) -> List[str]:
-        """The lines of a group in its text, and those that they are in the other."""
-        become = counterparts(self.old, self.new)
+    def acts_in(self, number: int, stage: Stage) -> bool:
+        """Whether a group of the other text acts in the rest of the step in this one."""
+        here = (self.parted.one, self.parted.other)[number]
+        rest = [*([here] if isinstance(here, Stage) and here.is_block else []), *self.parted.later[number]]
+        return any(self.is_counterpart(stage, it) if number else self.is_counterpart(it, stage) for it in rest)
+
+    def rules(self, number: int, stage: Stage) -> List[str]:
+        """The lines of a group in its text, and what they are in the other, where that isn't the same."""
+        there = self.lines_there(number, stage.lines)
+        own = self.rules_in(number, stage.lines)
+        if not there:
+            return [*own, f"in {self.name(1 - number)} there is no such rule"]
+        pair = (stage.lines, there) if number == 0 else (there, stage.lines)
+        return [*own, *self.rules_in(1 - number, there)] if stage.lines != there or self.is_edited(*pair) else own
+
+    def is_edited(self, lines: Sequence[int], others: Sequence[int]) -> bool:
+        """Whether rule lines of the old text are others in the new."""
+        return [rules_of(self.old).get(it) for it in lines] != [rules_of(self.new).get(it) for it in others]
+
+    def lines_there(self, number: int, lines: Sequence[int]) -> Tuple[int, ...]:
+        """The lines that rule lines of one text are in the other."""
         if number == 0:
-            there = sorted({line for it in stage.lines for line in become.get(it, set())})
-        else:
-            there = sorted(it for it, lines in become.items() if lines & set(stage.lines))
-        other = stage._replace(lines=tuple(there))
-        told = [self.lines_in(number, stage), self.lines_in(1 - number, other) if there else [f"in {self.sides[1 - number].name} there is no such rule"]]
-        pair = (stage, other) if number == 0 else (other, stage)
-        return [*told[0], *(told[1] if not there or self.is_edited(*pair) or pair[0].lines != pair[1].lines else [])]
+            return tuple(sorted({there for it in lines for there in self.become.get(it, set())}))
+        return tuple(sorted(it for it, there in self.become.items() if there & set(lines)))
 
-    def lines_in(self, number: int, stage: Stage) -> List[str]:
-        side = self.sides[number]
-        return [f"in {side.name}, {it}" for it in rule_lines(stage, side.text, LINES_TOLD)]
+    def rules_in(self, number: int, lines: Sequence[int]) -> List[str]:
+        return [f"in {self.name(number)}, {it}" for it in rule_lines(lines, self.sides[number].text, LINES_TOLD)]
 
-    def draw(self, number: int, stage: Stage) -> List[str]:
-        return drawn(stage, self.parted.before, self.sides[number].text)
+    def headings(self, one: Stage, other: Stage) -> List[str]:
+        """The pieces that head somewhere in one text alone, a line each."""
+        alone = [(it, number) for number, (here, there) in enumerate(((one, other), (other, one))) for it in here.headings if it not in set(there.headings)]
+        told = [f"{heading_told(it)} in {self.name(number)}, not in {self.name(1 - number)}" for it, number in alone[:CELLS_TOLD]]
+        return [*told, f"and {plural(len(alone) - CELLS_TOLD, 'more heading')}"] if len(alone) > CELLS_TOLD else told
 
     def difference(self, one: Stage, other: Stage) -> str:
         """In what two stages differ."""
-        old, new = self.sides[0].name, self.sides[1].name
-        differs = ["leaves another level"] if not is_same_level(one.level, other.level) else []
+        differs = [] if is_same_level(one.level, other.level) else ["the level behind it is another one"]
         if not differs and set(one.headings) != set(other.headings):
             differs.append("pieces head elsewhere")
         if set(one.commands) != set(other.commands):
-            differs.append(f"gives {', '.join(one.commands) or 'nothing'} in {old}, {', '.join(other.commands) or 'nothing'} in {new}")
+            given = [f"{', '.join(it.commands) or 'no command'} in {self.name(number)}" for number, it in enumerate((one, other))]
+            differs.append(f"gives {', '.join(given)}")
         return "; ".join(differs)
 
-    def both(self, one: Stage, other: Stage) -> List[str]:
-        """In what two stages differ that are the same part of a step."""
-        lines = self.lines(0, one) if one.is_block else []
-        acts = "acts in both: " if one.is_block else ""
-        below = below_of(Parting(0, Frame(0, "", one.level), Frame(0, "", other.level)), self.sides[1].entry, self.sides[1].text.order)
-        return [f"{self.named(0, one)}: {acts}{self.difference(one, other)}", *lines, *(below if not is_same_level(one.level, other.level) else [])]
 
-    def stops(self, number: int, stop: Stop) -> List[str]:
-        return [f"{where_told(self.sides[number].entry, self.at, stop.tick)}: {self.sides[number].name} stops behind the same stages: {cause_told(stop.cause)} ({stop.cause})"]
-
-    def told(self) -> List[str]:
-        """Where the texts part, in a sentence, and lines below it."""
-        one, other = self.parted.one, self.parted.other
-        for number, it in enumerate((one, other)):
-            if isinstance(it, Stop):
-                return self.stops(number, it)
-        if isinstance(one, Stage) and isinstance(other, Stage) and one.tick == other.tick:
-            return self.of_stages(one, other)
-        number, more = (0, one) if isinstance(one, Stage) and (other is None or one.tick > other.tick) else (1, other)
-        assert isinstance(more, Stage)
-        return [f"{where_told(self.sides[number].entry, self.at, more.tick)}: is taken in {self.sides[number].name}, not in {self.sides[1 - number].name}"]
-
-    def of_stages(self, one: Stage, other: Stage) -> List[str]:
-        """Where they part in a step that both take."""
-        places = NAMES.index(one.name), NAMES.index(other.name)
-        if one.is_block and other.is_block and places[0] == places[1]:
-            if self.is_counterpart(one, other):
-                return self.both(one, other)
-            for number, it in enumerate((one, other)):
-                if not self.acts_in(number, it):
-                    return self.alone(number, it)
-            old, new = (side.name for side in self.sides)
-            return [f"{self.named(0, one)}: acts here in {old}, and in {new} behind the {stage_told(other, self.new)}", *self.lines(0, one)]
-        if places[0] == places[1]:
-            return self.both(one, other)
-        number = 0 if places[0] < places[1] else 1
-        return self.alone(number, (one, other)[number])
-
-
-def inputs_to_try(entry: Entry, one: Run, other: Run, parting: Optional[Parting]) -> Iterator[int]:
-    """Behind which inputs two runs may part in their stages, the likeliest first: where their frames first do, and then all from the start."""
-    at = len(entry.inputs)
+def inputs_to_try(entry: Entry, runs: Tuple[Run, Run], parting: Optional[Parting]) -> Iterator[int]:
+    """Behind which inputs two runs may part in their stages, the likeliest first: where their frames first do, and then all before it from the start."""
+    frames = [it.at for it in (parting.one, parting.other) if it is not None] if parting else []
+    last = min(frames, default=len(entry.inputs))
+    stops = [0 if it is None else it + 1 for it in (stop_of(entry, run) for run in runs if run.close == "stopped")]
+    likeliest = min([last, *(stops if len(frames) < 2 else [])])
     if parting is not None:
-        frames = [it.at for it in (parting.one, parting.other) if it is not None]
-        stops = [0 if it is None else it + 1 for it in (stop_of(entry, run) for run in (one, other) if run.close == "stopped")]
-        at = min([*(frames[:2] if frames else []), *(stops if len(frames) < 2 else [])], default=at)
-        yield at
-    yield from (it for it in range(at + 1) if parting is None or it != at)
+        yield likeliest
+    yield from (it for it in range(last + 1) if parting is None or it != likeliest)
 
 
-def stage_parting(sides: Sides, runs: Tuple[Run, Run], parting: Optional[Parting], engine: Engine) -> List[str]:
-    """At which stage two texts part, in a sentence, and lines below it; nothing where no stage that is looked at does, or where there is no time left."""
-    for at in inputs_to_try(sides[1].entry, *runs, parting):
-        if not EXPLAINING.is_left():
-            return []
-        parted = parted_at(sides, at, engine)
+def stage_parting(sides: Sides, runs: Tuple[Run, Run], parting: Optional[Parting], engine: Engine, seconds: float) -> Optional[Led]:
+    """At which stage two texts part; None where none does. Refused where not all that are to be looked at were, in so many seconds."""
+    begin = monotonic()
+    for at in inputs_to_try(sides[1].entry, runs, parting):
+        if not EXPLAINING.is_left() or monotonic() - begin > seconds:
+            raise Unanswered("not all stages were looked at, since that took too long")
+        with EXPLAINING.spent():
+            parted = parted_at(sides, at, engine)
         if parted is not None:
             return Telling(sides, at, parted).told()
-    return []
+    return None
+
+
+NO_STAGE = "no stage parts: what differs is in no rule (win conditions, levels, objects)"
 
 
 def parting_told(sides: Sides, runs: Tuple[Run, Run], engine: Engine) -> List[str]:
     """Where two texts part, in a sentence, and lines below it; nothing where they show the same by the same stages."""
     for side, run in zip(sides, runs):
         if not run.frames:
-            return [f"{side.name} text parts at once: it is {run.close}: {cause_told(run.cause or '')}"]
+            return [f"{side.name} can't be played: {cause_told(run.cause or '')}"]
     parting = parting_of(*runs)
-    told = stage_parting(sides, runs, parting, engine)
-    if parting is None:
-        return told and [told[0], "the frames are the same", *told[1:]]
-    frames = f"the frames part at {sentence_of(parting, *runs, sides[1].entry)}"
-    return [told[0], frames, *told[1:]] if told else [frames, "no stage parts: what differs is no rule (the win conditions, the levels)"]
+    led = stage_parting(sides, runs, parting, engine, SECONDS)
+    frames = f"the frames part at {sentence_of(parting, *runs, sides[1].entry)}" if parting else "the frames are the same"
+    if led is not None:
+        return [led.sentence, frames, *led.rules, *led.drawing]
+    return [frames, NO_STAGE] if parting else []

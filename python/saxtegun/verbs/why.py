@@ -139,13 +139,13 @@ def tell_parting(asked: Asked, old: str) -> int:
     """Says at which stage two texts of a game part."""
     text = read_named(old)
     before = asked.entry._replace(source=text.source)
-    sides = Side("the old", before, Text(text.source, text.path, asked.text.order)), Side("the new", asked.entry, asked.text)
-    runs = played(asked, before), played(asked)
-    first, *below = parting_told(sides, runs, asked.engine) or ["the same frames, and the same stages"]
+    sides = Side("the old text", before, Text(text.source, text.path, asked.text.order)), Side("the new text", asked.entry, asked.text)
+    told = parting_told(sides, (played(asked, before), played(asked)), asked.engine)
+    first, *below = told or ["the same frames, and the same stages"]
     show(f"session {asked.entry.number}, {cut(asked.entry.name)}: {first}")
     for line in below:
         show(f"    {line}")
-    return 1 if below or "part" in first else 0
+    return 1 if told else 0
 
 
 def main(given: Namespace) -> int:
