@@ -11,7 +11,7 @@ from typing import Dict, Iterator, List, NamedTuple, Optional, Sequence, Set, Tu
 from saxtegun.acting import Text, drawn, heading_told, rule_lines, stage_told, where_told
 from saxtegun.budget import EXPLAINING, SECONDS
 from saxtegun.commands import fold, plural
-from saxtegun.explaining import CELLS_TOLD, cause_told, stop_of
+from saxtegun.explaining import CELLS_TOLD, cause_told
 from saxtegun.lines import Frame, Run
 from saxtegun.parting import Parting, below_of, is_same_level, parting_of, sentence_of
 from saxtegun.playing import Engine
@@ -228,14 +228,12 @@ class Telling:
 
 
 def inputs_to_try(entry: Entry, runs: Tuple[Run, Run], parting: Optional[Parting]) -> Iterator[int]:
-    """Behind which inputs two runs may part in their stages, the likeliest first: where their frames first do, and then all before it from the start."""
-    frames = [it.at for it in (parting.one, parting.other) if it is not None] if parting else []
-    last = min(frames, default=len(entry.inputs))
-    stops = [0 if it is None else it + 1 for it in (stop_of(entry, run) for run in runs if run.close == "stopped")]
-    likeliest = min([last, *(stops if len(frames) < 2 else [])])
-    if parting is not None:
-        yield likeliest
-    yield from (it for it in range(last + 1) if parting is None or it != likeliest)
+    """Behind which inputs two runs may part in their stages: from where their frames first do or one may have stopped, and then those before it."""
+    last = min((it.at for it in (parting.one, parting.other) if it is not None), default=len(entry.inputs)) if parting else len(entry.inputs)
+    # behind its last frame a run may stop in a step that shows none
+    first = min([last, *(run.frames[-1].at for run in runs if run.close == "stopped")]) if parting else 0
+    yield from range(first, last + 1)
+    yield from range(first)
 
 
 def stage_parting(sides: Sides, runs: Tuple[Run, Run], parting: Optional[Parting], engine: Engine, seconds: float) -> Optional[Led]:
@@ -256,9 +254,6 @@ NO_STAGE = "no stage parts: what differs is in no rule (win conditions, levels, 
 
 def parting_told(sides: Sides, runs: Tuple[Run, Run], engine: Engine) -> List[str]:
     """Where two texts part, in a sentence, and lines below it; nothing where they show the same by the same stages."""
-    for side, run in zip(sides, runs):
-        if not run.frames:
-            return [f"{side.name} can't be played: {cause_told(run.cause or '')}"]
     parting = parting_of(*runs)
     led = stage_parting(sides, runs, parting, engine, SECONDS)
     frames = f"the frames part at {sentence_of(parting, *runs, sides[1].entry)}" if parting else "the frames are the same"

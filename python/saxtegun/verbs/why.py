@@ -25,13 +25,13 @@ from typing import List, NamedTuple, Optional
 
 from saxtegun.acting import Text, told_of, where_told
 from saxtegun.commands import Refused, add_playing, add_ticks, cut, plural, printable
-from saxtegun.explaining import source_told, stop_of
+from saxtegun.explaining import source_told
 from saxtegun.files import guard_output
 from saxtegun.leading import Side, parting_told
 from saxtegun.lines import Run
 from saxtegun.playing import Engine, engine_of, runs_of
 from saxtegun.sessions import Entry, Sessions, fits, read_sessions
-from saxtegun.stages import Stage, lines_and_stages, stages_of
+from saxtegun.stages import STOPS, Stage, Stop, lines_and_stages, stages_of
 from saxtegun.texts import over, read_game, read_named, say_others
 from saxtegun.verbs.test import split_files
 
@@ -91,17 +91,27 @@ def asked_by(given: Namespace) -> Asked:
     return Asked(entry, sessions, Text(entry.source, of_game, given.order), engine_of(given))
 
 
-def played(asked: Asked, entry: Optional[Entry] = None) -> Run:
-    return runs_of([entry or asked.entry], asked.sessions, asked.engine)[0]
+def played(asked: Asked) -> Run:
+    """What the session shows. Refused where that is nothing."""
+    run = runs_of([asked.entry], asked.sessions, asked.engine)[0]
+    if not run.frames:
+        over_it = f" over {asked.text.path}" if asked.text.path else ""
+        raise Refused(f"{cut(asked.entry.name)} is {run.close}{over_it}: {source_told(asked.entry, run.cause or '')}")
+    return run
 
 
 def last_step(entry: Entry, run: Run) -> int:
-    """Behind which input a session took its last step: that at which it stopped, or of the last frame that a step leaves."""
-    if run.close == "stopped" and run.frames:
-        at = stop_of(entry, run)
-        return 0 if at is None else at + 1
+    """Behind which input a session shows a last frame that a step has left."""
     shown = [it.at for it in run.frames if it.kind not in ("over", "undo") and (it.at == 0 or entry.inputs[it.at - 1] not in ("undo", "restart"))]
     return shown[-1] if shown else 0
+
+
+def stop_in(asked: Asked, run: Run) -> Optional[int]:
+    """Behind which input a session stops in a step: that of its last frame, or one behind it that shows none."""
+    if run.cause not in STOPS:
+        return None
+    behind = range(run.frames[-1].at, len(asked.entry.inputs) + 1)
+    return next((at for at in behind if any(isinstance(it, Stop) for it in stages_of(asked.entry, at, asked.engine))), None)
 
 
 def input_of(asked: Asked, given: Namespace) -> int:
@@ -112,13 +122,22 @@ def input_of(asked: Asked, given: Namespace) -> int:
             raise Refused(f"{cut(asked.entry.name)} has {plural(len(inputs), 'input')}, counted from 0")
         return int(given.input)
     run = played(asked)
-    if not run.frames:
-        raise Refused(f"{cut(asked.entry.name)} is {run.close}: {source_told(asked.entry, run.cause or '')}")
-    return last_step(asked.entry, run)
+    stop = stop_in(asked, run)
+    return last_step(asked.entry, run) if stop is None else stop
 
 
 def show(line: str) -> None:
     print(printable(line))
+
+
+def no_stages_told(asked: Asked, at: int) -> str:
+    """Why an input has no stages."""
+    run = played(asked)
+    if any(it.kind == "over" and it.at <= at for it in run.frames):
+        return "play is over before it"
+    if run.close == "stopped" and run.frames[-1].at < at:
+        return f"the session has stopped before it ({run.cause})"
+    return "it takes no step"
 
 
 def tell_stages(asked: Asked, at: int) -> None:
@@ -132,15 +151,15 @@ def tell_stages(asked: Asked, at: int) -> None:
         before = it if isinstance(it, Stage) else before
         count += 1
     if not count:
-        show("it takes no step, so it has no stages")
+        show(f"no stages: {no_stages_told(asked, at)}")
 
 
 def tell_parting(asked: Asked, old: str) -> int:
     """Says at which stage two texts of a game part."""
     text = read_named(old)
-    before = asked.entry._replace(source=text.source)
-    sides = Side("the old text", before, Text(text.source, text.path, asked.text.order)), Side("the new text", asked.entry, asked.text)
-    told = parting_told(sides, (played(asked, before), played(asked)), asked.engine)
+    before = asked._replace(entry=asked.entry._replace(source=text.source), text=Text(text.source, text.path, asked.text.order))
+    sides = Side("the old text", before.entry, before.text), Side("the new text", asked.entry, asked.text)
+    told = parting_told(sides, (played(before), played(asked)), asked.engine)
     first, *below = told or ["the same frames, and the same stages"]
     show(f"session {asked.entry.number}, {cut(asked.entry.name)}: {first}")
     for line in below:
